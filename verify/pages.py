@@ -23,6 +23,8 @@ from lib.page_texts import (Place, conversion_page, day_page, list_page, month_p
 from lib.spans import span_answer, span_near, span_page, text_of
 
 EACH = 40
+# The Julian day number of a day is its number and this.
+OFFSET = 1_721_425
 CALENDARS = ["gregorian", "julian", "swedish"]
 WRONG_WORDS = {
     "form": 'a date is written 1731-02-11, "11 February 1731" or "11 February 1731/2", '
@@ -35,8 +37,10 @@ WRONG_WORDS = {
     "day": "a day of a month is 1 to 31",
 }
 WEEKDAY = "a weekday is written by its English name, as Friday"
-CALENDAR = "a calendar is gregorian, julian or swedish; after the word day, write a day number"
+CALENDAR = "a calendar is gregorian, julian or swedish; after the word day or jdn, write a number"
 DAY_NUMBER = "a day number is 1 to 3652059"
+JULIAN_NUMBER = 'a Julian day number is 1721426 to 5373484, as "JDN 2353712"'
+EITHER_NUMBER = ('{0} may be a day number or a Julian day number: write "day {0}" or "JDN {0}"')
 # Words that are wrong, of which the last one is told, and what is told of it. FILE is the journal.
 MISTAKES = [
     ("read FILE XX 1700-01-01 --weekday Fryday", WEEKDAY),
@@ -45,6 +49,15 @@ MISTAKES = [
     ("convert day 3652060", DAY_NUMBER),
     ("convert day x", DAY_NUMBER),
     ("day FILE XX 0", DAY_NUMBER),
+    ("day FILE XX 3652060", DAY_NUMBER),
+    ("day FILE XX 2353712", EITHER_NUMBER.format(2353712)),
+    ("day FILE XX 1721426", EITHER_NUMBER.format(1721426)),
+    ("convert day 3652059", EITHER_NUMBER.format(3652059)),
+    ("convert jdn 1721425", JULIAN_NUMBER),
+    ("convert JDN 5373485", JULIAN_NUMBER),
+    ("day none XX 0", DAY_NUMBER),
+    ("read none XX x", WRONG_WORDS["form"]),
+    ("month none XX 1700 13", "a month is 1 to 12 or its English name"),
     ("day FILE XX 1751-02-30", "the gregorian calendar has no such date in the years 1 to 9999"),
     ("month FILE XX 1700 13", "a month is 1 to 12 or its English name"),
     ("month FILE XX 1700 Febuary", "a month is 1 to 12 or its English name"),
@@ -57,6 +70,12 @@ EARLIER_MISTAKES = [
     ("convert roman 1700-01-01", "roman", CALENDAR),
 ]
 NO_CODE = "a code is 2 to 8 capital letters or digits, the first a letter"
+
+
+def numbered(chance, day):
+    """A day by its number, or by its Julian day number, where neither is taken for the other."""
+    named = [f"day {day}", f"JDN {day + OFFSET}", f"jdn {day + OFFSET}"]
+    return chance.choice(named + ([str(day)] if day <= OFFSET else []))
 
 
 def differs(program, words, wanted, status=0, fault=None):
@@ -140,8 +159,11 @@ class Asked:
 
     def day(self):
         day = day_near(self.chance, self.territory, self.middle)
-        word = self.chance.choice([str(day), written(dates("gregorian")[day])])
-        yield from self.page(["day", "XX", word], day_page(self.place, day))
+        weekday = self.chance.choice([None, *WEEKDAYS])
+        text = written(dates("gregorian")[day])
+        yield from self.page(["day", "XX", f"{weekday} {text}" if weekday else text],
+                             day_page(self.place, day, weekday))
+        yield from self.page(["day", "XX", numbered(self.chance, day)], day_page(self.place, day))
 
     def month(self, label):
         year, month, _ = label
@@ -161,8 +183,9 @@ class Asked:
             return
         words = ["convert", calendar, f"{weekday} {text}".strip()]
         yield from differs(self.program, words, conversion_page(found[0], weekday or None))
-        words = ["convert", "day", str(found[0])]
-        yield from differs(self.program, words, conversion_page(found[0]))
+        for words in (["day", numbered(self.chance, found[0])],
+                      [self.chance.choice(["jdn", "JDN"]), str(found[0] + OFFSET)]):
+            yield from differs(self.program, ["convert", *words], conversion_page(found[0]))
 
     def pages(self):
         """Each page about a date that is another than the one written apart."""

@@ -13,7 +13,6 @@ DAY_FACTS = ["As dated there", "Weekday", "Gregorian", "Julian", "Day number",
              "Julian day number"]
 # `read` refuses a date with two weekdays; the query answers that its days have not both.
 TWO_WEEKDAYS = ": the date names "
-OTHER_CALENDAR = "by the calendar that the date names"
 OPEN = {"from any earlier day": ("From", "any earlier day"),
         "to   any later day": ("To", "any later day")}
 
@@ -115,18 +114,11 @@ def days_shown(fragment):
     return [pair for facts in fragment.facts for pair in facts]
 
 
-def without_dual(shown):
-    return {**shown, "As dated there": ""} if isinstance(shown, dict) else shown
-
-
 def differences(html, program, journal, code, date, weekday="", order=""):
     """Where a fragment says another thing than `read` prints."""
     fragment = Fragment(html)
     lines, told = read_page(program, journal, code, date, weekday, order)
     found, wanted = days_shown(fragment), days_told(lines) or runs_told(lines)
-    if any(line.startswith(OTHER_CALENDAR) for line in lines):
-        # `read` dates the day by the calendar that is named, and the page as the place did.
-        found, wanted = ([without_dual(one) for one in days] for days in (found, wanted))
     wrong = [] if found == wanted or TWO_WEEKDAYS in told else [f"days {found}, wanted {wanted}"]
     notes = [bare(note) for note in fragment.notes if not note.startswith("The date is ")]
     wanted = [bare(note) for note in notes_told(lines, told)]

@@ -125,10 +125,14 @@ BEGINNINGS |= {"september": (9, 1), "pisan": (3, 25)}
 
 
 def beginning(calendar, style, year):
-    """The month and day on which a year of the style begins in a year counted from 1 January."""
+    """The month and day on which a year of the style begins in a year counted from 1 January.
+
+    Of year 0, whose Easter is before the line, those days are on it that are before Easter of
+    year 1.
+    """
     if style != "easter":
         return BEGINNINGS[style]
-    return dates(calendar)[easter("julian", year)][1:] if 1 <= year <= 9_999 else (1, 1)
+    return dates(calendar)[easter("julian", max(year, 1))][1:] if year <= 9_999 else (1, 1)
 
 
 def styled_year(calendar, style, date):
@@ -141,9 +145,9 @@ def styled_year(calendar, style, date):
 
 
 def place_of(regime, label):
-    """The first date of the month and day whose year by the style is the label's or later."""
+    """The label's year, then the first date of its month and day whose year is that or later."""
     dated = [(label[0] + more, *label[1:]) for more in (-1, 0, 1)]
-    return next(date for date in dated if styled_year(*regime[:2], date) >= label[0])
+    return label[0], next(date for date in dated if styled_year(*regime[:2], date) >= label[0])
 
 
 class Territory:
@@ -193,10 +197,10 @@ class Territory:
         return [after[0] for before, after in pairs if self.is_skipped(label, before, after)]
 
     def is_after(self, label, day):
-        return self.date(day) < place_of(self.regime_at(day), label)
+        return (self.label(day)[0], self.date(day)) < place_of(self.regime_at(day), label)
 
     def is_before(self, label, day):
-        return place_of(self.regime_at(day), label) < self.date(day)
+        return place_of(self.regime_at(day), label) < (self.label(day)[0], self.date(day))
 
     def gaps(self, label):
         """The changes that passed over the label: it is neither before nor after them."""

@@ -115,7 +115,14 @@ def why_lines(territory, date):
                 for line in skip_lines(territory, date, change)]
     if why == "no such date in that year":
         return [year_line(territory, date.year), *nearest_lines(territory, date)]
-    return [why]
+    return [f"{why}: {MONTHS[date.month - 1]} {month_length(territory, date.month)}"]
+
+
+def month_length(territory, month):
+    """How many days a month has that lacks one by all calendars of the territory."""
+    if month != 2:
+        return "has 30 days"
+    return f"has at most {30 if territory.has_month_and_day((0, 2, 30)) else 29} days"
 
 
 def reading_page(place, date, given):
@@ -149,10 +156,10 @@ def easter_lines(territory, year, day):
     yield from source_lines(territory.land.easter_sources, year)
 
 
-def day_page(place, day):
+def day_page(place, day, weekday=None):
     territory = place.territory
     period = next(one for one in territory.periods if one[0] <= day <= one[1])
-    return [f"day {day} in {place.heading()}", day_line(territory, day),
+    return [f"day {day} in {place.heading()}", day_line(territory, day, verdict(day, weekday)),
             *period_lines(territory, *period)]
 
 

@@ -204,6 +204,15 @@ def sureness(span):
     return [said] if said else []
 
 
+def own_dates(place, runs):
+    """How the place itself dated the days that were found by the calendar that a date names."""
+    if isinstance(runs, str):
+        return f"by its own reckoning {place.name} has that date"
+    if len(runs) == 1 and runs[0][0] == runs[0][1]:
+        return f"{place.name} itself dated that day {place.territory.dual(runs[0][0])}"
+    return f"{place.name} itself dated these days as they are written above"
+
+
 def span_page(place, span, weekday=None):
     """The page of a span that is no single day."""
     by_name = reckoned(place.territory, span)
@@ -215,8 +224,8 @@ def span_page(place, span, weekday=None):
     lines += sureness(span)
     own = found(place.territory, span)
     if runs != own and not (isinstance(runs, str) and isinstance(own, str)):
-        lines.append("by the calendar that the date names: by its own reckoning the place means "
-                     "other days")
+        style = {"old": "Old", "new": "New"}[span.reckoning]
+        lines.append(f"read as {style} Style, as the date says; {own_dates(place, runs)}")
     if weekday:
         lines.append(f"{weekday} is not looked for: that is done for one day alone")
     return [f"{span.words()} in {place.heading()}", *lines]

@@ -20,7 +20,7 @@ use Rattle.osn_file_commands.specs.Replay.{PrintsReplay}
 use Rattle.osn_file_commands.specs.Transcript.{PrintsTranscript}
 use Rattle.osn_page_commands.specs.Conversion.{PrintsConversion}
 use Rattle.osn_page_commands.specs.LettersFiles.{RunsLetters}
-use Rattle.osn_page_commands.specs.Page.{PrintsPage}
+use Rattle.osn_page_commands.specs.Page.{RunsPage}
 use Rattle.osn_report.specs.Folders.{Folders, ReadsOne, ReadsTwo}
 use Rattle.osn_report.specs.Printing.{Prints}
 use Rattle.osn_report.specs.Messages.{EndsBy, Tells, TellsIfMade, TellsLine, TellsMisuse}
@@ -66,7 +66,7 @@ Runs limits (working script questions) CanFail CanStay d i o e status =
     ReadsTwo script questions CanFail d
     (λ editor readers. PrintsTranscript limits editor readers o e status)
 Runs limits (printing journal page) CanFail CanStay d i o e status =
-    ReadsOne journal CanFail d (λ file. PrintsPage limits journal file page o e status)
+    RunsPage limits journal page CanFail d o e status
 Runs limits (auditing journal transcript) CanFail CanStay d i o e status =
     ReadsTwo journal transcript CanFail d
     (λ edits told. PrintsAudit limits edits told o e status)

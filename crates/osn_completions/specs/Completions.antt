@@ -37,7 +37,7 @@ values_named id =
     if is_file id then codes " FILE"
     else (if bytes_eq id (codes "order") then codes " dmy mdy"
     else (if bytes_eq id (codes "separator") then codes " comma semicolon tab"
-    else (if bytes_eq id (codes "calendar") then codes " gregorian julian swedish day"
+    else (if bytes_eq id (codes "calendar") then codes " gregorian julian swedish day jdn"
     else (if bytes_eq id (codes "shell") then codes " bash zsh fish" else codes " TEXT"))))
 
 -- that, and no text of an argument that takes no value

@@ -42,7 +42,7 @@ fn values_named(id: &str) -> &'static str
         | "places" => " FILE",
         "order" => " dmy mdy",
         "separator" => " comma semicolon tab",
-        "calendar" => " gregorian julian swedish day",
+        "calendar" => " gregorian julian swedish day jdn",
         "shell" => " bash zsh fish",
         _ => " TEXT",
     }

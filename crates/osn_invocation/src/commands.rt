@@ -71,18 +71,20 @@ Where a date means several days, those of the weekday come first.",
   ./oldstyle convert julian \"2 September 1752\"
   ./oldstyle convert gregorian 1752-09-14
   ./oldstyle convert day 639797
+  ./oldstyle convert jdn 2361222
 
-The day number is what an editor writes into a change.",
+The day number is what an editor writes into a change. The Julian day number (JDN) of astronomers
+is the day number plus 1721425.",
         arguments: &[
             Required(
                 "calendar",
                 "CALENDAR",
-                "The date's calendar, which is gregorian, julian or swedish, or the word day",
+                "The date's calendar: gregorian, julian or swedish; or the word day or jdn",
             ),
             Required(
                 "date",
                 "DATE",
-                "The date, its year counted from 1 January; after the word day, a day number",
+                "The date, its year counted from 1 January; after the word day or jdn, a number",
             ),
         ],
     },
@@ -95,7 +97,7 @@ The day number is what an editor writes into a change.",
         arguments: &[
             JOURNAL,
             CODE,
-            Required("date", "DATE", "A Gregorian date, or a day number"),
+            Required("date", "DATE", "A Gregorian date, a day number, or a Julian day number as \"JDN 2361222\""),
             LIMITS,
         ],
     },
@@ -324,7 +326,11 @@ editions of the replies may differ from run to run.",
         name: "almanac",
         about: "Prints the almanac of a territory and year, as a journal published the territory",
         examples: "Example:
-  ./oldstyle almanac examples/samples.journal GB 1752",
+  ./oldstyle almanac examples/samples.journal GB 1752
+
+The months are those of the year as the territory counted it, and all else is of the year from 1
+January. Where the year began on 25 March, February of 1731 is the one of 1731/2, and Easter is the
+one of 1731.",
         arguments: &[JOURNAL, CODE, Year("The year, 1 to 9999"), LIMITS],
     },
     CommandRow {

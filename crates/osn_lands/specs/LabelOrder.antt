@@ -79,12 +79,12 @@ is_earlier_in_style year date other_year other =
 
 -- the label comes after the day's in the order of the regime's style. Its own year goes first, so
 -- that a date which its year lacks, from Easter to Easter, comes after that year and before the next
-abbrev pub is_after : Profile → Regime → Label → ℕ → Bool
+unfoldable pub is_after : Profile → Regime → Label → ℕ → Bool
 is_after p r l d =
     is_earlier_in_style (style_year p r d) (date_of r.calendar d) l.year (label_date p r l)
 
 -- the label comes before the day's in that order
-abbrev pub is_before : Profile → Regime → Label → ℕ → Bool
+unfoldable pub is_before : Profile → Regime → Label → ℕ → Bool
 is_before p r l d =
     is_earlier_in_style l.year (label_date p r l) (style_year p r d) (date_of r.calendar d)
 

@@ -49,6 +49,7 @@ fn counted_year(regime: Regime, label: Label) -> i64
 }
 
 /// Whether the label comes after the day's in the order of the regime's style, whose years go first.
+#[tactic(auto, unfolding(crate::specs::LabelOrder::is_after))]
 pub(crate) fn is_after(regime: Regime, label: Label, day: Day) -> bool
     ensures { result ≡ order.is_after newest_rules regime label day }
 {
@@ -60,6 +61,7 @@ pub(crate) fn is_after(regime: Regime, label: Label, day: Day) -> bool
 }
 
 /// Whether the label comes before the day's in that order.
+#[tactic(auto, unfolding(crate::specs::LabelOrder::is_before))]
 pub(crate) fn is_before(regime: Regime, label: Label, day: Day) -> bool
     ensures { result ≡ order.is_before newest_rules regime label day }
 {

@@ -14,7 +14,7 @@ use Rattle.osn_written.specs.declared.finding.NoDay.{NoDay}
 use Rattle.osn_written.specs.declared.finding.NoDay.TheVariants.{Absent}
 use Rattle.osn_written.specs.declared.written_date.WrittenDate.{WrittenDate}
 use Rattle.osn_written.specs.Absence.{absence}
-use Rattle.osn_written.specs.Meaning.{meaning}
+use Rattle.osn_written.specs.Meaning.{dated_by, meaning}
 use Rattle.osn_letters.specs.declared.remark.Remark.{Remark}
 use Rattle.osn_letters.specs.Fields.{fields_of_days, fields_of_meaning, fields_of_one_day}
 use Rattle.osn_letters.specs.Remarks.{remarks_on_days}
@@ -40,13 +40,14 @@ some_meant edition w day given reason beside [] some = absurd (some refl)
 some_meant edition w day given reason beside (first ∷ rest) some = refl
 
 -- the fields of days that are those of a date
-pub meant_are : (p : Profile) (edition : ℕ) (t : TerritoryModel) (w : AnyDate) (day : WrittenDate)
-    (given : Option Weekday) (beside on_days : List (Bool × Remark))
-    (days told field_days : List DatedDay) → days ≡ meaning p t day given → (days ≡ [] → ⊥)
+pub meant_are : (p : Profile) (edition : ℕ) (own t : TerritoryModel) (w : AnyDate)
+    (day : WrittenDate) (given : Option Weekday) (beside on_days : List (Bool × Remark))
+    (days told field_days : List DatedDay) → days ≡ dated_by p own (meaning p t day given)
+    → (days ≡ [] → ⊥)
     → told ≡ days → field_days ≡ days → on_days ≡ remarks_on_days day given told
     → fields_of_days edition w field_days (on_days ++ beside)
-    ≡ fields_of_one_day p edition t w day given beside
-meant_are p edition t w day given beside on_days days told field_days days_are some told_are
+    ≡ fields_of_one_day p edition own t w day given beside
+meant_are p edition own t w day given beside on_days days told field_days days_are some told_are
     field_days_are on_are =
     let reason = Absent (absence p t day) in
     ap (λ ds. fields_of_days edition w ds (on_days ++ beside)) field_days_are

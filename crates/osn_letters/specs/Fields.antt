@@ -30,9 +30,10 @@ use Rattle.osn_written.specs.declared.written_date.DateFault.{DateFault}
 use Rattle.osn_written.specs.declared.written_date.DateFault.TheVariants.{NoDate}
 use Rattle.osn_written.specs.declared.written_date.WrittenDate.{WrittenDate}
 use Rattle.osn_written.specs.Absence.{absence}
+use Rattle.osn_written.specs.Double.{is_extent_not_counted_double}
 use Rattle.osn_written.specs.Finding.{extent_meant, is_by_other_calendar, reckoned}
 use Rattle.osn_written.specs.Kind.{kind_of, kind_word}
-use Rattle.osn_written.specs.Meaning.{meaning}
+use Rattle.osn_written.specs.Meaning.{dated_by, meaning}
 use Rattle.osn_written.specs.ReadDate.{one_day}
 use Rattle.osn_written.specs.SetsMeant.{set_meant, is_set_approximate, is_set_uncertain}
 use Rattle.osn_letters.specs.declared.added_fields.Summary.{Summary}
@@ -153,42 +154,44 @@ fields_of_meaning edition w day given reason beside (first ∷ rest) =
     fields_of_days edition w (first ∷ rest)
     (remarks_on_days day given (first ∷ rest) ++ beside)
 
--- of a date that is one day
-abbrev pub fields_of_one_day : Profile → ℕ → TerritoryModel → AnyDate → WrittenDate
-    → Option Weekday → List (Bool × Remark) → FieldsAndRemarks
-fields_of_one_day p edition t w day given beside =
+-- of a date that is one day, by the reckoning of a territory, each day as the place dated it
+abbrev pub fields_of_one_day : Profile → ℕ → TerritoryModel → TerritoryModel → AnyDate
+    → WrittenDate → Option Weekday → List (Bool × Remark) → FieldsAndRemarks
+fields_of_one_day p edition own t w day given beside =
     fields_of_meaning edition w day given (Absent (absence p t day)) beside
-    (meaning p t day given)
+    (dated_by p own (meaning p t day given))
 
--- of a date that is not one day
-abbrev pub fields_of_found : ℕ → AnyDate → List (Bool × Remark) → Result (List Run) NoDay
+-- of a date that is not one day. It is said if the place counted one of its days not double
+abbrev pub fields_of_found : ℕ → AnyDate → Bool → List (Bool × Remark) → Result (List Run) NoDay
     → FieldsAndRemarks
-fields_of_found edition w beside (Ok runs) = fields_of_runs edition w runs beside
-fields_of_found edition w beside (Err reason) = fields_of_absence edition w reason beside
+fields_of_found edition w single beside (Ok runs) =
+    fields_of_runs edition w runs ((single, remark.NotCountedDouble) ∷ beside)
+fields_of_found edition w single beside (Err reason) = fields_of_absence edition w reason beside
 
-abbrev pub fields_of_many_days : Profile → ℕ → TerritoryModel → AnyDate → List (Bool × Remark)
-    → FieldsAndRemarks
-fields_of_many_days p edition t w beside =
-    fields_of_found edition w beside (extent_meant p t w.extent)
+abbrev pub fields_of_many_days : Profile → ℕ → TerritoryModel → TerritoryModel → AnyDate
+    → List (Bool × Remark) → FieldsAndRemarks
+fields_of_many_days p edition own t w beside =
+    fields_of_found edition w (is_extent_not_counted_double p own t w.extent) beside
+    (extent_meant p t w.extent)
 
 -- of either
-abbrev pub fields_of_either : Profile → ℕ → TerritoryModel → AnyDate → Option Weekday
-    → List (Bool × Remark) → Option WrittenDate → FieldsAndRemarks
-fields_of_either p edition t w given beside (Some day) =
-    fields_of_one_day p edition t w day given beside
-fields_of_either p edition t w given beside None = fields_of_many_days p edition t w beside
+abbrev pub fields_of_either : Profile → ℕ → TerritoryModel → TerritoryModel → AnyDate
+    → Option Weekday → List (Bool × Remark) → Option WrittenDate → FieldsAndRemarks
+fields_of_either p edition own t w given beside (Some day) =
+    fields_of_one_day p edition own t w day given beside
+fields_of_either p edition own t w given beside None = fields_of_many_days p edition own t w beside
 
--- by the reckoning of a territory, with the field of the weekday
-abbrev pub fields_by : Profile → ℕ → TerritoryModel → Bool → AnyDate → Option (List ℕ)
-    → FieldsAndRemarks
-fields_by p edition t is_other w named =
-    fields_of_either p edition t w (weekday_in named)
+-- by the reckoning of a territory, in a place of its own reckoning, with the field of the weekday
+abbrev pub fields_by : Profile → ℕ → TerritoryModel → TerritoryModel → Bool → AnyDate
+    → Option (List ℕ) → FieldsAndRemarks
+fields_by p edition own t is_other w named =
+    fields_of_either p edition own t w (weekday_in named)
     (remarks_beside w (weekday_in named) is_other (is_malformed_weekday named)) (one_day w)
 
 -- in its territory, by the calendar that it names
 abbrev pub fields_in : Profile → ℕ → TerritoryModel → AnyDate → Option (List ℕ) → FieldsAndRemarks
 fields_in p edition t w named =
-    fields_by p edition (reckoned t w.reckoning) (is_by_other_calendar p t w) w named
+    fields_by p edition t (reckoned t w.reckoning) (is_by_other_calendar p t w) w named
 
 -- ---- a set of dates
 

@@ -19,8 +19,8 @@ use osn_grammar::{DateOrder, Written, WrittenDate as AnyDate};
 use osn_lands::{DatedDay, Run, Territory};
 use osn_register::Register;
 use osn_written::{
-    DateFault, Kind, NoDay, WrittenDate, absence_of, by_reckoning, days_meant, find_runs,
-    is_by_other_calendar, kind_of,
+    DateFault, Kind, NoDay, WrittenDate, absence_of, by_reckoning, dated_by, days_meant, find_runs,
+    is_by_other_calendar, is_extent_not_counted_double, kind_of,
 };
 use std::alloc::{AllocError, Global};
 
@@ -97,10 +97,11 @@ fn fields_of_runs(
     edition: usize,
     date: AnyDate,
     runs: &[Run],
+    on_days: &[PossibleRemark],
     beside: &[PossibleRemark],
 ) -> Result<LetterFields, AllocError>
     ensures { IfOk result (λ made. spec.fields_and_remarks made
-        ≡ spec.fields_of_runs edition date runs.now beside.now) }
+        ≡ spec.fields_of_runs edition date runs.now (on_days.now ++ beside.now)) }
 {
     let summary = Summary {
         span: span_of_runs(date.extent, runs),
@@ -108,7 +109,7 @@ fn fields_of_runs(
         edition,
     };
     let edtf = edtf_of_span(alloc, sign(date), summary.span, runs)?;
-    let remarks = those_that_apply(alloc, &[], beside)?;
+    let remarks = those_that_apply(alloc, on_days, beside)?;
     fields_with(alloc, summary, &[], &edtf, remarks)
 }
 
@@ -133,10 +134,12 @@ fn fields_of_absence(
     )
 }
 
-/// The fields of a date that is one day.
+/// The fields of a date that is one day, by the reckoning of a territory, each day as the place
+/// dated it.
 fn fields_of_one_day(
     alloc: Global,
     edition: usize,
+    own: &Territory,
     territory: &Territory,
     date: AnyDate,
     day: WrittenDate,
@@ -145,9 +148,10 @@ fn fields_of_one_day(
 ) -> Result<LetterFields, AllocError>
     ensures { IfOk result (λ made. spec.fields_and_remarks made
         ≡ spec.fields_of_one_day newest_rules
-        edition territory.now date day given beside.now) }
+        edition own.now territory.now date day given beside.now) }
 {
-    let days = days_meant(alloc, territory, day, given)?;
+    let meant = days_meant(alloc, territory, day, given)?;
+    let days = dated_by(alloc, own, meant.as_slice())?;
     if days.is_empty() {
         let reason = NoDay::Absent(absence_of(territory, day)?);
         return fields_of_absence(alloc, edition, date, reason, beside);
@@ -156,43 +160,48 @@ fn fields_of_one_day(
     fields_of_days(alloc, edition, date, &days, &on_days, beside)
 }
 
-/// The fields of a date that is not one day.
+/// The fields of a date that is not one day, by the reckoning of a territory.
 fn fields_of_many_days(
     alloc: Global,
     edition: usize,
+    own: &Territory,
     territory: &Territory,
     date: AnyDate,
     beside: &[PossibleRemark],
 ) -> Result<LetterFields, AllocError>
     ensures { IfOk result (λ made. spec.fields_and_remarks made
         ≡ spec.fields_of_many_days newest_rules
-        edition territory.now date beside.now) }
+        edition own.now territory.now date beside.now) }
 {
+    let is_single = is_extent_not_counted_double(alloc, own, territory, date.extent)?;
+    let on_days = [(is_single, Remark::NotCountedDouble)];
     match find_runs(alloc, territory, date.extent)? {
-        Ok(runs) => fields_of_runs(alloc, edition, date, &runs, beside),
+        Ok(runs) => fields_of_runs(alloc, edition, date, &runs, &on_days, beside),
         Err(reason) => fields_of_absence(alloc, edition, date, reason, beside),
     }
 }
 
-/// The fields of a date by the reckoning of a territory, with the field of the weekday.
+/// The fields of a date by the reckoning of a territory, in a place of its own reckoning, with the
+/// field of the weekday.
 fn fields_by(
     alloc: Global,
     edition: usize,
+    own: &Territory,
     territory: &Territory,
     is_by_other_calendar: bool,
     date: AnyDate,
     named: Option<&[u8]>,
 ) -> Result<LetterFields, AllocError>
     ensures { IfOk result (λ made. spec.fields_and_remarks made
-        ≡ spec.fields_by newest_rules edition
+        ≡ spec.fields_by newest_rules edition own.now
         territory.now is_by_other_calendar date (option_map (λ w. w.now) named.entry)) }
 {
     let given = weekday_in(named);
     let is_malformed = is_malformed_weekday(named);
     let beside = remarks_beside(date, given, is_by_other_calendar, is_malformed);
     match WrittenDate::of_one_day(date) {
-        Some(day) => fields_of_one_day(alloc, edition, territory, date, day, given, &beside),
-        None => fields_of_many_days(alloc, edition, territory, date, &beside),
+        Some(day) => fields_of_one_day(alloc, edition, own, territory, date, day, given, &beside),
+        None => fields_of_many_days(alloc, edition, own, territory, date, &beside),
     }
 }
 
@@ -209,11 +218,11 @@ fn fields_in(
         territory.now date (option_map (λ w. w.now) named.entry)) }
 {
     let Some(reckoning) = date.reckoning else {
-        return fields_by(alloc, edition, territory, false, date, named);
+        return fields_by(alloc, edition, territory, territory, false, date, named);
     };
     let is_other = is_by_other_calendar(alloc, territory, date)?;
     let reckoned = by_reckoning(alloc, territory, reckoning)?;
-    fields_by(alloc, edition, &reckoned, is_other, date, named)
+    fields_by(alloc, edition, territory, &reckoned, is_other, date, named)
 }
 
 /// The fields of a date whose place is not known, with the field of the weekday.

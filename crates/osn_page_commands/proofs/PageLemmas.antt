@@ -2,16 +2,17 @@
 use Rattle.std.proofs.Common.{◌≡◌, Bool, List, ℕ, None, Ok, ◌∙◌, ap, refl, subst₂, inl, inr}
 use Rattle.osn_core.specs.Sequential.{ObjectState}
 use Rattle.osn_invocation.specs.Invocation.{PageWordsModel}
-use Rattle.osn_lines.specs.Streams.{Input, Output}
+use Rattle.osn_lines.specs.Streams.{Output}
 use Rattle.osn_register.specs.Refusal.{IsRefusalOrNoMemory}
 use Rattle.osn_register.specs.declared.limits.Limits.{Limits}
 use Rattle.osn_register.specs.declared.refusal.Refusal.{Refusal}
 use Rattle.osn_register.specs.declared.refusal.Refusal.TheVariants as refusals
 use Rattle.osn_page_commands.specs.PageWords.{code_of, date_text_of, topic_of_words}
-use Rattle.osn_page_commands.specs.Page.{PrintsTopic, PrintsPage, PrintsPageOf}
+use Rattle.osn_page_commands.specs.Page.{PrintsTopic, RunsPage, PrintsPageOf}
 use Rattle.osn_page_commands.specs.Page.{topic_refusal, topic_text, published, refusal_line}
 use Rattle.osn_page_commands.specs.Page.{ended, lacks_strict_day}
 use Rattle.osn_page_commands.specs.declared.page_words.Topic.{Topic}
+use Rattle.osn_report.specs.Folders.{Folders, ReadsOne}
 use Rattle.osn_report.specs.Printing.{PrintsIfMade}
 use Rattle.osn_report.specs.Messages.{EndsBy, TellsIfMade}
 use Rattle.osn_report.specs.declared.fault.CommandFault.TheVariants.{NoMemory}
@@ -56,10 +57,12 @@ module _ (s : ObjectState) (path code date : List ℕ) (topic : Topic) (o e : Ou
     page_refused refusal other same (inr none) told = absurd (other none.0)
 
 -- the page was printed that these words ask for
-pub page_printed : (limits : Limits) (path : List ℕ) (journal : Input)
-    (words : PageWordsModel) (topic : Topic) (code date : List ℕ) (o e : Output) (status : Status)
-    → topic_of_words words ≡ Ok topic → code ≡ code_of words
-    → date ≡ date_text_of words → PrintsTopic limits path journal code date topic o e status
-    → PrintsPage limits path journal words o e status
-page_printed limits path journal words topic code date o e status is same text h =
-    inr (rw is (subst₂ (λ c d. PrintsTopic limits path journal c d topic o e status) same text h))
+pub page_printed : (limits : Limits) (path : List ℕ) (words : PageWordsModel)
+    (CanFail : Bool → Type 0) (d : Folders) (topic : Topic) (code date : List ℕ) (o e : Output)
+    (status : Status) → topic_of_words words ≡ Ok topic → code ≡ code_of words
+    → date ≡ date_text_of words
+    → ReadsOne path CanFail d (λ file. PrintsTopic limits path file code date topic o e status)
+    → RunsPage limits path words CanFail d o e status
+page_printed limits path words CanFail d topic code date o e status is same text h =
+    inr (rw is (subst₂ (λ c w. ReadsOne path CanFail d
+    (λ file. PrintsTopic limits path file c w topic o e status)) same text h))

@@ -1,4 +1,5 @@
 pub mod Order
+pub mod DayNumber
 pub mod PageWords
 pub mod Page
 pub mod Conversion

@@ -30,6 +30,7 @@ use Rattle.osn_page_commands.specs.PageWords.{wrong_word}
 use Rattle.osn_page_commands.specs.declared.page_words.Topic.{Topic}
 use Rattle.osn_page_commands.specs.declared.page_words.Topic.TheVariants.{Year, Land, Set, Lands}
 use Rattle.osn_report.specs.Fault.{numbered_line}
+use Rattle.osn_report.specs.Folders.{Folders, ReadsOne}
 use Rattle.osn_report.specs.Journal.{MakesObject, MakesNoObject}
 use Rattle.osn_report.specs.Printing.{PrintsIfMade, PrintsNone}
 use Rattle.osn_report.specs.Messages.{EndsBy, TellsIfMade, TellsMisuse}
@@ -74,7 +75,7 @@ is_without_day (Some named) date = has_no_day newest_rules named.1 date
 -- the date of a page means no day in the territory of the code. Other pages have no date
 abbrev pub lacks_day : List LandModel → List ℕ → Page → Bool
 lacks_day lands code (pages.Reading date given) = is_without_day (named_of code lands) date
-lacks_day lands code (pages.OfDay day) = false
+lacks_day lands code (pages.OfDay day weekday) = false
 lacks_day lands code (pages.Month year month) = false
 lacks_day lands code pages.Periods = false
 
@@ -145,19 +146,23 @@ PrintsTopic limits path journal code date topic o e status =
     ⊎ ((s : ObjectState) × MakesObject limits journal.bytes s
     × PrintsPageOf s path code date topic o e status)
 
--- of words: that, or a word is not what its place asks for
-abbrev pub PrintsOfWords : Limits → List ℕ → Input → PageWordsModel → Output → Output → Status
-    → Type 0
-PrintsOfWords limits path journal words o e status = MatchResult (topic_of_words words)
-    (λ topic. PrintsTopic limits path journal (code_of words) (date_text_of words) topic o e status)
-    (λ misuse. (o.new ≡ o.old) × TellsMisuse e misuse (wrong_word words misuse) status)
+-- of words: that, once the journal was opened; or a word is not what its place asks for, which
+-- standard error was told, and no file was opened
+abbrev pub RunsWords : Limits → List ℕ → PageWordsModel → (Bool → Type 0) → Folders → Output
+    → Output → Status → Type 0
+RunsWords limits path words CanFail d o e status = MatchResult (topic_of_words words)
+    (λ topic. ReadsOne path CanFail d (λ file.
+    PrintsTopic limits path file (code_of words) (date_text_of words) topic o e status))
+    (λ misuse. (d.after ≡ d.before) × (o.new ≡ o.old)
+    × TellsMisuse e misuse (wrong_word words misuse) status)
 
--- there was no memory to read the words, which was told
-abbrev pub LacksMemory : PageWordsModel → Output → Output → Status → Type 0
-LacksMemory words o e status =
-    (takes_memory words ≡ true) × (o.new ≡ o.old) × EndsBy e NoMemory status
+-- there was no memory to read the words, which was told, and no file was opened
+abbrev pub LacksMemory : PageWordsModel → Folders → Output → Output → Status → Type 0
+LacksMemory words d o e status =
+    (takes_memory words ≡ true) × (d.after ≡ d.before) × (o.new ≡ o.old) × EndsBy e NoMemory status
 
 -- by what it printed and told: one of these
-abbrev pub PrintsPage : Limits → List ℕ → Input → PageWordsModel → Output → Output → Status → Type 0
-PrintsPage limits path journal words o e status =
-    LacksMemory words o e status ⊎ PrintsOfWords limits path journal words o e status
+abbrev pub RunsPage : Limits → List ℕ → PageWordsModel → (Bool → Type 0) → Folders → Output
+    → Output → Status → Type 0
+RunsPage limits path words CanFail d o e status =
+    LacksMemory words d o e status ⊎ RunsWords limits path words CanFail d o e status

@@ -1,5 +1,5 @@
 -- What the words of a command line ask for, or which word is not what its place asks for.
-use Rattle.std.specs.Prelude.{ℕ, pos, Bool, false, not, ◌&&◌, nat_le, if◌then◌else◌, codes, List}
+use Rattle.std.specs.Prelude.{ℕ, Bool, false, not, ◌&&◌, nat_le, if◌then◌else◌, codes, List}
 use Rattle.std.specs.Prelude.{[], ◌∷◌, Option, Some, None, Result, Ok, Err, is_ok}
 use Rattle.std.specs.Option.{ok_or}
 use Rattle.std.specs.Str.{bytes_eq}
@@ -13,7 +13,6 @@ use Rattle.osn_days.specs.declared.weekday.Weekday.{Weekday}
 use Rattle.osn_grammar.specs.declared.written.Written.{Written}
 use Rattle.osn_grammar.specs.declared.written.Written.TheVariants as say
 use Rattle.osn_grammar.specs.declared.written.WrittenDate.{WrittenDate as AnyDate}
-use Rattle.osn_register.specs.Plain.{is_off_line}
 use Rattle.osn_pages.specs.Conversion.{days_of_written}
 use Rattle.osn_pages.specs.declared.page.Page.{Page}
 use Rattle.osn_pages.specs.declared.page.Page.TheVariants as pages
@@ -24,6 +23,7 @@ use Rattle.osn_written.specs.declared.written_date.DateFault.TheVariants as faul
 use Rattle.osn_written.specs.declared.written_date.WrittenDate.{WrittenDate}
 use Rattle.osn_invocation.specs.Invocation.{PageWordsModel, almanac_words, reading_words, day_words}
 use Rattle.osn_invocation.specs.Invocation.{month_words, territory_words}
+use Rattle.osn_page_commands.specs.DayNumber.{day_by_number, day_by_julian, is_julian_word}
 use Rattle.osn_page_commands.specs.Order.{order_of_word}
 use Rattle.osn_page_commands.specs.declared.page_words.Topic.{Topic}
 use Rattle.osn_page_commands.specs.declared.page_words.Topic.TheVariants.{Year, Land, Set, Lands}
@@ -115,34 +115,10 @@ day_of_date c date =
     if date.is_double then Err misuses.DoubleDate
     else one_day c (days_of_written newest_rules c date)
 
--- the day of a number
-abbrev pub day_of_number : ℕ → Result ℕ Misuse
-day_of_number number =
-    if is_off_line newest_rules (pos number) then Err misuses.DayNumber else Ok number
-
--- the page on a day by its number, or else by its Gregorian date
-abbrev pub page_of_number : ℕ → Result Page Misuse
-page_of_number number = do
-  day ← day_of_number number
-  Ok (pages.OfDay day)
-
-abbrev pub page_of_date : Result WrittenDate Misuse → Result Page Misuse
-page_of_date date_result = do
-  date ← date_result
-  day ← day_of_date Gregorian date
-  Ok (pages.OfDay day)
-
-abbrev pub day_page_of : Option ℕ → List ℕ → Result Page Misuse
-day_page_of (Some number) text = page_of_number number
-day_page_of None text = page_of_date (date_of_word text)
-
--- ---- a conversion: its day, and the weekday that the date names, if any
-
--- by a number
-abbrev pub day_by_number : List ℕ → Result (ℕ × Option Weekday) Misuse
-day_by_number text = do
-  number ← ok_or (number_of text) misuses.DayNumber
-  day ← day_of_number number
+-- a day by a number, which names no weekday
+abbrev pub without_weekday : Result ℕ Misuse → Result (ℕ × Option Weekday) Misuse
+without_weekday day_result = do
+  day ← day_result
   Ok (day, None)
 
 -- by a date that was asked for in a calendar
@@ -153,6 +129,26 @@ day_and_weekday calendar date_result = do
   day ← day_of_date calendar date
   Ok (day, date.weekday)
 
+-- the page on a day by a number, or else by its Gregorian date
+abbrev pub page_of_day : Result (ℕ × Option Weekday) Misuse → Result Page Misuse
+page_of_day day_result = do
+  day ← day_result
+  Ok (pages.OfDay day.0 day.1)
+
+abbrev pub page_of_date : Result WrittenDate Misuse → Result Page Misuse
+page_of_date date_result = page_of_day (day_and_weekday Gregorian date_result)
+
+abbrev pub day_page_of : Option (Result ℕ Misuse) → List ℕ → Result Page Misuse
+day_page_of (Some day) text = page_of_day (without_weekday day)
+day_page_of None text = page_of_date (date_of_word text)
+
+-- ---- a conversion: its day, and the weekday that the date names, if any
+
+-- by a number
+abbrev pub conversion_by_number : Option (Result ℕ Misuse) → Result (ℕ × Option Weekday) Misuse
+conversion_by_number None = Err misuses.DayNumber
+conversion_by_number (Some day) = without_weekday day
+
 -- by a date in the calendar of a word
 abbrev pub day_by_date : List ℕ → List ℕ → Result (ℕ × Option Weekday) Misuse
 day_by_date word text = do
@@ -161,7 +157,9 @@ day_by_date word text = do
 
 abbrev pub conversion_of_words : List ℕ → List ℕ → Result (ℕ × Option Weekday) Misuse
 conversion_of_words word text =
-    if bytes_eq word (codes "day") then day_by_number text else day_by_date word text
+    if bytes_eq word (codes "day") then conversion_by_number (day_by_number text)
+    else (if is_julian_word word then without_weekday (day_by_julian text)
+    else day_by_date word text)
 
 -- the word that is not what its place asks for
 abbrev pub wrong_word_of_conversion : List ℕ → List ℕ → Misuse → List ℕ
@@ -197,20 +195,20 @@ abbrev pub topic_of_words : PageWordsModel → Result Topic Misuse
 topic_of_words (almanac_words code year) = Ok (Year year)
 topic_of_words (reading_words code date weekday order strict) =
     topic_of_reading date weekday order strict
-topic_of_words (day_words code date) = of_land (day_page_of (number_of date) date) false
+topic_of_words (day_words code date) = of_land (day_page_of (day_by_number date) date) false
 topic_of_words (month_words code year month) = of_land (month_page_of year month) false
 topic_of_words (territory_words None) = Ok Lands
 topic_of_words (territory_words (Some code)) = Ok (Land pages.Periods false)
 
--- words take memory where they name a date
-abbrev pub day_takes_memory : Option ℕ → Bool
-day_takes_memory (Some number) = false
+-- words take memory if they name a date
+abbrev pub day_takes_memory : Option (Result ℕ Misuse) → Bool
+day_takes_memory (Some day) = false
 day_takes_memory None = true
 
 abbrev pub takes_memory : PageWordsModel → Bool
 takes_memory (almanac_words code year) = false
 takes_memory (reading_words code date weekday order strict) = true
-takes_memory (day_words code date) = day_takes_memory (number_of date)
+takes_memory (day_words code date) = day_takes_memory (day_by_number date)
 takes_memory (month_words code year month) = false
 takes_memory (territory_words code) = false
 

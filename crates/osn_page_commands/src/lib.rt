@@ -4,6 +4,7 @@
 #![tactic(auto)]
 
 mod conversion;
+mod day_number;
 mod in_folder;
 mod letters;
 mod letters_files;
@@ -18,4 +19,4 @@ pub use conversion::convert_command;
 pub use in_folder::page_in_folder;
 pub use letters::{EndRules, letters_command};
 pub use letters_files::letters_in_folder;
-pub use page::{land_refusal_line, page_command};
+pub use page::land_refusal_line;

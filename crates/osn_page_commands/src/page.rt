@@ -1,24 +1,20 @@
 //! The commands that print a page on what a journal published.
 ghost use Rattle.std.specs.Prelude.{◌≡◌, IfOk, IfErr, OnOk, None, string_bytes};
-ghost use Rattle.osn_invocation.specs.Invocation.{page_words};
 ghost use Rattle.osn_lines.specs.Streams.{input_of, output_of};
 ghost use Rattle.osn_register.specs.Plain.{code_refusal};
 ghost use Rattle.osn_register.specs.Refusal.{IsRefusalOrNoMemory};
 ghost use Rattle.osn_page_commands.specs.Page as spec;
 
-use crate::page_words::{Topic, code_of, date_text_of, topic_of_words, wrong_word};
+use crate::page_words::Topic;
 use osn_almanac::almanac_text;
 use osn_core::Object;
 use osn_files::load_journal;
-use osn_invocation::PageWords;
 use osn_lines::{Sink, Source};
 use osn_pages::{
     Page, Published, has_no_day, page_text, set_has_no_day, set_page_text, territories_page,
 };
 use osn_register::{Limits, Refusal, Register};
-use osn_report::{
-    CommandFault, Status, print, refused, report, tell_line, tell_misuse, tell_no_memory,
-};
+use osn_report::{CommandFault, Status, print, refused, report, tell_line, tell_no_memory};
 use std::alloc::{AllocError, Global};
 
 /// The page that was asked for, on what an object has published. `date` is the text of its date.
@@ -207,7 +203,7 @@ fn print_page<W: Sink, E: Sink>(
 }
 
 /// Prints the page that was asked for, on what a journal published.
-fn print_topic<J: Source, W: Sink, E: Sink>(
+pub(crate) fn print_topic<J: Source, W: Sink, E: Sink>(
     alloc: Global,
     limits: Limits,
     path: &str,
@@ -226,38 +222,5 @@ fn print_topic<J: Source, W: Sink, E: Sink>(
     match load_journal(alloc, limits, journal) {
         Ok(object) => print_page(alloc, &object, path, code, date, topic, output, errors),
         Err(fault) => report(alloc, errors, CommandFault::File(fault)),
-    }
-}
-
-/// The commands `almanac`, `read`, `day`, `month` and `territory`: prints the page that the words
-/// ask for, on what the journal of this path published under these limits. The words are read
-/// first, and the journal whole before anything is printed.
-///
-/// Where no page is printed, standard error is told in a line why, and the status says it. With
-/// `--strict` a date that means no day has its page, and the status of a refusal.
-pub fn page_command<J: Source, W: Sink, E: Sink>(
-    alloc: Global,
-    limits: Limits,
-    path: &str,
-    journal: &mut J,
-    words: PageWords<'_>,
-    output: &mut W,
-    errors: &mut E,
-) -> Status
-    ensures { spec.PrintsPage limits path.now
-        (input_of J.remaining J.has_failed journal.old journal.new) (page_words words.entry)
-        (output_of W.contents W.has_failed W.holds_back output.old output.new)
-        (output_of E.contents E.has_failed E.holds_back errors.old errors.new) result }
-{
-    match topic_of_words(alloc, words) {
-        Ok(Ok(topic)) => {
-            let code = code_of(words);
-            let date = date_text_of(words);
-            print_topic(
-                alloc, limits, path, journal, code, date, &topic, output, errors,
-            )
-        }
-        Ok(Err(misuse)) => tell_misuse(alloc, errors, misuse, wrong_word(words, misuse)),
-        Err(_) => tell_no_memory(errors),
     }
 }

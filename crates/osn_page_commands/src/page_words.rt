@@ -2,8 +2,10 @@
 ghost use Rattle.std.specs.Prelude.{◌≡◌, option_map, true, IfOk, OnErr};
 ghost use Rattle.osn_invocation.specs.Invocation.{page_words};
 ghost use Rattle.osn_written.specs.WrittenDate.{number_of as number_in};
+ghost use Rattle.osn_page_commands.specs.DayNumber.{day_by_number as day_in};
 ghost use Rattle.osn_page_commands.specs.PageWords as spec;
 
+use crate::day_number::{day_by_julian, day_by_number, is_julian_word};
 use crate::order::order_of_word;
 use osn_days::{Calendar, Day, Keyword, Weekday, month_named};
 use osn_grammar::{DateOrder, Written, WrittenDate as AnyDate};
@@ -149,22 +151,24 @@ fn day_of_date(calendar: Calendar, date: WrittenDate) -> Result<Day, Misuse>
     day_of_written(calendar, date).ok_or(Misuse::NoSuchDate(calendar))
 }
 
-/// The day of a number.
-fn day_of_number(number: u32) -> Result<Day, Misuse>
-    ensures { result ≡ spec.day_of_number number }
-{
-    Day::new(i64::from(number)).ok_or(Misuse::DayNumber)
-}
-
 /// A day, and the weekday that is named beside it, if any.
 pub(crate) type DayAndWeekday = (Day, Option<Weekday>);
 
 /// The day of a number, which names no weekday.
-fn day_by_number(text: &str) -> Result<DayAndWeekday, Misuse>
-    ensures { result ≡ spec.day_by_number text.now }
+fn without_weekday(day: Result<Day, Misuse>) -> Result<DayAndWeekday, Misuse>
+    ensures { result ≡ spec.without_weekday day }
 {
-    let number = number_of(text).ok_or(Misuse::DayNumber)?;
-    Ok((day_of_number(number)?, None))
+    Ok((day?, None))
+}
+
+/// The day of a text that is a number.
+fn conversion_by_number(text: &str) -> Result<DayAndWeekday, Misuse>
+    ensures { result ≡ spec.conversion_by_number (day_in text.now) }
+{
+    match day_by_number(text) {
+        Some(day) => without_weekday(day),
+        None => Err(Misuse::DayNumber),
+    }
 }
 
 /// The day of a date that was asked for in a calendar, and the weekday that it names, if any.
@@ -178,8 +182,8 @@ fn day_and_weekday(
     Ok((day_of_date(calendar, date)?, date.weekday))
 }
 
-/// The day of a date in the calendar of a word, or, after the word `day`, of a number; and the
-/// weekday that the date names, if any.
+/// The day of a date in the calendar of a word; of a number after the word `day`; or of a Julian
+/// day number after the word `jdn`. And the weekday that the date names, if any.
 pub(crate) fn conversion_of_words(
     alloc: Global,
     word: &str,
@@ -188,7 +192,10 @@ pub(crate) fn conversion_of_words(
     ensures { IfOk result (λ day. day ≡ spec.conversion_of_words word.now text.now) }
 {
     if word == "day" {
-        return Ok(day_by_number(text));
+        return Ok(conversion_by_number(text));
+    }
+    if is_julian_word(word) {
+        return Ok(without_weekday(day_by_julian(text)));
     }
     match Calendar::from_word(word) {
         Some(calendar) => Ok(day_and_weekday(calendar, date_of_word(alloc, text)?)),
@@ -200,23 +207,24 @@ pub(crate) fn conversion_of_words(
 fn page_of_date(date: Result<WrittenDate, Misuse>) -> Result<Page, Misuse>
     ensures { result ≡ spec.page_of_date date }
 {
-    Ok(Page::OfDay(day_of_date(Calendar::Gregorian, date?)?))
+    page_of_day(day_and_weekday(Calendar::Gregorian, date))
 }
 
-/// The page on the day of a number.
-fn page_of_number(number: u32) -> Result<Page, Misuse>
-    ensures { result ≡ spec.page_of_number number }
+/// The page on a day, with the weekday that its date names, if any.
+fn page_of_day(day: Result<DayAndWeekday, Misuse>) -> Result<Page, Misuse>
+    ensures { result ≡ spec.page_of_day day }
 {
-    Ok(Page::OfDay(day_of_number(number)?))
+    let (day, weekday) = day?;
+    Ok(Page::OfDay { day, weekday })
 }
 
 /// The page on the day of a number, or of a Gregorian date.
 fn day_page_of(alloc: Global, text: &str) -> Result<Result<Page, Misuse>, AllocError>
-    ensures value { IfOk result (λ page. page ≡ spec.day_page_of (number_in text.now) text.now) }
-    ensures memory { OnErr result (spec.day_takes_memory (number_in text.now) ≡ true) }
+    ensures value { IfOk result (λ page. page ≡ spec.day_page_of (day_in text.now) text.now) }
+    ensures memory { OnErr result (spec.day_takes_memory (day_in text.now) ≡ true) }
 {
-    match number_of(text) {
-        Some(number) => Ok(page_of_number(number)),
+    match day_by_number(text) {
+        Some(day) => Ok(page_of_day(without_weekday(day))),
         None => Ok(page_of_date(date_of_word(alloc, text)?)),
     }
 }

@@ -138,7 +138,7 @@ pub answers_periods : (page : Page) (p : Profile) (limits : Limits) (lands : Lis
     (code : List ℕ) → AreSound p limits lands → code_refusal lands code ≡ None
     → AnswersPeriods p lands code page
 answers_periods (pages.Reading date given) p limits lands code sound lawful = tt
-answers_periods (pages.OfDay day) p limits lands code sound lawful = tt
+answers_periods (pages.OfDay day weekday) p limits lands code sound lawful = tt
 answers_periods (pages.Month year month) p limits lands code sound lawful = tt
 answers_periods pages.Periods p limits lands code sound lawful =
     are_periods_answered p limits lands code sound lawful

@@ -20,7 +20,7 @@ use Rattle.osn_written.specs.declared.kind.Kind.TheVariants as kinds
 use Rattle.osn_written.specs.declared.written_date.WrittenDate.{WrittenDate}
 use Rattle.osn_written.specs.Finding.{extent_meant, reckoned, ends_of, first_day_of}
 use Rattle.osn_written.specs.Kind.{kind_of}
-use Rattle.osn_written.specs.Meaning.{meaning}
+use Rattle.osn_written.specs.Meaning.{dated_by, meaning}
 use Rattle.osn_written.specs.ReadDate.{one_day}
 use Rattle.osn_pages.specs.Reading.{days_text}
 use Rattle.osn_pages.specs.Runs.{runs_text}
@@ -28,7 +28,7 @@ use Rattle.osn_pages.specs.Why.{why_lines, why_text}
 
 -- ---- one day
 
--- the days that a date means, and where it means none why
+-- the days that a date means, as the place itself dated them, and where it means none why
 abbrev pub reading_lines : Profile → TerritoryModel → Option SourcesModel → WrittenDate
     → Option Weekday → List DatedDay → List ℕ
 reading_lines p t sources w given [] = why_lines p t sources w
@@ -69,7 +69,7 @@ found_lines p own t sources e (Err reason) = no_day_lines p t sources e reason
 abbrev pub lines_of : Profile → TerritoryModel → TerritoryModel → Option SourcesModel → AnyDate
     → Option Weekday → Option WrittenDate → List ℕ
 lines_of p own t sources w given (Some day) =
-    reading_lines p t sources day given (meaning p t day given)
+    reading_lines p t sources day given (dated_by p own (meaning p t day given))
 lines_of p own t sources w given None =
     found_lines p own t sources w.extent (extent_meant p t w.extent)
 

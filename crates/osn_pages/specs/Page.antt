@@ -3,6 +3,7 @@ use Rattle.std.specs.Prelude.{ℕ, ⊤, pos, List, [], ◌++◌, map, Option, So
 use Rattle.std.specs.Fmt.{decimal}
 use Rattle.std.specs.List.{flat_map}
 use Rattle.std.specs.Option.{option_to_list}
+use Rattle.osn_days.specs.declared.weekday.Weekday.{Weekday}
 use Rattle.osn_days.specs.Profile.{Profile}
 use Rattle.osn_lands.specs.Dated.{dated_on}
 use Rattle.osn_lands.specs.Runs.{days_of_month}
@@ -19,16 +20,17 @@ use Rattle.osn_pages.specs.Grid.{grids}
 use Rattle.osn_pages.specs.Heading.{land_heading, heading, pending_line}
 use Rattle.osn_pages.specs.Law.{ArePeriodsAnswered}
 use Rattle.osn_pages.specs.Periods.{period_lines}
-use Rattle.osn_pages.specs.Reading.{plain_day_line}
+use Rattle.osn_pages.specs.Reading.{day_line, verdict}
 use Rattle.osn_pages.specs.Remarks.{remark_lines, subject}
 use Rattle.osn_pages.specs.Territory.{territory_lines}
 
 -- ---- what a page says of a territory
 
--- a day as the territory dated it, and the period that holds it
-abbrev pub day_lines : Profile → TerritoryModel → Option SourcesModel → ℕ → List ℕ
-day_lines p t sources d =
-    plain_day_line (dated_on p t d)
+-- a day as the territory dated it, with the remark on the weekday that its date names, if any; and
+-- the period that holds it
+abbrev pub day_lines : Profile → TerritoryModel → Option SourcesModel → ℕ → Option Weekday → List ℕ
+day_lines p t sources d weekday =
+    day_line (verdict weekday None d) (dated_on p t d)
     ++ flat_map (period_lines p sources) (option_to_list (period_on (periods_of p t) d))
 
 -- a month as the territory dated it
@@ -40,9 +42,9 @@ unfoldable pub land_lines : Profile → List ℕ → TerritoryModel → Option S
     → Page → List ℕ
 land_lines p name t sources code edition (pages.Reading date given) =
     heading (subject date) name code edition
-    ++ (date_lines p t sources date given ++ remark_lines p t date given)
-land_lines p name t sources code edition (pages.OfDay day) =
-    heading (codes "day " ++ decimal day) name code edition ++ day_lines p t sources day
+    ++ (date_lines p t sources date given ++ remark_lines p name t date given)
+land_lines p name t sources code edition (pages.OfDay day weekday) =
+    heading (codes "day " ++ decimal day) name code edition ++ day_lines p t sources day weekday
 land_lines p name t sources code edition (pages.Month year month) =
     land_heading name code edition ++ month_lines p t year month
 land_lines p name t sources code edition pages.Periods =
@@ -66,6 +68,6 @@ page_text p lands code published page =
 -- as a law: the periods that the page of a territory lists are those that hold its days
 abbrev pub AnswersPeriods : Profile → List LandModel → List ℕ → Page → Type 0
 AnswersPeriods p lands code (pages.Reading date given) = ⊤
-AnswersPeriods p lands code (pages.OfDay day) = ⊤
+AnswersPeriods p lands code (pages.OfDay day weekday) = ⊤
 AnswersPeriods p lands code (pages.Month year month) = ⊤
 AnswersPeriods p lands code pages.Periods = ArePeriodsAnswered p lands code

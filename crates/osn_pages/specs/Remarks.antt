@@ -1,18 +1,23 @@
 -- What is remarked after the days of a date: how sure it is, by which calendar it was read, and
 -- that its weekday is not looked for. And how its page names it. This project's profile.
-use Rattle.std.specs.Prelude.{ℕ, Bool, if◌then◌else◌, List, [], ◌∷◌, ◌++◌, Option, Some, None}
+use Rattle.std.specs.Prelude.{ℕ, ◌==◌, Bool, if◌then◌else◌, List, [], ◌∷◌, ◌++◌, Option, Some, None}
 use Rattle.std.specs.Prelude.{Result, Ok, Err, codes}
 use Rattle.std.specs.Option.{option_or}
 use Rattle.osn_days.specs.declared.weekday.Weekday.{Weekday}
 use Rattle.osn_days.specs.Profile.{Profile}
 use Rattle.osn_days.specs.Weekday.{weekday_name}
+use Rattle.osn_grammar.specs.declared.written.Reckoning.{Reckoning}
+use Rattle.osn_grammar.specs.declared.written.Reckoning.TheVariants.{OldStyle, NewStyle}
 use Rattle.osn_grammar.specs.declared.written.WrittenDate.{WrittenDate as AnyDate}
 use Rattle.osn_grammar.specs.Extent.{has_three_digits}
+use Rattle.osn_lands.specs.declared.runs.Run.{Run}
+use Rattle.osn_lands.specs.Dated.{dated_on, dated_text}
 use Rattle.osn_lands.specs.Territory.{TerritoryModel}
+use Rattle.osn_written.specs.declared.finding.NoDay.{NoDay}
 use Rattle.osn_written.specs.declared.written_date.DateFault.{DateFault}
 use Rattle.osn_written.specs.declared.written_date.WrittenDate.{WrittenDate}
 use Rattle.osn_written.specs.DateInWords.{words_of}
-use Rattle.osn_written.specs.Finding.{is_by_other_calendar}
+use Rattle.osn_written.specs.Finding.{by_reckoning, extent_meant, is_by_other_calendar}
 use Rattle.osn_written.specs.OtherForms.{plain_day}
 use Rattle.osn_written.specs.ReadDate.{one_day}
 
@@ -62,10 +67,34 @@ three_digits_line w =
 
 -- ---- by which calendar
 
-abbrev pub calendar_line : Bool → List ℕ
-calendar_line is_other =
-    if is_other then
-    codes "by the calendar that the date names: by its own reckoning the place means other days\n"
+abbrev pub style_name : Reckoning → List ℕ
+style_name OldStyle = codes "Old Style"
+style_name NewStyle = codes "New Style"
+
+-- how the place of that name itself dated these days: a single day is named, and others stand above
+unfoldable pub own_days : Profile → List ℕ → TerritoryModel → ℕ → ℕ → List ℕ
+own_days p name t first last =
+    if first == last then
+    name ++ (codes " itself dated that day " ++ (dated_text (dated_on p t first) ++ codes "\n"))
+    else name ++ codes " itself dated these days as they are written above\n"
+
+-- the same of what the date means by the calendar that it names. If it means no day by that one, it
+-- does by the place's own
+unfoldable pub own_dates : Profile → List ℕ → TerritoryModel → Result (List Run) NoDay → List ℕ
+own_dates p name t (Ok (r ∷ [])) = own_days p name t r.first r.last
+own_dates p name t (Ok runs) = name ++ codes " itself dated these days as they are written above\n"
+own_dates p name t (Err reason) =
+    codes "by its own reckoning " ++ (name ++ codes " has that date\n")
+
+-- by which calendar the date is read, if it means other days by the place's own reckoning
+abbrev pub calendar_line : Profile → List ℕ → TerritoryModel → AnyDate → Option Reckoning → List ℕ
+calendar_line p name t w None = []
+calendar_line p name t w (Some reckoning) =
+    if is_by_other_calendar p t w then
+    codes "read as "
+    ++ (style_name reckoning
+    ++ (codes ", as the date says; "
+    ++ own_dates p name t (extent_meant p (by_reckoning t reckoning) w.extent)))
     else []
 
 -- ---- the weekday
@@ -82,9 +111,9 @@ weekday_line weekday None = not_sought_line weekday
 
 -- ---- all of them
 
-unfoldable pub remark_lines : Profile → TerritoryModel → AnyDate → Option Weekday → List ℕ
-remark_lines p t w given =
+unfoldable pub remark_lines : Profile → List ℕ → TerritoryModel → AnyDate → Option Weekday → List ℕ
+remark_lines p name t w given =
     sureness_line w
     ++ (three_digits_line w
-    ++ (calendar_line (is_by_other_calendar p t w)
+    ++ (calendar_line p name t w w.reckoning
     ++ weekday_line (option_or w.weekday given) (one_day w)))

@@ -1,14 +1,16 @@
 -- The lines that say why a written date means no day. This project's profile.
-use Rattle.std.specs.Prelude.{ℕ, Bool, ◌-◌, if◌then◌else◌, List, [], ◌∷◌, ◌++◌, map, pos}
+use Rattle.std.specs.Prelude.{ℕ, Bool, ◌-◌, ◌==◌, if◌then◌else◌, List, [], ◌∷◌, ◌++◌, map, pos}
 use Rattle.std.specs.Prelude.{Option, codes}
 use Rattle.std.specs.Fmt.{decimal}
-use Rattle.std.specs.List.{flat_map}
+use Rattle.std.specs.List.{flat_map, list_any}
 use Rattle.std.specs.Str.{bytes_eq}
+use Rattle.osn_days.specs.Month.{month_name}
 use Rattle.osn_days.specs.Profile.{Profile}
 use Rattle.osn_lands.specs.declared.dated.DatedDay.{DatedDay}
 use Rattle.osn_lands.specs.declared.style.Style.{Style}
 use Rattle.osn_lands.specs.Dated.{dated_on}
 use Rattle.osn_lands.specs.LabelOrder.{gaps}
+use Rattle.osn_lands.specs.MonthDay.{has_month_day}
 use Rattle.osn_lands.specs.Runs.{days_of_year}
 use Rattle.osn_lands.specs.StyleWords.{style_word, beginning_of_year}
 use Rattle.osn_lands.specs.Territory.{TerritoryModel, regime_at, reading}
@@ -44,6 +46,21 @@ unfoldable pub line_ends : DatedDay → DatedDay → List ℕ
 line_ends first last =
     codes "off the line of days: there it goes from "
     ++ (numbered_day first ++ (codes " to " ++ (numbered_day last ++ codes "\n")))
+
+-- ---- a date of no calendar
+
+-- how many days a month has that lacks one of them by every calendar of the territory
+abbrev pub month_length : Profile → TerritoryModel → ℕ → List ℕ
+month_length p t month =
+    if month == 2 then
+    (if list_any (λ s. has_month_day p s.1.calendar 2 30) t.starts then codes "has at most 30 days"
+    else codes "has at most 29 days")
+    else codes "has 30 days"
+
+unfoldable pub not_of_calendar_line : Profile → TerritoryModel → ℕ → List ℕ
+not_of_calendar_line p t month =
+    codes "no date of its calendar: "
+    ++ (month_name month ++ (codes " " ++ (month_length p t month ++ codes "\n")))
 
 -- ---- a gap
 
@@ -112,7 +129,7 @@ abbrev pub why_text : Profile → TerritoryModel → Option SourcesModel → Wri
     → List ℕ
 why_text p t sources w why.NotWithBothYears =
     flat_map with_one_year_line (map (dated_on p t) (reading p t (label_of w)))
-why_text p t sources w why.NotOfItsCalendar = codes "no date of its calendar\n"
+why_text p t sources w why.NotOfItsCalendar = not_of_calendar_line p t w.month
 why_text p t sources w why.OffTheLine = line_ends (dated_on p t 1) (dated_on p t p.high)
 why_text p t sources w why.Skipped = flat_map (skip_lines p t sources w) (gaps p t (label_of w))
 why_text p t sources w why.NotInThatYear =

@@ -2,7 +2,7 @@
 ghost use Rattle.std.specs.Prelude.{◌≡◌, ◌++◌, IfOk, OnOk, string_bytes, is_err};
 ghost use Rattle.osn_days.specs.Profile.{newest_rules};
 ghost use Rattle.osn_written.specs.Finding.{extent_meant};
-ghost use Rattle.osn_written.specs.Meaning.{meaning};
+ghost use Rattle.osn_written.specs.Meaning.{dated_by, meaning};
 ghost use Rattle.osn_written.specs.ReadDate.{one_day};
 ghost use Rattle.osn_pages.specs.DateLines as spec;
 
@@ -14,15 +14,17 @@ use osn_days::Weekday;
 use osn_grammar::{Extent, WrittenDate as AnyDate};
 use osn_lands::Territory;
 use osn_written::{
-    Absence, Kind, NoDay, WrittenDate, by_reckoning, days_meant, ends_of, find_runs, first_day_of,
-    kind_of,
+    Absence, Kind, NoDay, WrittenDate, by_reckoning, dated_by, days_meant, ends_of, find_runs,
+    first_day_of, kind_of,
 };
 use std::alloc::{AllocError, Global};
 
-/// Appends the days that a date means, and where it means none why.
+/// Appends the days that a date means by the reckoning of a territory, as the place itself dated
+/// them, and where it means none why.
 fn push_reading(
     alloc: Global,
     out: &mut String,
+    own: &Territory,
     territory: &Territory,
     sources: &LandSources<'_>,
     date: WrittenDate,
@@ -30,9 +32,10 @@ fn push_reading(
 ) -> Result<(), AllocError>
     ensures { OnOk result (string_bytes out.new ≡ string_bytes out.old
         ++ spec.reading_lines newest_rules territory.now sources.now date given
-        (meaning newest_rules territory.now date given)) }
+        (dated_by newest_rules own.now (meaning newest_rules territory.now date given))) }
 {
-    let days = days_meant(alloc, territory, date, given)?;
+    let meant = days_meant(alloc, territory, date, given)?;
+    let days = dated_by(alloc, own, meant.as_slice())?;
     if days.is_empty() {
         return push_why(alloc, out, territory, sources, date);
     }
@@ -126,7 +129,7 @@ fn push_lines(
         (one_day date)) }
 {
     match WrittenDate::of_one_day(date) {
-        Some(day) => push_reading(alloc, out, territory, sources, day, given),
+        Some(day) => push_reading(alloc, out, own, territory, sources, day, given),
         None => push_found(alloc, out, own, territory, sources, date.extent),
     }
 }

@@ -14,7 +14,7 @@ use crate::heading::{push_land_heading, push_pending};
 use crate::land_sources::LandSources;
 use crate::month::push_month;
 use crate::periods::push_period;
-use crate::reading::push_day;
+use crate::reading::push_named_day;
 use crate::remarks::{Subject, push_remarks};
 use crate::territory::push_territory;
 use osn_days::{Day, Weekday};
@@ -34,7 +34,11 @@ pub enum Page {
         weekday: Option<Weekday>,
     },
     /// How the territory dated a day.
-    OfDay(Day),
+    OfDay {
+        day: Day,
+        /// The weekday that the date of the day names, if any.
+        weekday: Option<Weekday>,
+    },
     /// A month as the territory dated it.
     Month {
         /// The year as the territory counted it.
@@ -74,11 +78,12 @@ fn push_day_lines(
     territory: &Territory,
     sources: &LandSources<'_>,
     day: Day,
+    weekday: Option<Weekday>,
 ) -> Result<(), AllocError>
-    ensures { OnOk result (string_bytes out.new
-        ≡ string_bytes out.old ++ spec.day_lines newest_rules territory.now sources.now day) }
+    ensures { OnOk result (string_bytes out.new ≡ string_bytes out.old
+        ++ spec.day_lines newest_rules territory.now sources.now day weekday) }
 {
-    push_day(out, territory.dated(day))?;
+    push_named_day(out, weekday, territory.dated(day))?;
     let (place, _) = territory.period_at(day);
     push_period(out, sources, &territory.periods()[place])
 }
@@ -95,25 +100,30 @@ fn push_reading_page(
     ensures { OnOk result (string_bytes out.new ≡ string_bytes out.old
         ++ (heading (subject date) place.entry.name.now place.entry.code.now place.entry.edition
         ++ (date_lines newest_rules place.entry.territory.now place.entry.sources.now date given
-        ++ remark_lines newest_rules place.entry.territory.now date given))) }
+        ++ remark_lines newest_rules place.entry.name.now place.entry.territory.now date given))) }
 {
     write!(out, "{} in ", Subject(date))?;
     push_land_heading(out, place.name, place.code, place.edition)?;
     push_date(alloc, out, place.territory, place.sources, date, given)?;
-    push_remarks(alloc, out, place.territory, date, given)
+    push_remarks(alloc, out, place.name, place.territory, date, given)
 }
 
 /// Appends the page of a day.
 #[tactic(auto, unfolding(crate::specs::Heading::heading))]
-fn push_day_page(out: &mut String, place: Place<'_>, day: Day) -> Result<(), AllocError>
+fn push_day_page(
+    out: &mut String,
+    place: Place<'_>,
+    day: Day,
+    weekday: Option<Weekday>,
+) -> Result<(), AllocError>
     ensures { OnOk result (string_bytes out.new ≡ string_bytes out.old
         ++ (heading (codes "day " ++ decimal day) place.entry.name.now place.entry.code.now
         place.entry.edition ++ spec.day_lines newest_rules place.entry.territory.now
-        place.entry.sources.now day)) }
+        place.entry.sources.now day weekday)) }
 {
     write!(out, "day {} in ", day.number())?;
     push_land_heading(out, place.name, place.code, place.edition)?;
-    push_day_lines(out, place.territory, place.sources, day)
+    push_day_lines(out, place.territory, place.sources, day, weekday)
 }
 
 /// Appends the lines of a page, its heading first.
@@ -130,7 +140,7 @@ fn push_page(
 {
     match page {
         Page::Reading { date, weekday } => push_reading_page(alloc, out, place, date, weekday),
-        Page::OfDay(day) => push_day_page(out, place, day),
+        Page::OfDay { day, weekday } => push_day_page(out, place, day, weekday),
         Page::Month { year, month } => {
             push_land_heading(out, place.name, place.code, place.edition)?;
             push_month(alloc, out, place.territory, year, month)

@@ -1,5 +1,5 @@
 //! The lines of the days that a written date means.
-ghost use Rattle.std.specs.Prelude.{◌≡◌, ◌++◌, OnOk, string_bytes, IfSome, is_some};
+ghost use Rattle.std.specs.Prelude.{◌≡◌, ◌++◌, None, OnOk, string_bytes, IfSome, is_some};
 ghost use Rattle.osn_days.specs.Weekday.{weekday_name};
 ghost use Rattle.osn_pages.specs.Reading as spec;
 
@@ -70,18 +70,30 @@ fn push_day_line(out: &mut String, verdict: Verdict, dated: DatedDay) -> Result<
     )
 }
 
+/// Appends the line of a day, and whether it is of the weekday that its date names, if any.
+pub(crate) fn push_named_day(
+    out: &mut String,
+    written: Option<Weekday>,
+    dated: DatedDay,
+) -> Result<(), AllocError>
+    ensures { OnOk result (string_bytes out.new ≡ string_bytes out.old
+        ++ spec.day_line (spec.verdict written None dated.day) dated) }
+{
+    let verdict = Verdict {
+        written,
+        given: None,
+        day: dated.day,
+    };
+    push_day_line(out, verdict, dated)
+}
+
 /// Appends the line of a day, of which no weekday is asked.
 #[tactic(auto, unfolding(crate::specs::Reading::verdict))]
 pub(crate) fn push_day(out: &mut String, dated: DatedDay) -> Result<(), AllocError>
     ensures { OnOk result (string_bytes out.new
         ≡ string_bytes out.old ++ spec.plain_day_line dated) }
 {
-    let verdict = Verdict {
-        written: None,
-        given: None,
-        day: dated.day,
-    };
-    push_day_line(out, verdict, dated)
+    push_named_day(out, None, dated)
 }
 
 /// Appends that the territory counted from 1 January, and what it wrote.

@@ -1,12 +1,15 @@
 //! How a page names a date, and what is remarked after its days.
 ghost use Rattle.std.specs.Prelude.{◌≡◌, ◌++◌, OnOk, string_bytes};
 ghost use Rattle.osn_days.specs.Profile.{newest_rules};
+ghost use Rattle.osn_written.specs.Finding.{list_of};
 ghost use Rattle.osn_pages.specs.Remarks as spec;
 
-use osn_days::Weekday;
-use osn_grammar::WrittenDate as AnyDate;
-use osn_lands::Territory;
-use osn_written::{DateInWords, WrittenDate, is_by_other_calendar, plain_day};
+use osn_days::{Day, Weekday};
+use osn_grammar::{Reckoning, WrittenDate as AnyDate};
+use osn_lands::{Run, Territory};
+use osn_written::{
+    DateInWords, NoDay, WrittenDate, by_reckoning, find_runs, is_by_other_calendar, plain_day,
+};
 use std::alloc::{AllocError, Global};
 use std::fmt;
 use std::fmt::Write;
@@ -68,15 +71,80 @@ fn three_digits_line(date: AnyDate) -> &'static str
     }
 }
 
-/// The line of a date that means other days by the calendar that it names.
-fn calendar_line(is_other: bool) -> &'static str
-    ensures { result.now ≡ spec.calendar_line is_other }
+/// The name of the style whose calendar a date names.
+fn style_name(reckoning: Reckoning) -> &'static str
+    ensures { result.now ≡ spec.style_name reckoning }
 {
-    if is_other {
-        "by the calendar that the date names: by its own reckoning the place means other days\n"
-    } else {
-        ""
+    match reckoning {
+        Reckoning::OldStyle => "Old Style",
+        Reckoning::NewStyle => "New Style",
     }
+}
+
+/// Appends how the place of that name itself dated the days from one to another. A single day is
+/// named, and others are written above.
+#[tactic(auto, unfolding(crate::specs::Remarks::own_days))]
+fn push_own_days(
+    out: &mut String,
+    name: &str,
+    territory: &Territory,
+    first: Day,
+    last: Day,
+) -> Result<(), AllocError>
+    ensures { OnOk result (string_bytes out.new ≡ string_bytes out.old
+        ++ spec.own_days newest_rules name.now territory.now first last) }
+{
+    if first == last {
+        let dated = territory.dated(first);
+        writeln!(out, "{name} itself dated that day {dated}")
+    } else {
+        writeln!(out, "{name} itself dated these days as they are written above")
+    }
+}
+
+/// The same of what a date means by the calendar that it names. If it means no day by that one, it
+/// does by the place's own.
+#[tactic(auto, unfolding(crate::specs::Remarks::own_dates))]
+fn push_own_dates(
+    out: &mut String,
+    name: &str,
+    territory: &Territory,
+    found: &Result<Vec<Run>, NoDay>,
+) -> Result<(), AllocError>
+    ensures { OnOk result (string_bytes out.new ≡ string_bytes out.old
+        ++ spec.own_dates newest_rules name.now territory.now (list_of found.now)) }
+{
+    match found {
+        Ok(runs) => match runs.as_slice() {
+            [run] => push_own_days(out, name, territory, run.first, run.last),
+            _ => writeln!(out, "{name} itself dated these days as they are written above"),
+        },
+        Err(_) => writeln!(out, "by its own reckoning {name} has that date"),
+    }
+}
+
+/// Appends by which calendar a date is read that names one, and how the place itself dated its
+/// days, if the date means other days by the place's own reckoning.
+fn push_calendar(
+    alloc: Global,
+    out: &mut String,
+    name: &str,
+    territory: &Territory,
+    date: AnyDate,
+) -> Result<(), AllocError>
+    ensures { OnOk result (string_bytes out.new ≡ string_bytes out.old
+        ++ spec.calendar_line newest_rules name.now territory.now date date.reckoning) }
+{
+    let Some(reckoning) = date.reckoning else {
+        return Ok(());
+    };
+    if !is_by_other_calendar(alloc, territory, date)? {
+        return Ok(());
+    }
+    let reckoned = by_reckoning(alloc, territory, reckoning)?;
+    let found = find_runs(alloc, &reckoned, date.extent)?;
+    write!(out, "read as {}, as the date says; ", style_name(reckoning))?;
+    push_own_dates(out, name, territory, &found)
 }
 
 /// Appends that the weekday of a date is not looked for, where it has one.
@@ -115,16 +183,16 @@ fn push_weekday(
 pub(crate) fn push_remarks(
     alloc: Global,
     out: &mut String,
+    name: &str,
     territory: &Territory,
     date: AnyDate,
     given: Option<Weekday>,
 ) -> Result<(), AllocError>
     ensures { OnOk result (string_bytes out.new ≡ string_bytes out.old
-        ++ spec.remark_lines newest_rules territory.now date given) }
+        ++ spec.remark_lines newest_rules name.now territory.now date given) }
 {
-    let is_other = is_by_other_calendar(alloc, territory, date)?;
     out.push_str(sureness(date))?;
     out.push_str(three_digits_line(date))?;
-    out.push_str(calendar_line(is_other))?;
+    push_calendar(alloc, out, name, territory, date)?;
     push_weekday(out, date.weekday.or(given), WrittenDate::of_one_day(date))
 }

@@ -12,7 +12,7 @@ use crate::land_sources::LandSources;
 use crate::nearest::nearest_days;
 use crate::source_line::push_source;
 use crate::words::{NamedDay, NumberedDay};
-use osn_days::{Day, Keyword};
+use osn_days::{Day, Keyword, month_name};
 use osn_lands::{DatedDay, Run, Style, Territory};
 use osn_written::{Absence, WrittenDate, absence_of};
 use std::alloc::{AllocError, Global};
@@ -90,6 +90,35 @@ fn push_line_ends(out: &mut String, first: DatedDay, last: DatedDay) -> Result<(
         "off the line of days: there it goes from {} to {}",
         NumberedDay(first),
         NumberedDay(last)
+    )
+}
+
+/// How many days a month has that lacks one of them by every calendar of a territory.
+fn month_length(territory: &Territory, month: u8) -> &'static str
+    ensures { result.now ≡ spec.month_length newest_rules territory.now month }
+{
+    match month {
+        2 if territory.has_month_day(2, 30) => "has at most 30 days",
+        2 => "has at most 29 days",
+        _ => "has 30 days",
+    }
+}
+
+/// Appends that no calendar of a territory has a day of that month.
+#[tactic(auto, unfolding(crate::specs::Why::not_of_calendar_line))]
+fn push_not_of_calendar(
+    out: &mut String,
+    territory: &Territory,
+    month: u8,
+) -> Result<(), AllocError>
+    ensures { OnOk result (string_bytes out.new ≡ string_bytes out.old
+        ++ spec.not_of_calendar_line newest_rules territory.now month) }
+{
+    writeln!(
+        out,
+        "no date of its calendar: {} {}",
+        month_name(month),
+        month_length(territory, month)
     )
 }
 
@@ -278,7 +307,7 @@ pub(crate) fn push_reason(
             let days = territory.read(date.label())?;
             push_all_with_one_year(out, territory, days.as_slice())
         }
-        Absence::NotOfItsCalendar => out.push_str("no date of its calendar\n"),
+        Absence::NotOfItsCalendar => push_not_of_calendar(out, territory, date.month),
         Absence::OffTheLine => {
             push_line_ends(out, territory.dated(Day::FIRST), territory.dated(Day::LAST))
         }

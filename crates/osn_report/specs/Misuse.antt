@@ -1,6 +1,7 @@
 -- What a word of the command line is told that is not what its place asks for. This project's
 -- profile.
 use Rattle.std.specs.Prelude.{ℕ, List, ◌++◌, codes}
+use Rattle.std.specs.Fmt.{decimal}
 use Rattle.osn_days.specs.CalendarWords.{calendar_word}
 use Rattle.osn_days.specs.Weekday.{weekday_name}
 use Rattle.osn_written.specs.declared.written_date.DateFault.{DateFault}
@@ -8,6 +9,7 @@ use Rattle.osn_written.specs.declared.written_date.DateFault.TheVariants as faul
 use Rattle.osn_report.specs.declared.misuse.Misuse.{Misuse}
 use Rattle.osn_report.specs.declared.misuse.Misuse.TheVariants.{Date, Weekday, OtherWeekday}
 use Rattle.osn_report.specs.declared.misuse.Misuse.TheVariants.{Calendar, DayNumber, DoubleDate}
+use Rattle.osn_report.specs.declared.misuse.Misuse.TheVariants.{JulianDayNumber, WhichDayNumber}
 use Rattle.osn_report.specs.declared.misuse.Misuse.TheVariants.{NoSuchDate, Month, Limits}
 use Rattle.osn_report.specs.declared.misuse.Misuse.TheVariants.{Separator, Order, Shell}
 use Rattle.osn_report.specs.declared.misuse.Misuse.TheVariants.{OpenOrder, DateAndParts}
@@ -47,8 +49,14 @@ misuse_text Weekday = codes "a weekday is written by its English name, as Friday
 misuse_text (OtherWeekday named) = codes "the date names "
     ++ (weekday_name named ++ codes ": write one weekday, or the same one twice")
 misuse_text Calendar = codes
-    "a calendar is gregorian, julian or swedish; after the word day, write a day number"
+    "a calendar is gregorian, julian or swedish; after the word day or jdn, write a number"
 misuse_text DayNumber = codes "a day number is 1 to 3652059"
+misuse_text JulianDayNumber = codes
+    "a Julian day number is 1721426 to 5373484, as \"JDN 2353712\""
+misuse_text (WhichDayNumber number) =
+    decimal number
+    ++ (codes " may be a day number or a Julian day number: write \"day "
+    ++ (decimal number ++ (codes "\" or \"JDN " ++ (decimal number ++ codes "\""))))
 misuse_text DoubleDate = codes "a date with both years is a territory's: use oldstyle read"
 misuse_text (NoSuchDate calendar) = codes "the "
     ++ (calendar_word calendar ++ codes " calendar has no such date in the years 1 to 9999")

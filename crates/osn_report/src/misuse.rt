@@ -25,6 +25,10 @@ pub enum Misuse {
     Calendar,
     /// It stands for a day number, and is no day number.
     DayNumber,
+    /// It stands for a Julian day number, and is none of a day of the line.
+    JulianDayNumber,
+    /// It is this number alone, which may be a day number or a Julian day number.
+    WhichDayNumber(u32),
     /// It is a date with both years, and stands for one of a calendar.
     DoubleDate,
     /// The calendar has no such date, or has it off the line of days.
@@ -102,10 +106,18 @@ impl fmt::Display for Misuse {
                 named.name()
             ),
             Misuse::Calendar => f.write_str(
-                "a calendar is gregorian, julian or swedish; after the word day, write a day \
+                "a calendar is gregorian, julian or swedish; after the word day or jdn, write a \
 number",
             ),
             Misuse::DayNumber => f.write_str("a day number is 1 to 3652059"),
+            Misuse::JulianDayNumber => {
+                f.write_str("a Julian day number is 1721426 to 5373484, as \"JDN 2353712\"")
+            }
+            Misuse::WhichDayNumber(number) => write!(
+                f,
+                "{number} may be a day number or a Julian day number: write \"day {number}\" or \
+\"JDN {number}\"",
+            ),
             Misuse::DoubleDate => f.write_str(
                 "a date with both years is a territory's: use oldstyle read",
             ),

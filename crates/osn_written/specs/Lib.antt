@@ -10,5 +10,6 @@ pub mod Spans
 pub mod Kind
 pub mod Finding
 pub mod SetsMeant
+pub mod Double
 pub mod ReadDate
 pub mod Words

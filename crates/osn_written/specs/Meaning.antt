@@ -55,6 +55,10 @@ days_meant p t w =
 abbrev pub is_not_counted_double : WrittenDate → DatedDay → Bool
 is_not_counted_double w day = w.is_double && not (int_eq day.label.year (pos w.year))
 
+-- days as a territory dated them, whatever reckoning they were found by
+abbrev pub dated_by : Profile → TerritoryModel → List DatedDay → List DatedDay
+dated_by p t days = map (λ day. dated_on p t day.day) days
+
 -- ---- weekdays
 
 -- the day is of the weekday, where one is given

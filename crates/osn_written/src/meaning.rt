@@ -148,6 +148,22 @@ fn dated_days(
     days.iter().map(|day| territory.dated(*day)).collect(alloc)
 }
 
+/// These days as a territory dated them, whatever reckoning they were found by.
+///
+/// # Errors
+///
+/// `AllocError` if there is no memory for the list.
+pub fn dated_by(
+    alloc: Global,
+    territory: &Territory,
+    days: &[DatedDay],
+) -> Result<Vec<DatedDay>, AllocError>
+    ensures { IfOk result (λ dated.
+        dated.items ≡ spec.dated_by newest_rules territory.now days.now) }
+{
+    days.iter().map(|day| territory.dated(day.day)).collect(alloc)
+}
+
 /// The days, those first that have the weekday.
 fn first_by_weekday(
     alloc: Global,

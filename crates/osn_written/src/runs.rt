@@ -13,7 +13,7 @@ use osn_lands::{DatedDay, Label, Run, Territory};
 use std::alloc::{AllocError, Global};
 
 /// The year that is written.
-fn year_of(date: SimpleDate) -> Year
+pub(crate) fn year_of(date: SimpleDate) -> Year
     ensures { result ≡ spec.year_of date }
 {
     match date {
@@ -140,7 +140,7 @@ fn push_meant_of_year(
 }
 
 /// The days that a date of a double year means, in order.
-fn double_days(
+pub(crate) fn double_days(
     alloc: Global,
     territory: &Territory,
     date: SimpleDate,

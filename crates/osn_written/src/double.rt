@@ -1,0 +1,50 @@
+//! Whether a place counted the days double that a date with both years means.
+ghost use Rattle.std.specs.Prelude.{◌≡◌, IfOk};
+ghost use Rattle.osn_days.specs.Profile.{newest_rules};
+ghost use Rattle.osn_written.specs.Double as spec;
+
+use crate::finding::ends_of;
+use crate::runs::{double_days, year_of};
+use osn_grammar::{Extent, SimpleDate};
+use osn_lands::Territory;
+use std::alloc::{AllocError, Global};
+
+/// Whether a date has both years, and a place dated one of the days that it means by another year
+/// than the first one: it did not count that day double.
+fn is_date_not_counted_double(
+    alloc: Global,
+    own: &Territory,
+    territory: &Territory,
+    date: SimpleDate,
+) -> Result<bool, AllocError>
+    ensures { IfOk result (λ is. is
+        ≡ spec.is_date_not_counted_double newest_rules own.now territory.now date) }
+{
+    let year = year_of(date);
+    if !year.is_double {
+        return Ok(false);
+    }
+    let days = double_days(alloc, territory, date)?;
+    let first = i32::from(year.first);
+    Ok(days.iter().any(|day| own.dated(*day).label.year != first))
+}
+
+/// Whether a date of what is written has both years, and means by the reckoning of a territory a
+/// day that the place itself dated by another year than the first one.
+///
+/// # Errors
+///
+/// `AllocError` if there is no memory for the list of days.
+pub fn is_extent_not_counted_double(
+    alloc: Global,
+    own: &Territory,
+    territory: &Territory,
+    extent: Extent,
+) -> Result<bool, AllocError>
+    ensures { IfOk result (λ is. is
+        ≡ spec.is_extent_not_counted_double newest_rules own.now territory.now extent) }
+{
+    let (first, last) = ends_of(extent);
+    Ok(is_date_not_counted_double(alloc, own, territory, first)?
+        || is_date_not_counted_double(alloc, own, territory, last)?)
+}
