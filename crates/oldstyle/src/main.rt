@@ -4,6 +4,7 @@
 use osn_commands::{run, tell_no_words};
 use osn_folder::Disk;
 use osn_lines::Plain;
+use osn_report::{StandardOutput, end_output};
 use std::fs::{File, OpenOptions};
 use std::io::IsTerminal;
 use std::os::fd::{AsRawFd, RawFd};
@@ -32,7 +33,7 @@ fn main(rt: HostRuntime) -> ExitCode {
     let _output = in_place(fs::open(&rt, "/dev/null"), 1);
     let _errors = in_place(fs::open(&rt, "/dev/null"), 2);
     let mut input = Plain::new(rt.reader());
-    let mut output = Plain::new(io::writer(&rt));
+    let mut output = StandardOutput::new(io::writer(&rt));
     let mut errors = Plain::new(rt.stderr());
     let terminal = rt.stderr().is_terminal().then(|| Plain::new(rt.stderr()));
     let mut disk = Disk::new(&rt);
@@ -48,5 +49,6 @@ fn main(rt: HostRuntime) -> ExitCode {
         ),
         Err(why) => tell_no_words(&why, &mut errors),
     };
+    let status = end_output(&mut errors, status, output.cause());
     ExitCode::from(status.code())
 }

@@ -9,7 +9,7 @@ use Rattle.osn_files.specs.declared.fault.Role.TheVariants.{Transcript}
 use Rattle.osn_audit.specs.Audit.{agreed_lines}
 use Rattle.osn_report.specs.Files.{Makes, IsFileFault}
 use Rattle.osn_report.specs.Journal.{MakesObject, MakesNoObject}
-use Rattle.osn_report.specs.Printing.{PrintsIfMade, PrintsNone}
+use Rattle.osn_report.specs.Printing.{PrintsOrReports, PrintsNone}
 use Rattle.osn_report.specs.declared.fault.CommandFault.TheVariants.{File}
 use Rattle.osn_report.specs.declared.status.Status.{Status}
 
@@ -36,4 +36,4 @@ abbrev pub PrintsAudit : Limits → Input → Input → Output → Output → St
 PrintsAudit limits journal transcript o e status =
     ((fault : FileFault) × IsNotAudited limits journal transcript fault
     × PrintsNone (File fault) o e status)
-    ⊎ ((n : ℕ) × Agree limits journal transcript n × PrintsIfMade (audit_line n) o e status)
+    ⊎ ((n : ℕ) × Agree limits journal transcript n × PrintsOrReports (audit_line n) o e status)

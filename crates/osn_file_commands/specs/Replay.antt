@@ -13,7 +13,7 @@ use Rattle.osn_files.specs.declared.fault.FileFault.{FileFault}
 use Rattle.osn_files.specs.declared.fault.Role.TheVariants.{Schedule}
 use Rattle.osn_reply.specs.OutText.{out_line}
 use Rattle.osn_report.specs.Files.{Makes, IsFileFault}
-use Rattle.osn_report.specs.Printing.{PrintsIfMade, PrintsNone}
+use Rattle.osn_report.specs.Printing.{PrintsOrReports, PrintsNone}
 use Rattle.osn_report.specs.declared.fault.CommandFault.TheVariants.{File, Refused}
 use Rattle.osn_report.specs.declared.status.Status.{Status}
 
@@ -26,7 +26,7 @@ replay_text limits readers steps =
 abbrev pub PrintsReplayOf : Limits → ℕ → List Step → Output → Output → Status → Type 0
 PrintsReplayOf limits readers steps o e status =
     ((readers_refusal readers ≡ None)
-    × PrintsIfMade (replay_text limits readers steps) o e status)
+    × PrintsOrReports (replay_text limits readers steps) o e status)
     ⊎ ((refusal : Refusal) × IsRefusalOrNoMemory (readers_refusal readers) refusal
     × PrintsNone (Refused refusal) o e status)
 

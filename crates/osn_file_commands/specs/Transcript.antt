@@ -18,7 +18,7 @@ use Rattle.osn_files.specs.declared.fault.Role.TheVariants.{Script, Questions}
 use Rattle.osn_reply.specs.Transcript.{transcript_line}
 use Rattle.osn_file_commands.specs.DeskFault.{TellsDesk}
 use Rattle.osn_report.specs.Files.{Makes, IsFileFault}
-use Rattle.osn_report.specs.Printing.{PrintsIfMade, PrintsNone}
+use Rattle.osn_report.specs.Printing.{PrintsOrReports, PrintsNone}
 use Rattle.osn_report.specs.declared.fault.CommandFault.TheVariants.{File}
 use Rattle.osn_report.specs.declared.status.Status.{Status}
 
@@ -54,7 +54,7 @@ abbrev pub PrintsDesk : Limits → List Command → List (Vec Query Global) → 
 PrintsDesk limits commands lists o e status =
     ((IsBadCount (length lists) → ⊥) × (all : List (Vec Reply Global))
     × AreAll newest_rules limits (editions_of newest_rules limits commands) lists all
-    × PrintsIfMade (transcript_from 1 lists all) o e status)
+    × PrintsOrReports (transcript_from 1 lists all) o e status)
     ⊎ ((fault : DeskFault)
     × IsDeskFault (length lists) (length (editions_of newest_rules limits commands)) fault
     × (o.new ≡ o.old) × TellsDesk e fault status)

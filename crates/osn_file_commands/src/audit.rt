@@ -6,7 +6,7 @@ ghost use Rattle.osn_file_commands.specs.Audit.{audit_line, PrintsAudit};
 use osn_audit::audit;
 use osn_lines::{Sink, Source};
 use osn_register::Limits;
-use osn_report::{CommandFault, Status, print, report};
+use osn_report::{CommandFault, Status, print_or_report, report};
 use std::alloc::{AllocError, Global};
 
 /// The line on this many replies.
@@ -37,7 +37,7 @@ pub fn audit_command<J: Source, K: Source, W: Sink, E: Sink>(
         (output_of E.contents E.has_failed E.holds_back errors.old errors.new) result }
 {
     match audit(alloc, limits, journal, transcript) {
-        Ok(replies) => print(agreed_line(alloc, replies), output, errors),
+        Ok(replies) => print_or_report(agreed_line(alloc, replies), output, errors),
         Err(fault) => report(alloc, errors, CommandFault::File(fault)),
     }
 }

@@ -11,7 +11,7 @@ use osn_files::{FileFault, read_questions, read_script};
 use osn_lines::{Sink, Source};
 use osn_live::{OpenGate, run_desk};
 use osn_register::{Limits, Query};
-use osn_report::{CommandFault, Status, print, report};
+use osn_report::{CommandFault, Status, print_or_report, report};
 use std::alloc::Global;
 use std::sync::Wait;
 use std::thread::Threads;
@@ -49,7 +49,7 @@ fn print_desk<R: Threads + Wait + AllocGlobal, W: Sink, E: Sink>(
 {
     let alloc = rt.alloc();
     match run_desk(rt, alloc, limits, &OpenGate, commands, lists) {
-        Ok(told) => print(transcript(alloc, lists, &told), output, errors),
+        Ok(told) => print_or_report(transcript(alloc, lists, &told), output, errors),
         Err(fault) => report_desk(alloc, errors, fault),
     }
 }

@@ -10,7 +10,7 @@ use osn_files::read_schedule;
 use osn_lines::{Sink, Source};
 use osn_register::Limits;
 use osn_reply::out_text;
-use osn_report::{CommandFault, Status, print, report};
+use osn_report::{CommandFault, Status, print_or_report, report};
 use std::alloc::{AllocError, Global};
 
 /// The lines of what steps gave, one for each.
@@ -39,7 +39,7 @@ fn print_steps<W: Sink, E: Sink>(
         (output_of E.contents E.has_failed E.holds_back errors.old errors.new) result }
 {
     match replay(alloc, limits, readers, steps) {
-        Ok(outs) => print(out_lines(alloc, &outs), output, errors),
+        Ok(outs) => print_or_report(out_lines(alloc, &outs), output, errors),
         Err(refusal) => report(alloc, errors, CommandFault::Refused(refusal)),
     }
 }

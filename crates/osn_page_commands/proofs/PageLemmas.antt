@@ -10,8 +10,9 @@ use Rattle.osn_register.specs.declared.refusal.Refusal.TheVariants as refusals
 use Rattle.osn_page_commands.specs.PageWords.{code_of, date_text_of, topic_of_words}
 use Rattle.osn_page_commands.specs.Page.{PrintsTopic, RunsPage, PrintsPageOf}
 use Rattle.osn_page_commands.specs.Page.{topic_refusal, topic_text, published, refusal_line}
-use Rattle.osn_page_commands.specs.Page.{ended, lacks_strict_day}
+use Rattle.osn_page_commands.specs.Page.{ended, lacks_strict_day, PrintsTopicText}
 use Rattle.osn_page_commands.specs.declared.page_words.Topic.{Topic}
+use Rattle.osn_page_commands.specs.declared.page_words.Topic.TheVariants.{Year, Land, Set, Lands}
 use Rattle.osn_report.specs.Folders.{Folders, ReadsOne}
 use Rattle.osn_report.specs.Printing.{PrintsIfMade}
 use Rattle.osn_report.specs.Messages.{EndsBy, TellsIfMade}
@@ -24,6 +25,14 @@ unmade_same : (lacks : Bool) (status : Status) → status ≡ statuses.NoMemory
     → status ≡ ended lacks status
 unmade_same lacks status is = rw is refl
 
+-- there was no memory for the text of a page
+lacks_text : (topic : Topic) (text : List ℕ) (o e : Output) (status : Status)
+    → o.new ≡ o.old → EndsBy e NoMemory status → PrintsTopicText topic text o e status
+lacks_text (Year year) text o e status same told = inr (same, told)
+lacks_text (Land page is_strict) text o e status same told = inr (same, told)
+lacks_text (Set given is_strict) text o e status same told = inr (same, told)
+lacks_text Lands text o e status same told = inr (same, told)
+
 module _ (s : ObjectState) (path code date : List ℕ) (topic : Topic) (o e : Output)
     (status : Status)
   where
@@ -31,7 +40,8 @@ module _ (s : ObjectState) (path code date : List ℕ) (topic : Topic) (o e : Ou
     pub page_made : (printed : Status) (lacks : Bool)
         → topic_refusal (published s) code topic ≡ None
         → lacks ≡ lacks_strict_day (published s) code date topic
-        → PrintsIfMade (topic_text s code date topic) o e printed → status ≡ ended lacks printed
+        → PrintsTopicText topic (topic_text s code date topic) o e printed
+        → status ≡ ended lacks printed
         → PrintsPageOf s path code date topic o e status
     page_made printed lacks none is h same =
         rw none (printed, h, same ∙ ap (λ x. ended x printed) is)
@@ -44,7 +54,7 @@ module _ (s : ObjectState) (path code date : List ℕ) (topic : Topic) (o e : Ou
     page_unmade refusal is same (inr none) told =
         rw none.1 (
           status,
-          inr (same, told),
+          lacks_text topic (topic_text s code date topic) o e status same told,
           unmade_same (lacks_strict_day (published s) code date topic) status told.0,
         )
 

@@ -28,9 +28,9 @@ use Rattle.osn_letters.specs.declared.settings.TableSettings.{TableSettings}
 use Rattle.osn_page_commands.specs.declared.letters.EndRules.{EndRules}
 use Rattle.osn_page_commands.specs.Page.{published}
 use Rattle.osn_report.specs.Journal.{MakesObject, MakesNoObject}
-use Rattle.osn_report.specs.Printing.{PrintsNone}
+use Rattle.osn_report.specs.Printing.{EndsUnwritten, PrintsNone}
 use Rattle.osn_report.specs.Messages.{EndsBy, Tells, TellsIfMade, TellsNothing}
-use Rattle.osn_report.specs.declared.fault.CommandFault.TheVariants.{File, WriteFault, NoMemory}
+use Rattle.osn_report.specs.declared.fault.CommandFault.TheVariants.{File, NoMemory}
 use Rattle.osn_report.specs.declared.status.Status.{Status}
 use Rattle.osn_report.specs.declared.status.Status.TheVariants as statuses
 
@@ -100,7 +100,7 @@ abbrev pub has_line : ℕ → AddedColumn → List ℕ
 has_line line added =
     column_line line (added_name added) (codes "is there already: take it out or rename it")
 
--- standard error was told why the table ended early
+-- standard error was told why the table ended early; of an output that failed nothing
 abbrev pub TellsTable : NameTexts → Output → LettersFault → Status → Type 0
 TellsTable names e ends.NoHeader status = TellsIfMade e statuses.Refused
     (record_line 1 (codes "no header: the first line has the names of the columns")) status
@@ -117,7 +117,7 @@ TellsTable names e (ends.OpenQuote line) status = TellsIfMade e statuses.Refused
 TellsTable names e (ends.TextAfterQuote line) status = TellsIfMade e statuses.Refused
     (record_line line (codes "text follows a closing quote")) status
 TellsTable names e ends.ReadFault status = Tells e (File file_faults.ReadFault) status
-TellsTable names e ends.WriteFault status = Tells e WriteFault status
+TellsTable names e ends.WriteFault status = EndsUnwritten e status
 TellsTable names e ends.NoMemory status = EndsBy e NoMemory status
 
 -- ---- what was written

@@ -32,7 +32,7 @@ use Rattle.osn_page_commands.specs.declared.page_words.Topic.TheVariants.{Year, 
 use Rattle.osn_report.specs.Fault.{numbered_line}
 use Rattle.osn_report.specs.Folders.{Folders, ReadsOne}
 use Rattle.osn_report.specs.Journal.{MakesObject, MakesNoObject}
-use Rattle.osn_report.specs.Printing.{PrintsIfMade, PrintsNone}
+use Rattle.osn_report.specs.Printing.{PrintsIfMade, PrintsNone, PrintsOrReports}
 use Rattle.osn_report.specs.Messages.{EndsBy, TellsIfMade, TellsMisuse}
 use Rattle.osn_report.specs.declared.fault.CommandFault.TheVariants.{File, NoMemory}
 use Rattle.osn_report.specs.declared.status.Status.{Status}
@@ -124,17 +124,24 @@ abbrev pub IsRefused : List ℕ → List ℕ → Topic → Refusal → Output �
 IsRefused path code topic refusal o e status =
     (o.new ≡ o.old) × TellsIfMade e statuses.Refused (refusal_line path code topic refusal) status
 
--- a text was printed, with the status that goes with it
-abbrev pub PrintsPageText : List ℕ → Bool → Output → Output → Status → Type 0
-PrintsPageText text lacks o e status =
-    (printed : Status) × PrintsIfMade text o e printed × (status ≡ ended lacks printed)
+-- the text of a page was printed. Where an almanac could not be written, standard error was told
+abbrev pub PrintsTopicText : Topic → List ℕ → Output → Output → Status → Type 0
+PrintsTopicText (Year year) text o e status = PrintsOrReports text o e status
+PrintsTopicText (Land page is_strict) text o e status = PrintsIfMade text o e status
+PrintsTopicText (Set given is_strict) text o e status = PrintsIfMade text o e status
+PrintsTopicText Lands text o e status = PrintsIfMade text o e status
+
+-- that, with the status that goes with it
+abbrev pub PrintsPageText : Topic → List ℕ → Bool → Output → Output → Status → Type 0
+PrintsPageText topic text lacks o e status =
+    (printed : Status) × PrintsTopicText topic text o e printed × (status ≡ ended lacks printed)
 
 -- of an object: the page was printed, unless what was asked for is refused, or memory ran out
 abbrev pub PrintsPageOf : ObjectState → List ℕ → List ℕ → List ℕ → Topic → Output → Output
     → Status → Type 0
 PrintsPageOf s path code date topic o e status =
     MatchOption (topic_refusal (published s) code topic)
-    (PrintsPageText (topic_text s code date topic) (lacks_strict_day (published s) code date topic)
+    (PrintsPageText topic (topic_text s code date topic) (lacks_strict_day (published s) code date topic)
     o e status)
     (λ refusal. IsRefused path code topic refusal o e status)
 

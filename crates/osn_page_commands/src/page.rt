@@ -14,7 +14,10 @@ use osn_pages::{
     Page, Published, has_no_day, page_text, set_has_no_day, set_page_text, territories_page,
 };
 use osn_register::{Limits, Refusal, Register};
-use osn_report::{CommandFault, Status, print, refused, report, tell_line, tell_no_memory};
+use osn_report::{
+    CommandFault, Status, print, print_or_report, refused, report, tell_line, tell_misuse,
+    tell_no_memory,
+};
 use std::alloc::{AllocError, Global};
 
 /// The page that was asked for, on what an object has published. `date` is the text of its date.
@@ -177,6 +180,23 @@ fn refusal_line(
     }
 }
 
+/// Prints the text of a page. Standard error is told at once where an almanac could not be written.
+fn print_text_of<W: Sink, E: Sink>(
+    topic: &Topic,
+    text: String,
+    output: &mut W,
+    errors: &mut E,
+) -> Status
+    ensures { spec.PrintsTopicText topic.now (string_bytes text)
+        (output_of W.contents W.has_failed W.holds_back output.old output.new)
+        (output_of E.contents E.has_failed E.holds_back errors.old errors.new) result }
+{
+    match topic {
+        Topic::Year(_) => print_or_report(Ok(text), output, errors),
+        Topic::Land { .. } | Topic::Set { .. } | Topic::Lands => print(Ok(text), output, errors),
+    }
+}
+
 /// Prints the page that was asked for, on what an object has published.
 fn print_page<W: Sink, E: Sink>(
     alloc: Global,
@@ -193,7 +213,9 @@ fn print_page<W: Sink, E: Sink>(
         (output_of E.contents E.has_failed E.holds_back errors.old errors.new) result }
 {
     match page_of(alloc, object, code, date, topic) {
-        Ok(Made { text, lacks_day }) => ended(lacks_day, print(Ok(text), output, errors)),
+        Ok(Made { text, lacks_day }) => {
+            ended(lacks_day, print_text_of(topic, text, output, errors))
+        }
         Err(Refusal::NoMemory) => tell_no_memory(errors),
         Err(refusal) => {
             let line = refusal_line(alloc, path, code, topic, refusal);

@@ -125,7 +125,8 @@ fn tell_record<E: Sink>(alloc: Global, errors: &mut E, line: u64, text: &str) ->
     tell_line(errors, Status::Refused, record_line(alloc, line, text))
 }
 
-/// Tells standard error why a table ended early.
+/// Tells standard error why a table ended early; but of an output that failed nothing, which the
+/// status alone says.
 pub(crate) fn tell_table<E: Sink>(
     alloc: Global,
     errors: &mut E,
@@ -155,7 +156,7 @@ pub(crate) fn tell_table<E: Sink>(
         LettersFault::ReadFault => {
             report(alloc, errors, CommandFault::File(FileFault::ReadFault))
         }
-        LettersFault::WriteFault => report(alloc, errors, CommandFault::WriteFault),
+        LettersFault::WriteFault => Status::Unwritten,
         LettersFault::NoMemory => tell_no_memory(errors),
     }
 }

@@ -4,6 +4,7 @@ pub mod Misuse
 pub mod Fault
 pub mod Messages
 pub mod Printing
+pub mod Output
 pub mod Files
 pub mod Journal
 pub mod Folders

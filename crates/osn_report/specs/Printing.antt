@@ -3,22 +3,41 @@ use Rattle.std.specs.Prelude.{◌≡◌, ◌⊎◌, ℕ, List, None, take}
 use Rattle.std.specs.Io.KnownBytes.{Appends}
 use Rattle.osn_lines.specs.Faults.{WriteFails}
 use Rattle.osn_lines.specs.Streams.{Output}
-use Rattle.osn_report.specs.Messages.{Ends, EndsBy, Tells}
+use Rattle.osn_report.specs.Messages.{Ends, EndsBy, Tells, TellsNothing}
 use Rattle.osn_report.specs.declared.fault.CommandFault.{CommandFault}
 use Rattle.osn_report.specs.declared.fault.CommandFault.TheVariants.{WriteFault, NoMemory}
 use Rattle.osn_report.specs.declared.status.Status.{Status}
+use Rattle.osn_report.specs.declared.status.Status.TheVariants.{Unwritten}
 
--- the text was written; or a front of it, where it could not be written, which was told
+-- the output failed, and a front of the text is written
+abbrev pub FailsToPrint : List ℕ → Output → Type 0
+FailsToPrint text o =
+    WriteFails o.unwritten_before o.unwritten text × (n : ℕ) × Appends o.old o.new (take n text)
+
+-- the status says that the output failed, and standard error was told nothing
+abbrev pub EndsUnwritten : Output → Status → Type 0
+EndsUnwritten e status = (status ≡ Unwritten) × TellsNothing e
+
+-- the text was written; or a front of it, where the output failed, which the status alone says
 abbrev pub Prints : List ℕ → Output → Output → Status → Type 0
 Prints text o e status =
     (Ends e None status × Appends o.old o.new text)
-    ⊎ (EndsBy e WriteFault status × WriteFails o.unwritten_before o.unwritten text
-    × (n : ℕ) × Appends o.old o.new (take n text))
+    ⊎ (EndsUnwritten e status × FailsToPrint text o)
 
--- that; or nothing, where there was no memory for the text, which was told
+-- nothing was written, where there was no memory for the text, which was told
+abbrev pub LacksText : Output → Output → Status → Type 0
+LacksText o e status = (o.new ≡ o.old) × EndsBy e NoMemory status
+
+-- the text was printed, or there was no memory for it
 abbrev pub PrintsIfMade : List ℕ → Output → Output → Status → Type 0
-PrintsIfMade text o e status =
-    Prints text o e status ⊎ ((o.new ≡ o.old) × EndsBy e NoMemory status)
+PrintsIfMade text o e status = Prints text o e status ⊎ LacksText o e status
+
+-- the same, where standard error was told that the output failed
+abbrev pub PrintsOrReports : List ℕ → Output → Output → Status → Type 0
+PrintsOrReports text o e status =
+    ((Ends e None status × Appends o.old o.new text)
+    ⊎ (EndsBy e WriteFault status × FailsToPrint text o))
+    ⊎ LacksText o e status
 
 -- nothing was written, and standard error was told why
 abbrev pub PrintsNone : CommandFault → Output → Output → Status → Type 0

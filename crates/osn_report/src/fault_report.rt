@@ -51,7 +51,7 @@ pub fn write_line<E: Sink>(errors: &mut E, line: &str)
 }
 
 /// Tells a line that takes no memory, and answers this status.
-fn tell<E: Sink>(errors: &mut E, status: Status, line: &str) -> Status
+pub(crate) fn tell<E: Sink>(errors: &mut E, status: Status, line: &str) -> Status
     ensures status { result ≡ status }
     ensures line { WritesLine
         (output_of E.contents E.has_failed E.holds_back errors.old errors.new) line.now }

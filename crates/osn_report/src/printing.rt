@@ -1,14 +1,15 @@
 //! Prints a text that a command made.
 ghost use Rattle.std.specs.Prelude.{◌≡◌, ℕ, List, IfOk, string_bytes};
 ghost use Rattle.osn_lines.specs.Streams.{output_of};
-ghost use Rattle.osn_report.specs.Printing.{Prints, PrintsIfMade};
+ghost use Rattle.osn_report.specs.Printing.{Prints, PrintsIfMade, PrintsOrReports};
 
 use crate::fault_report::{tell_no_memory, tell_write_fault};
 use crate::status::Status;
 use osn_lines::{Sink, write_all};
 use std::alloc::AllocError;
 
-/// Writes a text whole. Standard error is told where that failed.
+/// Writes a text whole. Where the output failed, the status is `Unwritten`, and standard error is
+/// told nothing: `end_output` does that at the end of the program.
 pub fn print_text<W: Sink, E: Sink>(text: &str, output: &mut W, errors: &mut E) -> Status
     ensures { Prints text.now
         (output_of W.contents W.has_failed W.holds_back output.old output.new)
@@ -16,12 +17,12 @@ pub fn print_text<W: Sink, E: Sink>(text: &str, output: &mut W, errors: &mut E) 
 {
     match write_all(output, text.as_bytes()) {
         Ok(()) => Status::Done,
-        Err(_) => tell_write_fault(errors),
+        Err(_) => Status::Unwritten,
     }
 }
 
-/// Writes a text whole, or tells standard error that there was no memory for it. Where the output
-/// failed, standard error is told so.
+/// Writes a text whole as `print_text` does, or tells standard error that there was no memory for
+/// it.
 pub fn print<W: Sink, E: Sink>(
     made: Result<String, AllocError>,
     output: &mut W,
@@ -36,5 +37,26 @@ pub fn print<W: Sink, E: Sink>(
     match made {
         Ok(text) => print_text(text.as_str(), output, errors),
         Err(_) => tell_no_memory(errors),
+    }
+}
+
+/// The same, where standard error is told at once that the output failed.
+pub fn print_or_report<W: Sink, E: Sink>(
+    made: Result<String, AllocError>,
+    output: &mut W,
+    errors: &mut E,
+) -> Status
+    // Whatever text it is, if it was made.
+    ensures { (wanted : List ℕ) → IfOk made (λ text. string_bytes text ≡ wanted)
+        → PrintsOrReports wanted
+        (output_of W.contents W.has_failed W.holds_back output.old output.new)
+        (output_of E.contents E.has_failed E.holds_back errors.old errors.new) result }
+{
+    let Ok(text) = made else {
+        return tell_no_memory(errors);
+    };
+    match write_all(output, text.as_bytes()) {
+        Ok(()) => Status::Done,
+        Err(_) => tell_write_fault(errors),
     }
 }

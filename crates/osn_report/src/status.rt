@@ -15,6 +15,8 @@ pub enum Status {
     ReadFault,
     /// A write failed.
     WriteFault,
+    /// Standard output failed, and standard error was not told yet: `end_output` does that.
+    Unwritten,
     /// Memory ran out.
     NoMemory,
 }
@@ -28,7 +30,7 @@ impl Status {
             Status::Done => 0,
             Status::Refused => 1,
             Status::Misused => 2,
-            Status::ReadFault | Status::WriteFault => 3,
+            Status::ReadFault | Status::WriteFault | Status::Unwritten => 3,
             Status::NoMemory => 4,
         }
     }

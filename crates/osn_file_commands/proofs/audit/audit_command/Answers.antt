@@ -8,7 +8,7 @@ returns-in-Ok g c =
     inr (
       c.in-Ok.replies,
       agree c.args.limits _ _ _ _ _ _ _ _ c.in-Ok.replies c.in-Ok.ensures.files,
-      c.print.ensures (audit_line c.in-Ok.replies) c.agreed_line.ensures,
+      c.print_or_report.ensures (audit_line c.in-Ok.replies) c.agreed_line.ensures,
     )
 
 pub returns-in-Err : goal.returns-in-Err

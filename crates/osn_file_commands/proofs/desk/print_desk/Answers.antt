@@ -10,7 +10,7 @@ returns-in-Ok g c =
       (λ bad. not_both _ _ _ c.in-Ok.is (c.run_desk.ensures.bad_count bad)),
       c.in-Ok.told.items,
       c.in-Ok.ensures.replies,
-      c.print.ensures (transcript_from 1 c.args.lists.now c.in-Ok.told.items)
+      c.print_or_report.ensures (transcript_from 1 c.args.lists.now c.in-Ok.told.items)
           (IfOk-weaker c.transcript.result _ _
           (λ text is. is ∙ ap (transcript_from 1 c.args.lists.now) c.deref.ensures.value)
           c.transcript.ensures),

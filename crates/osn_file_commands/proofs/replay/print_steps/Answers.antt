@@ -9,7 +9,7 @@ pub returns-in-Ok : goal.returns-in-Ok
 returns-in-Ok g c =
     inl (
       c.in-Ok.ensures.lawful,
-      c.print.ensures (replay_text c.args.limits c.args.readers c.args.steps.now)
+      c.print_or_report.ensures (replay_text c.args.limits c.args.readers c.args.steps.now)
           (IfOk-weaker c.out_lines.result _ _
           (λ text is. is
           ∙ ap (flat_map out_line) (c.deref.ensures.value ∙ c.in-Ok.ensures.outs))

@@ -1,6 +1,6 @@
-use Rattle.std.proofs.Common.{refl}
+use Rattle.std.proofs.Common.{refl, subst}
 use Rattle.osn_lines.specs.Streams.{output_of}
-use Rattle.osn_page_commands.specs.Page.{topic_text, refusal_line}
+use Rattle.osn_page_commands.specs.Page.{PrintsTopicText, topic_text, refusal_line}
 use Rattle.osn_page_commands.proofs.PageLemmas.{page_made, page_unmade, page_refused}
 use Rattle.osn_page_commands.proofs.page.print_page.Goals as goal
 
@@ -8,12 +8,12 @@ pub returns-in-Ok : goal.returns-in-Ok
 returns-in-Ok g c =
     let s = c.args.object.now in
     let wrote = output_of g.W.Sink.contents g.W.Sink.has_failed g.W.Sink.holds_back
-    c.args.output.now c.print.new.output in
+    c.args.output.now c.print_text_of.new.output in
     let told = output_of g.E.Sink.contents g.E.Sink.has_failed g.E.Sink.holds_back
-    c.args.errors.now c.print.new.errors in
+    c.args.errors.now c.print_text_of.new.errors in
     page_made s c.args.path.now c.args.code.now c.args.date.now c.args.topic.now wrote told
     c.ended.result
-    c.print.result c.in-Ok.field-0.lacks_day c.in-Ok.ensures.lawful c.in-Ok.ensures.lacks
-    (c.print.ensures (topic_text s c.args.code.now c.args.date.now c.args.topic.now)
-    c.in-Ok.ensures.text)
+    c.print_text_of.result c.in-Ok.field-0.lacks_day c.in-Ok.ensures.lawful c.in-Ok.ensures.lacks
+    (subst (λ text. PrintsTopicText c.args.topic.now text wrote told c.print_text_of.result)
+    c.in-Ok.ensures.text c.print_text_of.ensures)
     c.ended.ensures

@@ -1,0 +1,158 @@
+//! Standard output, and how standard error is told that not all was written to it.
+ghost use Rattle.std.specs.Prelude.{◌≡◌};
+ghost use Rattle.std.specs.IoError.{error_kind};
+ghost use Rattle.osn_lines.specs.Streams.{output_of};
+ghost use Rattle.osn_report.specs.Output as spec;
+
+use crate::fault_report::tell;
+use crate::status::Status;
+use osn_lines::{Sink, WriteFailed};
+use std::io;
+use std::io::{ErrorKind, Write};
+
+/// Why a write failed.
+#[derive(Clone, Copy, Debug, PartialEq, Eq)]
+pub enum WriteCause {
+    /// Nobody reads what is written any more: the other end of a pipe is closed.
+    Closed,
+    /// No space is left on the device, or of what the user may take of it.
+    NoSpace,
+    /// Any other cause.
+    Other,
+}
+
+/// A writer as a sink that notes why a write of it failed. Each error of the writer is a failed
+/// call, and so is a write that takes none of some bytes.
+#[derive(Debug, Drop)]
+pub struct StandardOutput<T> {
+    inner: T,
+    /// Why the last call that failed did so.
+    cause: Option<WriteCause>,
+}
+
+impl<T> StandardOutput<T> {
+    ghost use Rattle.std.specs.Prelude.{None};
+    ghost use Rattle.osn_report.specs.Output.{inner_of, cause_of};
+
+    /// One that hasn't failed.
+    pub fn new(inner: T) -> StandardOutput<T>
+        ensures inner { inner_of result ≡ inner }
+        ensures cause { cause_of result ≡ None }
+    {
+        StandardOutput { inner, cause: None }
+    }
+
+    /// Why the last call that failed did so, where one did.
+    pub fn cause(&self) -> Option<WriteCause>
+        ensures { result ≡ cause_of self.now }
+    {
+        self.cause
+    }
+}
+
+impl<T: Write> Sink for StandardOutput<T> {
+    ghost use Rattle.std.specs.Prelude.{is_some};
+    ghost use Rattle.osn_report.specs.Output.{inner_of, cause_of};
+
+    ghost contents = { λ p. T.contents (inner_of p) };
+
+    ghost has_failed = { λ p. is_some (cause_of p) };
+
+    fn write(&mut self, bytes: &[u8]) -> Result<usize, WriteFailed> {
+        match self.inner.write(bytes) {
+            Ok(n) if n > 0 || bytes.is_empty() => Ok(n),
+            Ok(_) => {
+                self.cause = Some(WriteCause::Other);
+                Err(WriteFailed)
+            }
+            Err(error) => {
+                self.cause = Some(cause_of(&error));
+                Err(WriteFailed)
+            }
+        }
+    }
+
+    fn flush(&mut self) -> Result<(), WriteFailed> {
+        match self.inner.flush() {
+            Ok(()) => Ok(()),
+            Err(error) => {
+                self.cause = Some(cause_of(&error));
+                Err(WriteFailed)
+            }
+        }
+    }
+
+    fn failed(&self) -> bool {
+        self.cause.is_some()
+    }
+}
+
+/// The cause that an error of a writer has.
+fn cause_of(error: &io::Error) -> WriteCause
+    ensures { result ≡ spec.cause_of_kind (error_kind error.now) }
+{
+    match error.kind() {
+        ErrorKind::BrokenPipe => WriteCause::Closed,
+        ErrorKind::StorageFull | ErrorKind::QuotaExceeded => WriteCause::NoSpace,
+        _ => WriteCause::Other,
+    }
+}
+
+/// Tells standard error that not all could be printed. Nobody is told where nobody reads it.
+fn end_unwritten<E: Sink>(errors: &mut E, cause: WriteCause) -> Status
+    ensures { spec.EndsUnwritten cause
+        (output_of E.contents E.has_failed E.holds_back errors.old errors.new) result }
+{
+    match cause {
+        WriteCause::Closed => Status::Done,
+        WriteCause::NoSpace => tell(
+            errors,
+            Status::WriteFault,
+            "oldstyle: standard output: no space left on the device\n",
+        ),
+        WriteCause::Other => tell(
+            errors,
+            Status::WriteFault,
+            "oldstyle: standard output: write fault\n",
+        ),
+    }
+}
+
+/// Adds the cause to what standard error was told of a write fault, where one is known.
+fn note_cause<E: Sink>(errors: &mut E, cause: Option<WriteCause>) -> Status
+    ensures { spec.NotesCause cause
+        (output_of E.contents E.has_failed E.holds_back errors.old errors.new) result }
+{
+    match cause {
+        Some(WriteCause::Closed) => tell(
+            errors,
+            Status::WriteFault,
+            "note: standard output: nobody reads it any more\n",
+        ),
+        Some(WriteCause::NoSpace) => tell(
+            errors,
+            Status::WriteFault,
+            "note: standard output: no space left on the device\n",
+        ),
+        Some(WriteCause::Other) | None => Status::WriteFault,
+    }
+}
+
+/// Ends a command that had this status, where standard output failed by this cause, if by any.
+/// Answers the status of the program. Where the text of a command could not be printed, standard
+/// error is told so with the cause; except where nobody reads it any more, since all else was done
+/// then. What was told as a write fault gets a note with the cause.
+pub fn end_output<E: Sink>(errors: &mut E, status: Status, cause: Option<WriteCause>) -> Status
+    ensures { spec.EndsOutput status cause
+        (output_of E.contents E.has_failed E.holds_back errors.old errors.new) result }
+{
+    match status {
+        Status::Unwritten => end_unwritten(errors, cause.unwrap_or(WriteCause::Other)),
+        Status::WriteFault => note_cause(errors, cause),
+        Status::Done
+        | Status::Refused
+        | Status::Misused
+        | Status::ReadFault
+        | Status::NoMemory => status,
+    }
+}
