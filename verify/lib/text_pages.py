@@ -24,8 +24,9 @@ KEYS = {
     "easters": "a listed Easter has year, date, source and note",
     None: "a territory has name, calendar, style, rule, source, note, changes and easters",
 }
-# The control characters, which are told by their numbers.
-CONTROL = re.compile("[\0-\x1f\x7f-\x9f]")
+# The characters on which a terminal acts, which are written by their numbers.
+ESCAPED = re.compile("[\0-\x1f\x7f-\x9f\u061c\u200e\u200f\u2028-\u202e\u2066-\u2069]")
+SHORT = {"\t": "\\t", "\n": "\\n", "\r": "\\r"}
 REFUSED = {
     "BadCode": (1, "a code has 2 to 8 capital letters or digits, the first a letter"),
     "BadName": (2, "a name has 1 to 64 bytes, and no control character"),
@@ -165,7 +166,8 @@ def fault_words(fault):
     words |= {f"No{word.capitalize()}": lambda: f'"{fault.said}" is no {key}: {ALLOWED[key]}'
               for word in WORDS}
     said = words.get(fault.reason, lambda: ALLOWED[key])()
-    return CONTROL.sub(lambda found: f"\\u{ord(found[0]):04X}", f"{fault.path}: {said}")
+    return ESCAPED.sub(lambda found: SHORT.get(found[0], f"\\u{{{ord(found[0]):x}}}"),
+                       f"{fault.path}: {said}")
 
 
 def part_of(path, name):

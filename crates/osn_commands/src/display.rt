@@ -9,6 +9,7 @@ use clap::Error;
 use clap::error::ErrorKind;
 use osn_lines::Sink;
 use osn_report::{Status, print, tell_no_memory, write_line};
+use osn_shown::ShownLines;
 use std::alloc::Global;
 use std::io;
 
@@ -33,7 +34,10 @@ pub(crate) fn show<W: Sink, E: Sink>(
     match kind {
         ErrorKind::DisplayHelp | ErrorKind::DisplayVersion => { print(Ok(text), output, errors) }
         _ => {
-            write_line(errors, text.as_str());
+            let Ok(shown) = format!(in alloc; "{}", ShownLines(text.as_str())) else {
+                return tell_no_memory(errors);
+            };
+            write_line(errors, shown.as_str());
             Status::Misused
         }
     }

@@ -1,7 +1,8 @@
 -- What a crash of the machine may leave of a folder. What was synced stays. A name that was changed
 -- since may be as it is or as it was.
-use Rattle.std.specs.Prelude.{◌≡◌, ◌≢◌, ℕ, true, false, List, [], ◌∷◌, ◌++◌, Option, Some}
-use Rattle.osn_folder.specs.Folder.{Known, Changes, Saves, CannotSave}
+use Rattle.std.specs.Prelude.{◌≡◌, ◌≢◌, ◌⊎◌, ℕ, true, false, List, [], ◌∷◌, ◌++◌, Option, Some, None}
+use Rattle.osn_folder.specs.Folder.{Known, Changes, Saves, CannotSave, Becomes, BacksUp, LeavesAll}
+use Rattle.osn_folder.specs.Folder.{SavesAt, CannotSaveAt}
 use Rattle.osn_folder.specs.declared.fault.SaveFault.{SaveFault}
 use Rattle.osn_folder.specs.declared.fault.SaveFault.TheVariants as saves
 
@@ -40,6 +41,34 @@ abbrev pub SyncsName : List ℕ → Known → Known → Type 0
 SyncsName path k n =
     (n.might_have_left path ≡ k.might_have_left path)
     × (k.is_whole path ≡ true → n.may_leave path ≡ k.at path ∷ [])
+
+-- a crash leaves at this path what is there
+abbrev pub IsSure : List ℕ → Known → Type 0
+IsSure path k = k.may_leave path ≡ k.at path ∷ []
+
+-- what a crash was sure to leave at this path is there still, and no crash since left anything else
+abbrev pub StaysSure : List ℕ → Known → Known → Type 0
+StaysSure path k n =
+    IsSure path k → (n.at path ≡ k.at path) × IsSure path n
+    × (n.might_have_left path ≡ k.might_have_left path)
+
+-- so it is at each path where a file was
+abbrev pub AllStaySure : Known → Known → Type 0
+AllStaySure k n = (other : List ℕ) → k.at other ≢ None → StaysSure other k n
+
+-- except at this one
+abbrev pub OthersStaySure : List ℕ → Known → Known → Type 0
+OthersStaySure path k n =
+    (other : List ℕ) → other ≢ path → k.at other ≢ None → StaysSure other k n
+
+-- except at these two
+abbrev pub OthersOfTwoStaySure : List ℕ → List ℕ → Known → Known → Type 0
+OthersOfTwoStaySure from to k n = (other : List ℕ) → other ≢ from → other ≢ to
+    → k.at other ≢ None → StaysSure other k n
+
+-- except at this one, where it is a file
+abbrev pub OthersOfFileStaySure : List ℕ → Known → Known → Type 0
+OthersOfFileStaySure path k n = k.paths.is_stream path ≡ false → OthersStaySure path k n
 
 -- ---- of a save
 
@@ -88,3 +117,53 @@ abbrev pub CannotSaveSafely : List ℕ → Option (List ℕ) → List ℕ → Sa
 CannotSaveSafely path loaded text fault old new =
     Changes (CannotSave path loaded text fault) old new
     × Changes (CannotSafelySave path text fault) old new
+
+-- ---- of a save that keeps the old file too
+
+-- the file at this place is at another path too, where a crash leaves it. At the place a crash leaves
+-- what it might have left before
+abbrev pub BacksUpSafely : List ℕ → List ℕ → Known → Known → Type 0
+BacksUpSafely place backup k n =
+    BacksUp place backup k n × LeavesSafe place k n × IsSure backup n
+
+-- The text was saved at this place, and what was there is at another path. Until a moment a crash
+-- left at the place what it might have left before. From that moment on it left the old file at the
+-- other path.
+pub record SavesBesideAt (place backup text : List ℕ) (k n : Known) : Type 0 where
+  pub moment : Known
+  pub backs_up : BacksUpSafely place backup k moment
+  pub saves : SavesAt place None text moment n
+  pub crash : IsSafelySavedAt place text moment n
+  pub stays : k.paths.is_stream place ≡ false → StaysSure backup moment n
+
+-- a backup is taken away where the text doesn't stand at its place
+abbrev pub GivesUp : List ℕ → SaveFault → Known → Known → Type 0
+GivesUp backup saves.NotSynced k n = n ≡ k
+GivesUp backup saves.NoMemory k n = Becomes backup None k n × LeavesOthersSafe backup k n
+GivesUp backup saves.WriteFault k n = Becomes backup None k n × LeavesOthersSafe backup k n
+GivesUp backup (saves.Changed unfinished) k n =
+    Becomes backup None k n × LeavesOthersSafe backup k n
+
+-- The old file was at another path, and then the text was not saved for sure, for this reason.
+pub record LeavesBesideAt (place text : List ℕ) (fault : SaveFault) (k n : Known) : Type 0 where
+  pub backup : List ℕ
+  pub moment : Known
+  pub after : Known
+  pub backs_up : BacksUpSafely place backup k moment
+  pub fails : CannotSaveAt place None text fault moment after
+  pub crash : IsSafelyLeftAt place text fault moment after
+  pub stays : k.paths.is_stream place ≡ false → StaysSure backup moment after
+  pub ended : GivesUp backup fault after n
+
+-- the text was not saved for sure: the old file could not be put at another path, and nothing was
+-- changed; or it was
+abbrev pub CannotSaveBesideAt : List ℕ → List ℕ → SaveFault → Known → Known → Type 0
+CannotSaveBesideAt place text fault k n =
+    (LeavesAll fault k n × LeavesSafe place k n) ⊎ LeavesBesideAt place text fault k n
+
+-- the same of the place where a path leads
+abbrev pub SavesBeside : List ℕ → List ℕ → List ℕ → Known → Known → Type 0
+SavesBeside path backup text k n = SavesBesideAt (k.paths.place path) backup text k n
+
+abbrev pub CannotSaveBeside : List ℕ → List ℕ → SaveFault → Known → Known → Type 0
+CannotSaveBeside path text fault k n = CannotSaveBesideAt (k.paths.place path) text fault k n

@@ -175,6 +175,12 @@ abbrev pub WritesBeside : List ℕ → List ℕ → List ℕ → Known → Known
 WritesBeside place text path k n =
     (path ≢ place) × (k.at path ≡ None) × Becomes path (Some text) k n
 
+-- what the file at this place holds is at another path too, at which nothing was, and nothing else
+-- was changed
+abbrev pub BacksUp : List ℕ → List ℕ → Known → Known → Type 0
+BacksUp place path k n =
+    (path ≢ place) × (k.at path ≡ None) × Becomes path (k.at place) k n
+
 -- whether the file of this path holds exactly these bytes was found, and nothing was changed
 abbrev pub Compares : List ℕ → List ℕ → Bool → Known → Known → Type 0
 Compares path bytes same k n = Stays k n × ((same ≡ true) ↔ (k.at path ≡ Some bytes))

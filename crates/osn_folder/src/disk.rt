@@ -1,6 +1,7 @@
 //! The files of the disk.
 ghost use Rattle.std.specs.Prelude.{None};
 
+use crate::disk_backup::back_up;
 use crate::disk_file::{DiskFile, keep_file};
 use crate::disk_lock::{DiskLock, holds_bytes, lock_file, move_locked};
 use crate::disk_names::{sync_name, write_new};
@@ -90,6 +91,10 @@ impl<'a, R: Files<File = File> + AllocGlobal> Folder for Disk<'a, R> {
         text: &str,
     ) -> Result<String, SaveFault> {
         write_new(self.files, alloc, place, text)
+    }
+
+    fn back_up(&mut self, alloc: Global, place: &str) -> Result<String, SaveFault> {
+        back_up(self.files, alloc, place)
     }
 
     fn holds(&mut self, lock: &DiskLock, _place: &str, bytes: &[u8]) -> Result<bool, ChangeFailed> {

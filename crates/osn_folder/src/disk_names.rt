@@ -9,7 +9,7 @@ use std::rt::Files;
 use std::{fs, io};
 
 /// How many names are tried for a file beside a place.
-const MOST_NAMES: u32 = 1_000;
+pub(crate) const MOST_NAMES: u32 = 1_000;
 
 /// Whether nothing is at a path, not even a link.
 pub(crate) fn has_nothing(files: &impl Files, path: &str) -> io::Result<bool> {

@@ -8,7 +8,8 @@ ghost use Rattle.osn_folder.specs.Folder.{Leaves};
 ghost use Rattle.osn_folder.specs.Folder.{Locks, CannotLock, IsPlaceOf, LeavesAll, WritesBeside};
 ghost use Rattle.osn_folder.specs.Folder.{Compares, Moves, CannotMove, Spoils, Syncs};
 ghost use Rattle.osn_folder.specs.Crash.{LeavesSafe, LeavesAllSafe, LeavesOthersSafe};
-ghost use Rattle.osn_folder.specs.Crash.{WritesWhole, MovesWhole, SyncsName};
+ghost use Rattle.osn_folder.specs.Crash.{WritesWhole, MovesWhole, SyncsName, BacksUpSafely};
+ghost use Rattle.osn_folder.specs.Crash.{AllStaySure, OthersOfTwoStaySure};
 
 use crate::fault::{ChangeFailed, KeepFault, MoveFault, OpenFailed, SaveFault};
 use crate::followed_file::FollowedFile;
@@ -131,6 +132,24 @@ pub trait Folder {
         ensures whole { IfOk result (λ path. Changes (WritesWhole place.now (string_bytes path))
             (known self.old) (known self.new)) }
         ensures crash { OnErr result
+            (Changes (LeavesSafe place.now) (known self.old) (known self.new)) }
+        ensures sure { Changes AllStaySure (known self.old) (known self.new) };
+
+    /// Leaves the file at a place at a new path beside it too: the place with `.~1~` after it, or
+    /// `.~2~` and so on, the first at which nothing is. Answers that path, once what it holds is on
+    /// the disk there.
+    ///
+    /// # Errors
+    ///
+    /// `NoMemory` where memory ran out, `WriteFault` where that could not be made or is not sure.
+    /// Nothing is left beside the place then.
+    fn back_up(&mut self, alloc: Global, place: &str) -> Result<String, SaveFault>
+        ensures ok { IfOk result (λ path.
+            Changes (BacksUpSafely place.now (string_bytes path))
+            (known self.old) (known self.new)) }
+        ensures err { IfErr result
+            (λ why. Changes (LeavesAll why) (known self.old) (known self.new)) }
+        ensures crash { OnErr result
             (Changes (LeavesSafe place.now) (known self.old) (known self.new)) };
 
     /// Whether the file that is locked, at this place, holds exactly these bytes.
@@ -155,7 +174,9 @@ pub trait Folder {
         ensures whole { OnOk result
             (Changes (MovesWhole from.now place.now) (known self.old) (known self.new)) }
         ensures crash { OnErr result
-            (Changes LeavesAllSafe (known self.old) (known self.new)) };
+            (Changes LeavesAllSafe (known self.old) (known self.new)) }
+        ensures sure { Changes (OthersOfTwoStaySure from.now place.now)
+            (known self.old) (known self.new) };
 
     /// Answers once it is on the disk which file is at a path.
     fn sync_name(&mut self, path: &str) -> Result<(), ChangeFailed>
@@ -164,7 +185,8 @@ pub trait Folder {
         ensures name { OnOk result
             (Changes (SyncsName path.now) (known self.old) (known self.new)) }
         ensures crash { OnErr result
-            (Changes LeavesAllSafe (known self.old) (known self.new)) };
+            (Changes LeavesAllSafe (known self.old) (known self.new)) }
+        ensures sure { Changes AllStaySure (known self.old) (known self.new) };
 
     /// Takes a file away, where it can be.
     fn remove(&mut self, path: &str)

@@ -8,6 +8,7 @@
 #![tactic(auto)]
 
 mod disk;
+mod disk_backup;
 mod disk_file;
 mod disk_lock;
 mod disk_names;
@@ -18,6 +19,7 @@ mod followed_file;
 mod kept_file;
 mod opening;
 mod saving;
+mod saving_beside;
 
 pub use disk::Disk;
 pub use disk_file::DiskFile;
@@ -31,3 +33,4 @@ pub use followed_file::FollowedFile;
 pub use kept_file::KeptFile;
 pub use opening::{open_both, open_file, open_if};
 pub use saving::save_file;
+pub use saving_beside::save_beside;

@@ -4,7 +4,9 @@ ghost use Rattle.osn_folder.specs.Folder.{Changes, Stays, Fails, Saves, CannotSa
 ghost use Rattle.osn_folder.specs.Folder.{SavesAt, CannotSaveAt, Syncs};
 ghost use Rattle.osn_folder.specs.Crash.{IsSafelySaved, CannotSafelySave, IsSafelySavedAt};
 ghost use Rattle.osn_folder.specs.Crash.{IsSafelyLeftAt, IsSafelyLeft, LeavesText};
-ghost use Rattle.osn_folder.specs.Crash.{LeavesAllSafe, MovesWhole, SyncsName};
+ghost use Rattle.osn_folder.specs.Crash.{LeavesAllSafe, MovesWhole, SyncsName, AllStaySure};
+ghost use Rattle.osn_folder.specs.Crash.{OthersStaySure, OthersOfTwoStaySure};
+ghost use Rattle.osn_folder.specs.Crash.{OthersOfFileStaySure};
 ghost use Rattle.osn_folder.specs.FolderInside.{ReplacesAt, CannotReplaceAt, HoldsLoaded};
 ghost use Rattle.osn_folder.specs.FolderInside.{MovesLoaded, CannotMoveLoaded};
 ghost use Rattle.osn_folder.specs.declared.fault.SaveFault.{SaveFault};
@@ -51,7 +53,7 @@ pub fn save_file<D: Folder>(
 }
 
 /// Puts a text in place of what stands at a path that is no link.
-fn save_at<D: Folder>(
+pub(crate) fn save_at<D: Folder>(
     folder: &mut D,
     alloc: Global,
     lock: D::Lock,
@@ -69,6 +71,8 @@ fn save_at<D: Folder>(
         (D.known folder.old) (D.known folder.new)) }
     ensures crash { IfErr result (λ why. Changes (IsSafelyLeftAt place.now text.now why)
         (D.known folder.old) (D.known folder.new)) }
+    ensures sure { Changes (OthersOfFileStaySure place.now)
+        (D.known folder.old) (D.known folder.new) }
 {
     if folder.is_stream(place) {
         Ok(folder.write_stream(place, text)?)
@@ -96,6 +100,7 @@ fn save_as_file<D: Folder>(
         (D.known folder.old) (D.known folder.new)) }
     ensures crash { IfErr result (λ why. Changes (IsSafelyLeft place.now text.now why)
         (D.known folder.old) (D.known folder.new)) }
+    ensures sure { Changes (OthersStaySure place.now) (D.known folder.old) (D.known folder.new) }
 {
     let beside = folder.write_beside(alloc, place, text)?;
     match move_loaded(folder, lock, beside.as_str(), place, loaded) {
@@ -117,6 +122,7 @@ fn sync_saved<D: Folder>(folder: &mut D, place: &str) -> Result<(), SaveFault>
         (Changes (SyncsName place.now) (D.known folder.old) (D.known folder.new)) }
     ensures crash { OnErr result
         (Changes LeavesAllSafe (D.known folder.old) (D.known folder.new)) }
+    ensures sure { Changes AllStaySure (D.known folder.old) (D.known folder.new) }
 {
     match folder.sync_name(place) {
         Ok(()) => Ok(()),
@@ -182,6 +188,8 @@ fn move_loaded<D: Folder>(
         (D.known folder.old) (D.known folder.new)) }
     ensures crash { OnErr result
         (Changes LeavesAllSafe (D.known folder.old) (D.known folder.new)) }
+    ensures sure { Changes (OthersOfTwoStaySure from.now place.now)
+        (D.known folder.old) (D.known folder.new) }
 {
     check_loaded(folder, &lock, place, loaded)?;
     folder.replace(lock, from, place)

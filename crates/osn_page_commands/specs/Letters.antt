@@ -28,6 +28,7 @@ use Rattle.osn_letters.specs.declared.settings.TableSettings.{TableSettings}
 use Rattle.osn_page_commands.specs.declared.letters.EndRules.{EndRules}
 use Rattle.osn_page_commands.specs.Page.{published}
 use Rattle.osn_report.specs.Journal.{MakesObject, MakesNoObject}
+use Rattle.osn_shown.specs.Shown.{shown}
 use Rattle.osn_report.specs.Printing.{EndsUnwritten, PrintsNone}
 use Rattle.osn_report.specs.Messages.{EndsBy, Tells, TellsIfMade, TellsNothing}
 use Rattle.osn_report.specs.declared.fault.CommandFault.TheVariants.{File, NoMemory}
@@ -85,9 +86,9 @@ abbrev pub lacks_line : NameTexts → Column → ℕ → List ℕ → List ℕ
 lacks_line names missing line found = codes "oldstyle: letters line "
     ++ (decimal line
     ++ (codes ": no column "
-    ++ (name_of names missing
+    ++ (shown (name_of names missing)
     ++ (codes ": the columns are "
-    ++ (found ++ (codes ": name yours by " ++ (option_of missing ++ codes "\n")))))))
+    ++ (shown found ++ (codes ": name yours by " ++ (option_of missing ++ codes "\n")))))))
 
 -- the line on a column of a header
 abbrev pub column_line : ℕ → List ℕ → List ℕ → List ℕ

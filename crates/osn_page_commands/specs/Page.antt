@@ -32,6 +32,7 @@ use Rattle.osn_page_commands.specs.declared.page_words.Topic.TheVariants.{Year, 
 use Rattle.osn_report.specs.Fault.{numbered_line}
 use Rattle.osn_report.specs.Folders.{Folders, ReadsOne}
 use Rattle.osn_report.specs.Journal.{MakesObject, MakesNoObject}
+use Rattle.osn_shown.specs.Shown.{shown}
 use Rattle.osn_report.specs.Printing.{PrintsIfMade, PrintsNone, PrintsOrReports}
 use Rattle.osn_report.specs.Messages.{EndsBy, TellsIfMade, TellsMisuse}
 use Rattle.osn_report.specs.declared.fault.CommandFault.TheVariants.{File, NoMemory}
@@ -105,9 +106,9 @@ ended lacks status = status
 -- the line on a refusal of a page on a territory: what was typed, and what to do
 abbrev pub land_refusal_line : List ℕ → List ℕ → Refusal → List ℕ
 land_refusal_line path code BadCode = codes "oldstyle: "
-    ++ (code ++ codes ": a code is 2 to 8 capital letters or digits, the first a letter\n")
+    ++ (shown code ++ codes ": a code is 2 to 8 capital letters or digits, the first a letter\n")
 land_refusal_line path code UnknownLand = codes "oldstyle: no territory has the code "
-    ++ (code ++ (codes ": see oldstyle territory " ++ (path ++ codes "\n")))
+    ++ (shown code ++ (codes ": see oldstyle territory " ++ (shown path ++ codes "\n")))
 land_refusal_line path code refusal = numbered_line refusal
 
 -- the line on a refusal; that of an almanac has its number and name

@@ -11,6 +11,7 @@ use Rattle.osn_letters.specs.declared.places_fault.PlacesFault.TheVariants as fa
 use Rattle.osn_lines.specs.Streams.{Input, Output}
 use Rattle.osn_report.specs.Messages.{EndsBy, TellsIfMade}
 use Rattle.osn_report.specs.Unopened.{unopened_line}
+use Rattle.osn_shown.specs.Shown.{shown}
 use Rattle.osn_report.specs.declared.fault.CommandFault.TheVariants.{NoMemory}
 use Rattle.osn_report.specs.declared.status.Status.{Status}
 use Rattle.osn_report.specs.declared.status.Status.TheVariants as statuses
@@ -26,27 +27,27 @@ IsPlacesFault table fault =
 -- the line on a line of the table of a path
 abbrev pub places_line : List ℕ → ℕ → List ℕ → List ℕ
 places_line path line text = codes "oldstyle: "
-    ++ (path ++ (codes " line " ++ (decimal line ++ (codes ": " ++ (text ++ codes "\n")))))
+    ++ (shown path ++ (codes " line " ++ (decimal line ++ (codes ": " ++ (text ++ codes "\n")))))
 
 -- the line on a header that lacks a column and has these
 abbrev pub lacks_line : List ℕ → PlacesColumn → ℕ → List ℕ → List ℕ
 lacks_line path missing line found = codes "oldstyle: "
-    ++ (path
+    ++ (shown path
     ++ (codes " line "
     ++ (decimal line
     ++ (codes ": no column "
     ++ (column_name missing
     ++ (codes ": the columns are "
-    ++ (found ++ (codes ": name one " ++ (column_name missing ++ codes "\n")))))))))
+    ++ (shown found ++ (codes ": name one " ++ (column_name missing ++ codes "\n")))))))))
 
 -- the line on a place that has two codes
 abbrev pub codes_line : List ℕ → ℕ → List ℕ → List ℕ
 codes_line path line place = codes "oldstyle: "
-    ++ (path
+    ++ (shown path
     ++ (codes " line "
     ++ (decimal line
     ++ (codes ": the place "
-    ++ (place ++ codes " has another code already: take one of the two rows out\n")))))
+    ++ (shown place ++ codes " has another code already: take one of the two rows out\n")))))
 
 -- standard error was told why the table of a path was not read
 abbrev pub TellsPlaces : List ℕ → Output → PlacesFault → Status → Type 0

@@ -18,6 +18,7 @@ use osn_report::{
     CommandFault, Status, print, print_or_report, refused, report, tell_line, tell_misuse,
     tell_no_memory,
 };
+use osn_shown::Shown;
 use std::alloc::{AllocError, Global};
 
 /// The page that was asked for, on what an object has published. `date` is the text of its date.
@@ -154,10 +155,13 @@ pub fn land_refusal_line(
 {
     match refusal {
         Refusal::BadCode => format!(in alloc;
-            "oldstyle: {code}: a code is 2 to 8 capital letters or digits, the first a letter\n"
+            "oldstyle: {}: a code is 2 to 8 capital letters or digits, the first a letter\n",
+            Shown(code)
         ),
         Refusal::UnknownLand => format!(in alloc;
-            "oldstyle: no territory has the code {code}: see oldstyle territory {path}\n"
+            "oldstyle: no territory has the code {}: see oldstyle territory {}\n",
+            Shown(code),
+            Shown(path)
         ),
         _ => refused(alloc, refusal.number(), refusal.name()),
     }

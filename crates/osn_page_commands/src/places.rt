@@ -9,6 +9,7 @@ use osn_folder::OpenFailed;
 use osn_letters::{PlacesColumn, PlacesFault};
 use osn_lines::Sink;
 use osn_report::{Status, tell_line, tell_no_memory, tell_unopened};
+use osn_shown::Shown;
 use std::alloc::{AllocError, Global};
 
 const NO_HEADER: &str = "no header: the first line names the columns place and code";
@@ -27,7 +28,7 @@ const NOT_UTF8: &str = "a place or a code is not UTF-8: save the table as UTF-8"
 fn places_line(alloc: Global, path: &str, line: u64, text: &str) -> Result<String, AllocError>
     ensures { IfOk result (λ told. string_bytes told ≡ spec.places_line path.now line text.now) }
 {
-    format!(in alloc; "oldstyle: {path} line {line}: {text}\n")
+    format!(in alloc; "oldstyle: {} line {line}: {text}\n", Shown(path))
 }
 
 /// The line on a header that lacks a column and has these.
@@ -43,8 +44,9 @@ fn lacks_line(
 {
     let name = column.name();
     format!(in alloc;
-        "oldstyle: {path} line {line}: no column {name}: the columns are {header}: name one \
-{name}\n"
+        "oldstyle: {} line {line}: no column {name}: the columns are {}: name one {name}\n",
+        Shown(path),
+        Shown(header)
     )
 }
 
@@ -53,8 +55,10 @@ fn codes_line(alloc: Global, path: &str, line: u64, place: &str) -> Result<Strin
     ensures { IfOk result (λ told. string_bytes told ≡ spec.codes_line path.now line place.now) }
 {
     format!(in alloc;
-        "oldstyle: {path} line {line}: the place {place} has another code already: take one of the \
-two rows out\n"
+        "oldstyle: {} line {line}: the place {} has another code already: take one of the two \
+rows out\n",
+        Shown(path),
+        Shown(place)
     )
 }
 

@@ -10,6 +10,7 @@ use osn_files::FileFault;
 use osn_letters::{AddedColumn, Column, ColumnNames, DateNames, LettersFault, WeekdayName};
 use osn_lines::Sink;
 use osn_report::{CommandFault, Status, report, tell_line, tell_no_memory};
+use osn_shown::Shown;
 use std::alloc::{AllocError, Global};
 
 const NO_HEADER: &str = "no header: the first line has the names of the columns";
@@ -91,8 +92,9 @@ fn lacks_line(
     let name = name_of(names, column);
     let option = option_of(column);
     format!(in alloc;
-        "oldstyle: letters line {line}: no column {name}: the columns are {header}: name yours by \
-{option}\n"
+        "oldstyle: letters line {line}: no column {}: the columns are {}: name yours by {option}\n",
+        Shown(name),
+        Shown(header)
     )
 }
 

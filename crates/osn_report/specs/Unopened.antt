@@ -3,6 +3,7 @@ use Rattle.std.specs.Prelude.{ℕ, List, ◌++◌, codes}
 use Rattle.osn_folder.specs.declared.fault.OpenFailed.{OpenFailed}
 use Rattle.osn_folder.specs.declared.fault.OpenFailed.TheVariants.{NotFound, PermissionDenied}
 use Rattle.osn_folder.specs.declared.fault.OpenFailed.TheVariants.{Other}
+use Rattle.osn_shown.specs.Shown.{shown}
 
 abbrev pub cause_text : OpenFailed → List ℕ
 cause_text NotFound = codes "no such file"
@@ -12,4 +13,4 @@ cause_text Other = codes "read fault"
 -- the line on the file of a path
 abbrev pub unopened_line : List ℕ → OpenFailed → List ℕ
 unopened_line path cause =
-    codes "oldstyle: " ++ (path ++ (codes ": " ++ (cause_text cause ++ codes "\n")))
+    codes "oldstyle: " ++ (shown path ++ (codes ": " ++ (cause_text cause ++ codes "\n")))

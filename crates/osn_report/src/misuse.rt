@@ -8,6 +8,7 @@ use crate::fault_report::tell_line;
 use crate::status::Status;
 use osn_days::{Calendar, Keyword, Weekday};
 use osn_lines::Sink;
+use osn_shown::Shown;
 use osn_written::DateFault;
 use std::alloc::{AllocError, Global};
 use std::fmt;
@@ -157,7 +158,7 @@ with a comma between",
 fn misuse_line(alloc: Global, misuse: Misuse, typed: &str) -> Result<String, AllocError>
     ensures { IfOk result (λ line. string_bytes line ≡ spec.misuse_line misuse typed.now) }
 {
-    format!(in alloc; "oldstyle: {typed}: {misuse}\n")
+    format!(in alloc; "oldstyle: {}: {misuse}\n", Shown(typed))
 }
 
 /// Tells standard error of a word, as it was typed, what its place asks for. Answers the status.

@@ -8,6 +8,7 @@ use crate::fault_report::tell_line;
 use crate::status::Status;
 use osn_folder::OpenFailed;
 use osn_lines::Sink;
+use osn_shown::Shown;
 use std::alloc::{AllocError, Global};
 
 /// Why a file could not be opened.
@@ -26,7 +27,7 @@ fn unopened_line(alloc: Global, path: &str, cause: OpenFailed) -> Result<String,
     ensures { IfOk result (λ line. string_bytes line ≡ spec.unopened_line path.now cause) }
 {
     let cause = cause_text(cause);
-    format!(in alloc; "oldstyle: {path}: {cause}\n")
+    format!(in alloc; "oldstyle: {}: {cause}\n", Shown(path))
 }
 
 /// Tells standard error of the file of this path why it could not be opened. Answers the status.

@@ -10,6 +10,7 @@ use Rattle.osn_lines.specs.Streams.{Output}
 use Rattle.osn_report.specs.Messages.{EndsBy, Tells, TellsIfMade, TellsLine}
 use Rattle.osn_report.specs.declared.fault.CommandFault.TheVariants.{WriteFault, NoMemory}
 use Rattle.osn_report.specs.declared.status.Status.{Status}
+use Rattle.osn_shown.specs.Shown.{shown}
 use Rattle.osn_report.specs.declared.status.Status.TheVariants as statuses
 
 -- the file of this path was locked, if there is one
@@ -26,7 +27,7 @@ CannotLockIf (Some path) fault before after = Changes (CannotLock path fault) be
 abbrev pub changed_line : List ℕ → List ℕ
 changed_line unfinished =
     codes "oldstyle: the file has changed meanwhile and is left as it is: the journal is in "
-    ++ (unfinished ++ codes "\n")
+    ++ (shown unfinished ++ codes "\n")
 
 -- the line on a journal that stands in its file, but maybe not on the disk
 abbrev pub not_synced_line : List ℕ

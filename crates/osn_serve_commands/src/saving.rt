@@ -20,6 +20,7 @@ use osn_lines::{Bytes, Sink, Source, read_all, write_all};
 use osn_register::Limits;
 use osn_report::{CommandFault, Status, report, tell_line, tell_no_memory, write_line};
 use osn_service::ServeRules;
+use osn_shown::Shown;
 use std::alloc::{AllocError, Global};
 
 /// A file that a journal will be saved to, and its lock.
@@ -68,8 +69,8 @@ fn changed(alloc: Global, unfinished: &str) -> Result<String, AllocError>
     ensures { IfOk result (λ text. string_bytes text ≡ changed_line unfinished.now) }
 {
     format!(in alloc;
-        "oldstyle: the file has changed meanwhile and is left as it is: the journal is in \
-{unfinished}\n"
+        "oldstyle: the file has changed meanwhile and is left as it is: the journal is in {}\n",
+        Shown(unfinished)
     )
 }
 

@@ -1,4 +1,3 @@
 pub mod ChangeLemmas
 pub mod MemberLemmas
 pub mod NumberLemmas
-pub mod ShownLemmas

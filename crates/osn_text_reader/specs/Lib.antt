@@ -1,6 +1,5 @@
 pub mod Key
 pub mod RefusalWords
-pub mod Shown
 pub mod Words
 pub mod Field
 pub mod DayField

@@ -15,7 +15,7 @@ use Rattle.osn_text_reader.specs.declared.fault.TextFault.{TextFault}
 use Rattle.osn_text_reader.specs.declared.fault.TextFault.TheVariants as faults
 use Rattle.osn_text_reader.specs.Key.{allowed_at, key_name, keys_text, part_text}
 use Rattle.osn_text_reader.specs.RefusalWords.{refusal_words}
-use Rattle.osn_text_reader.specs.Shown.{shown}
+use Rattle.osn_shown.specs.Shown.{shown}
 
 -- what is wrong with the value at a key
 abbrev pub value_text : Key → ValueFault → List ℕ

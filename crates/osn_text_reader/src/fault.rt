@@ -3,7 +3,7 @@ ghost use Rattle.std.specs.Prelude.{Some};
 
 use crate::key::{Key, Part};
 use crate::refusal_words::refusal_words;
-use crate::shown::Shown;
+use osn_shown::Shown;
 use osn_days::{Calendar, Keyword};
 use osn_register::{Refusal, Text};
 use std::alloc::AllocError;

@@ -10,7 +10,6 @@ mod key;
 mod parse;
 mod place;
 mod refusal_words;
-mod shown;
 mod territory_text;
 mod toml_fault;
 

@@ -3,9 +3,9 @@ use Rattle.std.proofs.Common.{append-nil, rules}
 use Rattle.std.proofs.Output.{writes_in_calls_nil, has_written_append, has_written_of_eq}
 use Rattle.std.proofs.lemmas.Str.{IsUtf8-past_char, chars_past_char}
 use Rattle.std.specs.Str.Iter.{chars_rest}
-use Rattle.osn_text_reader.specs.Shown.{shown, shown_char}
-use Rattle.osn_text_reader.proofs.ShownLemmas.{empty_shown}
-use Rattle.osn_text_reader.proofs.shown.ShownDisplay.fmt.Goals as goal
+use Rattle.osn_shown.specs.Shown.{shown, shown_char}
+use Rattle.osn_shown.proofs.ShownLemmas.{empty_shown}
+use Rattle.osn_shown.proofs.shown.ShownDisplay.fmt.Goals as goal
 
 pub loop-c-init : goal.loop-c-init
 loop-c-init g c = (

@@ -1,8 +1,8 @@
 use Rattle.std.proofs.Common.{◌≡◌, ℕ, List, ◌++◌, IsUtf8, chars, flat_map}
 use Rattle.std.specs.Fmt.{HasWritten, IsPlainFormatter}
 use Rattle.std.specs.Str.Iter.{chars_rest}
-use Rattle.osn_text_reader.specs.Shown.{shown_char}
-use Rattle.osn_text_reader.proofs.shown.ShownDisplay.fmt.Given as goal
+use Rattle.osn_shown.specs.Shown.{shown_char}
+use Rattle.osn_shown.proofs.shown.ShownDisplay.fmt.Given as goal
 
 -- what is written and what is left to write are all of it
 abbrev pub invariant-loop-c : goal.invariant-loop-c

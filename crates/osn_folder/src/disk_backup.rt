@@ -1,0 +1,73 @@
+//! How a file of the disk is left at a second path, beside the place that another file takes.
+
+use crate::disk_names::{MOST_NAMES, sync_name};
+use crate::fault::SaveFault;
+use std::alloc::Global;
+use std::fs::{File, OpenOptions};
+use std::io::ErrorKind;
+use std::rt::Files;
+use std::{fs, io};
+
+/// Leaves the file at a place at a new path beside it too, and waits until it is on the disk there.
+/// Answers the path.
+pub(crate) fn back_up<R: Files<File = File> + AllocGlobal>(
+    files: &R,
+    alloc: Global,
+    place: &str,
+) -> Result<String, SaveFault> {
+    for tried in 0..MOST_NAMES {
+        let number = tried + 1;
+        let path = format!(in alloc; "{place}.~{number}~")?;
+        match name_again(files, place, path.as_str()) {
+            Ok(()) => {
+                sync_made(files, path.as_str())?;
+                return Ok(path);
+            }
+            Err(error) if error.kind() == ErrorKind::AlreadyExists => {}
+            Err(_) => return Err(SaveFault::WriteFault),
+        }
+    }
+    Err(SaveFault::WriteFault)
+}
+
+/// Gives a file a second name, at which nothing is. A file system that has no second names gets a
+/// copy of the file.
+fn name_again(files: &impl Files<File = File>, place: &str, path: &str) -> io::Result<()> {
+    match fs::hard_link(files, place, path) {
+        Ok(()) => Ok(()),
+        Err(error) if error.kind() == ErrorKind::AlreadyExists => Err(error),
+        Err(_) => copy_new(files, place, path),
+    }
+}
+
+/// Copies a file, with its permissions, to a path at which nothing is.
+fn copy_new(files: &impl Files<File = File>, place: &str, path: &str) -> io::Result<()> {
+    OpenOptions::new()
+        .write(true)
+        .create_new(true)
+        .open(files, path)?;
+    match fs::copy(files, place, path) {
+        Ok(_) => Ok(()),
+        Err(_) => {
+            let _ = fs::remove_file(files, path);
+            Err(io::Error::from(ErrorKind::Other))
+        }
+    }
+}
+
+/// Waits until a file that was made, and its name, are on the disk. It is taken away again where
+/// that fails.
+fn sync_made<R: Files<File = File> + AllocGlobal>(files: &R, path: &str) -> Result<(), SaveFault> {
+    match sync_file(files, path) {
+        Ok(()) => Ok(()),
+        Err(_) => {
+            let _ = fs::remove_file(files, path);
+            Err(SaveFault::WriteFault)
+        }
+    }
+}
+
+fn sync_file<R: Files<File = File> + AllocGlobal>(files: &R, path: &str) -> io::Result<()> {
+    fs::open(files, path)?.sync_all()?;
+    sync_name(files, path)
+}
