@@ -80,14 +80,58 @@ fn a_folder_is_no_table_of_places(rt: HostRuntime) -> Result<(), Fail> {
     Ok(())
 }
 
-const SAVED: [RunRow; 2] = [
-    ("oldstyle serve --save link.journal", "", (0, "", "")),
+/// A journal that was loaded is replaced, and another one is left beside the one that takes its
+/// place. Of a text that is no journal nothing is lost.
+const SAVED: [RunRow; 4] = [
     (
         "oldstyle serve --journal a.journal --save a.journal",
         "",
         (0, "", ""),
     ),
+    (
+        "oldstyle serve --save a.journal",
+        "",
+        (
+            0,
+            "",
+            "note: a.journal held another journal, which is now a.journal.~1~\n",
+        ),
+    ),
+    (
+        "oldstyle serve --journal kept.journal --save a.journal",
+        "",
+        (
+            0,
+            "",
+            "note: a.journal held another journal, which is now a.journal.~2~\n",
+        ),
+    ),
+    (
+        "oldstyle serve --save letter",
+        NOTHING,
+        (
+            3,
+            "",
+            "oldstyle: write fault
+help: letter holds no journal, and is left as it is: name another file for --save
+",
+        ),
+    ),
 ];
+
+#[test]
+fn what_is_saved_over_is_not_lost(rt: HostRuntime) -> Result<(), Fail> {
+    let folder = entered(&rt, "over", &HELD)?;
+    fs::write(&rt, "letter", "Dear")?;
+    are_run(&rt, &SAVED)?;
+    has_text(&rt, "a.journal", EMPTY)?;
+    has_text(&rt, "a.journal.~1~", EMPTY)?;
+    has_text(&rt, "a.journal.~2~", EMPTY)?;
+    has_text(&rt, "letter", "Dear")?;
+    same(&rt, fs::read_dir(&rt, ".")?.count(), 5);
+    fs::remove_dir_all(&rt, folder.as_path())?;
+    Ok(())
+}
 
 /// Links that lead nowhere.
 const ASTRAY: [RunRow; 2] = [
@@ -118,19 +162,23 @@ fn links_that_lead_nowhere_stay(rt: HostRuntime) -> Result<(), Fail> {
     Ok(())
 }
 
-/// Through a link the file that it leads to is replaced, and keeps its permissions.
+/// Through a link the file that it leads to is replaced. It keeps its permissions, and so does the
+/// old one beside it.
 #[test]
 fn a_link_and_permissions_stay(rt: HostRuntime) -> Result<(), Fail> {
     let folder = entered(&rt, "links", &HELD)?;
     symlink(&rt, "kept.journal", "link.journal")?;
     fs::set_permissions(&rt, "kept.journal", Permissions::from_mode(0o640))?;
-    are_run(&rt, &SAVED)?;
-    has_text(&rt, "a.journal", EMPTY)?;
+    let left = left_over(&rt, "oldstyle serve --save link.journal", "")?;
+    let told = str::from_utf8(&left.errors)?;
+    same(&rt, (left.status, told.ends_with("/kept.journal.~1~\n")), (Status::Done, true));
     has_text(&rt, "kept.journal", EMPTY)?;
+    has_text(&rt, "kept.journal.~1~", OLD)?;
     let link = fs::symlink_metadata(&rt, "link.journal")?.is_symlink();
     let mode = fs::metadata(&rt, "kept.journal")?.permissions().mode();
+    let old = fs::metadata(&rt, "kept.journal.~1~")?.permissions().mode();
     let files = fs::read_dir(&rt, ".")?.count();
-    same(&rt, (link, mode & 0o777, files), (true, 0o640, 3));
+    same(&rt, (link, mode & 0o777, old & 0o777, files), (true, 0o640, 0o640, 4));
     fs::remove_dir_all(&rt, folder.as_path())?;
     Ok(())
 }

@@ -165,8 +165,7 @@ fn what_another_program_did_is_told(rt: HostRuntime) -> Result<(), Fail> {
     same(&rt, kept.append(HEAD.as_bytes()), Ok(()));
     same(&rt, kept.sync(), Err(KeptFileFault::Replaced));
     let saved = save_file(&mut disk, rt.alloc(), lock, "new.journal", None, KEPT);
-    let place = fs::canonicalize(&rt, "new.journal")?.into_string();
-    let beside = format!(in rt.alloc(); "{place}.unfinished-2")?;
+    let beside = String::from_str(rt.alloc(), "new.journal.unfinished-2")?;
     same(&rt, saved, Err(SaveFault::Changed(beside)));
     is_held(&rt, "new.journal", LETTER)?;
     is_held(&rt, "new.journal.unfinished", LETTER)?;

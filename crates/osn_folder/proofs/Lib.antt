@@ -1,1 +1,2 @@
 pub mod WholeLemmas
+pub mod BesideLemmas

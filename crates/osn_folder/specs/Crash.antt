@@ -127,14 +127,14 @@ BacksUpSafely place backup k n =
     BacksUp place backup k n × LeavesSafe place k n × IsSure backup n
 
 -- The text was saved at this place, and what was there is at another path. Until a moment a crash
--- left at the place what it might have left before. From that moment on it left the old file at the
--- other path.
+-- left at the place what it might have left before. From that moment on it left the old file, if one
+-- was there, at the other path.
 pub record SavesBesideAt (place backup text : List ℕ) (k n : Known) : Type 0 where
   pub moment : Known
   pub backs_up : BacksUpSafely place backup k moment
   pub saves : SavesAt place None text moment n
   pub crash : IsSafelySavedAt place text moment n
-  pub stays : k.paths.is_stream place ≡ false → StaysSure backup moment n
+  pub stays : k.paths.is_stream place ≡ false → k.at place ≢ None → StaysSure backup moment n
 
 -- a backup is taken away where the text doesn't stand at its place
 abbrev pub GivesUp : List ℕ → SaveFault → Known → Known → Type 0
@@ -152,7 +152,7 @@ pub record LeavesBesideAt (place text : List ℕ) (fault : SaveFault) (k n : Kno
   pub backs_up : BacksUpSafely place backup k moment
   pub fails : CannotSaveAt place None text fault moment after
   pub crash : IsSafelyLeftAt place text fault moment after
-  pub stays : k.paths.is_stream place ≡ false → StaysSure backup moment after
+  pub stays : k.paths.is_stream place ≡ false → k.at place ≢ None → StaysSure backup moment after
   pub ended : GivesUp backup fault after n
 
 -- the text was not saved for sure: the old file could not be put at another path, and nothing was

@@ -63,6 +63,9 @@ impl<'a, R: Files<File = File> + AllocGlobal> Folder for Disk<'a, R> {
     }
 
     fn place(&mut self, alloc: Global, path: &str) -> Result<String, SaveFault> {
+        if fs::symlink_metadata(self.files, path).is_ok_and(|found| found.is_file()) {
+            return Ok(String::from_str(alloc, path)?);
+        }
         match fs::canonicalize(self.files, path) {
             Ok(place) => Ok(place.into_string()),
             Err(error) if error.kind() == ErrorKind::NotFound => {

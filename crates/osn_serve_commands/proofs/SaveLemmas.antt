@@ -8,10 +8,9 @@ use Rattle.std.proofs.lemmas.Option.{same_Some}
 use Rattle.osn_core.specs.Sequential.{ObjectState}
 use Rattle.osn_register.specs.declared.limits.Limits.{Limits}
 use Rattle.osn_files.specs.JournalText.{journal_text}
-use Rattle.osn_folder.specs.Crash.{LeavesAllSafe, SavesSafely, CannotSaveSafely}
+use Rattle.osn_folder.specs.Crash.{LeavesAllSafe}
 use Rattle.osn_folder.specs.Folder.{Known, Changes, CannotOpen, IsFileIf}
 use Rattle.osn_folder.specs.Folder.{IsFileOf, MayFail, Opens, path_if}
-use Rattle.osn_folder.specs.declared.fault.SaveFault.{SaveFault}
 use Rattle.osn_lines.specs.Streams.{Input, Output, output_of}
 use Rattle.osn_lines.specs.Whole.{WhyNotRead}
 use Rattle.osn_lines.specs.declared.fault.Interrupted.{Interrupted}
@@ -30,8 +29,8 @@ use Rattle.osn_report.specs.declared.fault.CommandFault.TheVariants.{File, NoMem
 use Rattle.osn_report.specs.declared.fault.CommandFault.TheVariants.{Service}
 use Rattle.osn_report.specs.declared.status.Status.{Status}
 use Rattle.osn_serve_commands.specs.InFolder.{CanFailIf, EndsSaving, EndsServing, IsNotReadWhole}
-use Rattle.osn_serve_commands.specs.InFolder.{RunsService, replaced_path}
-use Rattle.osn_serve_commands.specs.Saving.{LocksIf, TellsUnsaved}
+use Rattle.osn_serve_commands.specs.InFolder.{RunsService, SavesOverFound, replaced_path}
+use Rattle.osn_serve_commands.specs.Saving.{FinishesSave, LocksIf}
 use Rattle.osn_serve_commands.specs.SavingInside.{ReplacesRead}
 use Rattle.osn_serve_commands.specs.Serve.{EndsServed, LeavesJournal, Serves, input_if}
 
@@ -75,7 +74,7 @@ none_left f (Some x) h = absurd (cc)
 
 module _ {E D J P : Type 0} (contents : E → Option (List ℕ)) (has_failed holds_back : E → Bool)
     (known : D → Option Known) (bytes : J → List ℕ) (now : P → List ℕ)
-    (loaded : Option (List ℕ)) (old mid new : E) (opened after : D) (was is : Status) where
+    (loaded : Option (List ℕ)) (beside : Bool) (old mid new : E) (opened after : D) (was is : Status) where
   -- the messages before anything was saved, and all messages
   abbrev before : Output
   before = output_of contents has_failed holds_back old mid
@@ -90,58 +89,46 @@ module _ {E D J P : Type 0} (contents : E → Option (List ℕ)) (has_failed hol
   -- what is done with a journal that is left, and a path
   abbrev SavesOne : P → J → Type 0
   SavesOne path text =
-      ((is ≡ was) × (new ≡ mid)
-      × SavesSafely (now path) loaded (bytes text) (known opened) (known after))
-      ⊎ ((fault : SaveFault)
-      × CannotSaveSafely (now path) loaded (bytes text) fault (known opened) (known after)
-      × TellsUnsaved (output_of contents has_failed holds_back mid new) fault is)
+      FinishesSave beside loaded (now path) (bytes text) (known opened) (known after)
+      (output_of contents has_failed holds_back mid new) is
 
   abbrev SavesBoth : Option P → Option J → Type 0
   SavesBoth save journal = IfSome save (λ path. IfSome journal (SavesOne path))
 
   -- that nothing was told before does not count
-  unsaved_told : (fault : SaveFault) → TellsNothing before
-      → TellsUnsaved (output_of contents has_failed holds_back mid new) fault is
-      → TellsUnsaved in_all fault is
-  unsaved_told fault same told =
-      subst (λ c. TellsUnsaved (record {
+  told_in_all : (Told : Output → Type 0) → TellsNothing before
+      → Told (output_of contents has_failed holds_back mid new) → Told in_all
+  told_in_all Told same told =
+      subst (λ c. Told (record {
         old = c;
         new = contents new;
         unwritten_before = has_failed old;
         unwritten = has_failed new;
         holds_back = holds_back new;
-      }) fault is) same.0
-      (subst (λ b. TellsUnsaved (record {
+      })) same.0
+      (subst (λ b. Told (record {
         old = contents mid;
         new = contents new;
         unwritten_before = b;
         unwritten = has_failed new;
         holds_back = holds_back new;
-      }) fault is) same.1 told)
+      })) same.1 told)
 
   -- a journal that is left was saved
   one_saved : (t : ObjectState) (path : P) (text : J)
       → bytes text ≡ journal_text t → Ends before None was → SavesOne path text
-      → EndsSaving (Some (now path)) loaded t (known opened) (known after) in_all is
-  one_saved t path text same h (inl saved) =
-      inr (inl (
-        as_before contents has_failed holds_back old mid new was is (λ e status. Ends e None status)
-            saved.0 saved.1 h,
-        subst (λ l. SavesSafely (now path) loaded l (known opened) (known after)) same saved.2,
-      ))
-  one_saved t path text same h (inr told) =
-      inr (inr (
-        told.0,
-        subst (λ l. CannotSaveSafely (now path) loaded l told.0 (known opened) (known after)) same
-            told.1,
-        unsaved_told told.0 h.1 told.2,
-      ))
+      → EndsSaving (Some (now path)) loaded beside t (known opened) (known after) in_all is
+  one_saved t path text same h saved =
+      inr (told_in_all (λ e. FinishesSave beside loaded (now path) (journal_text t) (known opened)
+          (known after) e is) h.1
+          (subst (λ l. FinishesSave beside loaded (now path) l (known opened) (known after)
+          (output_of contents has_failed holds_back mid new) is) same saved))
 
   -- of an object all of whose lines were answered
   left_saved : (t : ObjectState) (save : Option P) (journal : Option J)
       → LeavesJournal (is_some save) t (option_map bytes journal) before was
       → Unsaved journal → SavesBoth save journal
-      → EndsSaving (option_map now save) loaded t (known opened) (known after) in_all is
+      → EndsSaving (option_map now save) loaded beside t (known opened) (known after) in_all is
   left_saved t None journal (inl left) unsaved saved =
       let same = unsaved (none_left bytes journal left.0) in (
         ap known same.2,
@@ -167,8 +154,8 @@ module _ {E D J P : Type 0} (contents : E → Option (List ℕ)) (has_failed hol
       → saves ≡ is_some save
       → Serves limits rules begun saves i o before (option_map bytes journal) editions was
       → Unsaved journal → SavesBoth save journal
-      → EndsServing limits (option_map now save) rules begun loaded (known opened) (known after) i
-      o in_all is
+      → EndsServing limits (option_map now save) rules begun loaded beside (known opened)
+      (known after) i o in_all is
   served_and_saved limits rules begun saves i o save journal editions by (inl none) unsaved saved =
       let same = unsaved (none_left bytes journal none.2) in
       inl (
@@ -243,10 +230,11 @@ replaces_journal None save path h = absurd (cc)
 replaces_journal (Some journal) None path h = absurd (cc)
 replaces_journal (Some journal) (Some save) path h = ap Some (of_journal journal save path h)
 
--- what is known of bytes is that they are so
-known_is : (bytes : Option (List ℕ)) → IfSome bytes (λ held. bytes ≡ Some held)
-known_is None = tt
-known_is (Some held) = refl
+-- bytes that are known have to stand still
+stands_as : (bytes : Option (List ℕ)) (held : List ℕ) → bytes ≡ Some held
+    → IfSome bytes (λ given. Some held ≡ Some given)
+stands_as None held is = tt
+stands_as (Some given) held is = sym is
 
 -- the bytes that were read whole are those that the file holds
 read_whole : (known : Option Known) (path held : List ℕ) (bytes begun : Option (List ℕ))
@@ -263,30 +251,26 @@ module _ (limits : Limits) (journal save found : Option (List ℕ)) (given rules
     (CanFail : Bool → Type 0) (d : Folders) (i : Input) (o e : Output) (status : Status)
     (opened : Option Known) (named : found ≡ save) (by : given ≡ rules) where
   -- what was done with the path and the rules that were found
-  as_asked : (begun : Option Input) (loaded : Option (List ℕ))
-      → EndsServing limits found given begun loaded opened d.after i o e status
-      → EndsServing limits save rules begun loaded opened d.after i o e status
-  as_asked begun loaded h =
-      subst (λ s. EndsServing limits s rules begun loaded opened d.after i o e status) named
-      (subst (λ r. EndsServing limits found r begun loaded opened d.after i o e status) by h)
+  as_asked : (Served : Option (List ℕ) → ServeRules → Type 0) → Served found given
+      → Served save rules
+  as_asked Served h = subst (λ s. Served s rules) named (subst (λ r. Served found r) by h)
 
   -- the service was run, and no file is replaced
   pub service_ran : (begun : Option Input) → replaced_path journal save ≡ None
       → IsFileIf d.before journal (option_map (λ journal. journal.bytes) begun)
       → CanFailIf CanFail begun → Changes (Opens (path_if journal)) d.before opened
       → Changes LeavesAllSafe d.before opened
-      → EndsServing limits found given begun None opened d.after i o e status
+      → SavesOverFound limits found given begun opened d.after i o e status
       → RunsService limits journal save rules CanFail d i o e status
   service_ran begun none file fails opens crash h = record {
     begun = begun;
     opened = opened;
-    loaded = None;
     file = file;
     fails = fails;
     opens = opens;
     crash = crash;
-    stands = rw none refl;
-    ended = inr (as_asked begun None h);
+    ended = rw none (as_asked
+        (λ s r. SavesOverFound limits s r begun opened d.after i o e status) h);
   }
 
   -- it was run, and the file that it began with is replaced
@@ -299,19 +283,16 @@ module _ (limits : Limits) (journal save found : Option (List ℕ)) (given rules
       let journal_is = replaces_journal journal save path is in record {
         begun = Some file;
         opened = opened;
-        loaded = file.bytes;
         file = rw journal_is (file.bytes, refl, given_file);
         fails = fails;
         opens = rw journal_is opens;
         crash = crash;
-        stands = rw is (known_is file.bytes);
-        ended = inl (rw is none);
+        ended = rw is (inl none);
       }
   replacing_ran path file is given_file fails sound opens crash (inr (held, begun, whole, h)) =
       let journal_is = replaces_journal journal save path is in record {
         begun = Some begun;
         opened = opened;
-        loaded = Some held;
         file = rw journal_is (
           begun.bytes,
           refl,
@@ -320,8 +301,9 @@ module _ (limits : Limits) (journal save found : Option (List ℕ)) (given rules
         fails = subst CanFail (sym whole.sound) sound;
         opens = rw journal_is opens;
         crash = crash;
-        stands = rw (is, whole.bytes) refl;
-        ended = inr (as_asked (Some begun) (Some held) h);
+        ended = rw is (inr (Some held, stands_as begun.bytes held whole.bytes, as_asked
+            (λ s r. EndsServing limits s r (Some begun) (Some held) false opened d.after i o e
+            status) h));
       }
 
 -- a journal was not read whole

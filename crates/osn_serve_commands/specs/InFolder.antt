@@ -12,12 +12,11 @@ use Rattle.osn_lines.specs.declared.fault.Interrupted.{Interrupted}
 use Rattle.osn_files.specs.JournalText.{journal_text}
 use Rattle.osn_files.specs.declared.fault.FileFault.{FileFault}
 use Rattle.osn_files.specs.declared.fault.FileFault.TheVariants.{ReadFault}
-use Rattle.osn_folder.specs.Crash.{LeavesAllSafe, SavesSafely, CannotSaveSafely}
+use Rattle.osn_folder.specs.Crash.{LeavesAllSafe}
 use Rattle.osn_folder.specs.Folder.{Known, Changes, IsFileIf, Opens, path_if}
 use Rattle.osn_folder.specs.Folder.{Keeps, CannotKeep, IsKeptAt, Leaves, Stays}
 use Rattle.osn_follower.specs.Arrivals.{Arrival}
 use Rattle.osn_folder.specs.declared.fault.KeepFault.{KeepFault}
-use Rattle.osn_folder.specs.declared.fault.SaveFault.{SaveFault}
 use Rattle.osn_invocation.specs.Invocation.{ServiceModel}
 use Rattle.osn_journal.specs.KeptJournal.{FileState}
 use Rattle.osn_service.specs.Serves.{ServesStore}
@@ -35,7 +34,12 @@ use Rattle.osn_report.specs.declared.fault.CommandFault.TheVariants.{UpgradeWith
 use Rattle.osn_report.specs.declared.status.Status.{Status}
 use Rattle.osn_serve_commands.specs.Follow.{EndsFollowed}
 use Rattle.osn_serve_commands.specs.Keep.{EndsKept, first_output, later_output}
-use Rattle.osn_serve_commands.specs.Saving.{LocksIf, CannotLockIf, TellsUnsaved}
+use Rattle.osn_serve_commands.specs.SaveTarget.{IsTarget, IsNoTarget, TellsTarget}
+use Rattle.osn_serve_commands.specs.Saving.{LocksIf, CannotLockIf, FinishesSave}
+use Rattle.osn_serve_commands.specs.declared.save_target.SaveTarget.{SaveTarget}
+use Rattle.osn_serve_commands.specs.declared.save_target.SaveTarget.TheVariants.{NoFile, Empty}
+use Rattle.osn_serve_commands.specs.declared.save_target.SaveTarget.TheVariants.{Journal}
+use Rattle.osn_serve_commands.specs.declared.save_target.TargetFault.{TargetFault}
 use Rattle.osn_serve_commands.specs.Serve.{EndsServed}
 use Rattle.osn_serve_commands.specs.Upgrade.{CannotUpgrade, Upgrades}
 
@@ -55,35 +59,32 @@ abbrev pub replaced_path : Option (List ℕ) → Option (List ℕ) → Option (L
 replaced_path (Some journal) (Some save) = if bytes_eq journal save then Some journal else None
 replaced_path journal save = None
 
--- the bytes that the file has to hold still that the journal is saved to: those that were loaded,
--- where they were loaded from the same path and are known
-abbrev pub IsToStand : Option (List ℕ) → Option Input → Option (List ℕ) → Type 0
-IsToStand None begun loaded = loaded ≡ None
-IsToStand (Some path) begun loaded =
+-- the bytes that the file has to hold still that the journal is saved to, which it was loaded from:
+-- those that were loaded, where they are known
+abbrev pub IsToStand : Option Input → Option (List ℕ) → Type 0
+IsToStand begun loaded =
     IfSome begun (λ journal. IfSome journal.bytes (λ bytes. loaded ≡ Some bytes))
 
 -- the journal of an object was saved to a path, if to any; or standard error was told why it is not
 -- saved for sure. Else nothing was written in the folder
-abbrev pub EndsSaving : Option (List ℕ) → Option (List ℕ) → ObjectState → Option Known
+abbrev pub EndsSaving : Option (List ℕ) → Option (List ℕ) → Bool → ObjectState → Option Known
     → Option Known → Output → Status → Type 0
-EndsSaving None loaded t opened after e status = (after ≡ opened) × Ends e None status
-EndsSaving (Some path) loaded t opened after e status =
+EndsSaving None loaded beside t opened after e status = (after ≡ opened) × Ends e None status
+EndsSaving (Some path) loaded beside t opened after e status =
     ((after ≡ opened) × EndsBy e NoMemory status)
-    ⊎ ((Ends e None status × SavesSafely path loaded (journal_text t) opened after)
-    ⊎ ((fault : SaveFault) × CannotSaveSafely path loaded (journal_text t) fault opened after
-    × TellsUnsaved e fault status))
+    ⊎ FinishesSave beside loaded path (journal_text t) opened after e status
 
 -- The journal, if any, makes an object, and the lines were answered from it. Where all were, its
 -- journal was saved.
 pub record ServesAndSaves (limits : Limits) (save : Option (List ℕ)) (rules : ServeRules)
-    (begun : Option Input) (loaded : Option (List ℕ)) (opened after : Option Known) (i : Input)
-    (o e : Output) (status : Status) : Type 0 where
+    (begun : Option Input) (loaded : Option (List ℕ)) (beside : Bool)
+    (opened after : Option Known) (i : Input) (o e : Output) (status : Status) : Type 0 where
   pub first : ObjectState
   pub last : ObjectState
   pub result : Result Served (Interrupted (ServiceFault Infallible))
   pub begins : Begins limits begun first
   pub serves : ServesStore rules first last i o result
-  pub ended : EndsServed result e status (EndsSaving save loaded last opened after e status)
+  pub ended : EndsServed result e status (EndsSaving save loaded beside last opened after e status)
       (after ≡ opened) (λ never. ⊥)
 
 -- a read of the journal, if there is one, failed only where one of its kind can
@@ -93,11 +94,47 @@ CanFailIf CanFail begun = IfSome begun (λ journal. CanFail journal.unread)
 -- how a run of the service ended. It had no object to begin with, and wrote nothing; or it answered
 -- the lines, and its journal was saved
 abbrev pub EndsServing : Limits → Option (List ℕ) → ServeRules → Option Input → Option (List ℕ)
-    → Option Known → Option Known → Input → Output → Output → Status → Type 0
-EndsServing limits save rules begun loaded opened after i o e status =
+    → Bool → Option Known → Option Known → Input → Output → Output → Status → Type 0
+EndsServing limits save rules begun loaded beside opened after i o e status =
     ((fault : FileFault) × BeginsNot limits begun fault × (after ≡ opened)
     × PrintsNone (File fault) o e status)
-    ⊎ ServesAndSaves limits save rules begun loaded opened after i o e status
+    ⊎ ServesAndSaves limits save rules begun loaded beside opened after i o e status
+
+-- the bytes that a file has to hold still that a journal is saved over, by what was found there
+abbrev pub bytes_of : SaveTarget → Option (List ℕ)
+bytes_of Empty = Some []
+bytes_of NoFile = None
+bytes_of Journal = None
+
+-- a journal that is found is left beside the one that is saved
+abbrev pub is_left_beside : SaveTarget → Bool
+is_left_beside Journal = true
+is_left_beside NoFile = false
+is_left_beside Empty = false
+
+-- what was found at the path of a save, if there is one
+abbrev pub FindsTarget : Limits → Option (List ℕ) → Option Known → Option Known → SaveTarget → Type 0
+FindsTarget limits None before after found = (after ≡ before) × (found ≡ NoFile)
+FindsTarget limits (Some path) before after found = IsTarget limits path before after found
+
+-- nothing is to be saved over what was found there, which standard error was told before a line was
+-- answered
+abbrev pub RefusesTarget : Limits → Option (List ℕ) → Option Known → Option Known → Output → Output
+    → Status → Type 0
+RefusesTarget limits None before after o e status = ⊥
+RefusesTarget limits (Some path) before after o e status =
+    (fault : TargetFault) × IsNoTarget limits path before after fault × (o.new ≡ o.old)
+    × TellsTarget path e fault status
+
+-- the service was run, and its journal saved over what was found at its path; or that was refused
+abbrev pub SavesOverFound : Limits → Option (List ℕ) → ServeRules → Option Input → Option Known
+    → Option Known → Input → Output → Output → Status → Type 0
+SavesOverFound limits save rules begun opened after i o e status =
+    RefusesTarget limits save opened after o e status
+    ⊎ ((found : SaveTarget) × (looked : Option Known)
+    × FindsTarget limits save opened looked found
+    × EndsServing limits save rules begun (bytes_of found) (is_left_beside found) looked after i o e
+    status)
 
 -- a journal was to be read whole, and a read of it failed, or there was no memory for it
 abbrev pub IsNotReadWhole : Input → CommandFault → Type 0
@@ -105,13 +142,24 @@ IsNotReadWhole journal fault =
     (fault ≡ NoMemory)
     ⊎ ((fault ≡ File ReadFault) × IsReadFault journal.unread journal.bytes)
 
--- a journal that is to be replaced is read whole first: it could not be, and nothing was done
-abbrev pub CannotReplace : Option (List ℕ) → Option Input → Option Known → Option Known → Output
-    → Output → Status → Type 0
-CannotReplace None begun opened after o e status = ⊥
-CannotReplace (Some path) begun opened after o e status =
-    (fault : CommandFault) × IfSome begun (λ journal. IsNotReadWhole journal fault)
-    × (after ≡ opened) × PrintsNone fault o e status
+-- a journal that is to be replaced is read whole first: it could not be, and nothing was done; or the
+-- service was run, and its journal saved where that stood still
+abbrev pub SavesOverLoaded : Limits → Option (List ℕ) → ServeRules → Option Input → Option Known
+    → Option Known → Input → Output → Output → Status → Type 0
+SavesOverLoaded limits save rules begun opened after i o e status =
+    ((fault : CommandFault) × IfSome begun (λ journal. IsNotReadWhole journal fault)
+    × (after ≡ opened) × PrintsNone fault o e status)
+    ⊎ ((loaded : Option (List ℕ)) × IsToStand begun loaded
+    × EndsServing limits save rules begun loaded false opened after i o e status)
+
+-- the service was run, and its journal saved: over the file that it was loaded from, or over what was
+-- found at another path
+abbrev pub ServesOver : Option (List ℕ) → Limits → Option (List ℕ) → ServeRules → Option Input
+    → Option Known → Option Known → Input → Output → Output → Status → Type 0
+ServesOver (Some path) limits save rules begun opened after i o e status =
+    SavesOverLoaded limits save rules begun opened after i o e status
+ServesOver None limits save rules begun opened after i o e status =
+    SavesOverFound limits save rules begun opened after i o e status
 
 -- The service was run, from what the journal holds, and the journal that it left was saved.
 pub record RunsService (limits : Limits) (journal save : Option (List ℕ)) (rules : ServeRules)
@@ -119,14 +167,12 @@ pub record RunsService (limits : Limits) (journal save : Option (List ℕ)) (rul
   where
     pub begun : Option Input
     pub opened : Option Known
-    pub loaded : Option (List ℕ)
     pub file : IsFileIf d.before journal (option_map (λ journal. journal.bytes) begun)
     pub fails : CanFailIf CanFail begun
     pub opens : Changes (Opens (path_if journal)) d.before opened
     pub crash : Changes LeavesAllSafe d.before opened
-    pub stands : IsToStand (replaced_path journal save) begun loaded
-    pub ended : CannotReplace (replaced_path journal save) begun opened d.after o e status
-        ⊎ EndsServing limits save rules begun loaded opened d.after i o e status
+    pub ended : ServesOver (replaced_path journal save) limits save rules begun opened d.after i o e
+        status
 
 -- the file that the journal is to be saved to could not be locked; or it was, and the service was
 -- run

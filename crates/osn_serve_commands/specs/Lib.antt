@@ -1,6 +1,7 @@
 pub mod Serve
 pub mod Keep
 pub mod KeepInside
+pub mod SaveTarget
 pub mod Saving
 pub mod Follow
 pub mod InFolder

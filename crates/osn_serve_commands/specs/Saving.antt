@@ -1,13 +1,15 @@
 -- The file that a journal is saved to: how it was locked, and how standard error was told that the
 -- journal is not saved for sure.
-use Rattle.std.specs.Prelude.{◌≡◌, ℕ, List, ◌++◌, codes, Option, Some, None}
+use Rattle.std.specs.Prelude.{◌≡◌, ◌⊎◌, ℕ, Bool, true, false, List, ◌++◌, codes}
+use Rattle.std.specs.Prelude.{Option, Some, None}
 use Rattle.std.specs.Prelude.{string_bytes}
+use Rattle.osn_folder.specs.Crash.{SavesSafely, CannotSaveSafely, SavesBeside, CannotSaveBeside}
 use Rattle.osn_folder.specs.Folder.{Known, Changes, Locks, CannotLock}
 use Rattle.osn_folder.specs.declared.fault.KeepFault.{KeepFault}
 use Rattle.osn_folder.specs.declared.fault.SaveFault.{SaveFault}
 use Rattle.osn_folder.specs.declared.fault.SaveFault.TheVariants as faults
 use Rattle.osn_lines.specs.Streams.{Output}
-use Rattle.osn_report.specs.Messages.{EndsBy, Tells, TellsIfMade, TellsLine}
+use Rattle.osn_report.specs.Messages.{Ends, EndsBy, Tells, TellsIfMade, TellsLine}
 use Rattle.osn_report.specs.declared.fault.CommandFault.TheVariants.{WriteFault, NoMemory}
 use Rattle.osn_report.specs.declared.status.Status.{Status}
 use Rattle.osn_shown.specs.Shown.{shown}
@@ -40,3 +42,37 @@ TellsUnsaved e faults.WriteFault status = Tells e WriteFault status
 TellsUnsaved e faults.NotSynced status = TellsLine e statuses.WriteFault not_synced_line status
 TellsUnsaved e (faults.Changed unfinished) status =
     TellsIfMade e statuses.WriteFault (changed_line (string_bytes unfinished)) status
+
+-- ---- how a journal was saved
+
+-- the line on a journal that was at a path, and on the path that it is at now
+abbrev pub beside_line : List ℕ → List ℕ → List ℕ
+beside_line path backup = codes "note: "
+    ++ (shown path
+    ++ (codes " held another journal, which is now " ++ (shown backup ++ codes "\n")))
+
+-- a journal was saved at a path, where what was loaded stood still, if that is given; or in the place
+-- of another journal, which is beside it now, and standard error was told where
+abbrev pub SavesAs : Bool → Option (List ℕ) → List ℕ → List ℕ → Option Known → Option Known
+    → Output → Status → Type 0
+SavesAs false loaded path text before after e status =
+    Ends e None status × SavesSafely path loaded text before after
+SavesAs true loaded path text before after e status =
+    (backup : List ℕ) × Changes (SavesBeside path backup text) before after
+    × TellsIfMade e statuses.Done (beside_line path backup) status
+
+-- it was not so for sure, for this reason
+abbrev pub CannotSaveAs : Bool → Option (List ℕ) → List ℕ → List ℕ → SaveFault → Option Known
+    → Option Known → Type 0
+CannotSaveAs false loaded path text fault before after =
+    CannotSaveSafely path loaded text fault before after
+CannotSaveAs true loaded path text fault before after =
+    Changes (CannotSaveBeside path text fault) before after
+
+-- it was saved; or standard error was told why it is not saved for sure
+abbrev pub FinishesSave : Bool → Option (List ℕ) → List ℕ → List ℕ → Option Known → Option Known
+    → Output → Status → Type 0
+FinishesSave beside loaded path text before after e status =
+    SavesAs beside loaded path text before after e status
+    ⊎ ((fault : SaveFault) × CannotSaveAs beside loaded path text fault before after
+    × TellsUnsaved e fault status)

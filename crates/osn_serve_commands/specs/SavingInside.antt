@@ -23,4 +23,4 @@ ReplacesRead limits save rules journal opened after i o e status =
     ((fault : CommandFault) × IsNotReadWhole journal fault × (after ≡ opened)
     × PrintsNone fault o e status)
     ⊎ ((held : List ℕ) × (begun : Input) × IsReadWhole journal begun held
-    × EndsServing limits save rules (Some begun) (Some held) opened after i o e status)
+    × EndsServing limits save rules (Some begun) (Some held) false opened after i o e status)

@@ -1,20 +1,22 @@
 //! The command `serve` over the files of a folder, where no journal is kept: the file that the
 //! journal is saved to is locked first.
-ghost use Rattle.std.specs.Prelude.{◌≡◌, ◌⊎◌, None, option_map};
+ghost use Rattle.std.specs.Prelude.{◌≡◌, None, option_map, true, false};
 ghost use Rattle.std.specs.Prelude.{IfErr, IfOk, IfSome, OnErr, string_bytes};
-ghost use Rattle.osn_folder.specs.Crash.{SavesSafely, CannotSaveSafely};
 ghost use Rattle.osn_folder.specs.Folder.{CannotOpen, MayFail, path_if};
 ghost use Rattle.osn_invocation.specs.Invocation.{service_model};
 ghost use Rattle.osn_lines.specs.Streams.{input_of, output_of};
 ghost use Rattle.osn_report.specs.Folders.{folders_of};
 ghost use Rattle.osn_serve_commands.specs.InFolder as spec;
 ghost use Rattle.osn_serve_commands.specs.SavingInside.{ReplacesRead};
-ghost use Rattle.osn_serve_commands.specs.Saving.{CannotLockIf, LocksIf, TellsUnsaved};
-ghost use Rattle.osn_serve_commands.specs.Saving.{changed_line};
+ghost use Rattle.osn_serve_commands.specs.Saving.{CannotLockIf, FinishesSave, LocksIf};
+ghost use Rattle.osn_serve_commands.specs.Saving.{TellsUnsaved, beside_line, changed_line};
 ghost use Rattle.osn_serve_commands.specs.Serve.{input_if};
 
+use crate::save_target::{SaveTarget, save_target, tell_target};
 use crate::serve::{ServeResult, serve_command};
-use osn_folder::{Folder, KeepFault, OpenFailed, SaveFault, open_file, open_if, save_file};
+use osn_folder::{
+    Folder, KeepFault, OpenFailed, SaveFault, open_file, open_if, save_beside, save_file,
+};
 use osn_invocation::ServeOptions;
 use osn_lines::{Bytes, Sink, Source, read_all, write_all};
 use osn_register::Limits;
@@ -74,6 +76,17 @@ fn changed(alloc: Global, unfinished: &str) -> Result<String, AllocError>
     )
 }
 
+/// The line on a journal that was there, and on the path that it is at now.
+fn beside_line(alloc: Global, path: &str, backup: &str) -> Result<String, AllocError>
+    ensures { IfOk result (λ text. string_bytes text ≡ beside_line path.now backup.now) }
+{
+    format!(in alloc;
+        "note: {} held another journal, which is now {}\n",
+        Shown(path),
+        Shown(backup)
+    )
+}
+
 /// Tells standard error why the journal is not saved for sure. Answers the status.
 pub(crate) fn report_unsaved<E: Sink>(alloc: Global, errors: &mut E, fault: SaveFault) -> Status
     ensures { TellsUnsaved
@@ -96,34 +109,74 @@ pub(crate) fn report_unsaved<E: Sink>(alloc: Global, errors: &mut E, fault: Save
     }
 }
 
-/// Saves the journal that the service left, if any, or tells standard error why it could not. The
-/// file that it replaces has to hold still what was loaded, if that is given.
+/// Saves a journal in place of what is at a path, which has to hold still what was loaded, if that
+/// is given; or tells standard error why it could not.
+fn save_over<D: Folder, E: Sink>(
+    alloc: Global,
+    folder: &mut D,
+    file: LockedFile<'_, D::Lock>,
+    loaded: Option<&[u8]>,
+    text: &str,
+    errors: &mut E,
+) -> Status
+    ensures { FinishesSave false (option_map (λ bytes. bytes.now) loaded.entry) file.path.now
+        text.now (D.known folder.old) (D.known folder.new)
+        (output_of E.contents E.has_failed E.holds_back errors.old errors.new) result }
+{
+    match save_file(folder, alloc, file.lock, file.path, loaded, text) {
+        Ok(()) => Status::Done,
+        Err(fault) => report_unsaved(alloc, errors, fault),
+    }
+}
+
+/// Saves a journal in place of another one, which is left beside it. Standard error is told where
+/// that is; or why it could not be done.
+fn save_and_note<D: Folder, E: Sink>(
+    alloc: Global,
+    folder: &mut D,
+    file: LockedFile<'_, D::Lock>,
+    text: &str,
+    errors: &mut E,
+) -> Status
+    ensures { FinishesSave true None file.path.now text.now
+        (D.known folder.old) (D.known folder.new)
+        (output_of E.contents E.has_failed E.holds_back errors.old errors.new) result }
+{
+    match save_beside(folder, alloc, file.lock, file.path, text) {
+        Ok(backup) => {
+            let line = beside_line(alloc, file.path, backup.as_str());
+            tell_line(errors, Status::Done, line)
+        }
+        Err(fault) => report_unsaved(alloc, errors, fault),
+    }
+}
+
+/// Saves the journal that the service left, if any, or tells standard error why it could not. A
+/// journal that it replaces is left beside it, where that is said. Else the file that it replaces
+/// has to hold still what was loaded, if that is given.
 fn finish<D: Folder, E: Sink>(
     alloc: Global,
     folder: &mut D,
     served: ServeResult,
     locked: Option<LockedFile<'_, D::Lock>>,
     loaded: Option<&[u8]>,
+    beside: bool,
     errors: &mut E,
 ) -> Status
     ensures none { served.journal ≡ None
         → (result ≡ served.status) × (errors.new ≡ errors.old) × (folder.new ≡ folder.old) }
     ensures saved { IfSome locked.entry (λ file. IfSome served.journal (λ text.
-        ((result ≡ served.status) × (errors.new ≡ errors.old)
-        × SavesSafely file.path.now (option_map (λ bytes. bytes.now) loaded.entry)
-        (string_bytes text) (D.known folder.old) (D.known folder.new))
-        ⊎ ((fault : SaveFault) × CannotSaveSafely file.path.now
-        (option_map (λ bytes. bytes.now) loaded.entry) (string_bytes text) fault
-        (D.known folder.old) (D.known folder.new)
-        × TellsUnsaved (output_of E.contents E.has_failed E.holds_back errors.old errors.new)
-        fault result))) }
+        FinishesSave beside (option_map (λ bytes. bytes.now) loaded.entry) file.path.now
+        (string_bytes text) (D.known folder.old) (D.known folder.new)
+        (output_of E.contents E.has_failed E.holds_back errors.old errors.new) result)) }
 {
-    let (Some(LockedFile { path, lock }), Some(journal)) = (locked, served.journal) else {
+    let (Some(file), Some(journal)) = (locked, served.journal) else {
         return served.status;
     };
-    match save_file(folder, alloc, lock, path, loaded, journal.as_str()) {
-        Ok(()) => served.status,
-        Err(fault) => report_unsaved(alloc, errors, fault),
+    if beside {
+        save_and_note(alloc, folder, file, journal.as_str(), errors)
+    } else {
+        save_over(alloc, folder, file, loaded, journal.as_str(), errors)
     }
 }
 
@@ -157,6 +210,7 @@ fn serve_opened<D: Folder, J: Source, R: Source, W: Sink, E: Sink, T: Sink + Dro
     folder: &mut D,
     journal: &mut Option<J>,
     loaded: Option<&[u8]>,
+    beside: bool,
     locked: Option<LockedFile<'_, D::Lock>>,
     rules: ServeRules,
     input: &mut R,
@@ -166,7 +220,7 @@ fn serve_opened<D: Folder, J: Source, R: Source, W: Sink, E: Sink, T: Sink + Dro
 ) -> Status
     ensures { spec.EndsServing limits (option_map (λ file. file.path.now) locked.entry) rules
         (input_if J.remaining J.has_failed journal.old journal.new)
-        (option_map (λ bytes. bytes.now) loaded.entry)
+        (option_map (λ bytes. bytes.now) loaded.entry) beside
         (D.known folder.old) (D.known folder.new)
         (input_of R.remaining R.has_failed input.old input.new)
         (output_of W.contents W.has_failed W.holds_back output.old output.new)
@@ -175,7 +229,7 @@ fn serve_opened<D: Folder, J: Source, R: Source, W: Sink, E: Sink, T: Sink + Dro
     let saves = locked.is_some();
     let served = serve_command(alloc, limits, journal, rules, saves, input, output, errors);
     tell_unsaved(alloc, terminal, saves, served.editions);
-    finish(alloc, folder, served, locked, loaded, errors)
+    finish(alloc, folder, served, locked, loaded, beside, errors)
 }
 
 /// The same, where the journal is saved to the file that it is loaded from: that has to hold still
@@ -209,6 +263,7 @@ fn serve_replacing<D: Folder, J: Source, R: Source, W: Sink, E: Sink, T: Sink + 
         folder,
         &mut Some(Bytes::new(&held)),
         Some(&held),
+        false,
         locked,
         rules,
         input,
@@ -216,6 +271,61 @@ fn serve_replacing<D: Folder, J: Source, R: Source, W: Sink, E: Sink, T: Sink + 
         errors,
         terminal,
     )
+}
+
+/// The same, where the journal is saved to another path than it is loaded from, or nothing is saved.
+/// A journal that is at that path is left beside the new one, and anything else that a file there
+/// holds is refused before a line is answered.
+fn serve_beside<D: Folder, J: Source, R: Source, W: Sink, E: Sink, T: Sink + Drop>(
+    alloc: Global,
+    limits: Limits,
+    folder: &mut D,
+    journal: &mut Option<J>,
+    locked: Option<LockedFile<'_, D::Lock>>,
+    rules: ServeRules,
+    input: &mut R,
+    output: &mut W,
+    errors: &mut E,
+    terminal: Option<T>,
+) -> Status
+    ensures { spec.SavesOverFound limits (option_map (λ file. file.path.now) locked.entry) rules
+        (input_if J.remaining J.has_failed journal.old journal.new)
+        (D.known folder.old) (D.known folder.new)
+        (input_of R.remaining R.has_failed input.old input.new)
+        (output_of W.contents W.has_failed W.holds_back output.old output.new)
+        (output_of E.contents E.has_failed E.holds_back errors.old errors.new) result }
+{
+    let found = match &locked {
+        Some(file) => match save_target(alloc, limits, folder, file.path) {
+            Ok(found) => found,
+            Err(fault) => return tell_target(alloc, errors, file.path, fault),
+        },
+        None => SaveTarget::NoFile,
+    };
+    serve_opened(
+        alloc,
+        limits,
+        folder,
+        journal,
+        bytes_of(found),
+        found == SaveTarget::Journal,
+        locked,
+        rules,
+        input,
+        output,
+        errors,
+        terminal,
+    )
+}
+
+/// The bytes that a file has to hold still that a journal is saved over, if it is no journal itself.
+fn bytes_of(found: SaveTarget) -> Option<&'static [u8]>
+    ensures { option_map (λ bytes. bytes.now) result ≡ spec.bytes_of found }
+{
+    match found {
+        SaveTarget::Empty => Some(&[]),
+        SaveTarget::NoFile | SaveTarget::Journal => None,
+    }
 }
 
 /// The path that a journal is loaded from and saved to, if it is one.
@@ -270,18 +380,8 @@ pub(crate) fn serve<D: Folder, R: Source, W: Sink, E: Sink, T: Sink + Drop>(
         }
         None => {
             let mut source = open_if(folder, journal)?;
-            Ok(serve_opened(
-                alloc,
-                limits,
-                folder,
-                &mut source,
-                None,
-                locked,
-                rules,
-                input,
-                output,
-                errors,
-                terminal,
+            Ok(serve_beside(
+                alloc, limits, folder, &mut source, locked, rules, input, output, errors, terminal,
             ))
         }
     }

@@ -26,7 +26,7 @@ pub returns-in_ok-source-in-None-clause-ok : goal.returns-in_ok-source-in-None-c
 returns-in_ok-source-in-None-clause-ok g c =
     let found = c.in_ok-source-in-None in
     let file = g.D.File.Source in
-    let left = c.serve_opened.new.journal in
+    let left = c.serve_beside.new.journal in
     inr (
       g.D.Folder.known c.lock_if.new.folder,
       subst (λ path. LocksIf path (g.D.Folder.known c.args.folder.now)
@@ -37,5 +37,5 @@ returns-in_ok-source-in-None-clause-ok g c =
           (sym c.replaced_path.ensures ∙ ap (option_map (λ path. path.now)) c.in-None.is)
           (given_if file.remaining file.has_failed _ _ found.source left found.ensures.file)
           (may_fail_if file.remaining file.has_failed found.source left) found.ensures.ok
-          found.ensures.crash c.serve_opened.ensures,
+          found.ensures.crash c.serve_beside.ensures,
     )

@@ -1,0 +1,83 @@
+-- What is at the path that a journal is to be saved to, before a line is answered.
+use Rattle.std.specs.Prelude.{◌≡◌, ◌⊎◌, ℕ, true, List, [], ◌∷◌, ◌++◌, codes, Option, None, IfSome}
+use Rattle.osn_core.specs.Sequential.{ObjectState}
+use Rattle.osn_folder.specs.Folder.{Known, Changes, HasNoFile, IsFileOf, Opens, Stays}
+use Rattle.osn_lines.specs.declared.whole.ReadAllFault.{ReadAllFault}
+use Rattle.osn_lines.specs.declared.whole.ReadAllFault.TheVariants as read_faults
+use Rattle.osn_lines.specs.Lines.{lines}
+use Rattle.osn_lines.specs.Streams.{Output}
+use Rattle.osn_days.specs.Profile.{newest_rules}
+use Rattle.osn_files.specs.Journal.{load}
+use Rattle.osn_files.specs.declared.fault.LineFault.{LineFault}
+use Rattle.osn_register.specs.declared.limits.Limits.{Limits}
+use Rattle.osn_report.specs.Journal.{MakesObject}
+use Rattle.osn_report.specs.Messages.{EndsBy, TellsIfMade}
+use Rattle.osn_report.specs.declared.fault.CommandFault.TheVariants as command_faults
+use Rattle.osn_report.specs.declared.status.Status.{Status}
+use Rattle.osn_report.specs.declared.status.Status.TheVariants as statuses
+use Rattle.osn_shown.specs.Shown.{shown}
+use Rattle.std.specs.Prelude.{Some, Err}
+use Rattle.osn_serve_commands.specs.declared.save_target.SaveTarget.{SaveTarget}
+use Rattle.osn_serve_commands.specs.declared.save_target.SaveTarget.TheVariants.{NoFile, Empty}
+use Rattle.osn_serve_commands.specs.declared.save_target.SaveTarget.TheVariants.{Journal}
+use Rattle.osn_serve_commands.specs.declared.save_target.TargetFault.{TargetFault}
+use Rattle.osn_serve_commands.specs.declared.save_target.TargetFault.TheVariants.{NoJournal}
+use Rattle.osn_serve_commands.specs.declared.save_target.TargetFault.TheVariants.{NotRead, NoMemory}
+
+abbrev pub by_read : ReadAllFault → TargetFault
+by_read read_faults.NoMemory = NoMemory
+by_read read_faults.ReadFault = NotRead
+
+-- ---- what a file is, by its bytes
+
+-- a file without a byte, or a journal that makes an object
+abbrev pub HoldsTarget : Limits → List ℕ → SaveTarget → Type 0
+HoldsTarget limits held NoFile = ⊥
+HoldsTarget limits held Empty = held ≡ []
+HoldsTarget limits held Journal = (s : ObjectState) × MakesObject limits (Some held) s
+
+-- something else, which makes no object
+abbrev pub HoldsNoTarget : Limits → List ℕ → TargetFault → Type 0
+HoldsNoTarget limits held NoJournal =
+    (refused : ℕ × LineFault) × (load newest_rules limits (lines held) ≡ Err refused)
+HoldsNoTarget limits held NotRead = ⊥
+HoldsNoTarget limits held NoMemory = ⊤
+
+-- ---- what is at a path
+
+-- the file of this path was opened and read whole
+abbrev pub ReadsWhole : List ℕ → List ℕ → Option Known → Option Known → Type 0
+ReadsWhole path held before after =
+    Changes (Opens (path ∷ [])) before after × IsFileOf before path (Some held)
+
+-- no file is there: nothing, or what is no file
+abbrev pub FindsNoFile : List ℕ → Known → Known → Type 0
+FindsNoFile path k n =
+    (Stays k n × (k.paths.is_stream path ≡ true)) ⊎ (Opens (path ∷ []) k n × (k.at path ≡ None))
+
+abbrev pub IsTarget : Limits → List ℕ → Option Known → Option Known → SaveTarget → Type 0
+IsTarget limits path before after NoFile = Changes (FindsNoFile path) before after
+IsTarget limits path before after Empty = ReadsWhole path [] before after
+IsTarget limits path before after Journal =
+    (held : List ℕ) × ReadsWhole path held before after × HoldsTarget limits held Journal
+
+-- a journal is not to be saved over what is there, for this reason
+abbrev pub IsNoTarget : Limits → List ℕ → Option Known → Option Known → TargetFault → Type 0
+IsNoTarget limits path before after NoJournal =
+    (held : List ℕ) × ReadsWhole path held before after × HoldsNoTarget limits held NoJournal
+IsNoTarget limits path before after NotRead = Changes (Opens (path ∷ [])) before after
+IsNoTarget limits path before after NoMemory = Changes (Opens (path ∷ [])) before after
+
+-- ---- what is told
+
+-- what is told of a path that no journal is saved to
+abbrev pub target_text : List ℕ → List ℕ → List ℕ
+target_text path why = codes "oldstyle: write fault\nhelp: "
+    ++ (shown path ++ (codes " " ++ (why ++ codes ": name another file for --save\n")))
+
+abbrev pub TellsTarget : List ℕ → Output → TargetFault → Status → Type 0
+TellsTarget path e NoJournal status = TellsIfMade e statuses.WriteFault
+    (target_text path (codes "holds no journal, and is left as it is")) status
+TellsTarget path e NotRead status = TellsIfMade e statuses.WriteFault
+    (target_text path (codes "can't be read, and is left as it is")) status
+TellsTarget path e NoMemory status = EndsBy e command_faults.NoMemory status

@@ -1,0 +1,124 @@
+//! What is at the path that a journal is to be saved to, before a line is answered.
+ghost use Rattle.std.specs.Prelude.{◌≡◌, [], IfErr, IfOk, Some, None, option_map, string_bytes};
+ghost use Rattle.osn_folder.specs.Folder.{Changes};
+ghost use Rattle.osn_lines.specs.Streams.{output_of};
+ghost use Rattle.osn_serve_commands.specs.SaveTarget as spec;
+
+use osn_files::{FileFault, load_journal};
+use osn_folder::{Folder, OpenFailed};
+use osn_lines::{Bytes, ReadAllFault, Sink, read_all};
+use osn_register::Limits;
+use osn_report::{Status, tell_line, tell_no_memory};
+use osn_shown::Shown;
+use std::alloc::{AllocError, Global};
+
+/// What a journal is to be saved over.
+#[derive(Clone, Copy, Debug, PartialEq, Eq)]
+pub enum SaveTarget {
+    /// Nothing, or what is no file, as a pipe.
+    NoFile,
+    /// A file without a byte.
+    Empty,
+    /// A journal, which is to be left beside the new one.
+    Journal,
+}
+
+/// Why a journal is not to be saved over what is there.
+#[derive(Clone, Copy, Debug, PartialEq, Eq)]
+pub enum TargetFault {
+    /// It holds something that is no journal under the limits.
+    NoJournal,
+    /// It could not be opened or read.
+    NotRead,
+    /// Memory ran out.
+    NoMemory,
+}
+
+impl From<ReadAllFault> for TargetFault {
+    ghost from_gives = { λ fault given. given ≡ spec.by_read fault };
+
+    fn from(fault: ReadAllFault) -> TargetFault {
+        match fault {
+            ReadAllFault::NoMemory => TargetFault::NoMemory,
+            ReadAllFault::ReadFault => TargetFault::NotRead,
+        }
+    }
+}
+
+/// What is at a path that a journal is to be saved to.
+///
+/// # Errors
+///
+/// `NoJournal` where a file holds something that makes no journal under these limits, `NotRead`
+/// where it can't be read, `NoMemory` where memory ran out.
+pub fn save_target<D: Folder>(
+    alloc: Global,
+    limits: Limits,
+    folder: &mut D,
+    path: &str,
+) -> Result<SaveTarget, TargetFault>
+    ensures ok { IfOk result (spec.IsTarget limits path.now
+        (D.known folder.old) (D.known folder.new)) }
+    ensures err { IfErr result (spec.IsNoTarget limits path.now
+        (D.known folder.old) (D.known folder.new)) }
+{
+    if folder.is_stream(path) {
+        return Ok(SaveTarget::NoFile);
+    }
+    match folder.open(path) {
+        Ok(mut file) => {
+            let held = read_all(alloc, &mut file)?;
+            target_of(alloc, limits, &held)
+        }
+        Err(OpenFailed::NotFound) => Ok(SaveTarget::NoFile),
+        Err(_) => Err(TargetFault::NotRead),
+    }
+}
+
+/// What a file is that holds these bytes.
+fn target_of(alloc: Global, limits: Limits, held: &[u8]) -> Result<SaveTarget, TargetFault>
+    ensures ok { IfOk result (spec.HoldsTarget limits held.now) }
+    ensures err { IfErr result (spec.HoldsNoTarget limits held.now) }
+{
+    if held.is_empty() {
+        return Ok(SaveTarget::Empty);
+    }
+    match load_journal(alloc, limits, &mut Bytes::new(held)) {
+        Ok(_) => Ok(SaveTarget::Journal),
+        Err(FileFault::NoMemory) => Err(TargetFault::NoMemory),
+        Err(FileFault::BadLine { .. } | FileFault::ReadFault) => Err(TargetFault::NoJournal),
+    }
+}
+
+/// What is told of a path that no journal is saved to.
+fn target_text(alloc: Global, path: &str, why: &str) -> Result<String, AllocError>
+    ensures { IfOk result (λ text. string_bytes text ≡ spec.target_text path.now why.now) }
+{
+    format!(in alloc;
+        "oldstyle: write fault\nhelp: {} {why}: name another file for --save\n",
+        Shown(path)
+    )
+}
+
+/// Tells standard error why no journal is saved to this path. Answers the status.
+pub fn tell_target<E: Sink>(
+    alloc: Global,
+    errors: &mut E,
+    path: &str,
+    fault: TargetFault,
+) -> Status
+    ensures { spec.TellsTarget path.now
+        (output_of E.contents E.has_failed E.holds_back errors.old errors.new) fault result }
+{
+    match fault {
+        TargetFault::NoJournal => {
+            let text = target_text(alloc, path, "holds no journal, and is left as it is");
+            tell_line(errors, Status::WriteFault, text)
+        }
+        TargetFault::NotRead => {
+            let text = target_text(alloc, path, "can't be read, and is left as it is");
+            tell_line(errors, Status::WriteFault, text)
+        }
+        TargetFault::NoMemory => tell_no_memory(errors),
+    }
+}
