@@ -1,17 +1,15 @@
 """The command lines of scripts: options of one form, and what is wrong told in a line or two."""
 import argparse
 import os
-import re
 import shlex
 import shutil
 import subprocess
 import sys
 
-TOP = os.path.dirname(os.path.dirname(os.path.abspath(__file__)))
+from crates import TOP, crates_of_program
+
 BUILT = os.path.join(TOP, "crates", "oldstyle", "out", "oldstyle")
 SCRIPT = os.path.basename(sys.argv[0])
-# The status of a script that requires what is not there.
-MISSING = 3
 
 
 class CommandLine(argparse.ArgumentParser):
@@ -86,27 +84,19 @@ def file_at(path):
     return path
 
 
-def program_crates():
-    """The crates that the program is built from, as crates.txt names them, lowest first."""
-    with open(os.path.join(TOP, "crates.txt"), encoding="utf-8") as file:
-        below = dict(re.findall(r"^(\w+):(.*)$", file.read(), re.M))
-    found, more = set(), ["oldstyle"]
-    while more:
-        if (name := more.pop()) not in found:
-            found.add(name)
-            more += below.get(name, "").split()
-    return [name for name in below if name in found]
-
-
 def newer_source():
     """A source that was changed after this tree's program was built, if there is one."""
     built = os.path.getmtime(BUILT)
-    for crate in program_crates():
+    for crate in crates_of_program():
         for folder, _, names in os.walk(os.path.join(TOP, "crates", crate, "src")):
             for path in (os.path.join(folder, name) for name in names if name.endswith(".rt")):
                 if os.path.getmtime(path) > built:
                     return os.path.relpath(path)
     return None
+
+
+# The status of a script that requires what is not there.
+MISSING = 3
 
 
 def need(command, package):
