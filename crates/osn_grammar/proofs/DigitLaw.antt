@@ -20,7 +20,7 @@ use Rattle.osn_grammar.specs.declared.written.DateOrder.{DateOrder}
 use Rattle.osn_grammar.specs.declared.written.Extent.TheVariants as extent
 use Rattle.osn_grammar.specs.declared.written.SimpleDate.{SimpleDate}
 use Rattle.osn_grammar.specs.declared.written.SimpleDate.TheVariants as date
-use Rattle.osn_grammar.specs.Extent.{extent_of}
+use Rattle.osn_grammar.specs.Extent.{date_or_range, extent_of}
 use Rattle.osn_grammar.specs.InDigits.{AreDigitsRead, HasFourDigits, sign}
 use Rattle.osn_grammar.proofs.PartFacts.{Say, TextSays, nothing_says, part_adds, text_read}
 use Rattle.osn_grammar.proofs.TextFacts.{Reads, Begins, Closes, dash, slash, doubt, about}
@@ -89,21 +89,25 @@ day y m d = date.Day (record {
 
 on_read : (o : DateOrder) (y m d : ℕ) → IsDay y m d
     → extent_of o (parts_of y m d) ≡ Ok (extent.On (day y m d))
+unfolding date_or_range
 on_read o y m d h = rw (h.year_high, h.month_low, h.month_high, h.day_low, h.day_high) refl
 
 range_read : (o : DateOrder) (y m d z n e : ℕ) → IsDay y m d → IsDay z n e
     → extent_of o (parts_of y m d ++ Slash ∷ parts_of z n e)
     ≡ Ok (extent.FromTo (day y m d) (day z n e))
+unfolding date_or_range
 range_read o y m d z n e h g =
     rw (g.year_high, g.month_low, g.month_high, g.day_low, g.day_high)
     (rw (h.year_high, h.month_low, h.month_high, h.day_low, h.day_high) refl)
 
 not_after_read : (o : DateOrder) (y m d : ℕ) → IsDay y m d
     → extent_of o (Open ∷ Slash ∷ parts_of y m d) ≡ Ok (extent.NotAfter (day y m d))
+unfolding date_or_range
 not_after_read o y m d h = rw (h.year_high, h.month_low, h.month_high, h.day_low, h.day_high) refl
 
 not_before_read : (o : DateOrder) (y m d : ℕ) → IsDay y m d
     → extent_of o (parts_of y m d ++ Slash ∷ Open ∷ []) ≡ Ok (extent.NotBefore (day y m d))
+unfolding date_or_range
 not_before_read o y m d h = rw (h.year_high, h.month_low, h.month_high, h.day_low, h.day_high) refl
 
 -- ---- signs

@@ -14,9 +14,9 @@ use Rattle.osn_grammar.specs.declared.written.Extent.TheVariants as extent
 use Rattle.osn_grammar.specs.declared.written.SimpleDate.{SimpleDate}
 use Rattle.osn_grammar.specs.declared.written.SimpleDate.TheVariants as date
 use Rattle.osn_grammar.specs.declared.written.Year.{Year}
-use Rattle.osn_grammar.specs.Extent.{extent_of, first_read}
+use Rattle.osn_grammar.specs.Extent.{date_or_range, extent_of, first_read}
 use Rattle.osn_grammar.specs.Reading.{is_undated}
-use Rattle.osn_grammar.specs.Simple.{◌>>=◌, date_in_digits, simple_date, is_long, year_of}
+use Rattle.osn_grammar.specs.Simple.{◌>>=◌, simple_date, is_long, year_of}
 use Rattle.osn_grammar.specs.Simple.{month_in, day_in}
 use Rattle.osn_grammar.proofs.PartFacts.{Say, Adds, part_adds}
 
@@ -68,6 +68,7 @@ pub day_is : (day : Numeral) (month : ℕ) (first : Numeral) (later : Option Num
     → is_long day ≡ false → IsYear first later year
     → day_in year month day.value ≡ Ok (date.Day year month day.value)
     → IsDate (day_parts day month first later) (date.Day year month day.value)
+unfolding date_or_range
 day_is day month first None year short read is = record {
   is = λ o. rw (short, read.is, is) refl;
   alone = λ o. rw (short, read.is, is) refl;
@@ -76,11 +77,11 @@ day_is day month first None year short read is = record {
   first = λ o last b after. rw (after, short, read.is, is) refl;
 }
 day_is day month first (Some later) year short read is = record {
-  is = λ o. rw (read.is, is) refl;
-  alone = λ o. rw (read.is, is) refl;
+  is = λ o. rw (short, read.is, is) refl;
+  alone = λ o. rw (short, read.is, is) refl;
   dated = λ last. refl;
   adds = day_adds day month first (Some later);
-  first = λ o last b after. rw (after, read.is, is) refl;
+  first = λ o last b after. rw (after, short, read.is, is) refl;
 }
 
 -- ---- a month
@@ -88,6 +89,7 @@ day_is day month first (Some later) year short read is = record {
 pub month_is : (month : ℕ) (first : Numeral) (later : Option Numeral) (year : Year)
     → IsYear first later year → month_in year month ≡ Ok (date.Month year month)
     → IsDate (Month month ∷ year_parts first later) (date.Month year month)
+unfolding date_or_range
 month_is month first None year read is = record {
   is = λ o. rw (read.is, is) refl;
   alone = λ o. rw (read.is, is) refl;
@@ -114,6 +116,7 @@ after_digits (Err f) e = refl
 
 pub year_is : (first : Numeral) (later : Option Numeral) (year : Year) → IsYear first later year
     → IsDate (year_parts first later) (date.Year year)
+unfolding date_or_range
 year_is first None year read = record {
   is = λ o. rw read.is refl;
   alone = λ o. rw read.is refl;
@@ -122,12 +125,12 @@ year_is first None year read = record {
   first = λ o last b after. rw (after, read.is, read.long) refl;
 }
 year_is first (Some later) year read = record {
-  is = λ o. rw read.is refl;
-  alone = λ o. rw read.is refl;
+  is = λ o. rw (read.is, read.long) refl;
+  alone = λ o. rw (read.is, read.long) refl;
   dated = λ last. refl;
   adds = year_adds first (Some later);
-  first = λ o last b after. rw (after, read.is)
-      (after_digits (date_in_digits (Number first ∷ [])) (extent.FromTo (date.Year year) b));
+  first = λ o last b after. rw (after, read.is, read.long)
+      (after_digits _ (extent.FromTo (date.Year year) b));
 }
 
 -- ---- extents

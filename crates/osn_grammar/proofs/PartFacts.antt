@@ -12,7 +12,7 @@ use Rattle.osn_grammar.specs.declared.written.DateOrder.{DateOrder}
 use Rattle.osn_grammar.specs.declared.written.Extent.{Extent}
 use Rattle.osn_grammar.specs.declared.written.Reckoning.{Reckoning}
 use Rattle.osn_grammar.specs.declared.written.Written.TheVariants as say
-use Rattle.osn_grammar.specs.Extent.{extent_of, has_three_digits}
+use Rattle.osn_grammar.specs.Extent.{date_or_range, extent_of, has_three_digits}
 use Rattle.osn_grammar.specs.Parts.{tells_time}
 use Rattle.osn_grammar.specs.Reading.{written, reading_of_parts, weekday_after, with_weekday}
 use Rattle.osn_grammar.specs.Reading.{reckoning_after, with_reckoning, is_about, is_doubt}
@@ -38,7 +38,7 @@ pub record Say (parts told : List Part) (w : Option Weekday) (r : Option Reckoni
   pub bracket : list_any is_bracket parts ≡ s
   pub feast : list_any is_feast parts ≡ false
   pub roman : list_any is_roman_numeral parts ≡ false
-  pub open : list_any is_open_year parts ≡ false
+  pub whole : list_any is_open_year parts ≡ false
   pub timed : filter tells_time parts ≡ told
 
 nothing_later : {X : Type 0} (found : Option X) → Ok found ≡ with_later found None
@@ -58,7 +58,7 @@ nothing_says = record {
   bracket = refl;
   feast = refl;
   roman = refl;
-  open = refl;
+  whole = refl;
   timed = refl;
 }
 
@@ -113,7 +113,7 @@ part_adds {ps} p plain rest_says = record {
   bracket = ap (λ b. is_bracket p || b) rest_says.bracket;
   feast = rw (no_feast p plain) rest_says.feast;
   roman = rw (no_roman p plain) rest_says.roman;
-  open = rw (no_open p plain) rest_says.open;
+  whole = rw (no_open p plain) rest_says.whole;
   timed = ap (λ ts. cond (tells_time p) (p ∷ ts) ts) rest_says.timed;
 }
 
@@ -144,7 +144,7 @@ weekday_adds {ps} v rest_says = record {
   bracket = rest_says.bracket;
   feast = rest_says.feast;
   roman = rest_says.roman;
-  open = rest_says.open;
+  whole = rest_says.whole;
   timed = rest_says.timed;
 }
 
@@ -165,7 +165,7 @@ reckoning_adds {ps} v rest_says = record {
   bracket = rest_says.bracket;
   feast = rest_says.feast;
   roman = rest_says.roman;
-  open = rest_says.open;
+  whole = rest_says.whole;
   timed = rest_says.timed;
 }
 
@@ -188,16 +188,17 @@ parts_read : {ts : List Part} {w : Option Weekday} {r : Option Reckoning} {a u s
       is_uncertain = u;
       is_supplied = s;
     }))
-parts_read {ts} [] o e read dated whole is =
+unfolding date_or_range
+parts_read {ts} [] o e read dated sure is =
     let none : Err faults.Malformed ≡ Ok e = ap (extent_of o) read.timed ∙ is in absurd (cc)
-parts_read {ts} {w} {r} (p ∷ ps) o e read dated whole is =
+parts_read {ts} {w} {r} (p ∷ ps) o e read dated sure is =
     rw (
       ne_eqb (length (p ∷ ps)) 0 (λ none. omega (arith, none)),
       read.timed,
       dated,
       read.feast,
       read.roman,
-      read.open,
+      read.whole,
       read.weekday None,
       read.reckoning None,
       none_before w,
@@ -206,7 +207,7 @@ parts_read {ts} {w} {r} (p ∷ ps) o e read dated whole is =
       read.about,
       read.doubt,
       read.bracket,
-      whole,
+      sure,
     ) refl
 
 -- ---- a text
@@ -230,7 +231,7 @@ pub text_read : {text : List ℕ} {ts : List Part} {w : Option Weekday} {r : Opt
       is_uncertain = u;
       is_supplied = s;
     }))
-text_read {text} o e scanned dated whole is =
+text_read {text} o e scanned dated sure is =
     ap (λ ps. or_set (set_in text) (reading_of_parts o ps (filter tells_time ps)))
     (parts_scanned scanned.scans)
-    ∙ ap (or_set (set_in text)) (parts_read scanned.parts o e scanned.says dated whole is)
+    ∙ ap (or_set (set_in text)) (parts_read scanned.parts o e scanned.says dated sure is)

@@ -1,14 +1,14 @@
 -- Several days in digits are refused by every other form than that of a set.
-use Rattle.std.proofs.Common.{◌≡◌, ℕ, ◌+◌, not, Bool, true, false, if◌then◌else◌}
+use Rattle.std.proofs.Common.{◌≡◌, ℕ, Bool, true, false, if◌then◌else◌}
 use Rattle.std.proofs.Common.{List, [], ◌∷◌}
 use Rattle.std.proofs.Common.{◌++◌, length, filter, unsigned_abs, Option, Some, None}
-use Rattle.std.proofs.Common.{Result, Ok, Err, is_err, refl, ap, arith}
+use Rattle.std.proofs.Common.{Result, Ok, Err, is_err, refl, arith}
 use Rattle.std.proofs.lemmas.Bool.{ne_eqb}
 use Rattle.std.specs.List.{list_any}
 use Rattle.osn_days.specs.declared.date.Date.{Date}
 use Rattle.osn_days.specs.declared.weekday.Weekday.{Weekday}
 use Rattle.osn_grammar.specs.declared.part.Part.{Part}
-use Rattle.osn_grammar.specs.declared.part.Part.TheVariants.{Number, Dash, Open, Bracket}
+use Rattle.osn_grammar.specs.declared.part.Part.TheVariants.{Number, Dash, Open}
 use Rattle.osn_grammar.specs.declared.written.DateFault.{DateFault}
 use Rattle.osn_grammar.specs.declared.written.DateFault.TheVariants as faults
 use Rattle.osn_grammar.specs.declared.written.DateOrder.{DateOrder}
@@ -16,14 +16,12 @@ use Rattle.osn_grammar.specs.declared.written.Extent.{Extent}
 use Rattle.osn_grammar.specs.declared.written.Extent.TheVariants as extent
 use Rattle.osn_grammar.specs.declared.written.Reckoning.{Reckoning}
 use Rattle.osn_grammar.specs.declared.written.SimpleDate.{SimpleDate}
-use Rattle.osn_grammar.specs.declared.written.Written.{Written}
 use Rattle.osn_grammar.specs.declared.written.Written.TheVariants as say
 use Rattle.osn_grammar.specs.declared.written.WrittenDate.{WrittenDate}
 use Rattle.osn_grammar.specs.declared.extent.Beginning.{Beginning}
 use Rattle.osn_grammar.specs.declared.extent.Joining.TheVariants as joins
-use Rattle.osn_grammar.specs.Extent.{beginning_of, extent_of, first_date, first_read, range}
+use Rattle.osn_grammar.specs.Extent.{beginning_of, date_or_range, extent_of, first_date, first_read, range}
 use Rattle.osn_grammar.specs.Extent.{range_after, range_of}
-use Rattle.osn_grammar.specs.InDigits.{sign, signed}
 use Rattle.osn_grammar.specs.Parts.{tells_time}
 use Rattle.osn_grammar.specs.Reading.{date_of, date_unless, is_undated}
 use Rattle.osn_grammar.specs.Reading.{or_open, reading_of_parts, unless_open, unread}
@@ -32,7 +30,6 @@ use Rattle.osn_grammar.specs.Reading.{is_doubt, is_bracket, weekday_after, recko
 use Rattle.osn_grammar.specs.SetsInDigits.{Days}
 use Rattle.osn_grammar.specs.Simple.{◌>>=◌, simple_date}
 use Rattle.osn_grammar.proofs.DigitLaw.{parts_of}
-use Rattle.osn_grammar.proofs.TextFacts.{bracket}
 
 bind_err : {A B : Type 0} (r : Result A DateFault) (f : A → Result B DateFault) → is_err r ≡ true
     → is_err (r >>= f) ≡ true
@@ -131,6 +128,7 @@ no_date ((d, Some e) ∷ rest) = record {
 
 pub extent_refused : (o : DateOrder) (first next : Days) (rest : List Days)
     → is_err (extent_of o (timed (first ∷ next ∷ rest))) ≡ true
+unfolding date_or_range
 extent_refused o (d, None) (e, None) rest = (no_date ((d, None) ∷ (e, None) ∷ rest)).range o []
 extent_refused o (d, None) (e, Some f) rest = (no_date ((d, None) ∷ (e, Some f) ∷ rest)).range o []
 extent_refused o (d, Some e) next rest = (no_date ((d, Some e) ∷ next ∷ rest)).range o []

@@ -1,5 +1,5 @@
 -- Sets of dates in digits are read as the sets of these dates.
-use Rattle.std.proofs.Common.{◌≡◌, ℕ, ◌+◌, ◌/◌, ◌^◌, ◌<◌, ◌≤◌, ◌==◌, not, Bool, true, false}
+use Rattle.std.proofs.Common.{◌≡◌, ℕ, ◌+◌, ◌/◌, ◌^◌, ◌<◌, ◌≤◌, ◌==◌, ◌&&◌, not, Bool, true, false}
 use Rattle.std.proofs.Common.{List, [], ◌∷◌, subst₂}
 use Rattle.std.proofs.Common.{◌++◌, codes, filter, map, unsigned_abs, Some, None}
 use Rattle.std.proofs.Common.{Result, Ok, Err, is_err, refl, ap, ◌∙◌, sym, subst, arith}
@@ -17,25 +17,22 @@ use Rattle.osn_days.specs.declared.date.Date.{Date}
 use Rattle.osn_days.specs.DateText.{at_least, date_text, text_of_date}
 use Rattle.osn_days.proofs.DateDigits.{four_digits}
 use Rattle.osn_grammar.specs.declared.part.Part.{Part}
-use Rattle.osn_grammar.specs.declared.part.Part.TheVariants.{Number, Dash, Open, Bracket}
+use Rattle.osn_grammar.specs.declared.part.Part.TheVariants.{Open, Bracket}
 use Rattle.osn_grammar.specs.declared.written.DateFault.{DateFault}
-use Rattle.osn_grammar.specs.declared.written.DateFault.TheVariants as faults
 use Rattle.osn_grammar.specs.declared.written.Extent.{Extent}
 use Rattle.osn_grammar.specs.declared.written.Written.{Written}
 use Rattle.osn_grammar.specs.declared.written.Written.TheVariants as say
 use Rattle.osn_grammar.specs.declared.written.WrittenDate.{WrittenDate}
-use Rattle.osn_grammar.specs.declared.extent.Joining.TheVariants as joins
-use Rattle.osn_grammar.specs.Extent.{extent_of, range}
 use Rattle.osn_grammar.specs.InDigits.{HasFourDigits, sign, signed}
 use Rattle.osn_grammar.specs.Parts.{tells_time}
 use Rattle.osn_grammar.specs.Reading.{all_members, member_by, member_in, member_of, or_set}
 use Rattle.osn_grammar.specs.Reading.{reading_of_parts, set_in, set_inside, with_signs}
-use Rattle.osn_grammar.specs.Scan.{first_of, next_is, part_of_run, parts_after, parts_in}
+use Rattle.osn_grammar.specs.Scan.{first_of, is_letter_alone, next_is, part_of_run, parts_after, parts_in}
 use Rattle.osn_grammar.specs.Sets.{between_commas, days_in_digits, is_sign}
 use Rattle.osn_grammar.specs.SetsInDigits.{AreSetsRead, Days, HaveFourDigits, days_text}
 use Rattle.osn_grammar.specs.SetsInDigits.{extent_of_days, member, set_text}
 use Rattle.osn_grammar.specs.Simple.{◌>>=◌}
-use Rattle.osn_grammar.proofs.DigitLaw.{IsDay, padded_digits, parts_of, sign_parts, signed_reads}
+use Rattle.osn_grammar.proofs.DigitLaw.{IsDay, padded_digits, sign_parts, signed_reads}
 use Rattle.osn_grammar.proofs.DigitLaw.{text_is, year_small}
 use Rattle.osn_grammar.proofs.SetFacts.{last_without}
 use Rattle.osn_grammar.proofs.TextFacts.{Ends, IsMark, Reads, Scans, bracket, begun_scans}
@@ -47,6 +44,10 @@ use Rattle.osn_grammar.proofs.RefusedFacts.{timed}
 
 -- ---- the texts of days
 
+and_false : (b : Bool) → (b && false) ≡ false
+and_false true = refl
+and_false false = refl
+
 -- two full stops end the word before them
 stops_end : (s : List ℕ) → Ends (46 ∷ 46 ∷ s)
 stops_end s word =
@@ -55,7 +56,7 @@ stops_end s word =
 -- and are an open end before a text that begins with none
 stops_are : (s : List ℕ) → next_is (λ c. c == 46) (first_of s) ≡ false
     → parts_after [] (46 ∷ 46 ∷ s) ≡ Open ∷ parts_after [] s
-stops_are s none = rw none refl
+stops_are s none = rw (and_false (is_letter_alone s), none) refl
 
 -- a text without commas, and with no full stop in front
 record IsClear (text : List ℕ) : Type 0 where

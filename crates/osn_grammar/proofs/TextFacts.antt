@@ -214,10 +214,10 @@ pub record Closes (text : List ℕ) (parts : List Part) : Type 0 where
   pub is : parts_after [] text ≡ parts
 
 -- so no letter stands alone in front of it
-pub no_letter_alone : {text : List ℕ} → next_is is_letter (first_of text) ≡ false
+pub no_letter_alone : (text : List ℕ) → next_is is_letter (first_of text) ≡ false
     → is_letter_alone text ≡ false
-no_letter_alone {[]} none = refl
-no_letter_alone {c ∷ rest} none = rw none refl
+no_letter_alone [] none = refl
+no_letter_alone (c ∷ rest) none = rw none refl
 
 pub nothing_closes : Closes [] []
 nothing_closes = record {

@@ -141,7 +141,7 @@ old_style_closes {ps} {x} last = record {
   no_letter = refl;
   no_stop = refl;
   ends = blank.ends (codes "O.S." ++ x);
-  is = rw (no_letter_alone last.no_letter, last.no_stop, last.is) refl;
+  is = rw (no_letter_alone x last.no_letter, last.no_stop, last.is) refl;
 }
 
 pub new_style_closes : {ps : List Part} {x : List ℕ} → Closes x ps
@@ -152,7 +152,7 @@ new_style_closes {ps} {x} last = record {
   no_letter = refl;
   no_stop = refl;
   ends = blank.ends (codes "N.S." ++ x);
-  is = rw (no_letter_alone last.no_letter, last.no_stop, last.is) refl;
+  is = rw (no_letter_alone x last.no_letter, last.no_stop, last.is) refl;
 }
 
 -- ---- brackets

@@ -136,7 +136,7 @@ range_unless o parts (Err faults.LaterYear) =
 range_unless o parts (Err f) = Err f
 
 -- a text that has no form of one date may be a range, and so may 1640/1645, which is no double year
-abbrev pub date_or_range : DateOrder → List Part → Result Extent DateFault
+unfoldable pub date_or_range : DateOrder → List Part → Result Extent DateFault
 date_or_range o parts = range_unless o parts (simple_date o parts)
 
 abbrev pub extent_of : DateOrder → List Part → Result Extent DateFault

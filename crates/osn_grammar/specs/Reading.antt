@@ -1,6 +1,6 @@
 -- What a text says of a date, and why a text is no date. This project's profile.
-use Rattle.std.specs.Prelude.{ℕ, Bool, true, false, not, ◌&&◌, ◌||◌, ◌==◌, if◌then◌else◌, List, [], ◌∷◌}
-use Rattle.std.specs.Prelude.{length, filter, Option, Some, None, Result, Ok, Err}
+use Rattle.std.specs.Prelude.{ℕ, Bool, true, false, not, ◌&&◌, ◌||◌, ◌==◌, ◌-◌, nat_le, if◌then◌else◌, List, [], ◌∷◌}
+use Rattle.std.specs.Prelude.{length, drop, filter, Option, Some, None, Result, Ok, Err}
 use Rattle.std.specs.List.{list_any}
 use Rattle.std.specs.Option.{unwrap_or}
 use Rattle.std.specs.Result.{result_ok}
@@ -111,10 +111,9 @@ is_open_end (part.Number y ∷ part.Dash ∷ []) = lacks_digit y
 is_open_end (part.Number y ∷ part.Open ∷ []) = lacks_digit y
 is_open_end _ = false
 
--- the parts end so
+-- the last two parts are so
 abbrev pub ends_open : List Part → Bool
-ends_open [] = false
-ends_open (p ∷ rest) = is_open_end (p ∷ rest) || ends_open rest
+ends_open parts = nat_le 2 (length parts) && is_open_end (drop (length parts - 2) parts)
 
 -- why parts of no form are no date
 abbrev pub or_open : List Part → Result WrittenDate DateFault → Result WrittenDate DateFault

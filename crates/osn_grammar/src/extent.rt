@@ -218,6 +218,7 @@ fn or_fault(fault: DateFault, read: Result<Extent, DateFault>) -> Result<Extent,
 }
 
 /// One date, or a range of two.
+#[tactic(auto, unfolding(crate::specs::Extent::date_or_range))]
 fn date_or_range(order: DateOrder, parts: &[Part]) -> Result<Extent, DateFault>
     ensures { result ≡ spec.date_or_range order parts.now }
 {

@@ -165,21 +165,11 @@ fn is_open_end(timed: &[Part]) -> bool
 fn ends_open(timed: &[Part]) -> bool
     ensures { result ≡ spec.ends_open timed.now }
 {
-    let mut place = 0;
-    while place < timed.len() {
-        if is_open_end(&timed[place..]) {
-            return true;
-        }
-        place += 1;
-    }
-    false
+    timed.len() >= 2 && is_open_end(&timed[timed.len() - 2..])
 }
 
 /// A date that was read, or why parts of no form are no date.
-fn or_open(
-    timed: &[Part],
-    read: Result<WrittenDate, DateFault>,
-) -> Result<WrittenDate, DateFault>
+fn or_open(timed: &[Part], read: Result<WrittenDate, DateFault>) -> Result<WrittenDate, DateFault>
     ensures { result ≡ spec.or_open timed.now read }
 {
     match read {

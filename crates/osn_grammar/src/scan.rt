@@ -18,7 +18,10 @@ fn is_digit(character: char) -> bool
 fn is_dash(character: char) -> bool
     ensures { result ≡ spec.is_dash character }
 {
-    matches!(character, '-' | '\u{2010}' | '\u{2011}' | '–' | '—' | '\u{2212}')
+    matches!(
+        character,
+        '-' | '\u{2010}' | '\u{2011}' | '–' | '—' | '\u{2212}'
+    )
 }
 
 /// Whether a character is a blank: a space, a tab, or a space that doesn't break or is thin.
@@ -170,10 +173,7 @@ fn push_some(parts: &mut Vec<Part>, part: Option<Part>) -> Result<(), AllocError
 fn is_passed_over(word: &str, character: char, rest: &[char]) -> bool
     ensures { result ≡ spec.is_passed_over word.now character rest.now }
 {
-    character == '.'
-        && is_letter_alone(rest)
-        && word.len() == 1
-        && !are_digits(word.as_bytes())
+    character == '.' && is_letter_alone(rest) && word.len() == 1 && !are_digits(word.as_bytes())
 }
 
 /// Takes one more character, before the rest of the text.
