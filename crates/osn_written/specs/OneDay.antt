@@ -1,4 +1,5 @@
 -- The days of a date that is one day, by its label and by the search of the line.
+use Rattle.std.specs.Prelude.{false}
 use Rattle.std.specs.List.Sorted.{IsPermutation}
 use Rattle.osn_days.specs.Profile.{Profile}
 use Rattle.osn_grammar.specs.declared.written.SimpleDate.{SimpleDate}

@@ -1,5 +1,5 @@
 -- Dates of one day, as people write them. Letters may be capital or small. This project's profile.
-use Rattle.std.specs.Prelude.{ℕ, ◌&&◌, nat_le, ◌==◌, if◌then◌else◌, List, [], ◌∷◌, length, find}
+use Rattle.std.specs.Prelude.{ℕ, Bool, ◌&&◌, nat_le, ◌==◌, if◌then◌else◌, List, [], ◌∷◌, length, find}
 use Rattle.std.specs.Prelude.{Option, Some, None, option_map, Result}
 use Rattle.std.specs.List.{range_with_len}
 use Rattle.std.specs.Str.{all_ascii_digits, str_eq_ignore_ascii_case}
