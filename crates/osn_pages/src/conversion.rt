@@ -90,7 +90,8 @@ pub fn conversion_page(
 #[tactic(auto, using(crate::proofs::LawFacts::calendar_words_written))]
 pub fn day_of_written(calendar: Calendar, date: WrittenDate) -> Option<Day>
     ensures value { option_to_list result ≡ spec.days_of_written newest_rules calendar date }
-    // as a law: what a page says of a day of the line, by each calendar, is read as that day
+    // as a law: what a page says of a day of the line, by each calendar, is read as that day, from
+    // the year 100 on
     ensures calendar_words { AreCalendarWordsWritten newest_rules }
 {
     if date.is_double {
