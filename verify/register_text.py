@@ -28,7 +28,7 @@ from lib.text_draws import Draws, beginnings, journal_lines, version_for
 from lib.text_faults import spoiled_text
 from lib.text_files import LAND, Files, bytes_of, lines_of, published, refused
 from lib.text_journals import ANEW, try_all_journals
-from lib.text_pages import (absent_lines, edit_line, fault_words, plan_end, publish_end,
+from lib.text_pages import (absent_lines, edit_lines, fault_words, plan_end, publish_end,
                             register_lines, texts_of)
 
 # ---- texts there and back
@@ -125,7 +125,7 @@ def change(files, draws, number):
     fewest = sorted(map(compact, needed))
     hold(f"{what}: the edits are {new}\n  and not {fewest}",
          sorted(new[:-1]) == fewest and new[-1:] == [PUBLISH] * bool(fewest))
-    lines = [edit_line(lands, wanted, edit) for edit in edits] + absent
+    lines = [line for edit in edits for line in edit_lines(lands, wanted, edit)] + absent
     hold(f"{what}: plan prints {planned}", planned == lines + [plan_end(len(edits), editions)])
     hold(f"{what}: publish prints {told}", told == lines + [publish_end(len(edits), editions)])
     hold(f"{what}: another register", shown(service.published) == shown(after(lands, wanted)))

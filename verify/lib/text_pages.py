@@ -4,8 +4,9 @@ Written from docs/TERRITORIES.md alone, for register_text.py.
 """
 import re
 
-from lib.date_meaning import Territory
-from lib.page_texts import YEARS, numbered
+from lib.calendars import dates
+from lib.date_meaning import Territory, weekday_of
+from lib.page_texts import YEARS, named, numbered
 from lib.territory_texts import WORDS, date_on
 
 DAY = ('write { gregorian = "1752-09-14" }, with julian or swedish in its place, '
@@ -102,8 +103,55 @@ def other_parts(before, regime):
     return ", ".join(other) or "no other regime"
 
 
+def edit_lines(lands, wanted, edit):
+    """The line of an edit, between the territories that there are and those that are wanted, and
+    what an editor is shown of it."""
+    yield edit_line(lands, wanted, edit)
+    code, op = edit["code"], edit["op"]
+    if op == "add_exception":
+        yield from easter_notes(code, edit["year"], edit["day"])
+    elif op in ("add_change", "alter_change", "drop_change") and edit["day"] > 1:
+        yield followed_line(code, wanted[code], edit["day"])
+        regime = tuple(edit.get(word) for word in WORDS)
+        if op != "drop_change" and regime == wanted[code].period(edit["day"] - 1)[2]:
+            yield (f"note: {code}: nothing changes on that day: write the new calendar, style or "
+                   "rule")
+
+
+def followed_line(code, land, day):
+    """The day before a day and that day, and the dates between, by the calendar before."""
+    days = [named(Territory(land), at) for at in (day - 1, day)]
+    old, first = dates(land.period(day - 1)[2][0]), dates(land.period(day)[2][0])[day]
+    return f"{code}: {' is followed by '.join(days)}{gap_words(old, first, day)}"
+
+
+def gap_words(old, first, day):
+    """How many dates of a calendar are left out before the first date, or come twice from it."""
+    left_out = twice = 0
+    while day + left_out < len(old) and old[day + left_out] < first:
+        left_out += 1
+    while twice < day - 1 and old[day - 1 - twice] >= first:
+        twice += 1
+    if old[min(day + left_out, len(old) - 1)] != first and old[day - twice] != first:
+        return ": by the calendar before, no day has that date"
+    if left_out:
+        return f": {left_out} date{'s' * (left_out > 1)} left out"
+    if twice:
+        return ": 1 date comes twice" if twice == 1 else f": {twice} dates come twice"
+    return ""
+
+
+def easter_notes(code, year, day):
+    if day % 7:
+        yield f"note: {code}: Easter is a Sunday, and that day is a {weekday_of(day)}"
+    if not any((year, 3, 21) <= dates(calendar)[day] <= (year, 4, 26)
+               for calendar in ("julian", "gregorian")):
+        yield (f"note: {code}: that day is not from 21 March to 26 April {year}, Julian or "
+               "Gregorian")
+
+
 def edit_line(lands, wanted, edit):
-    """The line of an edit, between the territories that there are and those that are wanted."""
+    """The line of an edit itself."""
     line = edit_words(lands, wanted, edit)
     if "source" in edit:
         return f"{line}; source: {edit['source']}"

@@ -1,7 +1,7 @@
 -- The line of an edit, between the territories that there are and those that are wanted. What is
 -- dropped stands as the former have it, and what comes as the latter have it. This project's
 -- profile.
-use Rattle.std.specs.Prelude.{ℕ, if◌then◌else◌, ℤ, pos, List, ◌++◌, None, codes}
+use Rattle.std.specs.Prelude.{ℕ, if◌then◌else◌, ℤ, pos, List, [], ◌++◌, None, codes}
 use Rattle.std.specs.Ordering.{int_eq}
 use Rattle.osn_days.specs.Profile.{Profile}
 use Rattle.osn_lands.specs.declared.regime.Regime.{Regime}
@@ -14,7 +14,9 @@ use Rattle.osn_register.specs.Plain.{LandModel, territory_of}
 use Rattle.osn_plan_page.specs.Line.{change_words, drop_words, easter_words, land_words}
 use Rattle.osn_plan_page.specs.Line.{no_easter_words, opening_words}
 use Rattle.osn_plan_page.specs.EditDay.{day_words, dated_in, opening_regime, regime_before}
+use Rattle.osn_plan_page.specs.Followed.{followed_lines}
 use Rattle.osn_plan_page.specs.Part.{regime_words}
+use Rattle.osn_plan_page.specs.Remark.{easter_notes, same_regime_note}
 use Rattle.osn_plan_page.specs.SourceWords.{source_before, source_words}
 
 -- the day of a number, as the territory of a code dates it
@@ -47,8 +49,25 @@ edit_words p lands wanted (AddException code year day source) =
     easter_words code year (day_in p wanted code day)
 edit_words p lands wanted (DropException code year) = no_easter_words code year
 
--- the line of an edit: that, and what it says of the source
+-- what an editor is shown of a change of regime: the days around it, and that it changes nothing
+abbrev pub change_remarks : Profile → List LandModel → List ℕ → ℤ → Regime → List ℕ
+change_remarks p wanted code day regime =
+    followed_lines p code (territory_of code wanted) day
+    ++ same_regime_note code (regime_before p (territory_of code wanted) day) regime
+
+-- what an editor is shown of an edit, in lines of their own: the days around a change of regime, as
+-- they are dated once it is made or dropped, and what is unlikely of an Easter
+unfoldable pub remarks : Profile → List LandModel → Edit → List ℕ
+remarks p wanted (AddLand code name regime source) = []
+remarks p wanted (AddChange code day regime source) = change_remarks p wanted code day regime
+remarks p wanted (AlterChange code day regime source) = change_remarks p wanted code day regime
+remarks p wanted (DropChange code day) = followed_lines p code (territory_of code wanted) day
+remarks p wanted (AddException code year day source) = easter_notes p code year day
+remarks p wanted (DropException code year) = []
+
+-- the line of an edit: what it changes, and what it says of the source; then what is shown of it
 unfoldable pub edit_line : Profile → List LandModel → List LandModel → Edit → List ℕ
 edit_line p lands wanted edit =
     edit_words p lands wanted edit
-    ++ (source_words (source_given edit) (source_before p lands edit) ++ codes "\n")
+    ++ (source_words (source_given edit) (source_before p lands edit)
+    ++ (codes "\n" ++ remarks p wanted edit))

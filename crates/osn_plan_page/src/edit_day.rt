@@ -28,7 +28,7 @@ pub(crate) fn day_numbered(number: i64) -> Option<Day>
 }
 
 /// The day before a day, which the first day has not.
-fn day_before(day: Day) -> Option<Day>
+pub(crate) fn day_before(day: Day) -> Option<Day>
     ensures { result ≡ spec.day_before day }
 {
     day.plus(-1)

@@ -5,8 +5,10 @@ ghost use Rattle.osn_plan_page.specs.EditLine as spec;
 ghost use Rattle.osn_plan_page.specs.EditDay.{day_words};
 
 use crate::edit_day::{EditDay, dated_in, opening_regime, regime_before, territory_of};
+use crate::followed::push_followed;
 use crate::line::{push_change, push_drop, push_easter, push_land, push_no_easter, push_opening};
 use crate::part::regime_words;
+use crate::remark::{push_easter_notes, push_same_regime};
 use crate::source_words::{push_source_words, source_before};
 use osn_lands::Regime;
 use osn_register::{Edit, Register};
@@ -128,7 +130,61 @@ fn push_edit_words(
     }
 }
 
-/// Appends the line of an edit: what it changes, and what it says of the source.
+/// Appends what an editor is shown of a change of regime.
+fn push_change_remarks(
+    out: &mut String,
+    wanted: &Register,
+    code: &str,
+    day: i64,
+    regime: Regime,
+) -> Result<(), AllocError>
+    ensures { OnOk result (string_bytes out.new ≡ string_bytes out.old
+        ++ spec.change_remarks newest_rules wanted.now.lands code.now day regime) }
+{
+    let territory = territory_of(wanted, code);
+    push_followed(out, code, territory, day)?;
+    push_same_regime(out, code, regime_before(territory, day), regime)
+}
+
+/// Appends what an editor is shown of an edit, in lines of their own.
+#[tactic(auto, unfolding(crate::specs::EditLine::remarks))]
+fn push_remarks(out: &mut String, wanted: &Register, edit: &Edit) -> Result<(), AllocError>
+    ensures { OnOk result (string_bytes out.new
+        ≡ string_bytes out.old ++ spec.remarks newest_rules wanted.now.lands edit.now) }
+{
+    match edit {
+        Edit::AddChange {
+            code,
+            day,
+            regime,
+            ..
+        }
+        | Edit::AlterChange {
+            code,
+            day,
+            regime,
+            ..
+        } => push_change_remarks(out, wanted, code.as_str(), *day, *regime),
+        Edit::DropChange { code, day } => {
+            push_followed(
+                out,
+                code.as_str(),
+                territory_of(wanted, code.as_str()),
+                *day,
+            )
+        }
+        Edit::AddException {
+            code,
+            year,
+            day,
+            ..
+        } => push_easter_notes(out, code.as_str(), *year, *day),
+        Edit::AddLand { .. } | Edit::DropException { .. } => Ok(()),
+    }
+}
+
+/// Appends the line of an edit: what it changes, and what it says of the source. Then what an
+/// editor is shown of it.
 #[tactic(auto, unfolding(crate::specs::EditLine::edit_line))]
 pub(crate) fn push_edit(
     alloc: Global,
@@ -142,5 +198,6 @@ pub(crate) fn push_edit(
 {
     push_edit_words(alloc, out, register, wanted, edit)?;
     push_source_words(out, edit.source(), source_before(register, edit))?;
-    out.push_str("\n")
+    out.push_str("\n")?;
+    push_remarks(out, wanted, edit)
 }

@@ -5,9 +5,11 @@
 
 mod edit_day;
 mod edit_line;
+mod followed;
 mod line;
 mod page;
 mod part;
+mod remark;
 mod source_words;
 
 pub use page::plan_page;

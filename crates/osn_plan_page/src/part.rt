@@ -58,6 +58,15 @@ fn is_other(before: Option<Regime>, part: Part) -> bool
     }
 }
 
+/// Whether a part of a regime is other than before.
+pub(crate) fn is_other_regime(before: Option<Regime>, regime: Regime) -> bool
+    ensures { result ≡ spec.is_other_regime before regime }
+{
+    is_other(before, Part::Calendar(regime.calendar))
+        || is_other(before, Part::Beginning(regime.style))
+        || is_other(before, Part::Easter(regime.rule))
+}
+
 /// The parts of a regime that are other than before.
 fn other_parts(
     alloc: Global,

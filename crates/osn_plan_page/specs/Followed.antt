@@ -1,0 +1,68 @@
+-- The line on a change of regime that shows the last day before it and the first one after, as the
+-- territory dates both, and how many dates are left out between them or come twice. This project's
+-- profile.
+use Rattle.std.specs.Prelude.{ℕ, ◌-◌, ◌==◌, nat_lt, if◌then◌else◌, ℤ, List, [], ◌∷◌, ◌++◌, codes}
+use Rattle.std.specs.Prelude.{Option, Some, None}
+use Rattle.std.specs.Fmt.{decimal}
+use Rattle.osn_days.specs.Chain.{date_of, days_with_date}
+use Rattle.osn_days.specs.Profile.{Profile}
+use Rattle.osn_lands.specs.declared.dated.DatedDay.{DatedDay}
+use Rattle.osn_lands.specs.Dated.{dated_on, dated_text}
+use Rattle.osn_lands.specs.Territory.{TerritoryModel, regime_at}
+use Rattle.osn_pages.specs.Words.{weekday_words}
+use Rattle.osn_plan_page.specs.EditDay.{day_before, day_numbered}
+
+-- GB: Wednesday 2 September 1752 is followed by Thursday 14 September 1752
+unfoldable pub days_words : List ℕ → DatedDay → DatedDay → List ℕ
+days_words code last first =
+    code
+    ++ (codes ": "
+    ++ (weekday_words last.day
+    ++ (codes " "
+    ++ (dated_text last
+    ++ (codes " is followed by "
+    ++ (weekday_words first.day ++ (codes " " ++ dated_text first)))))))
+
+-- how many dates are left out
+unfoldable pub left_out_words : ℕ → List ℕ
+left_out_words dates =
+    if dates == 1 then codes ": 1 date left out"
+    else codes ": " ++ (decimal dates ++ codes " dates left out")
+
+-- how many dates come twice, if any do
+unfoldable pub twice_words : ℕ → List ℕ
+twice_words dates =
+    if dates == 0 then []
+    else (if dates == 1 then codes ": 1 date comes twice"
+    else codes ": " ++ (decimal dates ++ codes " dates come twice"))
+
+-- A date that the calendar before has on a later day: those of the days up to it are left out. On
+-- an earlier day: those of the days from it on come twice.
+abbrev pub gap_words : List ℕ → ℕ → List ℕ
+gap_words [] first = codes ": by the calendar before, no day has that date"
+gap_words (same ∷ others) first =
+    if nat_lt first same then left_out_words (same - first) else twice_words (first - same)
+
+-- the line of the day before a first day and of that day: the date of the first day is looked up in
+-- the calendar before
+unfoldable pub followed_line : Profile → List ℕ → TerritoryModel → ℕ → ℕ → List ℕ
+followed_line p code t last first =
+    days_words code (dated_on p t last) (dated_on p t first)
+    ++ (gap_words (days_with_date p (regime_at t last).calendar
+    (date_of (regime_at t first).calendar first)) first
+    ++ codes "\n")
+
+-- the same of a day with the day before it, if there is one
+abbrev pub line_from : Profile → List ℕ → TerritoryModel → Option ℕ → ℕ → List ℕ
+line_from p code t None first = []
+line_from p code t (Some last) first = followed_line p code t last first
+
+-- the same of a day, if the line has it
+abbrev pub line_on : Profile → List ℕ → TerritoryModel → Option ℕ → List ℕ
+line_on p code t None = []
+line_on p code t (Some first) = line_from p code t (day_before first) first
+
+-- the same of the day of a number, if the territory is known
+abbrev pub followed_lines : Profile → List ℕ → Option TerritoryModel → ℤ → List ℕ
+followed_lines p code None number = []
+followed_lines p code (Some t) number = line_on p code t (day_numbered p number)
