@@ -35,9 +35,12 @@ REFUSED = {
     "OpeningPeriod": (8, "a change is later than day 1, on which the territory begins"),
     "YearOffRange": (9, "a year is 1 to 9999"),
     "ExceptionExists": (10, "a year has one listed Easter"),
-    "TooManyLands": (12, "the register has room for no further territory"),
-    "TooManyChanges": (13, "the register has room for no further change there"),
-    "TooManyExceptions": (14, "the register has room for no further listed Easter there"),
+    "TooManyLands": (12, "the register has room for no further territory "
+                         "(--limits lands=N allows more)"),
+    "TooManyChanges": (13, "the register has room for no further change there "
+                           "(--limits changes=N allows more)"),
+    "TooManyExceptions": (14, "the register has room for no further listed Easter there "
+                              "(--limits exceptions=N allows more)"),
     "StyleNeedsJulian": (19, "years from Easter go with the Julian calendar and the Julian rule "
                              "alone"),
 }

@@ -1,5 +1,5 @@
 -- What the register allows, for each of its refusals: this project's profile.
-use Rattle.std.specs.Prelude.{ℕ, List, codes}
+use Rattle.std.specs.Prelude.{ℕ, List, ◌++◌, codes}
 use Rattle.osn_register.specs.declared.refusal.Refusal.{Refusal}
 use Rattle.osn_register.specs.declared.refusal.Refusal.TheVariants as refusals
 
@@ -17,10 +17,13 @@ refusal_words refusals.OpeningPeriod = codes
 refusal_words refusals.YearOffRange = codes "a year is 1 to 9999"
 refusal_words refusals.ExceptionExists = codes "a year has one listed Easter"
 refusal_words refusals.NoSuchException = codes "a listed Easter is of a year that has one"
-refusal_words refusals.TooManyLands = codes "the register has room for no further territory"
-refusal_words refusals.TooManyChanges = codes "the register has room for no further change there"
-refusal_words refusals.TooManyExceptions = codes
-    "the register has room for no further listed Easter there"
+refusal_words refusals.TooManyLands = codes
+    "the register has room for no further territory (--limits lands=N allows more)"
+refusal_words refusals.TooManyChanges = codes
+    "the register has room for no further change there (--limits changes=N allows more)"
+refusal_words refusals.TooManyExceptions =
+    codes "the register has room for no further listed Easter there "
+    ++ codes "(--limits exceptions=N allows more)"
 refusal_words refusals.NothingPending = codes "an edition has an edit"
 refusal_words refusals.JournalFull = codes "the journal has room for no further edit"
 refusal_words refusals.EditionsFull = codes "the journal has room for no further edition"

@@ -20,9 +20,16 @@ pub(crate) fn refusal_words(refusal: Refusal) -> &'static str
         Refusal::YearOffRange => "a year is 1 to 9999",
         Refusal::ExceptionExists => "a year has one listed Easter",
         Refusal::NoSuchException => "a listed Easter is of a year that has one",
-        Refusal::TooManyLands => "the register has room for no further territory",
-        Refusal::TooManyChanges => "the register has room for no further change there",
-        Refusal::TooManyExceptions => "the register has room for no further listed Easter there",
+        Refusal::TooManyLands => {
+            "the register has room for no further territory (--limits lands=N allows more)"
+        }
+        Refusal::TooManyChanges => {
+            "the register has room for no further change there (--limits changes=N allows more)"
+        }
+        Refusal::TooManyExceptions => {
+            "the register has room for no further listed Easter there \
+(--limits exceptions=N allows more)"
+        }
         Refusal::NothingPending => "an edition has an edit",
         Refusal::JournalFull => "the journal has room for no further edit",
         Refusal::EditionsFull => "the journal has room for no further edition",
