@@ -14,21 +14,21 @@ use Rattle.osn_pages.specs.Words.{weekday_words}
 use Rattle.osn_plan_page.specs.EditDay.{day_numbered}
 use Rattle.osn_plan_page.specs.Part.{is_other_regime}
 
--- a note on a territory
-abbrev pub note : List ℕ → List ℕ → List ℕ
-note code said = codes "note: " ++ (code ++ (codes ": " ++ (said ++ codes "\n")))
-
 -- the regime from a day on is that of the day before
 unfoldable pub same_regime_note : List ℕ → Option Regime → Regime → List ℕ
 same_regime_note code before regime =
     if is_other_regime before regime then []
-    else note code (codes "nothing changes on that day: write the new calendar, style or rule")
+    else codes "note: "
+    ++ (code
+    ++ codes ": nothing changes on that day: write the new calendar, style or rule\n")
 
 -- an Easter is on another weekday than Sunday
 unfoldable pub weekday_note : List ℕ → List ℕ → List ℕ
 weekday_note code weekday =
     if bytes_eq weekday (codes "Sunday") then []
-    else note code (codes "Easter is a Sunday, and that day is a " ++ weekday)
+    else codes "note: "
+    ++ (code
+    ++ (codes ": Easter is a Sunday, and that day is a " ++ (weekday ++ codes "\n")))
 
 -- A date from 21 March to 26 April of a year. A rule gives 22 March to 25 April; what was found
 -- from the moon itself may be a day off that.
@@ -41,11 +41,17 @@ abbrev pub is_in_spring : Calendar → ℤ → ℕ → Bool
 is_in_spring c year day = is_spring_date year (date_of c day)
 
 -- an Easter of a year is on no such date
-unfoldable pub season_note : List ℕ → ℤ → ℕ → List ℕ
+unfoldable pub season_text : List ℕ → ℤ → List ℕ
+season_text code year =
+    codes "note: "
+    ++ (code
+    ++ (codes ": that day is not from 21 March to 26 April "
+    ++ (signed_decimal year ++ codes ", Julian or Gregorian\n")))
+
+abbrev pub season_note : List ℕ → ℤ → ℕ → List ℕ
 season_note code year day =
     if is_in_spring Julian year day || is_in_spring Gregorian year day then []
-    else note code (codes "that day is not from 21 March to 26 April "
-    ++ (signed_decimal year ++ codes ", Julian or Gregorian"))
+    else season_text code year
 
 -- the notes on an Easter, if the line has its day
 abbrev pub easter_notes_on : List ℕ → ℤ → Option ℕ → List ℕ

@@ -54,8 +54,19 @@ fn is_in_spring(calendar: Calendar, year: i64, day: Day) -> bool
         && ((date.month == 3 && date.day >= 21) || (date.month == 4 && date.day <= 26))
 }
 
-/// Appends a note if the day of an Easter is not in the weeks in which Easter can be.
-#[tactic(auto, unfolding(crate::specs::Remark::season_note))]
+/// Appends the note on an Easter of a year that is not in the weeks in which Easter can be.
+#[tactic(auto, unfolding(crate::specs::Remark::season_text))]
+fn push_season_text(out: &mut String, code: &str, year: i64) -> Result<(), AllocError>
+    ensures { OnOk result (string_bytes out.new
+        ≡ string_bytes out.old ++ spec.season_text code.now year) }
+{
+    write!(
+        out,
+        "note: {code}: that day is not from 21 March to 26 April {year}, Julian or Gregorian\n"
+    )
+}
+
+/// Appends that note if the day of an Easter is not in those weeks.
 fn push_season(out: &mut String, code: &str, year: i64, day: Day) -> Result<(), AllocError>
     ensures { OnOk result (string_bytes out.new
         ≡ string_bytes out.old ++ spec.season_note code.now year day) }
@@ -63,10 +74,7 @@ fn push_season(out: &mut String, code: &str, year: i64, day: Day) -> Result<(), 
     if is_in_spring(Calendar::Julian, year, day) || is_in_spring(Calendar::Gregorian, year, day) {
         return Ok(());
     }
-    writeln!(
-        out,
-        "note: {code}: that day is not from 21 March to 26 April {year}, Julian or Gregorian"
-    )
+    push_season_text(out, code, year)
 }
 
 /// Appends the notes on a listed Easter, if the line has its day.
