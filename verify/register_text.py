@@ -28,8 +28,8 @@ from lib.text_draws import Draws, beginnings, journal_lines, version_for
 from lib.text_faults import spoiled_text
 from lib.text_files import LAND, Files, bytes_of, lines_of, published, refused
 from lib.text_journals import ANEW, try_all_journals
-from lib.text_pages import (absent_lines, edit_lines, fault_words, plan_end, publish_end,
-                            register_lines, texts_of)
+from lib.text_pages import (absent_lines, edit_lines, fault_words, plan_end, publish_begin,
+                            publish_end, register_lines, texts_of)
 
 # ---- texts there and back
 
@@ -127,7 +127,8 @@ def change(files, draws, number):
          sorted(new[:-1]) == fewest and new[-1:] == [PUBLISH] * bool(fewest))
     lines = [line for edit in edits for line in edit_lines(lands, wanted, edit)] + absent
     hold(f"{what}: plan prints {planned}", planned == lines + [plan_end(len(edits), editions)])
-    hold(f"{what}: publish prints {told}", told == lines + [publish_end(len(edits), editions)])
+    hold(f"{what}: publish prints {told}", told == publish_begin(len(edits), editions) + lines
+         + [publish_end(len(edits), editions)])
     hold(f"{what}: another register", shown(service.published) == shown(after(lands, wanted)))
     again = files.printed(what, "publish", journal, text).split("\n")[:-1]
     hold(f"{what}: again {again}", again == absent + [publish_end(0, service.edition)])

@@ -33,7 +33,8 @@ OLDER = ("oldstyle: a journal of version 1 is not kept: serve --keep with --upgr
          "as version 4\n")
 # What a plan tells of a journal that its publish refuses, or saves anew.
 NOT_KEPT = ("oldstyle: publish refuses a journal of version 1: serve --keep with --upgrade saves "
-            "it anew as version 4\n")
+            "it anew as version 4\nhelp: run oldstyle serve --keep J --upgrade < /dev/null, then "
+            "publish\n")
 ANEW = ("oldstyle: the journal is of version {}, which has no sources: publish saves it anew as "
         "version 4\n")
 FULL = "oldstyle: {}17 EditionsFull (--limits editions=N allows more)\n"
@@ -159,7 +160,8 @@ def try_full(files):
 def try_renamed(files):
     journal, text = files.path("new"), files.write("text", LAND.format("GB").replace('"n"', '"m"'))
     refused(files, "renamed", text, text,
-            "GB: a name can't be changed: it is n, and the text has m", journal)
+            "GB: a name can't be changed: it is n, and the text has m\n"
+            "help: write n again, or give m a code of its own", journal)
 
 
 def try_held(files):

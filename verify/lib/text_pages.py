@@ -193,6 +193,10 @@ def plan_end(count, editions):
     return f"{edits} edition {editions + 1}"
 
 
+def publish_begin(count, editions):
+    return ["this is a new journal"] * (count > 0 and editions == 0)
+
+
 def publish_end(count, editions):
     if count == 0:
         return f"nothing to change: edition {editions} stands"

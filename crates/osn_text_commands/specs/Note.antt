@@ -70,7 +70,7 @@ note_line path notes.Missing = Some (missing_line path)
 note_line path notes.Absent = Some (absent_line path)
 note_line path (notes.Refused refusal) = Some (refused_edits_line refusal)
 note_line path (notes.Anew version) = Some (anew_line version)
-note_line path (notes.NotKept version) = Some (not_kept_line version)
+note_line path (notes.NotKept version) = Some (not_kept_line path version)
 
 -- the line was told, if there is one; or that memory ran out
 abbrev pub TellsNote : Option (List ℕ) → Output → Status → Type 0

@@ -12,7 +12,7 @@ use Rattle.osn_report.specs.declared.fault.CommandFault.TheVariants as command_f
 use Rattle.osn_report.specs.declared.status.Status.{Status}
 use Rattle.osn_report.specs.declared.status.Status.TheVariants as statuses
 
--- the line on a name that the text of this path changes: the code of the territory, its name and
+-- the lines on a name that the text of this path changes: the code of the territory, its name and
 -- the one that the text has
 abbrev pub renamed_line : List ℕ → List ℕ → List ℕ → List ℕ → List ℕ
 renamed_line path code name wanted = codes "oldstyle: "
@@ -20,7 +20,12 @@ renamed_line path code name wanted = codes "oldstyle: "
     ++ (codes ": "
     ++ (code
     ++ (codes ": a name can't be changed: it is "
-    ++ (name ++ (codes ", and the text has " ++ (wanted ++ codes "\n")))))))
+    ++ (name
+    ++ (codes ", and the text has "
+    ++ (wanted
+    ++ (codes "\nhelp: write "
+    ++ (name
+    ++ (codes " again, or give " ++ (wanted ++ codes " a code of its own\n")))))))))))
 
 -- the line on an edit that is refused, of the territory of this code that the text of this path
 -- has, and how more is allowed where that is at a limit

@@ -1,5 +1,5 @@
 -- The words on a plan and on its publish, beside the plan's own lines. This project's profile.
-use Rattle.std.specs.Prelude.{◌==◌, if◌then◌else◌, ℕ, List, ◌++◌, codes}
+use Rattle.std.specs.Prelude.{◌==◌, if◌then◌else◌, ℕ, List, [], ◌++◌, codes}
 use Rattle.std.specs.Fmt.{decimal}
 use Rattle.osn_format.specs.Version.{version_number}
 use Rattle.osn_format.specs.declared.version.Version.{Version}
@@ -16,6 +16,10 @@ plan_end edits next =
     then codes "1 edit: publish makes it edition " ++ (decimal next ++ codes "\n")
     else decimal edits
     ++ (codes " edits: publish makes them edition " ++ (decimal next ++ codes "\n")))
+
+-- that a journal is new, if it has no edition
+abbrev pub new_journal_line : ℕ → List ℕ
+new_journal_line editions = if editions == 0 then codes "this is a new journal\n" else []
 
 -- the last line of edits that were published as the edition of this number
 abbrev pub published_line : ℕ → List ℕ
@@ -65,8 +69,10 @@ anew_line version = codes "oldstyle: the journal is of version "
     ++ (decimal (version_number version)
     ++ codes ", which has no sources: publish saves it anew as version 4\n")
 
--- the line on a journal of this version that a publish refuses
-abbrev pub not_kept_line : Version → List ℕ
-not_kept_line version = codes "oldstyle: publish refuses a journal of version "
+-- the lines on a journal of this path and version that a publish refuses
+abbrev pub not_kept_line : List ℕ → Version → List ℕ
+not_kept_line path version = codes "oldstyle: publish refuses a journal of version "
     ++ (decimal (version_number version)
-    ++ codes ": serve --keep with --upgrade saves it anew as version 4\n")
+    ++ (codes ": serve --keep with --upgrade saves it anew as version 4\n"
+    ++ (codes "help: run oldstyle serve --keep "
+    ++ (path ++ codes " --upgrade < /dev/null, then publish\n"))))

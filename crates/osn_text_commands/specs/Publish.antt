@@ -30,16 +30,21 @@ use Rattle.osn_serve_commands.specs.Keep.{cut_text, is_kept, unfinished_line}
 use Rattle.osn_text_commands.specs.Edition.{IsNoMemoryOr, appended_text, edition_refusal}
 use Rattle.osn_text_commands.specs.Edition.{edition_text, needs_sources, with_batch}
 use Rattle.osn_text_commands.specs.Plan.{RefusesPlan}
-use Rattle.osn_text_commands.specs.PlanWords.{pending_line, published_line, standing_line}
+use Rattle.osn_text_commands.specs.PlanWords.{new_journal_line, pending_line, published_line}
+use Rattle.osn_text_commands.specs.PlanWords.{standing_line}
 use Rattle.osn_text_commands.specs.Text.{published}
 
 -- ---- what is printed
 
--- the lines of a plan, and the line on the edition that it made
+-- that the journal is new, if it is, and the lines of a plan
+abbrev pub begun_text : ObjectState → RegisterModel → List Edit → List ℕ
+begun_text s wanted edits =
+    new_journal_line (length s.batches) ++ plan_page newest_rules (published s) wanted.lands edits
+
+-- these, and the line on the edition that was made
 abbrev pub published_text : ObjectState → RegisterModel → List Edit → List ℕ
 published_text s wanted edits =
-    plan_page newest_rules (published s) wanted.lands edits
-    ++ published_line (length s.batches + 1)
+    begun_text s wanted edits ++ published_line (length s.batches + 1)
 
 -- the lines of a plan without edits, and that the last edition stands
 abbrev pub standing_text : ObjectState → RegisterModel → List ℕ

@@ -10,10 +10,11 @@ ghost use Rattle.osn_lines.specs.Streams.{output_of};
 ghost use Rattle.osn_register.specs.declared.edit.Edit.{Edit};
 ghost use Rattle.osn_serve_commands.specs.Keep.{TellsCut};
 ghost use Rattle.osn_text_commands.specs.Edition.{IsNoMemoryOr, edition_refusal, with_batch};
+ghost use Rattle.osn_text_commands.specs.Publish as spec;
 ghost use Rattle.osn_text_commands.specs.Publish.{published_text};
 ghost use Rattle.osn_text_commands.specs.PublishInside as inside;
 
-use crate::plan_words::push_published;
+use crate::plan_words::{push_new_journal, push_published};
 use osn_core::Object;
 use osn_files::{WholePart, journal_text, with_edits, with_publish};
 use osn_folder::{KeptFile, KeptFileFault};
@@ -58,6 +59,23 @@ fn edition_lines(alloc: Global, part: WholePart, edits: &[Edit]) -> Result<Vec<u
     with_publish(with_edits(missing, edits)?)
 }
 
+/// What is printed before the line on the edition that these edits make of an object.
+fn begun_text(
+    alloc: Global,
+    object: &Object,
+    wanted: &Register,
+    edits: &[Edit],
+) -> Result<String, AllocError>
+    ensures { IfOk result (λ text.
+        string_bytes text ≡ spec.begun_text object.now wanted.now edits.now) }
+{
+    let mut text = String::new(alloc);
+    push_new_journal(&mut text, object.batches().len())?;
+    let page = plan_page(alloc, object.register(), wanted, edits)?;
+    text.push_str(page.as_str())?;
+    Ok(text)
+}
+
 /// An edition that is not written yet.
 #[derive(Drop)]
 pub(crate) struct Edition {
@@ -90,7 +108,7 @@ pub(crate) fn edition_of(
         (IsNoMemoryOr (edition_refusal object.old edits.items)) }
 {
     let lines = edition_lines(alloc, part, &edits)?;
-    let mut text = plan_page(alloc, object.register(), wanted, &edits)?;
+    let mut text = begun_text(alloc, object, wanted, &edits)?;
     let number = make_edition(object, edits)?;
     push_published(&mut text, number)?;
     Ok(Edition { lines, text })
@@ -127,7 +145,7 @@ pub(crate) fn whole_edition_of(
     ensures refused { IfErr result
         (IsNoMemoryOr (edition_refusal object.old edits.items)) }
 {
-    let mut text = plan_page(alloc, object.register(), wanted, &edits)?;
+    let mut text = begun_text(alloc, object, wanted, &edits)?;
     let next = make_edition(object, edits)?;
     push_published(&mut text, next)?;
     let journal = journal_text(alloc, object)?;

@@ -125,6 +125,8 @@ pub(crate) fn tell_note<E: Sink>(alloc: Global, errors: &mut E, path: &str, note
         Note::Absent => tell_line(errors, Status::Done, absent_line(alloc, path)),
         Note::Refused(refusal) => tell_refused(alloc, errors, refusal),
         Note::Anew(version) => tell_line(errors, Status::Done, anew_line(alloc, version)),
-        Note::NotKept(version) => tell_line(errors, Status::Done, not_kept_line(alloc, version)),
+        Note::NotKept(version) => {
+            tell_line(errors, Status::Done, not_kept_line(alloc, path, version))
+        }
     }
 }

@@ -9,7 +9,7 @@ use osn_register::Refusal;
 use osn_report::{Status, limit_hint, tell_line, tell_no_memory};
 use std::alloc::{AllocError, Global};
 
-/// The line on a name that the text of this path changes.
+/// The lines on a name that the text of this path changes.
 fn renamed_line(
     alloc: Global,
     path: &str,
@@ -22,7 +22,7 @@ fn renamed_line(
 {
     format!(in alloc;
         "oldstyle: {path}: {code}: a name can't be changed: it is {name}, and the text has \
-{wanted}\n"
+{wanted}\nhelp: write {name} again, or give {wanted} a code of its own\n"
     )
 }
 

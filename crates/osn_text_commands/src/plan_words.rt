@@ -20,6 +20,17 @@ pub(crate) fn push_plan_end(out: &mut String, edits: usize, next: usize) -> Resu
     }
 }
 
+/// Appends that a journal is new, if it has no edition.
+pub(crate) fn push_new_journal(out: &mut String, editions: usize) -> Result<(), AllocError>
+    ensures { OnOk result
+        (string_bytes out.new ≡ string_bytes out.old ++ spec.new_journal_line editions) }
+{
+    match editions {
+        0 => out.push_str("this is a new journal\n"),
+        _ => Ok(()),
+    }
+}
+
 /// Appends the last line of edits that were published as the edition of this number.
 pub(crate) fn push_published(out: &mut String, edition: u32) -> Result<(), AllocError>
     ensures { OnOk result
@@ -102,13 +113,18 @@ as version 4\n"
     )
 }
 
-/// The line on a journal of this version that a publish refuses.
-pub(crate) fn not_kept_line(alloc: Global, version: Version) -> Result<String, AllocError>
-    ensures { IfOk result (λ line. string_bytes line ≡ spec.not_kept_line version) }
+/// The lines on a journal of this path and version that a publish refuses.
+pub(crate) fn not_kept_line(
+    alloc: Global,
+    path: &str,
+    version: Version,
+) -> Result<String, AllocError>
+    ensures { IfOk result (λ line. string_bytes line ≡ spec.not_kept_line path.now version) }
 {
     let number = version.number();
     format!(in alloc;
         "oldstyle: publish refuses a journal of version {number}: serve --keep with --upgrade \
-saves it anew as version 4\n"
+saves it anew as version 4\nhelp: run oldstyle serve --keep {path} --upgrade < /dev/null, \
+then publish\n"
     )
 }

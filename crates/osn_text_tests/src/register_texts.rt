@@ -129,7 +129,8 @@ GB: Easter of 1744 on Sunday 18 March 1743/4 (day 636706)
 4 edits: publish makes them edition 1
 ";
 
-const PUBLISHED: &str = "GB: new territory Great Britain: julian calendar, years from 25 March,
+const PUBLISHED: &str = "this is a new journal
+GB: new territory Great Britain: julian calendar, years from 25 March,
    julian rule
 GB: from Wednesday 1 January 1752 (day 639551): years from 1 January
 GB: Tuesday 31 December 1751 is followed by Wednesday 1 January 1752
@@ -220,7 +221,7 @@ const REFUSED: [Row; 6] = [
                 1,
                 "",
                 "oldstyle: renamed.toml: GB: a name can't be changed: it is Great Britain, and the \
-text has Britain\n",
+text has Britain\nhelp: write Great Britain again, or give Britain a code of its own\n",
             ),
         ),
         "first.journal",
