@@ -1,7 +1,7 @@
 -- How a territory reckons, in words: the parts of a regime. This project's profile.
-use Rattle.std.specs.Prelude.{ℕ, Bool, true, not, List, [], ◌∷◌, ◌++◌, filter, codes}
+use Rattle.std.specs.Prelude.{ℕ, Bool, true, not, ◌||◌, List, [], ◌∷◌, ◌++◌, filter, codes}
 use Rattle.std.specs.Prelude.{Option, Some, None}
-use Rattle.std.specs.List.{flat_map, list_any}
+use Rattle.std.specs.List.{flat_map}
 use Rattle.std.specs.Str.{bytes_eq}
 use Rattle.osn_computus.specs.RuleWords.{rule_word}
 use Rattle.osn_days.specs.CalendarWords.{calendar_word}
@@ -33,9 +33,11 @@ abbrev pub is_other : Option Regime → Part → Bool
 is_other None part = true
 is_other (Some before) part = not (is_part_of before part)
 
--- a part of a regime is other than before
+-- a part of a regime is other than before, if there was one
 abbrev pub is_other_regime : Option Regime → Regime → Bool
-is_other_regime before regime = list_any (is_other before) (parts_of regime)
+is_other_regime before regime =
+    is_other before (Calendar regime.calendar)
+    || (is_other before (Beginning regime.style) || is_other before (Easter regime.rule))
 
 abbrev pub other_parts : Option Regime → Regime → List Part
 other_parts before regime = filter (is_other before) (parts_of regime)
