@@ -93,7 +93,7 @@ def runs_told(lines):
 def notes_told(lines, told):
     """The lines of `read` that the page has as notes, each with the source that follows it."""
     if not lines:
-        text = told.removeprefix("oldstyle: ").removesuffix(ORDER)
+        text = told.partition("\n")[0].removeprefix("oldstyle: ").removesuffix(ORDER)
         return [text]
     notes = [line for line in lines[1:] if line not in OPEN and not (
         DAY.match(line) or COUNT.fullmatch(line) or WAITING.fullmatch(line)

@@ -46,4 +46,4 @@ class Commands:
             return out.split("\n")[:-1], told.strip()
         if NO_LAND in told:
             raise no_place(words[2])
-        raise unavailable(self.settings.shown(told))
+        raise unavailable(self.settings.shown(told.partition("\n")[0]))

@@ -31,7 +31,11 @@ class DateFound:
     notes: list = field(default_factory=list)
     counts: list = field(default_factory=list)
     agreeing: dict = field(default_factory=dict)
-    is_open: bool = False
+
+    @property
+    def is_open(self):
+        """Whether the order of its numbers decides what it means."""
+        return self.written["reason"] == "open between day and month"
 
 
 @dataclass
@@ -107,9 +111,8 @@ def heading(page, name, code):
 def take_page(found, page, told):
     """Takes from a page what the answer doesn't have."""
     if not page:
-        found.is_open = told.endswith(OTHER_ORDER)
         if told:
-            found.notes = [sentence_of(told.removesuffix(OTHER_ORDER), found)]
+            found.notes = [sentence_of(told.partition("\n")[0].removesuffix(OTHER_ORDER), found)]
         return
     found.read_as = heading(page, found.name, found.code)
     for line in page[1:]:
