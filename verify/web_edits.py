@@ -9,10 +9,10 @@ while replies are late: the answer that is shown is that of the fields.
 """
 import os
 
-from common import CommandLine, end
-from keeping import verdict
+from lib.checks import hold, verdict
+from lib.common import CommandLine, end
 from web_browsing import Browser, Keys, NoAlertPresentException, Select
-from web_runs import SAMPLES, Page, hold
+from web_runs import SAMPLES, Page
 
 # Replies are held back, and given in whatever order is asked for.
 HOLD = """

@@ -15,9 +15,9 @@ import tempfile
 import time
 import types
 
-from common import TOP, CommandLine, end
-from keeping import verdict
-from web_runs import SAMPLES, hold, script
+from lib.checks import hold, verdict
+from lib.common import TOP, CommandLine, end
+from web_runs import SAMPLES, script
 
 sys.path.insert(0, TOP)
 

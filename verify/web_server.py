@@ -16,9 +16,9 @@ import threading
 import time
 import types
 
-from common import TOP, CommandLine, end
-from keeping import verdict
-from web_runs import SAMPLES, first_line, free_port, hold, script
+from lib.checks import hold, verdict
+from lib.common import TOP, CommandLine, end
+from web_runs import SAMPLES, first_line, free_port, script
 
 sys.path.insert(0, TOP)
 
