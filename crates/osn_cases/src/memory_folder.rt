@@ -152,6 +152,18 @@ impl Folder for MemoryFolder {
         Ok(path)
     }
 
+    fn back_up(&mut self, alloc: Global, place: &str) -> Result<String, SaveFault> {
+        let contents = Vec::from_slice(alloc, self.contents(place).unwrap_or(b""))?;
+        for number in 1..u32::MAX {
+            let path = format!(in alloc; "{place}.~{number}~")?;
+            if self.contents(path.as_str()).is_none() {
+                self.write(path.as_str(), &contents)?;
+                return Ok(path);
+            }
+        }
+        Err(SaveFault::WriteFault)
+    }
+
     fn holds(
         &mut self,
         _lock: &MemoryLock,
