@@ -120,9 +120,9 @@ module _ {E D J P : Type 0} (contents : E → Option (List ℕ)) (has_failed hol
       → EndsSaving (Some (now path)) loaded beside t (known opened) (known after) in_all is
   one_saved t path text same h saved =
       inr (told_in_all (λ e. FinishesSave beside loaded (now path) (journal_text t) (known opened)
-          (known after) e is) h.1
-          (subst (λ l. FinishesSave beside loaded (now path) l (known opened) (known after)
-          (output_of contents has_failed holds_back mid new) is) same saved))
+      (known after) e is) h.1
+      (subst (λ l. FinishesSave beside loaded (now path) l (known opened) (known after)
+      (output_of contents has_failed holds_back mid new) is) same saved))
 
   -- of an object all of whose lines were answered
   left_saved : (t : ObjectState) (save : Option P) (journal : Option J)
@@ -301,9 +301,13 @@ module _ (limits : Limits) (journal save found : Option (List ℕ)) (given rules
         fails = subst CanFail (sym whole.sound) sound;
         opens = rw journal_is opens;
         crash = crash;
-        ended = rw is (inr (Some held, stands_as begun.bytes held whole.bytes, as_asked
-            (λ s r. EndsServing limits s r (Some begun) (Some held) false opened d.after i o e
-            status) h));
+        ended = rw is (inr (
+          Some held,
+          stands_as begun.bytes held whole.bytes,
+          as_asked
+              (λ s r. EndsServing limits s r (Some begun) (Some held) false opened d.after i o e
+              status) h,
+        ));
       }
 
 -- a journal was not read whole

@@ -36,10 +36,10 @@ use Rattle.osn_serve_commands.specs.Follow.{EndsFollowed}
 use Rattle.osn_serve_commands.specs.Keep.{EndsKept, first_output, later_output}
 use Rattle.osn_serve_commands.specs.SaveTarget.{IsTarget, IsNoTarget, TellsTarget}
 use Rattle.osn_serve_commands.specs.Saving.{LocksIf, CannotLockIf, FinishesSave}
-use Rattle.osn_serve_commands.specs.declared.save_target.SaveTarget.{SaveTarget}
-use Rattle.osn_serve_commands.specs.declared.save_target.SaveTarget.TheVariants.{NoFile, Empty}
-use Rattle.osn_serve_commands.specs.declared.save_target.SaveTarget.TheVariants.{Journal}
-use Rattle.osn_serve_commands.specs.declared.save_target.TargetFault.{TargetFault}
+use Rattle.osn_serve_commands.specs.declared.target.SaveTarget.{SaveTarget}
+use Rattle.osn_serve_commands.specs.declared.target.SaveTarget.TheVariants.{NoFile, Empty}
+use Rattle.osn_serve_commands.specs.declared.target.SaveTarget.TheVariants.{Journal}
+use Rattle.osn_serve_commands.specs.declared.target.TargetFault.{TargetFault}
 use Rattle.osn_serve_commands.specs.Serve.{EndsServed}
 use Rattle.osn_serve_commands.specs.Upgrade.{CannotUpgrade, Upgrades}
 

@@ -17,12 +17,12 @@ use Rattle.osn_report.specs.declared.status.Status.{Status}
 use Rattle.osn_report.specs.declared.status.Status.TheVariants as statuses
 use Rattle.osn_shown.specs.Shown.{shown}
 use Rattle.std.specs.Prelude.{Some, Err}
-use Rattle.osn_serve_commands.specs.declared.save_target.SaveTarget.{SaveTarget}
-use Rattle.osn_serve_commands.specs.declared.save_target.SaveTarget.TheVariants.{NoFile, Empty}
-use Rattle.osn_serve_commands.specs.declared.save_target.SaveTarget.TheVariants.{Journal}
-use Rattle.osn_serve_commands.specs.declared.save_target.TargetFault.{TargetFault}
-use Rattle.osn_serve_commands.specs.declared.save_target.TargetFault.TheVariants.{NoJournal}
-use Rattle.osn_serve_commands.specs.declared.save_target.TargetFault.TheVariants.{NotRead, NoMemory}
+use Rattle.osn_serve_commands.specs.declared.target.SaveTarget.{SaveTarget}
+use Rattle.osn_serve_commands.specs.declared.target.SaveTarget.TheVariants.{NoFile, Empty}
+use Rattle.osn_serve_commands.specs.declared.target.SaveTarget.TheVariants.{Journal}
+use Rattle.osn_serve_commands.specs.declared.target.TargetFault.{TargetFault}
+use Rattle.osn_serve_commands.specs.declared.target.TargetFault.TheVariants.{NoJournal}
+use Rattle.osn_serve_commands.specs.declared.target.TargetFault.TheVariants.{NotRead, NoMemory}
 
 abbrev pub by_read : ReadAllFault → TargetFault
 by_read read_faults.NoMemory = NoMemory

@@ -9,15 +9,15 @@ mod follow;
 mod held;
 mod in_folder;
 mod keep;
-mod save_target;
 mod saving;
 mod serve;
+mod target;
 mod upgrade;
 
 pub use follow::follow_command;
 pub use held::{HeldJournal, check_kept, read_kept};
 pub use in_folder::serve_in_folder;
 pub use keep::{cut_unfinished, keep_command, missing_text};
-pub use save_target::{SaveTarget, TargetFault, save_target, tell_target};
 pub use serve::{ServeResult, initial_object, serve_command};
+pub use target::{SaveTarget, TargetFault, save_target, tell_target};
 pub use upgrade::{cut_text_of, save_anew, tell_cut, upgrade_file};

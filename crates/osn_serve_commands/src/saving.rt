@@ -12,8 +12,8 @@ ghost use Rattle.osn_serve_commands.specs.Saving.{CannotLockIf, FinishesSave, Lo
 ghost use Rattle.osn_serve_commands.specs.Saving.{TellsUnsaved, beside_line, changed_line};
 ghost use Rattle.osn_serve_commands.specs.Serve.{input_if};
 
-use crate::save_target::{SaveTarget, save_target, tell_target};
 use crate::serve::{ServeResult, serve_command};
+use crate::target::{SaveTarget, save_target, tell_target};
 use osn_folder::{
     Folder, KeepFault, OpenFailed, SaveFault, open_file, open_if, save_beside, save_file,
 };
@@ -381,7 +381,16 @@ pub(crate) fn serve<D: Folder, R: Source, W: Sink, E: Sink, T: Sink + Drop>(
         None => {
             let mut source = open_if(folder, journal)?;
             Ok(serve_beside(
-                alloc, limits, folder, &mut source, locked, rules, input, output, errors, terminal,
+                alloc,
+                limits,
+                folder,
+                &mut source,
+                locked,
+                rules,
+                input,
+                output,
+                errors,
+                terminal,
             ))
         }
     }

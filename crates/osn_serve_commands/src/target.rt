@@ -101,12 +101,7 @@ fn target_text(alloc: Global, path: &str, why: &str) -> Result<String, AllocErro
 }
 
 /// Tells standard error why no journal is saved to this path. Answers the status.
-pub fn tell_target<E: Sink>(
-    alloc: Global,
-    errors: &mut E,
-    path: &str,
-    fault: TargetFault,
-) -> Status
+pub fn tell_target<E: Sink>(alloc: Global, errors: &mut E, path: &str, fault: TargetFault) -> Status
     ensures { spec.TellsTarget path.now
         (output_of E.contents E.has_failed E.holds_back errors.old errors.new) fault result }
 {
