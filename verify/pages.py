@@ -20,7 +20,7 @@ from lib.date_draws import (MALFORMED, NAMES, any_case, date_text, day_near, jou
 from lib.date_meaning import Malformed, Territory, days_by_month_and_day, parse
 from lib.page_texts import (Place, conversion_page, day_page, list_page, month_page, pending_lines,
                             reading_page, territory_page)
-from lib.spans import span_answer, span_near, span_page, text_of
+from lib.spans import reckoned_page, span_answer, span_near, span_page, text_of
 
 EACH = 40
 # The Julian day number of a day is its number and this.
@@ -56,7 +56,7 @@ MISTAKES = [
     ("convert jdn 1721425", JULIAN_NUMBER),
     ("convert JDN 5373485", JULIAN_NUMBER),
     ("day none XX 0", DAY_NUMBER),
-    ("read none XX x", WRONG_WORDS["form"]),
+    ("read none XX Fryday", WRONG_WORDS["form"]),
     ("month none XX 1700 13", "a month is 1 to 12 or its English name"),
     ("day FILE XX 1751-02-30", "the gregorian calendar has no such date in the years 1 to 9999"),
     ("month FILE XX 1700 13", "a month is 1 to 12 or its English name"),
@@ -137,6 +137,16 @@ class Asked:
         words = ["--weekday", any_case(self.chance, given)] if given else []
         yield from self.page(["read", "XX", text, *words], reading_page(self.place, date, given))
 
+    def reckoned(self, label):
+        """A date of one day that names a calendar."""
+        text = date_text(self.chance, label)
+        date, reckoning = parse(text), self.chance.choice(["old", "new"])
+        if date.year < 100:
+            return
+        sign = {"old": "O.S.", "new": "N.S."}[reckoning]
+        lines = reckoned_page(self.place, date, None, reckoning)
+        yield from self.page(["read", "XX", f"{text} {sign}"], lines)
+
     def span(self, label):
         """A month, a year, a range, a bound or a set."""
         other = label_near(self.chance, self.territory, self.middle)
@@ -191,6 +201,7 @@ class Asked:
         """Each page about a date that is another than the one written apart."""
         label = label_near(self.chance, self.territory, self.middle)
         yield from self.reading(label)
+        yield from self.reckoned(label)
         yield from self.span(label)
         yield from self.day()
         yield from self.month(label)

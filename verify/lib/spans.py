@@ -8,7 +8,7 @@ from typing import NamedTuple, Optional
 
 from lib.calendars import HIGH, MONTHS
 from lib.date_meaning import Territory, Written, weekday_of, years_about
-from lib.page_texts import day_line, why_lines, years_written
+from lib.page_texts import date_written, day_line, meant_lines, why_lines, years_written
 
 NAMES = [MONTHS]
 NAMES += [line.split() for line in (
@@ -213,6 +213,27 @@ def own_dates(place, runs):
     return f"{place.name} itself dated these days as they are written above"
 
 
+def calendar_lines(place, reckoning, runs, own):
+    """By which calendar a date was read, where it means other days by the place's own reckoning."""
+    if runs == own or isinstance(runs, str) and isinstance(own, str):
+        return []
+    style = {"old": "Old", "new": "New"}[reckoning]
+    return [f"read as {style} Style, as the date says; {own_dates(place, runs)}"]
+
+
+def reckoned_page(place, date, given, reckoning):
+    """The page of a date of one day that names a calendar."""
+    by_name = Reckoned(place.territory, reckoning)
+    days = by_name.days_meant(date, given)
+    lines = [line for day in days for line in meant_lines(place.territory, date, given, day)]
+    named = f"{date.weekday} " if date.weekday else ""
+    sign = {"old": "O.S.", "new": "N.S."}[reckoning]
+    runs, own = (runs_of(sorted(found)) or "first"
+                 for found in (days, place.territory.days_meant(date)))
+    return [f"{named}{date_written(date)} {sign} in {place.heading()}",
+            *(lines or why_lines(by_name, date)), *calendar_lines(place, reckoning, runs, own)]
+
+
 def span_page(place, span, weekday=None):
     """The page of a span that is no single day."""
     by_name = reckoned(place.territory, span)
@@ -222,10 +243,7 @@ def span_page(place, span, weekday=None):
     else:
         lines = [line for run in runs for line in run_lines(place.territory, span, run)]
     lines += sureness(span)
-    own = found(place.territory, span)
-    if runs != own and not (isinstance(runs, str) and isinstance(own, str)):
-        style = {"old": "Old", "new": "New"}[span.reckoning]
-        lines.append(f"read as {style} Style, as the date says; {own_dates(place, runs)}")
+    lines += calendar_lines(place, span.reckoning, runs, found(place.territory, span))
     if weekday:
         lines.append(f"{weekday} is not looked for: that is done for one day alone")
     return [f"{span.words()} in {place.heading()}", *lines]

@@ -10,6 +10,7 @@ use Rattle.std.proofs.lemmas.Bool.Decides.{nat_tests}
 use Rattle.std.proofs.lemmas.Int.{ints}
 use Rattle.std.proofs.lemmas.List.{get_or_default}
 use Rattle.std.proofs.lemmas.List.Elements.{All-map}
+use Rattle.osn_days.specs.declared.weekday.Weekday.{Weekday}
 use Rattle.osn_days.specs.Profile.{Profile, newest_rules}
 use Rattle.osn_lands.specs.declared.period.Period.{Period}
 use Rattle.osn_lands.specs.Territory.{TerritoryModel, CoversLine, Holds, periods_of}
@@ -32,7 +33,7 @@ use Rattle.osn_lands.specs.Dated.{dated_on}
 use Rattle.osn_pages.specs.Law.{periods_in, ArePeriodsAnswered}
 use Rattle.osn_pages.specs.Page.{day_lines, AnswersPeriods}
 use Rattle.osn_pages.specs.Periods.{period_lines}
-use Rattle.osn_pages.specs.Reading.{plain_day_line}
+use Rattle.osn_pages.specs.Reading.{day_line, verdict}
 use Rattle.osn_pages.specs.declared.page.Page.{Page}
 use Rattle.osn_pages.specs.declared.page.Page.TheVariants as pages
 
@@ -118,14 +119,15 @@ are_periods_answered p limits lands code sound lawful =
     (covers_line_of p limits code lands sound))
 
 -- the line of a day, and then those of the period that holds it
-pub day_and_period : (t : TerritoryModel) (sources : Option SourcesModel) (d : ℕ) (period : Period)
+pub day_and_period : (t : TerritoryModel) (sources : Option SourcesModel) (d : ℕ)
+    (weekday : Option Weekday) (period : Period)
     (t0 t1 t2 : List ℕ) → period_on (periods_of newest_rules t) d ≡ Some period
-    → t1 ≡ t0 ++ plain_day_line (dated_on newest_rules t d)
+    → t1 ≡ t0 ++ day_line (verdict weekday None d) (dated_on newest_rules t d)
     → t2 ≡ t1 ++ period_lines newest_rules sources period
-    → t2 ≡ t0 ++ day_lines newest_rules t sources d
-day_and_period t sources d period t0 t1 t2 held first second =
+    → t2 ≡ t0 ++ day_lines newest_rules t sources d weekday
+day_and_period t sources d weekday period t0 t1 t2 held first second =
     let line = period_lines newest_rules sources period in
-    let day = plain_day_line (dated_on newest_rules t d) in
+    let day = day_line (verdict weekday None d) (dated_on newest_rules t d) in
     second
     ∙ ap (λ s. s ++ line) first
     ∙ append_assoc t0 day line

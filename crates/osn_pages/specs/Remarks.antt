@@ -10,6 +10,7 @@ use Rattle.osn_grammar.specs.declared.written.Reckoning.{Reckoning}
 use Rattle.osn_grammar.specs.declared.written.Reckoning.TheVariants.{OldStyle, NewStyle}
 use Rattle.osn_grammar.specs.declared.written.WrittenDate.{WrittenDate as AnyDate}
 use Rattle.osn_grammar.specs.Extent.{has_three_digits}
+use Rattle.osn_lands.specs.declared.dated.DatedDay.{DatedDay}
 use Rattle.osn_lands.specs.declared.runs.Run.{Run}
 use Rattle.osn_lands.specs.Dated.{dated_on, dated_text}
 use Rattle.osn_lands.specs.Territory.{TerritoryModel}
@@ -71,18 +72,25 @@ abbrev pub style_name : Reckoning → List ℕ
 style_name OldStyle = codes "Old Style"
 style_name NewStyle = codes "New Style"
 
--- how the place of that name itself dated these days: a single day is named, and others stand above
-unfoldable pub own_days : Profile → List ℕ → TerritoryModel → ℕ → ℕ → List ℕ
-own_days p name t first last =
-    if first == last then
-    name ++ (codes " itself dated that day " ++ (dated_text (dated_on p t first) ++ codes "\n"))
-    else name ++ codes " itself dated these days as they are written above\n"
+-- the day, if runs are a single one
+abbrev pub only_day : List Run → Option ℕ
+only_day (r ∷ []) = if r.first == r.last then Some r.first else None
+only_day [] = None
+only_day (r ∷ next ∷ rest) = None
+
+-- how the place of that name itself dated a day
+unfoldable pub own_day : List ℕ → DatedDay → List ℕ
+own_day name x = name ++ (codes " itself dated that day " ++ (dated_text x ++ codes "\n"))
+
+-- how the place of that name itself dated days: a single one is named, and others are written above
+unfoldable pub own_days : Profile → List ℕ → TerritoryModel → Option ℕ → List ℕ
+own_days p name t (Some d) = own_day name (dated_on p t d)
+own_days p name t None = name ++ codes " itself dated these days as they are written above\n"
 
 -- the same of what the date means by the calendar that it names. If it means no day by that one, it
 -- does by the place's own
 unfoldable pub own_dates : Profile → List ℕ → TerritoryModel → Result (List Run) NoDay → List ℕ
-own_dates p name t (Ok (r ∷ [])) = own_days p name t r.first r.last
-own_dates p name t (Ok runs) = name ++ codes " itself dated these days as they are written above\n"
+own_dates p name t (Ok runs) = own_days p name t (only_day runs)
 own_dates p name t (Err reason) =
     codes "by its own reckoning " ++ (name ++ codes " has that date\n")
 

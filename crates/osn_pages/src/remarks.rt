@@ -6,7 +6,7 @@ ghost use Rattle.osn_pages.specs.Remarks as spec;
 
 use osn_days::{Day, Weekday};
 use osn_grammar::{Reckoning, WrittenDate as AnyDate};
-use osn_lands::{Run, Territory};
+use osn_lands::{DatedDay, Run, Territory};
 use osn_written::{
     DateInWords, NoDay, WrittenDate, by_reckoning, find_runs, is_by_other_calendar, plain_day,
 };
@@ -81,24 +81,43 @@ fn style_name(reckoning: Reckoning) -> &'static str
     }
 }
 
-/// Appends how the place of that name itself dated the days from one to another. A single day is
-/// named, and others are written above.
+/// The day, if runs are a single one.
+fn only_day(runs: &[Run]) -> Option<Day>
+    ensures { result ≡ spec.only_day runs.now }
+{
+    match runs {
+        [run] if run.first == run.last => Some(run.first),
+        _ => None,
+    }
+}
+
+/// Appends how the place of that name itself dated a day.
+#[tactic(auto, unfolding(crate::specs::Remarks::own_day))]
+fn push_own_day(out: &mut String, name: &str, dated: DatedDay) -> Result<(), AllocError>
+    ensures { OnOk result (string_bytes out.new
+        ≡ string_bytes out.old ++ spec.own_day name.now dated) }
+{
+    writeln!(out, "{name} itself dated that day {dated}")
+}
+
+/// Appends how the place of that name itself dated days: a single one is named, and others are
+/// written above.
 #[tactic(auto, unfolding(crate::specs::Remarks::own_days))]
 fn push_own_days(
     out: &mut String,
     name: &str,
     territory: &Territory,
-    first: Day,
-    last: Day,
+    day: Option<Day>,
 ) -> Result<(), AllocError>
     ensures { OnOk result (string_bytes out.new ≡ string_bytes out.old
-        ++ spec.own_days newest_rules name.now territory.now first last) }
+        ++ spec.own_days newest_rules name.now territory.now day) }
 {
-    if first == last {
-        let dated = territory.dated(first);
-        writeln!(out, "{name} itself dated that day {dated}")
-    } else {
-        writeln!(out, "{name} itself dated these days as they are written above")
+    match day {
+        Some(day) => push_own_day(out, name, territory.dated(day)),
+        None => writeln!(
+            out,
+            "{name} itself dated these days as they are written above"
+        ),
     }
 }
 
@@ -115,10 +134,7 @@ fn push_own_dates(
         ++ spec.own_dates newest_rules name.now territory.now (list_of found.now)) }
 {
     match found {
-        Ok(runs) => match runs.as_slice() {
-            [run] => push_own_days(out, name, territory, run.first, run.last),
-            _ => writeln!(out, "{name} itself dated these days as they are written above"),
-        },
+        Ok(runs) => push_own_days(out, name, territory, only_day(runs.as_slice())),
         Err(_) => writeln!(out, "by its own reckoning {name} has that date"),
     }
 }

@@ -1,13 +1,29 @@
 //! Whether a place counted the days double that a date with both years means.
 ghost use Rattle.std.specs.Prelude.{◌≡◌, IfOk};
+ghost use Rattle.std.specs.List.{list_any};
 ghost use Rattle.osn_days.specs.Profile.{newest_rules};
 ghost use Rattle.osn_written.specs.Double as spec;
 
 use crate::finding::ends_of;
 use crate::runs::{double_days, year_of};
+use osn_days::Day;
 use osn_grammar::{Extent, SimpleDate};
 use osn_lands::Territory;
 use std::alloc::{AllocError, Global};
+
+/// Whether the place dated the day by another year.
+fn is_dated_otherwise(own: &Territory, first: u16, day: Day) -> bool
+    ensures { result ≡ spec.is_dated_otherwise newest_rules own.now first day }
+{
+    own.dated(day).label.year != i32::from(first)
+}
+
+/// Whether the place dated one of the days by another year.
+fn has_dated_otherwise(own: &Territory, first: u16, days: &[Day]) -> bool
+    ensures { result ≡ list_any (spec.is_dated_otherwise newest_rules own.now first) days.now }
+{
+    days.iter().any(|day| is_dated_otherwise(own, first, *day))
+}
 
 /// Whether a date has both years, and a place dated one of the days that it means by another year
 /// than the first one: it did not count that day double.
@@ -25,8 +41,7 @@ fn is_date_not_counted_double(
         return Ok(false);
     }
     let days = double_days(alloc, territory, date)?;
-    let first = i32::from(year.first);
-    Ok(days.iter().any(|day| own.dated(*day).label.year != first))
+    Ok(has_dated_otherwise(own, year.first, days.as_slice()))
 }
 
 /// Whether a date of what is written has both years, and means by the reckoning of a territory a
@@ -45,6 +60,8 @@ pub fn is_extent_not_counted_double(
         ≡ spec.is_extent_not_counted_double newest_rules own.now territory.now extent) }
 {
     let (first, last) = ends_of(extent);
-    Ok(is_date_not_counted_double(alloc, own, territory, first)?
-        || is_date_not_counted_double(alloc, own, territory, last)?)
+    Ok(
+        is_date_not_counted_double(alloc, own, territory, first)?
+            || is_date_not_counted_double(alloc, own, territory, last)?,
+    )
 }

@@ -161,7 +161,9 @@ pub fn dated_by(
     ensures { IfOk result (λ dated.
         dated.items ≡ spec.dated_by newest_rules territory.now days.now) }
 {
-    days.iter().map(|day| territory.dated(day.day)).collect(alloc)
+    days.iter()
+        .map(|day| territory.dated(day.day))
+        .collect(alloc)
 }
 
 /// The days, those first that have the weekday.

@@ -14,5 +14,6 @@ returns c =
     c.periods.ensures.value c.periods.ensures.whole c.period_at-place.ensures.within
     c.period_at-place.ensures.holds c.index-periods-place.is in
     on_ok_weaker c.push_period.result (day_and_period c.args.territory.now c.args.sources.now
-    c.args.day period (string_bytes c.args.out.now) (string_bytes c.push_day.new.out)
+    c.args.day c.args.weekday period (string_bytes c.args.out.now)
+    (string_bytes c.push_named_day.new.out)
     (string_bytes c.push_period.new.out) held (search rules)) c.push_period.ensures
