@@ -27,6 +27,7 @@ LINE.add_program()
 PROGRAM = LINE.read().program
 
 READ_FAULT = (3, "", "oldstyle: read fault\n")
+NAMED = ("serve", "replay", "desk", "almanac", "audit")
 FOR_PEOPLE = ("read", "day", "month", "territory", "letters", "text")
 SAVING = "serve --journal a.journal --save saved.journal"
 GIVEN = text_of(SESSION[:-1])
@@ -36,9 +37,23 @@ counts, untried = {}, []
 
 def not_read(words):
     """What a command tells of a file that is not there, or that is a folder."""
-    if "a.gone" in words and words.startswith(FOR_PEOPLE):
-        return 3, "", "oldstyle: a.gone: no such file\n"
+    for path, cause in ("a.gone", "no such file"), ("a.folder", "is a directory"):
+        if path in words and words.startswith(FOR_PEOPLE):
+            return 3, "", f"oldstyle: {path}: {cause}\n"
     return READ_FAULT
+
+
+def not_written(condition, words):
+    """The status of a command whose output fails, and what it prints on standard error."""
+    if words.startswith(NAMED) or not words:
+        notes = {"output full": "no space left on the device",
+                 "output a closed pipe": "nobody reads it any more"}
+        note = notes.get(condition)
+        return 3, WRITE_FAULT[1] + (f"note: standard output: {note}\n" if note else "")
+    if condition == "output a closed pipe":
+        return 0, ""
+    cause = "no space left on the device" if condition == "output full" else "write fault"
+    return 3, f"oldstyle: standard output: {cause}\n"
 
 
 def compare(condition, words, got, wanted):
@@ -65,8 +80,9 @@ def try_output(condition, words, lines, **streams):
     with filled() as folder:
         before = held(folder)
         status, _, errors = run(folder, words, text_of(lines), **streams)
-        told = (status, errors or WRITE_FAULT[1], held(folder))
-        compare(condition, words, told, (*WRITE_FAULT, before))
+        wanted = not_written(condition, words)
+        told = (status, wanted[1] if errors is None else errors, held(folder))
+        compare(condition, words, told, (*wanted, before))
 
 
 def try_outputs():
@@ -250,7 +266,9 @@ def try_full_disk():
         wanted = (*WRITE_FAULT, told, {"saved.journal": old})
         compare("a full disk", words, (status, errors, replies, texts), wanted)
         os.remove(os.path.join(disk, "other"))
-        compare("a full disk", words, run(folder, words, GIVEN), (0, told, ""))
+        path = "a.folder/saved.journal"
+        note = f"note: {path} held another journal, which is now {path}.~1~\n"
+        compare("a full disk", words, run(folder, words, GIVEN), (0, told, note))
 
 
 def try_long_files():

@@ -21,7 +21,7 @@ import subprocess
 import tempfile
 import time
 
-from lib.call_rules import RULES, Trace, Way, is_unfinished, kind_of
+from lib.call_rules import RULES, Trace, Way, backup_of, is_backed_up, is_unfinished, kind_of
 from lib.checks import hold, verdict
 from lib.common import CommandLine, end, need, run
 from lib.keeper import HEAD, HELD, PUBLISH, REPLACED
@@ -32,6 +32,7 @@ MODE = 0o640
 # How long a call is delayed, in microseconds, and how many seconds the others wait for it to begin.
 DELAY, WAIT = 3_000_000, 60
 CHANGED = "oldstyle: the file has changed meanwhile and is left as it is: the journal is in "
+NOTED = " held another journal, which is now "
 NOT_SYNCED = "oldstyle: the journal is saved, and the disk may not have it yet\n"
 FAULTS = ["oldstyle: read fault\n", "oldstyle: write fault\n"]
 # The errors that a call may meet.
@@ -129,6 +130,11 @@ def cut_line(way):
     return f"oldstyle: journal line {number} was not finished, and is cut off\n"
 
 
+def is_noted(told):
+    """Whether it is told that a journal stays beside the new one."""
+    return told.startswith("note: ") and NOTED in told and told.endswith(".~1~\n")
+
+
 def new_mode():
     """The permissions of a file that is made with none given."""
     mask = os.umask(0)
@@ -139,7 +145,8 @@ def new_mode():
 def hold_rules(program, way):
     """Holds a run of a way against its rules. Answers its steps."""
     done, before, after, _ = try_way(program, way)
-    hold(f"{way.name}: {done.status} {done.err!r}", (done.status, done.err) == (0, cut_line(way)))
+    hold(f"{way.name}: {done.status} {done.err!r}", done.status == 0 and (
+        is_noted(done.err) if is_backed_up(way) else done.err == cut_line(way)))
     broken = []
     for rule, is_kept in RULES[kind_of(way)](Trace(done.steps), way):
         kept, all_runs = counts.get(rule, (0, 0))
@@ -151,7 +158,8 @@ def hold_rules(program, way):
     wanted = journal([*way.begun, *way.session.taken])
     if kind_of(way) in ("save", "keep"):
         mode = MODE if way.old is not None else new_mode()
-        hold(f"{way.name}: other files", after == {**before, way.place: (mode, wanted)})
+        backup = {backup_of(way): (MODE, way.old)} if is_backed_up(way) else {}
+        hold(f"{way.name}: other files", after == {**before, **backup, way.place: (mode, wanted)})
     else:
         hold(f"{way.name}: other files", after == before)
     return done.steps
@@ -168,15 +176,22 @@ def hold_save(what, way, found, refused):
               and name != way.place}
     held = after.get(way.place, (0, None))[1]
     saved = held == new
+    if saved and is_backed_up(way):
+        backups = [name for name in beside if name.endswith("~")]
+        hold(f"{what}: the old journal is lost",
+             [beside.pop(name) for name in backups] == [(MODE, way.old)])
+        after = {name: file for name, file in after.items() if name not in backups}
     if done.err.startswith(CHANGED):
         path = done.err.removeprefix(CHANGED).rstrip("\n")
         told = not saved and [file[1] for file in beside.values()] == [new] and (
             list(beside) == [way.place + path.removeprefix(path[:path.rfind(".unfinished")])])
     else:
+        err = "" if is_backed_up(way) and is_noted(done.err) else done.err
         told = (not beside or refused.kind == "remove") and saved == (
-            done.err in ("", NOT_SYNCED)) and (done.err in ("", NOT_SYNCED, HELD[2], *FAULTS))
+            err in ("", NOT_SYNCED)) and (err in ("", NOT_SYNCED, HELD[2], *FAULTS)
+                                          or is_backed_up(way) and err.startswith(FAULTS[1]))
     hold(f"{what}: {done.status} {done.err!r}, and beside it {sorted(beside)}", told
-         and done.status == (3 if done.err else 0))
+         and done.status == (0 if not done.err or is_noted(done.err) else 3))
     hold(f"{what}: it is told as done", done.status or refused.kind not in MUST_BE_TOLD)
     hold(f"{what}: the journal is neither the old one nor the new one", held in (way.old, new))
     hold(f"{what}: its permissions", way.old is None or after[way.place][0] == MODE)

@@ -76,6 +76,16 @@ def between(first, places, last):
     return [place for place in places if max(first, default=-1) < place < min(last, default=-1)]
 
 
+def backup_of(way):
+    """Where a journal stays that was not loaded and that another one takes the place of."""
+    return way.place + ".~1~"
+
+
+def is_backed_up(way):
+    """Whether a save of this way leaves the old journal beside the new one."""
+    return kind_of(way) == "save" and way.old is not None and not way.is_loaded()
+
+
 def save_rules(trace, way):
     """What holds of each save: the rule, and whether the trace keeps it."""
     place, beside = way.place, way.place + ".unfinished"
@@ -126,6 +136,11 @@ def replace_rules(trace, way, moved):
         yield "what was loaded is compared, to its end, once the text is on the disk", b"".join(
             trace.steps[at].data for at in compared) == way.old and bool(compared) and (
             trace.steps[compared[-1]].data == b"")
+    else:
+        linked = trace.at("link", name=place, where=lambda step: step.to == backup_of(way))
+        synced = trace.at("sync", name=os.path.dirname(place) or ".")
+        yield "the old file has a second name on the disk before another takes its place", (
+            len(linked) == 1 and bool(between(linked, synced, moved)))
 
 
 def new_rules(trace, way, moved):

@@ -64,11 +64,11 @@ fn what_cannot_be_saved(rt: HostRuntime) -> Result<(), Fail> {
     Ok(())
 }
 
-/// A folder is opened as a file is, and then cannot be read.
+/// A folder is no file to be read.
 const NO_TABLE: [RunRow; 1] = [(
     "oldstyle letters a.journal --places folder",
     "place,date\n",
-    (3, "", "oldstyle: folder: read fault\n"),
+    (3, "", "oldstyle: folder: is a directory\n"),
 )];
 
 #[test]
@@ -171,14 +171,22 @@ fn a_link_and_permissions_stay(rt: HostRuntime) -> Result<(), Fail> {
     fs::set_permissions(&rt, "kept.journal", Permissions::from_mode(0o640))?;
     let left = left_over(&rt, "oldstyle serve --save link.journal", "")?;
     let told = str::from_utf8(&left.errors)?;
-    same(&rt, (left.status, told.ends_with("/kept.journal.~1~\n")), (Status::Done, true));
+    same(
+        &rt,
+        (left.status, told.ends_with("/kept.journal.~1~\n")),
+        (Status::Done, true),
+    );
     has_text(&rt, "kept.journal", EMPTY)?;
     has_text(&rt, "kept.journal.~1~", OLD)?;
     let link = fs::symlink_metadata(&rt, "link.journal")?.is_symlink();
     let mode = fs::metadata(&rt, "kept.journal")?.permissions().mode();
     let old = fs::metadata(&rt, "kept.journal.~1~")?.permissions().mode();
     let files = fs::read_dir(&rt, ".")?.count();
-    same(&rt, (link, mode & 0o777, old & 0o777, files), (true, 0o640, 0o640, 4));
+    same(
+        &rt,
+        (link, mode & 0o777, old & 0o777, files),
+        (true, 0o640, 0o640, 4),
+    );
     fs::remove_dir_all(&rt, folder.as_path())?;
     Ok(())
 }

@@ -40,10 +40,14 @@ impl<'a, R: Files<File = File> + AllocGlobal> Folder for Disk<'a, R> {
     ghost known = { λ _. None };
 
     fn open(&mut self, path: &str) -> Result<Plain<File>, OpenFailed> {
-        match fs::open(self.files, path) {
-            Ok(file) => Ok(Plain::new(file)),
-            Err(error) => Err(open_fault(&error)),
+        let file = match fs::open(self.files, path) {
+            Ok(file) => file,
+            Err(error) => return Err(open_fault(&error)),
+        };
+        if file.metadata().is_ok_and(|found| found.is_dir()) {
+            return Err(OpenFailed::IsDirectory);
         }
+        Ok(Plain::new(file))
     }
 
     fn keep(&mut self, path: &str) -> Result<(DiskFile<'a, R>, Plain<File>), KeepFault> {

@@ -13,6 +13,8 @@ pub enum OpenFailed {
     NotFound,
     /// The system doesn't permit the program to read it.
     PermissionDenied,
+    /// It is a directory.
+    IsDirectory,
     /// Any other cause.
     Other,
 }

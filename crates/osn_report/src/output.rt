@@ -149,10 +149,7 @@ pub fn end_output<E: Sink>(errors: &mut E, status: Status, cause: Option<WriteCa
     match status {
         Status::Unwritten => end_unwritten(errors, cause.unwrap_or(WriteCause::Other)),
         Status::WriteFault => note_cause(errors, cause),
-        Status::Done
-        | Status::Refused
-        | Status::Misused
-        | Status::ReadFault
-        | Status::NoMemory => status,
+        Status::Done | Status::Refused | Status::Misused | Status::ReadFault | Status::NoMemory =>
+            status,
     }
 }

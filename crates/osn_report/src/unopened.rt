@@ -18,6 +18,7 @@ fn cause_text(cause: OpenFailed) -> &'static str
     match cause {
         OpenFailed::NotFound => "no such file",
         OpenFailed::PermissionDenied => "permission denied",
+        OpenFailed::IsDirectory => "is a directory",
         OpenFailed::Other => "read fault",
     }
 }

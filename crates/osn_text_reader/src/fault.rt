@@ -3,9 +3,9 @@ ghost use Rattle.std.specs.Prelude.{Some};
 
 use crate::key::{Key, Part};
 use crate::refusal_words::refusal_words;
-use osn_shown::Shown;
 use osn_days::{Calendar, Keyword};
 use osn_register::{Refusal, Text};
+use osn_shown::Shown;
 use std::alloc::AllocError;
 use std::fmt;
 
