@@ -97,7 +97,11 @@ is the day number plus 1721425.",
         arguments: &[
             JOURNAL,
             CODE,
-            Required("date", "DATE", "A Gregorian date, a day number, or a Julian day number as \"JDN 2361222\""),
+            Required(
+                "date",
+                "DATE",
+                "A Gregorian date, a day number, or a Julian day number as \"JDN 2361222\"",
+            ),
             LIMITS,
         ],
     },

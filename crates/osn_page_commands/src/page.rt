@@ -15,8 +15,7 @@ use osn_pages::{
 };
 use osn_register::{Limits, Refusal, Register};
 use osn_report::{
-    CommandFault, Status, print, print_or_report, refused, report, tell_line,
-    tell_no_memory,
+    CommandFault, Status, print, print_or_report, refused, report, tell_line, tell_no_memory,
 };
 use osn_shown::Shown;
 use std::alloc::{AllocError, Global};
