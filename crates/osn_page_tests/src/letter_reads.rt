@@ -79,7 +79,8 @@ fn end_of(alloc: Global, table: &str) -> Result<(Result<Tally, LettersFault>, Re
 fn line_of_long(alloc: Global, letters: usize) -> Result<u64, Fail> {
     let text = "x".repeat(alloc, letters)?;
     let table = format!(in alloc; "place,date,text\nGB,1752-09-14,{text}")?;
-    match end_of(alloc, table.as_str())?.0 {
+    let (ended, _reads) = end_of(alloc, table.as_str())?;
+    match ended {
         Ok(_) => Ok(0),
         Err(LettersFault::TooLong { line }) => Ok(line),
         Err(_) => Err(Fail::new("another fault")),
@@ -99,7 +100,7 @@ fn long_records(rt: HostRuntime) -> Result<(), Fail> {
 fn progress_is_counted_at_each_read(rt: HostRuntime) -> Result<(), Fail> {
     let rows = "GB,1700-02-11\n".repeat(rt.alloc(), 7_000)?;
     let table = format!(in rt.alloc(); "place,date\n{rows}")?;
-    let (_, reads) = end_of(rt.alloc(), table.as_str())?;
+    let (_ended, reads) = end_of(rt.alloc(), table.as_str())?;
     same(&rt, (reads.reads, reads.bytes), (2, 98_011));
     Ok(())
 }

@@ -1,5 +1,4 @@
-//! When replies are written: together for one read, in parts if they are many, and before the next
-//! read.
+//! When replies are written: together for one read, and in parts if they are many.
 use crate::support::compare::same;
 use crate::support::failing::{Course, FailingSink, FailingSource};
 use osn_register::Limits;
@@ -20,13 +19,12 @@ fn written(alloc: Global, input: &[u8], read_step: usize) -> Result<FailingSink,
 
 const QUERIES: &str = "{\"op\":\"lands\",\"reader\":1}\n{\"op\":\"lands\",\"reader\":2}\nx\n";
 
-/// Each time replies are written, a write and a flush.
 #[test]
 fn replies_to_a_read_are_written_together(rt: HostRuntime) -> Result<(), Fail> {
     let together = written(rt.alloc(), QUERIES.as_bytes(), usize::MAX)?;
-    same(&rt, together.calls(), 2);
+    same(&rt, together.writes(), 1);
     let alone = written(rt.alloc(), QUERIES.as_bytes(), 1)?;
-    same(&rt, alone.calls(), 6);
+    same(&rt, alone.writes(), 3);
     Ok(())
 }
 
@@ -46,6 +44,6 @@ fn many_replies_to_one_read_are_written_in_parts(rt: HostRuntime) -> Result<(), 
     let lines = repeated(rt.alloc(), "\n", 5_000)?;
     let many = written(rt.alloc(), &lines, usize::MAX)?;
     let wanted = repeated(rt.alloc(), NOT_JSON, 5_000)?;
-    same(&rt, (many.calls(), many.bytes()), (6, wanted.as_slice()));
+    same(&rt, (many.writes(), many.bytes()), (3, wanted.as_slice()));
     Ok(())
 }

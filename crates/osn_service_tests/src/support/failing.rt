@@ -97,6 +97,7 @@ pub struct FailingSink {
     passed: usize,
     course: Course,
     calls: usize,
+    writes: usize,
     failed: bool,
 }
 
@@ -107,6 +108,7 @@ impl FailingSink {
             passed: 0,
             course,
             calls: 0,
+            writes: 0,
             failed: false,
         }
     }
@@ -114,6 +116,11 @@ impl FailingSink {
     /// How many writes and flushes there were, the failed ones too.
     pub fn calls(&self) -> usize {
         self.calls
+    }
+
+    /// How many writes there were of them.
+    pub fn writes(&self) -> usize {
+        self.writes
     }
 
     /// The bytes that it took.
@@ -134,6 +141,7 @@ impl Sink for FailingSink {
 
     fn write(&mut self, bytes: &[u8]) -> Result<usize, WriteFailed> {
         self.calls = self.calls.saturating_add(1);
+        self.writes = self.writes.saturating_add(1);
         let count = self.course.step.min(bytes.len());
         let takes_nothing = count == 0 && !bytes.is_empty();
         if takes_nothing
