@@ -1,15 +1,14 @@
 #!/usr/bin/env python3
 """A text of the countries that ncal knows, in TOML: ncal -p | examples/from_ncal.py [EASTER]
 
-The Debian package ncal has a list of countries, each with the last day of its Julian calendar. Its
-next day is Gregorian. What that list says is the list's claim, and none of this project's: it is a
-start for an editor, who has to hold each territory against the country's own records, and to cite
-these as the source of the change. Years begin
-on 1 January in this text, and the rule of Easter is that of the calendar, or EASTER (`julian` or
-`gregorian`) throughout. Where the text is in countries.toml, it is published so:
-./oldstyle publish countries.journal countries.toml
+The Debian package ncal has a list of countries, each with the last day of its Julian calendar. The
+change is on the next day. What that list says is the list's claim, and none of this project's: it
+is a start for an editor, who has to hold each territory against the country's own records, and to
+cite these as the source of the change. Years begin on 1 January in this text, and the rule of
+Easter is that of the calendar, or EASTER (`julian` or `gregorian`) throughout. If the text is in
+countries.toml, this publishes it: ./oldstyle publish countries.journal countries.toml
 """
-import datetime
+import calendar
 import json
 import re
 import sys
@@ -23,7 +22,7 @@ style = "january"
 rule = "{opening}"
 
 [[{code}.changes]]
-from = {{ gregorian = "{day}" }}
+from = {{ julian = "{day}" }}
 calendar = "gregorian"
 rule = "{later}"
 source = "the list of ncal -p"
@@ -31,13 +30,13 @@ source = "the list of ncal -p"
 
 
 def next_day(year, month, day):
-    """The Gregorian date of the day after a date of the Julian calendar."""
-    leap_days = (year - 1) // 4
-    before = sum((31, 29 if year % 4 == 0 else 28, 31, 30, 31, 30, 31, 31, 30, 31, 30)[: month - 1])
-    return datetime.date.fromordinal(365 * (year - 1) + leap_days + before + day - 1)
+    """The next date of the Julian calendar, in which each fourth year is a leap year."""
+    days = calendar.monthrange(2000 + year % 4, month)[1]
+    year, month, day = (year, month, day + 1) if day < days else (year, month + 1, 1)
+    return f"{year}-{month:02}-{day:02}"
 
 
-assert next_day(1752, 9, 2) == datetime.date(1752, 9, 14)
+assert next_day(1700, 2, 28) == "1700-02-29" and next_day(1655, 2, 28) == "1655-03-01"
 easter = sys.argv[1] if len(sys.argv) > 1 else None
 countries = {code: rest for code, *rest in COUNTRY.findall(sys.stdin.read())}
 print("# The countries of ncal -p, by its own claim: hold each against the country's records.")

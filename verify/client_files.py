@@ -1,16 +1,13 @@
-"""What clients.py holds of files: an installed package, its commands, R, Gramps and xmllint."""
-import gzip
+"""What clients.py holds of files: an installed package and its commands."""
 import os
-import re
 import shutil
 import subprocess
 import sys
 
+import client_tools
+from client_tools import JOURNAL, SAMPLES, read
 from lib.common import TOP
 
-CLIENTS = os.path.join(TOP, "clients")
-SAMPLES = os.path.join(CLIENTS, "samples")
-JOURNAL = os.path.join(TOP, "examples", "samples.journal")
 PLACES = os.path.join(SAMPLES, "places.csv")
 TEI, GEDCOM = "oldstyle-tei", "oldstyle-gedcom"
 HEAD = b'<TEI xmlns="http://www.tei-c.org/ns/1.0"><opener><placeName>London</placeName> '
@@ -25,31 +22,6 @@ TOLD = {"letters.xml": (TEI, {"skipped": 2, "no date": 1, "several days": 1, "is
                                 "unknown place": 1, "no place": 1, "no date of its calendar": 1,
                                 "weekday differs": 1, "not the year that follows": 1}),
         "events7.ged": (GEDCOM, {"skipped": 1, "is left": 1})}
-# What Gramps has to make of dates that were written: dual years are those from 1 January there.
-IN_GRAMPS = {
-    "@#DJULIAN@ 11 FEB 1731/32": 'dateval val="1732-02-11" cformat="Julian" dualdated="1"',
-    "@#DJULIAN@ 25 MAR 1732": 'dateval val="1732-03-25" cformat="Julian"',
-    "14 SEP 1752": 'dateval val="1752-09-14"',
-    "ABT @#DJULIAN@ 11 FEB 1731/32":
-        'dateval val="1732-02-11" type="about" cformat="Julian" dualdated="1"',
-    "BEF @#DJULIAN@ 25 MAR 1640": 'dateval val="1640-03-25" type="before" cformat="Julian"',
-    "AFT @#DJULIAN@ 3 JAN 1699/00":
-        'dateval val="1700-01-03" type="after" cformat="Julian" dualdated="1"',
-    "BET @#DJULIAN@ 1 FEB 1731/32 AND @#DJULIAN@ 5 MAY 1732":
-        'daterange start="1732-02-01" stop="1732-05-05" cformat="Julian" dualdated="1"',
-    "@#DJULIAN@ FEB 1731/32": 'dateval val="1732-02" cformat="Julian" dualdated="1"',
-    "@#DJULIAN@ 29 FEB 1731/32": 'dateval val="1732-02-29" cformat="Julian" dualdated="1"',
-}
-tried = []
-
-
-def tools_tried():
-    return tried
-
-
-def read(path):
-    with open(path, "rb") as file:
-        return file.read()
 
 
 class Installed:
@@ -79,15 +51,17 @@ def checks(options, folder):
     """All that is held of files."""
     installed = Installed(options.program, folder)
     yield f"pip install: {installed.done.stderr}", installed.done.returncode == 0
-    tried.append("the package installed without a network")
+    client_tools.tried.append("the package installed without a network")
     yield from documents(installed)
     for name, (command, told) in TOLD.items():
         yield from samples(installed, name, command, told)
     yield from letters(installed)
+    yield from calendars(installed)
+    yield from in_notes(installed)
     yield from by_place(installed)
     yield from trees(installed)
     yield from words(installed, folder)
-    yield from with_tools(installed, options, folder)
+    yield from client_tools.checks(installed, options, folder)
 
 
 def documents(installed):
@@ -140,6 +114,10 @@ def letters(installed):
     entity = b'<!DOCTYPE TEI [<!ENTITY d "' + date + b'">]>' + HEAD + b"&d;" + TAIL
     outside = HEAD.replace(b"opener", b"p") + date + TAIL.replace(b"opener", b"p")
     gap = HEAD + b"<date>3 May 16<gap/></date>" + TAIL
+    named = HEAD + b"<date%s>11 February 1731 N.S.</date>" + TAIL
+    done = installed.fill(TEI, named % b"")
+    yield f"TEI by a named calendar: {done.stdout}", \
+        done.stdout == named % b' when="1731-02-11" calendar="#gregorian"'
     differs = HEAD + b'<date calendar="#gregorian">3 May 1640</date>' + TAIL
     for what, left in (("namespace", other), ("entity", entity), ("", outside), ("gap", gap),
                        ('calendar="#gregorian" is left', differs)):
@@ -155,6 +133,52 @@ def letters(installed):
     many = HEAD + date * 20_000 + TAIL
     done = installed.fill(TEI, many)
     yield "TEI of 20,000 dates", done.stdout == HEAD + filled[len(HEAD): -len(TAIL)] * 20_000 + TAIL
+
+
+def calendars(installed):
+    """TEI: the names of calendars that a file declares."""
+    def declared(front, *names, encoding="utf-8"):
+        header = "".join(f'<calendar xml:id="{name}"/>' for name in names)
+        return front + HEAD.replace(b"<opener>", header.encode(encoding, "xmlcharrefreplace")
+                                    + b"<opener>")
+
+    date, pointer = b"<date>3 May 1640</date>", "#julian_f\u00fcr_GB"
+    for front, encoding in ((b"", "utf-8"), (b"<?xml version='1.0' encoding='UTF-8'?>", "utf-8"),
+                            (b"<?xml version='1.0' encoding='ISO-8859-1'?>", "latin-1"),
+                            (b"<?xml version='1.0' encoding='US-ASCII'?>", "ascii")):
+        file = declared(front, pointer[1:], encoding=encoding)
+        written = MAY.replace(b"#julian", pointer.encode(encoding, "xmlcharrefreplace"))
+        filled = file + b"<date" + written + b">3 May 1640</date>" + TAIL
+        done = installed.fill(TEI, file + date + TAIL)
+        yield f"TEI calendar in {encoding}: {done.stdout} {done.stderr}", done.stdout == filled
+        yield f"TEI calendar in {encoding} again", installed.fill(TEI, filled).stdout == filled
+    for names, pointer, said in (
+            (["julian", "julian_old"], b"#julian", b""),
+            (["julian_new", "julian_old"], None, b"julian_new and in julian_old: name one julian"),
+            (["gregorian"], b"#julian", b'no <calendar xml:id="julian">')):
+        written = MAY.replace(b"#julian", pointer) if pointer else MAY.partition(b" calendar")[0]
+        done = installed.fill(TEI, declared(b"", *names) + date * 2 + TAIL)
+        filled = declared(b"", *names) + (b"<date" + written + b">3 May 1640</date>") * 2 + TAIL
+        yield f"TEI calendars {names}: {done}", done.stdout == filled and said in done.stderr
+        yield f"TEI calendars {names}: said once", done.stderr.count(b"\n") == bool(said)
+
+
+def in_notes(installed):
+    """TEI: what an editor notes is not what the place wrote, and places may be in places."""
+    date, filled = b"<date>3 May 1640</date>", b"<date" + MAY + b">3 May 1640</date>"
+    inner = b"<placeName><placeName>London</placeName>, Middlesex</placeName>"
+    letter = b"<dateline><placeName>London</placeName> %s</dateline>"
+    for given, expected in (
+            (HEAD + b"<note>or %s</note>" + TAIL, date), (HEAD + b"<del>%s</del>" + TAIL, date),
+            (HEAD + b"<date>3 May 1640<note>or %s</note></date>" + TAIL, date),
+            (HEAD + b"<choice><sic>%s</sic><corr/></choice>" + TAIL, date),
+            (HEAD + b"<choice><sic/><corr>%s</corr></choice>" + TAIL, filled),
+            (HEAD + b"<note>" + letter + b"</note>" + TAIL, filled),
+            (HEAD.replace(b"<placeName>London</placeName>", inner) + b"%s" + TAIL, filled),
+            (HEAD + b"<note><placeName>Stockholm</placeName></note>%s" + TAIL, filled)):
+        done = installed.fill(TEI, given % date)
+        wanted = given.replace(b"<date>3 May 1640<", b"<date" + MAY + b">3 May 1640<") % expected
+        yield f"TEI {given}: {done}", done.stdout == wanted and done.returncode == 0
 
 
 def by_place(installed):
@@ -203,6 +227,20 @@ def trees(installed):
         ((b"2 DATE 1 JAN 1751/52", place), (b"2 DATE @#DJULIAN@ 1 JAN 1751/52", place), ()),
         ((b"2 DATE 10 FEB 1753/54", place), (b"2 DATE INT 10 FEB 1754 (10 FEB 1753/54)", place),
          ()),
+        ((b"2 DATE 11 FEB 1731/2", place), (b"2 DATE @#DJULIAN@ 11 FEB 1731/32", place), ()),
+        ((b"2 DATE 11 FEB 1731/1732", place), (b"2 DATE @#DJULIAN@ 11 FEB 1731/32", place), ()),
+        ((b"2 DATE FEB 1699/0", place), (b"2 DATE @#DJULIAN@ FEB 1699/00", place), ()),
+        ((b"2 DATE 11  FEB  1731", place), (b"2 DATE @#DJULIAN@ 11 FEB 1731/32", place), ()),
+        ((b"2 DATE Abt. 11 Feb 1731", place), (b"2 DATE ABT @#DJULIAN@ 11 FEB 1731/32", place),
+         ()),
+        ((b"2 DATE Bef. 3 May 1640", place), (b"2 DATE BEF @#DJULIAN@ 3 MAY 1640", place), ()),
+        ((b"2 DATE Bet. 1 Feb 1731 - 5 May 1732", place),
+         (b"2 DATE BET @#DJULIAN@ 1 FEB 1731/32 AND @#DJULIAN@ 5 MAY 1732", place), ()),
+        *[((b"2 DATE " + left, place),) * 2 + ((),)
+          for left in (b"Abt. 1731", b"Bet. 1731 - 1735", b"14  SEP  1752", b"11 FEB 1731/4")],
+        ((b"2 DATE 3 MAY 1640", b"2 PLAC Lon", b"3 CONC don", b"3 CONC , Mars"),
+         (b"2 DATE @#DJULIAN@ 3 MAY 1640", b"2 PLAC Lon", b"3 CONC don", b"3 CONC , Mars"), ()),
+        ((b"2 DATE 3 MAY 16", b"3 CONC 40", place),) * 2 + ((),),
         ((b"2 SOUR @S1@", b"3 DATA", b"4 DATE 3 MAY 1640", place),) * 2 + ((),),
     ]
     for given, expected, more in pairs:
@@ -233,7 +271,7 @@ def words(installed, folder):
             ([TEI, "none.journal"], 1, "No such file"), ([TEI, TOP], 1, "directory"),
             ([TEI, JOURNAL, "--place", "FR"], 1, "RM, GB, SE, RU, DE"),
             ([TEI, JOURNAL, "--places", "none.csv"], 3, "none.csv"),
-            ([TEI, JOURNAL, "--program", "no-such-oldstyle"], 1, "OLDSTYLE"),
+            ([TEI, JOURNAL, "--program", "no-such-oldstyle"], 1, "--program of a command"),
             ([GEDCOM, JOURNAL], 1, "0 HEAD"), ([TEI, "--help"], 0, "")]
     for line, status, told in runs:
         done = installed.run(line, given)
@@ -242,6 +280,7 @@ def words(installed, folder):
     tables = [(b"", "no header"), (b"a,b\n", "no column place"),
               (b"place\tcode\nLondon\n", "line 2"),
               (b"place,code\nA,GB\nA,SE\n", "line 3"), (b"place,code\n\xff,GB\n", "line 2"),
+              (b'"a;b",place\n', "no column code: the columns are a;b, place"),
               (b'place,code\n"A,GB\n', "quote")]
     for held, told in tables:
         with open(table, "wb") as file:
@@ -249,10 +288,15 @@ def words(installed, folder):
         done = installed.run([TEI, JOURNAL, "--places", table], given)
         yield f"table {held}: {done.stderr}", (done.returncode, done.stdout) == (1, b"") \
             and told in done.stderr.decode()
-    with open(table, "wb") as file:
-        file.write(b"place,code\nLondon,FR\n")
-    done = installed.run([TEI, JOURNAL, "--places", table], given)
-    yield f"a code that is lacking: {done.stderr}", b"the register has its code FR" in done.stderr
+    for row, told in ((b"London,FR", b"the register has its code FR"),
+                      (b"England,", b"England (1 date): no territory of the register has its code "
+                       b"(empty)")):
+        with open(table, "wb") as file:
+            file.write(b"place,code\n" + row + b"\n")
+        done = installed.run([TEI, JOURNAL, "--places", table],
+                             HEAD.replace(b"London", row.partition(b",")[0])
+                             + b"<date>3 May 1640</date>" + TAIL)
+        yield f"a code that is lacking: {done.stderr}", told in done.stderr
     done = installed.run(["sh", "-c", f"{installed.path}/{TEI} {JOURNAL} --place GB >&-"], given)
     yield f"closed output: {done.stderr}", (done.returncode == 3 and b"closed" in done.stderr
                                             and b"Traceback" not in done.stderr)
@@ -261,72 +305,3 @@ def words(installed, folder):
                               input=given, stdout=full, stderr=subprocess.PIPE, check=False,
                               env=installed.variables)
     yield f"a full disk: {done.stderr}", done.returncode == 3 and b"No space" in done.stderr
-
-
-def with_tools(installed, options, folder):
-    """What R, Gramps and xmllint say, where they are there."""
-    if shutil.which("xmllint"):
-        yield from linted(options.schema)
-    if shutil.which("Rscript"):
-        yield from in_r(installed)
-    if shutil.which("gramps"):
-        yield from in_gramps(folder)
-
-
-def linted(schema):
-    tried.append("xmllint by TEI's schema" if schema else "xmllint without a schema")
-    by = ["--relaxng", schema] if schema else []
-    for name in ("letters.filled.xml", "cmif.filled.xml"):
-        done = subprocess.run(["xmllint", "--noout", *by, os.path.join(SAMPLES, name)],
-                              capture_output=True, check=False)
-        yield f"xmllint {name}: {done.stderr.decode()}", done.returncode == 0
-
-
-def in_gramps(folder):
-    """What Gramps makes of the dates that were written, in a home of its own."""
-    tried.append("Gramps")
-    home = os.path.join(folder, "gramps")
-    os.mkdir(home)
-    path, exported = os.path.join(SAMPLES, "events.filled.ged"), os.path.join(home, "tree.gramps")
-    done = subprocess.run(["gramps", "-q", "-y", "-i", path, "-e", exported, "-f", "gramps"],
-                          capture_output=True, check=False,
-                          env={**os.environ, "HOME": home, "GRAMPSHOME": home})
-    told = (done.stdout + done.stderr).decode()
-    yield f"Gramps: {told}", "No errors detected" in told and os.path.exists(exported)
-    with gzip.open(exported, "rt", encoding="utf-8") as file:
-        events = re.findall(r"<event .*?</event>", file.read(), re.DOTALL)
-    dates = re.findall(r"^2 DATE (.*)$", read(path).decode(), re.MULTILINE)
-    yield f"Gramps: {len(events)} events", len(events) == len(dates) == 50
-    for date, expected in IN_GRAMPS.items():
-        found = [event for event, written in zip(events, dates) if written == date]
-        yield f"Gramps: {date}: {found}", bool(found) and all(f"<{expected}/>" in event
-                                                              for event in found)
-
-
-def in_r(installed):
-    """The example of R's README, as it stands there, and what its functions refuse."""
-    with open(os.path.join(CLIENTS, "r", "README.md"), encoding="utf-8") as file:
-        blocks = dict(re.findall(r"```(\w+)\n(.*?)```", file.read(), re.DOTALL))
-    tried.append("R")
-    done = installed.run(["Rscript", "-e", blocks["r"]])
-    yield f"R: {done.stdout}{done.stderr}", done.stdout.decode() == blocks["text"]
-    source = 'source("clients/r/oldstyle.R"); read <- function(...) oldstyle_read("%s", ...);'
-    calls = [
-        ('read(c("GB", "FR"), c("1640", "1640"))$fault', '[1] NA            "UnknownLand"\n'),
-        ('read("GB", c("before 25 March 1640", "after 25 March 1640"))[c("first", "last")]',
-         "       first       last\n1       <NA> 1640-04-03\n2 1640-04-05       <NA>\n"),
-        ('read("GB", "11 Feb. 1731/32", c("Friday"))$weekday_fits', "[1] TRUE\n"),
-        ('read("GB", "11 f\\u00e9vrier 1731")$dual', '[1] "11 February 1731/2"\n'),
-        ('read("GB", c(NA, "\\"\\\\\\n"))$kind', '[1] "none" "none"\n'),
-        ('dim(read("GB", character(0))) - dim(read("GB", "1640"))', "[1] -1  0\n"),
-        (f'oldstyle_lands("{JOURNAL}")$code', '[1] "RM" "GB" "SE" "RU" "DE"\n'),
-    ]
-    for code, told in calls:
-        done = installed.run(["Rscript", "-e", source % JOURNAL, "-e", code])
-        yield f"R {code}: {done.stdout}{done.stderr}", done.stdout.decode() == told
-    for code, told in (('oldstyle_read("none.journal", "GB", "1640")', "no such file"),
-                       ('oldstyle_read("README.md", "GB", "1640")', "README.md: mend"),
-                       ('oldstyle_lands("x", program = "no-such-oldstyle")', "OLDSTYLE"),
-                       ('read(c("GB", "GB"), "1640")', "as long as date")):
-        done = installed.run(["Rscript", "-e", source % JOURNAL, "-e", code])
-        yield f"R {code}: {done.stderr}", done.returncode == 1 and told in done.stderr.decode()

@@ -26,6 +26,7 @@ from lib.common import TOP, CommandLine, compact, end, file_at, run
 sys.path.append(os.path.join(TOP, "clients", "python", "src"))
 
 import client_files
+import client_tools
 import oldstyle
 
 JOURNAL = os.path.join(TOP, "examples", "samples.journal")
@@ -95,6 +96,9 @@ def worked(register):
     friday = [register.read("GB", "11 Feb. 1731/32", day) for day in ("Friday", "Monday")]
     fits = datetime.date(1732, 2, 22).strftime("%A") == "Friday"
     yield "weekdays", fits and [reading.weekday_fits for reading in friday] == [True, False]
+    named = register.read("GB", "11 February 1731 N.S.")
+    yield f"by a named calendar as the place wrote it: {named}", named.other_calendar and (
+        named.day.dual, named.day.gregorian) == ("31 January 1730/1", "1731-02-11")
     yield "two runs of March 1731", len(register.read("GB", "March 1731").runs) == 2
     yield "territories", [land.code for land in register.lands()] == "RM GB SE RU DE".split()
     periods = register.periods("GB")
@@ -185,6 +189,8 @@ def faults(register, program, folder):
     for place, (call, name, told) in enumerate(calls):
         why = raised(call)
         yield f"fault {place}: {why!r}", type(why).__name__ == name and told in str(why)
+        yield f"fault {place} has one cause", why.__cause__ is not None or why.__suppress_context__ \
+            or why.__context__ is None
         yield f"fault {place} can be shown", len(str(why)) < 900 and str(why).encode() != b""
     kept = list(register.read_many([("FR", "1"), ("GB", "1640")], refused=True))
     yield "a fault in its place", [type(row).__name__ for row in kept] == ["UnknownLand", "Reading"]
@@ -212,7 +218,7 @@ def ended(program):
     register = oldstyle.Register(JOURNAL, program=program)
     rows = register.read_many(("GB", "1640") for _ in itertools.count())
     next(rows)
-    os.kill(register._service._process.pid, signal.SIGKILL)
+    os.kill(register._service._connection._process.pid, signal.SIGKILL)
     why = raised(lambda: list(rows))
     yield f"killed: {why!r}", isinstance(why, oldstyle.ProgramEnded) and "SIGKILL" in str(why)
     register.close()
@@ -265,7 +271,7 @@ def in_frames(register):
     """A table of pandas."""
     import pandas
 
-    client_files.tried.append("pandas")
+    client_tools.tried.append("pandas")
     frame = pandas.DataFrame({"code": ["GB", "FR", None, "GB"], "weekday": ["Friday", "", "", None],
                               "date": ["11 Feb. 1731/32", "1640", "1640", None]},
                              index=[7, 8, 9, 10])
@@ -275,6 +281,12 @@ def in_frames(register):
     faults_told = [None if pandas.isna(name) else name for name in found["fault"]]
     yield "pandas: faults", faults_told == [None, "UnknownLand", "BadCode", None]
     yield "pandas: no date", found.loc[10, "reason"] == "no date"
+    years = pandas.DataFrame({"code": ["GB"] * 3, "date": [1731.0, None, 1640]})
+    reasons = list(oldstyle.read_frame(register, years)["kind"])
+    yield f"pandas: years with a gap: {reasons}", reasons == ["year", "none", "year"]
+    twice = pandas.DataFrame([["GB", "1640", "1641"]], columns=["code", "date", "date"])
+    why = raised(lambda: oldstyle.read_frame(register, twice))
+    yield f"pandas: two columns of one name: {why!r}", "2 columns date" in str(why)
     yield "pandas: an empty table", len(oldstyle.read_frame(register, frame[:0])) == 0
 
 
@@ -327,7 +339,7 @@ def main():
             if not holds:
                 differ += 1
                 print(f"doesn't hold: {what}")
-    tried = ", ".join(client_files.tools_tried())
+    tried = ", ".join(client_tools.tried)
     print(f"{held} checks of the clients, with {tried}: {differ} don't hold")
     return 1 if differ else 0
 

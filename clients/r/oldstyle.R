@@ -3,7 +3,8 @@
 #     source("oldstyle.R")
 #     oldstyle_read("samples.journal", "GB", c("11 Feb. 1731/32", "March 1731"))
 #
-# No date is computed here: the program reads the texts, and answers in lines of JSON.
+# No date is computed here: the program reads the texts, and answers in lines of JSON. What begins
+# with a point is for the two functions oldstyle_read and oldstyle_lands.
 
 # What each date means: a data frame with a row for each date, in order.
 #
@@ -24,40 +25,42 @@ oldstyle_read <- function(journal, code, date, weekday = NA, program = NULL) {
   asked$date[is.na(asked$date)] <- ""
   asked$weekday[!nzchar(asked$weekday)] <- NA
   if (count == 0) {
-    return(cbind(asked, oldstyle_columns(list())))
+    return(cbind(asked, .oldstyle_columns(list())))
   }
   requests <- data.frame(op = "written", reader = 1L, asked, stringsAsFactors = FALSE)
-  cbind(asked, oldstyle_columns(oldstyle_ask(journal, requests, program)))
+  cbind(asked, .oldstyle_columns(.oldstyle_ask(journal, requests, program)))
 }
 
 # The territories of a journal: a data frame of code and name.
 oldstyle_lands <- function(journal, program = NULL) {
-  reply <- oldstyle_ask(journal, data.frame(op = "lands", reader = 1L), program)[[1]]
+  reply <- .oldstyle_ask(journal, data.frame(op = "lands", reader = 1L), program)[[1]]
   field <- function(name) vapply(reply$answer$lands, function(land) land[[name]], "")
   data.frame(code = field("code"), name = field("name"), stringsAsFactors = FALSE)
 }
 
 # The replies to requests, a row each, as lists. The journal is only read.
-oldstyle_ask <- function(journal, requests, program = NULL) {
-  program <- oldstyle_program(program)
+.oldstyle_ask <- function(journal, requests, program = NULL) {
+  program <- .oldstyle_program(program)
   files <- tempfile(c("asked", "told", "errors"))
   on.exit(unlink(files))
   sent <- file(files[1], "wb")
   jsonlite::stream_out(requests, sent, verbose = FALSE)
   close(sent)
-  words <- c("serve", "--read-only", "--journal", shQuote(path.expand(journal)))
+  path <- path.expand(journal)
+  path <- if (startsWith(path, "-")) file.path(".", path) else path
+  words <- c("serve", "--read-only", "--journal", shQuote(path))
   status <- system2(program, words, stdin = files[1], stdout = files[2], stderr = files[3])
   told <- readLines(files[2], encoding = "UTF-8", warn = FALSE)
   if (status != 0 || length(told) != nrow(requests)) {
     stop(program, " ended with status ", status, " after ", length(told), " of ", nrow(requests),
-         " replies: ", oldstyle_why(journal, readLines(files[3], warn = FALSE)), call. = FALSE)
+         " replies: ", .oldstyle_why(journal, readLines(files[3], warn = FALSE)), call. = FALSE)
   }
   lapply(told, jsonlite::fromJSON, simplifyVector = FALSE)
 }
 
 # The program: the one that is named, else that of the environment variable OLDSTYLE, else the one
 # on the PATH.
-oldstyle_program <- function(program = NULL) {
+.oldstyle_program <- function(program = NULL) {
   path <- if (!is.null(program)) program else Sys.getenv("OLDSTYLE", "oldstyle")
   found <- Sys.which(path)
   if (!nzchar(found)) {
@@ -68,7 +71,7 @@ oldstyle_program <- function(program = NULL) {
 }
 
 # Why the program ended over which journal, and the next step.
-oldstyle_why <- function(journal, told) {
+.oldstyle_why <- function(journal, told) {
   is_refused <- any(grepl("journal line|read fault", told))
   step <- if (!file.exists(journal)) "no such file: name a journal" else
     if (is_refused) "mend this journal, or name another"
@@ -76,12 +79,12 @@ oldstyle_why <- function(journal, told) {
 }
 
 # The columns that replies make.
-oldstyle_columns <- function(replies) {
+.oldstyle_columns <- function(replies) {
   text <- function(value) if (is.null(value)) NA_character_ else as.character(value)
   number <- function(value) if (is.null(value)) NA_integer_ else as.integer(value)
   truth <- function(value) if (is.null(value)) NA else value
   answers <- lapply(replies, `[[`, "answer")
-  ends <- lapply(answers, oldstyle_ends)
+  ends <- lapply(answers, .oldstyle_ends)
   of_end <- function(end, name) vapply(ends, function(held) text(held[[end]][[name]]), "")
   only <- lapply(ends, `[[`, "only")
   columns <- data.frame(
@@ -104,7 +107,7 @@ oldstyle_columns <- function(replies) {
 }
 
 # The first and the last day of an answer, NULL at an open end, and the only one where one is meant.
-oldstyle_ends <- function(answer) {
+.oldstyle_ends <- function(answer) {
   runs <- answer$runs
   if (length(runs) == 0) {
     return(list())

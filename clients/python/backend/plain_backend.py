@@ -29,6 +29,8 @@ def metadata(project, extras):
     lines = ["Metadata-Version: 2.1", f"Name: {project['name']}", f"Version: {project['version']}",
              f"Summary: {project['description']}",
              f"Requires-Python: {project['requires-python']}"]
+    lines += [f"Classifier: {name}" for name in project["classifiers"]]
+    lines += [f"Requires-Dist: {name}" for name in project["dependencies"]]
     for extra, needed in extras.items():
         lines.append(f"Provides-Extra: {extra}")
         lines += [f'Requires-Dist: {name}; extra == "{extra}"' for name in needed]

@@ -2,7 +2,7 @@
 from __future__ import annotations
 
 import datetime
-from dataclasses import dataclass
+from dataclasses import dataclass, fields
 from typing import Any, Dict, Mapping, Optional, Tuple, Type, TypeVar
 
 Value = TypeVar("Value")
@@ -27,6 +27,9 @@ class Day:
 
     def __str__(self) -> str:
         return f"{self.weekday} {self.dual}, {self.gregorian} Gregorian"
+
+
+DAY = [field.name for field in fields(Day)]
 
 
 @dataclass(frozen=True)
@@ -128,9 +131,20 @@ def reading_of(code: str, date: str, reply: Mapping[str, Any]) -> Reading:
 
 def run_of(run: Mapping[str, Any]) -> Run:
     """A run of days. One of a single day has that day once."""
-    first = made(Day, run["first"])
-    last = first if run["first"] == run["last"] else made(Day, run["last"])
+    first = day_of(run["first"])
+    last = first if run["first"] == run["last"] else day_of(run["last"])
     return made(Run, {"first": first, "last": last})
+
+
+def day_of(day: Mapping[str, Any]) -> Day:
+    """A day by its members. A newer program may have more of them."""
+    return made(Day, {name: day[name] for name in DAY})
+
+
+def known(kind: Type[Value], members: Mapping[str, Any]) -> Value:
+    """A value of those members that it has here. A newer program may have more of them."""
+    names = [field.name for field in fields(kind)]
+    return kind(**{name: members[name] for name in names if name in members})
 
 
 def made(kind: Type[Value], members: Dict[str, Any]) -> Value:

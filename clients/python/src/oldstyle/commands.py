@@ -50,8 +50,8 @@ class Desk:
         Beside a table of places that is for dates without a place alone.
         """
         self._unknown.setdefault(place, []).append(line)
-        if code := self.places.lacking(names):
-            self._lacking[place] = code
+        if (code := self.places.lacking(names)) is not None:
+            self._lacking[place] = code or "(empty)"
         return None if place and self.has_table else self.default
 
     def say_unknown(self) -> None:

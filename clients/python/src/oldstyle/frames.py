@@ -26,8 +26,9 @@ def read_frame(register: Register, frame: "pandas.DataFrame", code: str = "code"
     import pandas
 
     for name in (code, date, weekday):
-        if name is not None and name not in frame:
-            raise KeyError(f"no column {name}: the columns are {', '.join(map(str, frame))}")
+        if name is not None and (count := list(frame).count(name)) != 1:
+            raise KeyError(f"{count or 'no'} column{'s' * (count > 1)} {name}: the columns are "
+                           f"{', '.join(map(str, frame))}: name one of them {name}")
     columns = [frame[name] for name in (code, date, weekday) if name is not None]
     texts = (tuple(as_text(pandas, value) for value in row) for row in zip(*columns))
     found = register.read_many(texts, refused=True)
@@ -39,7 +40,10 @@ def read_frame(register: Register, frame: "pandas.DataFrame", code: str = "code"
 
 
 def as_text(pandas: Any, value: Any) -> str:
-    """A field as a text. What is missing is empty."""
+    """A field as a text. What is missing is empty, and a year beside such a field, which pandas
+    holds as a float, is a whole number."""
+    if isinstance(value, float) and value.is_integer():
+        value = int(value)
     return "" if pandas.isna(value) else str(value)
 
 

@@ -18,14 +18,15 @@ from typing import Iterator, List, Optional, Sequence, Tuple, Union
 from .answers import Reading
 from .commands import Desk, Unfit, command_line, run
 from .faults import Fault
-from .gedcom_dates import (INTERPRETED, Form, Unwritten, Writer, is_asked, pieces_of, plain,
-                           rewritten)
+from .gedcom_dates import (INTERPRETED, Form, Unwritten, Writer, is_asked, normal, pieces_of,
+                           plain, rewritten)
 
 LINE = re.compile(r"(?P<front>\s*(?P<level>\d{1,2}) +(?:@[^@]+@ +)?(?P<tag>\w+))"
                   r"(?: (?P<payload>.*))?")
 EVENTS = set("""ADOP BAPM BARM BASM BIRT BLES BURI CENS CHR CHRA CONF CREM DEAT EMIG EVEN FCOM GRAD
     IMMI NATU ORDN PROB RETI WILL CAST DSCR EDUC FACT IDNO NATI NCHI NMR OCCU PROP RELI RESI SSN
     TITL ANUL DIV DIVF ENGA MARB MARC MARL MARR MARS""".split())
+CONTINUED = ("CONC", "CONT")
 CHARSETS = {"UTF-8": "utf-8", "ASCII": "ascii", "ANSI": "cp1252", "ANSEL": "ascii"}
 BOM = "\u00ef\u00bb\u00bf"
 Answer = Union[Reading, Fault]
@@ -45,10 +46,15 @@ class Line:
 
 @dataclass
 class Event:
-    """An event with its dates, each with its phrase, and its place."""
+    """An event with its dates, each with its phrase, and its place.
+
+    A date or phrase that goes on in a further line is left: it is in `continued` alone.
+    """
+
+    continued: List[Line] = field(default_factory=list)
 
     dates: List[Tuple[Line, Optional[Line]]] = field(default_factory=list)
-    place: Optional[Line] = None
+    place: str = ""
 
 
 @dataclass
@@ -125,7 +131,11 @@ class Tree:
             elif is_event and line.level == 2 and line.tag == "DATE":
                 event.dates.append((line, None))
             elif is_event and line.level == 2 and line.tag == "PLAC":
-                event.place = line
+                event.place = line.payload
+            elif line.tag in CONTINUED and line.level == 3 and parent == "PLAC":
+                event.place += " " * (line.tag == "CONT") + line.payload
+            elif line.tag in CONTINUED and parent == "DATE" and event.dates:
+                event.continued.append(event.dates.pop()[0])
             elif line.tag == "PHRASE" and line.level == 3 and parent == "DATE" and event.dates:
                 event.dates[-1] = (event.dates[-1][0], line)
             parent = line.tag if line.level == 2 else parent if line.level > 2 else ""
@@ -151,23 +161,26 @@ def fill(data: bytes, desk: Desk, options: argparse.Namespace) -> bytes:
         try:
             write(tree, date, answers, desk, options.gregorian)
         except Unwritten as why:
-            desk.say(date.line.place + 1, f"{date.text} ({date.code}): {why}")
+            typed = (tree.decoded(date.raw) or "").strip()
+            desk.say(date.line.place + 1, f"{typed} ({date.code}): {why}")
     return (tree.front + "".join(tree.pieces)).encode("latin-1")
 
 
 def dates_of(tree: Tree, desk: Desk) -> Iterator[Dated]:
     """The dates that are asked, each with its territory. Of the others it is said why."""
     for event in tree.events():
+        for line in event.continued:
+            desk.say(line.place + 1, "a date that goes on in a further line is left: join both")
         for line, phrase in event.dates:
             date = dated(tree.version, line, phrase)
             text = tree.decoded(date.raw)
             if text is None:
                 desk.say(line.place + 1, f"{date.raw!r}: these bytes are not of the file's CHAR")
                 continue
-            date.text = text.strip()
+            date.text = normal(text.strip())
             if not date.text or not date.asked():
                 continue
-            place = tree.decoded(event.place.payload) if event.place else ""
+            place = tree.decoded(event.place)
             place = "of bytes that are not of the file's CHAR" if place is None else place.strip()
             names = list(wider(place))
             codes = desk.places.codes(names)
@@ -205,7 +218,7 @@ def write(tree: Tree, date: Dated, answers: Sequence[Answer], desk: Desk,
         if plain(date.given) not in forms:
             raise Unwritten(f"{date.given} is left, the program has {form.text}")
         return
-    if form.text == date.raw:
+    if form.text == " ".join(date.raw.split()):
         return
     if tree.version == 7:
         phrase = f"{line.front.replace('2', '3', 1).replace('DATE', 'PHRASE')} {date.raw}"

@@ -9,6 +9,10 @@ from .answers import Day, Reading
 
 MONTHS = "JAN FEB MAR APR MAY JUN JUL AUG SEP OCT NOV DEC".split()
 KEYWORD = re.compile(r"(?:^| )(BEF|AFT|ABT|CAL|EST|FROM|TO|BET|AND) ", re.IGNORECASE)
+# Family Tree Maker and Ancestry write "Abt. 1731" and "Bet. 1731 - 1735".
+ABBREVIATED = re.compile(r"(BEF|AFT|ABT|CAL|EST|BET)\b\.? *(?=\w)", re.IGNORECASE)
+TO_LATER = re.compile(r" *[-\u2013] *| and ", re.IGNORECASE)
+LATER_YEAR = re.compile(r"\b(\d{1,4})/(\d{4}|\d)(?!\d)")
 SHAPES = ("", "BEF", "AFT", "ABT", "CAL", "EST", "FROM", "TO", "BET AND", "FROM TO")
 CALENDAR = r"@#D[A-Z ]+@|GREGORIAN|JULIAN|FRENCH_R|HEBREW|_\w+"
 SIMPLE = re.compile(rf"(?:(?P<calendar>{CALENDAR}) (?:(?:\d{{1,2}} )?[A-Z]{{3,4}} )?"
@@ -28,6 +32,26 @@ class Form:
 
     text: str
     keeps: bool
+
+
+def normal(payload: str) -> str:
+    """A payload in the form of the standard, if it has one: blanks, words and double years.
+
+    Other programs write `Abt.  1731`, `Bet. 1731 - 1735` and `11 FEB 1731/2`. What is no date of
+    the standard even so is left as it is.
+    """
+    text = " ".join(payload.split())
+    if found := ABBREVIATED.match(text):
+        word, rest = found[1].upper(), text[found.end():]
+        text = f"{word} {TO_LATER.sub(' AND ', rest, count=1) if word == 'BET' else rest}"
+    text = LATER_YEAR.sub(double_year, text)
+    return payload if pieces_of(text) is None else text
+
+
+def double_year(years: "re.Match[str]") -> str:
+    """A double year with two digits of the later one, if that is the year that follows."""
+    later = int(years[1]) + 1
+    return f"{years[1]}/{later % 100:02}" if str(later).endswith(years[2]) else years[0]
 
 
 def pieces_of(payload: str) -> Optional[List[str]]:

@@ -3,6 +3,7 @@ from __future__ import annotations
 
 import csv
 import io
+import re
 from typing import Dict, Iterable, Iterator, List, Mapping, Optional, Tuple
 
 from .answers import Land
@@ -27,13 +28,13 @@ class Places:
 
     def code(self, place: str) -> Optional[str]:
         """The code of a place, or None where it is unknown or no territory has its code."""
-        code = self._table.get(place) or self._known.get(place)
+        code = self._table.get(place, self._known.get(place))
         return code if code in self._codes else None
 
     def lacking(self, names: Iterable[str]) -> Optional[str]:
         """The code that the table has for one of some names, where no territory has that code."""
         found = (self._table.get(name) for name in names)
-        return next((code for code in found if code and code not in self._codes), None)
+        return next((code for code in found if code not in (None, *self._codes)), None)
 
     def codes(self, names: Iterable[str]) -> List[str]:
         """The codes of those names that are known, each once, in order."""
@@ -77,8 +78,10 @@ def records(path: str, text: str) -> Iterator[Tuple[int, str, str]]:
 
 
 def separator_of(text: str) -> str:
-    """What stands between fields: the first of the three that the header has."""
-    return next((mark for mark in text.split("\n", 1)[0] if mark in SEPARATORS), ",")
+    """What is between fields: the first of the three that the header has outside quotes."""
+    bare = re.sub(r'"[^"]*"?', "", text)
+    header = re.split(r"[\r\n]", bare, maxsplit=1)[0]
+    return next((mark for mark in header if mark in SEPARATORS), ",")
 
 
 def column(path: str, header: List[str], name: str) -> int:

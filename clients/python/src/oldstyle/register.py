@@ -4,13 +4,14 @@ from __future__ import annotations
 import json
 import os
 from typing import (Any, Dict, Iterable, Iterator, List, Literal, NoReturn, Optional, Sequence,
-                    Union, overload)
+                    Type, TypeVar, Union, overload)
 
-from .answers import Land, Period, Reading, reading_of
+from .answers import Land, Period, Reading, known, reading_of
 from .faults import Fault, JournalRefused, ProgramDiffers, fault_of
-from .service import Service, program_at, unreadable
+from .service import Service, program_at, rooted, unreadable
 
 Row = Sequence[Optional[str]]
+Value = TypeVar("Value")
 AHEAD = 1000
 quoted = json.JSONEncoder(ensure_ascii=False).encode
 
@@ -21,12 +22,14 @@ class Register:
     `program` names the program; without it the environment variable OLDSTYLE does, or it is
     `oldstyle` on the PATH. With `follow` the answers are those of the editions that another run
     publishes meanwhile: that wants a program that knows `serve --follow`.
+
+    Several threads may ask a register. A process that is forked, and the next question after an
+    exception amid one, such as KeyboardInterrupt, open the journal anew.
     """
 
     def __init__(self, journal: Union[str, "os.PathLike[str]"], *, program: Optional[str] = None,
                  follow: bool = False):
-        path = os.fspath(journal)
-        path = os.path.join(".", path) if path.startswith("-") else path
+        path = rooted(os.fspath(journal))
         words = ["--follow"] if follow else ["--read-only", "--journal"]
         if follow and not os.path.exists(path):
             raise JournalRefused(f"{path}: {unreadable(path)}", 0, "")
@@ -83,11 +86,11 @@ class Register:
 
     def lands(self) -> List[Land]:
         """The territories, in the order in which they were added."""
-        return [Land(**land) for land in self.ask("lands")["lands"]]
+        return self._all_of(Land, "lands")
 
     def periods(self, code: str) -> List[Period]:
         """The periods of a territory, ascending."""
-        return [Period(**period) for period in self.ask("periods", code=code)["periods"]]
+        return self._all_of(Period, "periods", code=code)
 
     def ask(self, op: str, **members: Any) -> Dict[str, Any]:
         """The answer to any query of docs/FORMATS.md, as `ask("easter", code="GB", year=1753)`."""
@@ -100,21 +103,29 @@ class Register:
             self._differs(asked)
         return answer
 
+    def _all_of(self, kind: Type[Value], op: str, **members: str) -> List[Value]:
+        """The list that the answer to a query has by the query's name."""
+        try:
+            return [known(kind, item) for item in self.ask(op, **members)[op]]
+        except (KeyError, TypeError):
+            self._differs(op)
+
     def _reading(self, row: Row, line: bytes) -> Reading:
         try:
             return reading_of(str(row[0]), str(row[1]), json.loads(line))
         except (KeyError, TypeError, ValueError):
-            weekday = f" ({row[2]})" if len(row) > 2 and row[2] else ""
-            asked = f"{row[1]}{weekday} in {row[0]}"
-            self._reply(line, asked)
-            self._differs(asked)
+            pass
+        weekday = f" ({row[2]})" if len(row) > 2 and row[2] else ""
+        asked = f"{row[1]}{weekday} in {row[0]}"
+        self._reply(line, asked)
+        self._differs(asked)
 
     def _reply(self, line: bytes, asked: str) -> Dict[str, Any]:
-        """The reply of a line, or the fault that it tells."""
+        """The reply of a line, or the fault that it has."""
         try:
             reply = json.loads(line)
         except ValueError:
-            self._differs(asked)
+            reply = None
         if not isinstance(reply, dict) or not ("answer" in reply or "fault" in reply):
             self._differs(asked)
         if "fault" in reply:

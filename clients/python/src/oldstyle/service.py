@@ -13,11 +13,16 @@ import threading
 import weakref
 from typing import IO, Deque, Iterable, Iterator, List, Optional, Sequence, Tuple, TypeVar
 
-from .faults import JournalRefused, ProgramDiffers, ProgramEnded, ProgramMissing
+from .faults import (JournalRefused, ProgramDiffers, ProgramEnded, ProgramFailed,
+                     ProgramMissing)
 
 Row = TypeVar("Row")
 PIECE = 1 << 16
 PATIENCE = 2
+# Milliseconds for which a thread keeps the others from the program while it waits for a reply.
+LONGEST_POLL = 100
+WAYS = ("install oldstyle, or name the program: program= in Python, --program of a command, or "
+        "the environment variable OLDSTYLE")
 STATUS_OF_WORDS = 2
 
 
@@ -34,45 +39,37 @@ def program_at(named: Optional[str]) -> str:
     """The program that is named, or else that of the variable OLDSTYLE, or else of the PATH."""
     path = named or os.environ.get("OLDSTYLE") or "oldstyle"
     if found := shutil.which(path):
-        return found
+        return rooted(found)
     where = "is not on the PATH" if os.path.basename(path) == path else "is no program"
-    raise ProgramMissing(f"{path} {where}: install oldstyle, or name the program by program=, or "
-                         "in the environment variable OLDSTYLE")
+    raise ProgramMissing(f"{path} {where}: {WAYS}")
+
+
+def rooted(path: str) -> str:
+    """The path from the root, since a program may be started anew after the folder has changed."""
+    return path if os.path.isabs(path) else os.path.join(os.getcwd(), path)
 
 
 class Service:
-    """The program with its words. Several threads may ask one."""
+    """The program with its words, which several threads may ask.
+
+    It is started anew for the next question in a process that was forked since, and after an
+    exception amid a question, such as one that a signal raised.
+    """
 
     def __init__(self, command: Sequence[str]):
         self._command = command
-        self._lock = threading.Lock()
-        self._tickets: Deque[Ticket] = collections.deque()
-        self._unsent = bytearray()
-        self._rest = b""
-        self._told: IO[bytes] = tempfile.TemporaryFile()
-        try:
-            self._process = subprocess.Popen(command, stdin=subprocess.PIPE, bufsize=0,
-                                             stdout=subprocess.PIPE, stderr=self._told)
-        except OSError as why:
-            self._told.close()
-            raise ProgramMissing(f"{command[0]} can't be started: {why.strerror}: name a built "
-                                 "oldstyle by program= or OLDSTYLE") from why
-        assert self._process.stdin and self._process.stdout
-        self._in, self._out = self._process.stdin.fileno(), self._process.stdout.fileno()
-        os.set_blocking(self._in, False)
-        self._reading, self._both = select.poll(), select.poll()
-        self._reading.register(self._out, select.POLLIN)
-        self._both.register(self._out, select.POLLIN)
-        self._both.register(self._in, select.POLLOUT)
-        self._finalizer = weakref.finalize(self, end, self._process, self._told)
+        self._is_closed = False
+        self._connection = Connection(command)
 
     def close(self) -> None:
-        """Ends the program."""
-        self._finalizer()
+        """Ends the program. Threads that wait for a reply get a `ProgramEnded`."""
+        self._is_closed = True
+        self._connection.close()
 
     def ask(self, line: bytes) -> bytes:
         """The reply to a line."""
-        return self._wait(self._send([line])[0])
+        connection = self._current()
+        return connection.wait(connection.send([line])[0])
 
     def ask_many(self, lines: Iterable[Tuple[Row, bytes]],
                  ahead: int) -> Iterator[Tuple[Row, bytes]]:
@@ -80,6 +77,7 @@ class Service:
 
         They go in halves, so that the program answers one half while the other is taken.
         """
+        connection = self._current()
         lines = iter(lines)
         waiting: Deque[Tuple[Row, Ticket]] = collections.deque()
         failed = None
@@ -90,36 +88,121 @@ class Service:
                     batch.append(pair)
             except Exception as why:  # the caller's own rows failed: those before have replies
                 failed = why
-            tickets = self._send([line for _, line in batch])
+            tickets = connection.send([line for _, line in batch])
             waiting.extend(zip((row for row, _ in batch), tickets))
             is_over = failed is not None or not batch
             while len(waiting) > (0 if is_over else ahead // 2):
                 row, ticket = waiting.popleft()
-                yield row, ticket.reply or self._wait(ticket)
+                yield row, ticket.reply or connection.wait(ticket)
             if failed is not None:
                 raise failed
             if is_over:
                 return
 
-    def _send(self, lines: Sequence[bytes]) -> List[Ticket]:
-        tickets = [Ticket() for _ in lines]
+    def _current(self) -> "Connection":
+        """The connection to ask, which is a new one if the last one can't be asked any more."""
+        connection = self._connection
+        if not self._is_closed and connection.is_lost():
+            connection.close()
+            connection = self._connection = Connection(self._command)
+        if self._is_closed:
+            connection.close()
+            raise closed()
+        return connection
+
+
+class Connection:
+    """A running program with the lines that wait for its replies."""
+
+    def __init__(self, command: Sequence[str]):
+        self._command = command
+        self._owner = os.getpid()
+        self._lock = threading.Lock()
+        self._is_closing = False
+        # What a question is refused with. During an exchange that is `_lost`, which an exception
+        # leaves there: nobody can say after one which replies are still to come.
+        self._refusal: Optional[ProgramFailed] = None
+        self._lost = ProgramEnded(f"an exception or a fork cut the exchange with {command[0]}: ask "
+                                  "again", 0, "")
+        self._tickets: Deque[Ticket] = collections.deque()
+        self._unsent = bytearray()
+        self._rest = b""
+        self._errors: IO[bytes] = tempfile.TemporaryFile()
+        try:
+            # A session of its own, so that Ctrl-C in a terminal interrupts the caller alone.
+            self._process = subprocess.Popen(command, stdin=subprocess.PIPE, bufsize=0,
+                                             stdout=subprocess.PIPE, stderr=self._errors,
+                                             start_new_session=True)
+        except OSError as why:
+            self._errors.close()
+            raise ProgramMissing(f"{command[0]} can't be started: {why.strerror}: {WAYS}") from why
+        assert self._process.stdin and self._process.stdout
+        self._in, self._out = self._process.stdin.fileno(), self._process.stdout.fileno()
+        os.set_blocking(self._in, False)
+        self._reading, self._both = select.poll(), select.poll()
+        self._reading.register(self._out, select.POLLIN)
+        self._both.register(self._out, select.POLLIN)
+        self._both.register(self._in, select.POLLOUT)
+        self._finalizer = weakref.finalize(self, end, self._process, self._errors, self._owner)
+
+    def is_lost(self) -> bool:
+        """Whether another process began it, or an exception interrupted an exchange."""
+        if self._owner != os.getpid():
+            return True
         with self._lock:
+            return self._refusal is self._lost
+
+    def close(self) -> None:
+        """Ends the program if this process started it. Threads that wait for it stop waiting."""
+        self._is_closing = True
+        if self._owner != os.getpid():  # a thread that is not here may hold the lock
+            self._finalizer()
+            return
+        with self._lock:
+            self._finalizer()
+
+    def send(self, lines: Sequence[bytes]) -> List[Ticket]:
+        """Puts lines into the queue of what the program is asked."""
+        tickets = [Ticket() for _ in lines]
+        self._check_owner()
+        with self._lock:
+            self._begin()
             self._tickets.extend(tickets)
             self._unsent += b"".join(lines)
+            self._refusal = None
         return tickets
 
-    def _wait(self, ticket: Ticket) -> bytes:
+    def wait(self, ticket: Ticket) -> bytes:
+        """The reply to a line that was sent."""
         while ticket.reply is None:
+            self._check_owner()
             with self._lock:
                 if ticket.reply is None:
-                    self._exchange()
+                    self._begin()
+                    try:
+                        self._exchange()
+                    except ProgramFailed as why:
+                        self._refusal = why
+                        raise
+                    self._refusal = None
         return ticket.reply
 
+    def _check_owner(self) -> None:
+        """Refuses questions of another process, where the lock may be held for ever."""
+        if self._owner != os.getpid():
+            raise self._lost.with_traceback(None)
+
+    def _begin(self) -> None:
+        """Raises what a question is refused with, or begins an exchange."""
+        if self._refusal is not None:
+            raise self._refusal.with_traceback(None)
+        if self._is_closing:
+            raise closed()
+        self._refusal = self._lost
+
     def _exchange(self) -> None:
-        """Writes what can be written and reads what came. Waits for one of the two."""
-        if not self._finalizer.alive:
-            raise ProgramEnded("this register was closed: open another one", 0, "")
-        for file, _ in (self._both if self._unsent else self._reading).poll():
+        """Writes what can be written and reads what came. Waits a while for one of the two."""
+        for file, _ in (self._both if self._unsent else self._reading).poll(LONGEST_POLL):
             if file == self._out:
                 self._take()
             elif self._unsent:
@@ -131,7 +214,7 @@ class Service:
         except BlockingIOError:
             pass
         except BrokenPipeError:
-            self._unsent.clear()  # the program has ended, which its output tells
+            self._unsent.clear()  # the program has ended, which its output says
 
     def _take(self) -> None:
         piece = os.read(self._out, PIECE)
@@ -145,15 +228,20 @@ class Service:
             self._tickets.popleft().reply = line
 
     def _ended(self) -> ProgramEnded:
-        """Why the program ended, with what it told. One that only closed its output is ended."""
+        """Why the program ended, with its standard error. One that only closed its output is
+        ended."""
         try:
             status = self._process.wait(timeout=PATIENCE)
         except subprocess.TimeoutExpired:
             self._process.kill()
             status = self._process.wait()
-        self._told.seek(0)
-        told = self._told.read().decode(errors="replace").strip()
-        return explained(self._command, status, told)
+        self._errors.seek(0)
+        errors = self._errors.read().decode(errors="replace").strip()
+        return explained(self._command, status, errors)
+
+
+def closed() -> ProgramEnded:
+    return ProgramEnded("this register was closed: open another one", 0, "")
 
 
 def explained(command: Sequence[str], status: int, told: str) -> ProgramEnded:
@@ -186,12 +274,16 @@ def unreadable(path: str) -> str:
         return f"{why.strerror}: name a journal that is there"
 
 
-def end(process: "subprocess.Popen[bytes]", told: IO[bytes]) -> None:
-    """Ends a program: its input ends, and what it still writes is not waited for."""
-    files: List[Optional[IO[bytes]]] = [process.stdin, process.stdout, told]
+def end(process: "subprocess.Popen[bytes]", errors: IO[bytes], owner: int) -> None:
+    """Closes what leads to a program, and in the process that started it ends the program: what
+    it still writes is not waited for."""
+    files: List[Optional[IO[bytes]]] = [process.stdin, process.stdout, errors]
     for file in files:
         if file is not None:
             file.close()
+    if owner != os.getpid():
+        process.returncode = 0  # the program is no child of this process
+        return
     try:
         process.wait(timeout=PATIENCE)
     except subprocess.TimeoutExpired:

@@ -9,7 +9,8 @@ attribute that is there says something else.
 from __future__ import annotations
 
 import argparse
-from typing import Dict, List, Optional, Sequence, Union
+from typing import Dict, List, Optional, Sequence, Tuple, Union
+from xml.sax.saxutils import escape
 
 from .answers import Day, Reading
 from .commands import Desk, command_line, run
@@ -43,31 +44,42 @@ def fill(data: bytes, desk: Desk, _: argparse.Namespace) -> bytes:
             if (at := tag_end(data, date.at)) is None:
                 desk.say(date.line, f"{date.text}: its start tag stands in an entity: write it out")
                 continue
-            pieces += [data[done:at], *spelled(added, data[at - 1 : at])]
+            pieces += [data[done:at], *spelled(added, data[at - 1 : at], finder.encoding)]
             done = at
-    for calendar, line in pointers.undeclared.items():
-        desk.say(line, f'no <calendar xml:id="{calendar}"> in the header: declare it there')
+    for line, what in pointers.said.values():
+        desk.say(line, what)
     return b"".join([*pieces, data[done:]])
 
 
-def spelled(added: Attributes, last: bytes) -> List[bytes]:
-    """Attributes as bytes, in the quotes of the one before them."""
+def spelled(added: Attributes, last: bytes, encoding: str) -> List[bytes]:
+    """Attributes as bytes of the file's encoding, in the quotes of the one before them."""
     quote = last.decode() if last in (b'"', b"'") else '"'
-    return [f" {name}={quote}{value}{quote}".encode("ascii") for name, value in added.items()]
+    marks = {quote: f"&#{ord(quote)};"}
+    return [f" {name}={quote}{escape(value, marks)}{quote}".encode(encoding, "xmlcharrefreplace")
+            for name, value in added.items()]
 
 
 class Pointers:
-    """How a file points to a calendar: by the declaration whose name has the calendar's name."""
+    """How a file points to a calendar: by the declaration whose name is the calendar's, or has
+    the calendar's name in it."""
 
     def __init__(self, declared: Sequence[str]):
         self._declared = declared
-        self.undeclared: Dict[str, int] = {}
+        self.said: Dict[str, Tuple[int, str]] = {}
 
-    def to(self, calendar: str, line: int) -> str:
+    def to(self, calendar: str, line: int) -> Optional[str]:
+        """The pointer, or None if several declarations have the calendar's name in theirs."""
         found = [name for name in self._declared if calendar in name.lower()]
-        if len(found) != 1:
-            self.undeclared.setdefault(calendar, line)
-        return f"#{found[0] if len(found) == 1 else calendar}"
+        if calendar in found:
+            found = [calendar]
+        if len(found) > 1:
+            self.said.setdefault(calendar, (line, f"no calendar is given: {calendar} is in "
+                                            f"{' and in '.join(found)}: name one {calendar}"))
+            return None
+        if not found:
+            self.said.setdefault(calendar, (line, f'no <calendar xml:id="{calendar}"> in the '
+                                            "header: declare it there"))
+        return f"#{found[0] if found else calendar}"
 
 
 def code_of(date: Date, desk: Desk) -> Optional[str]:
@@ -156,7 +168,9 @@ def written_by(date: Date, code: str, reading: Reading, desk: Desk,
     calendars = calendars_of(code, reading, desk)
     there = date.attributes.get("calendar", "").lower()
     if calendars and not (there and all(name in there for name in calendars)):
-        found["calendar"] = " ".join(pointers.to(name, date.line) for name in calendars)
+        named = [pointers.to(name, date.line) for name in calendars]
+        if None not in named:
+            found["calendar"] = " ".join(filter(None, named))
     return found
 
 

@@ -1,6 +1,7 @@
 """Finds the dates of letters in a TEI file, each with the places beside it and its byte."""
 from __future__ import annotations
 
+import itertools
 import re
 from dataclasses import dataclass, field
 from typing import Dict, List, Optional
@@ -49,7 +50,7 @@ class Date:
     problem: Optional[str] = None
 
 
-@dataclass
+@dataclass(eq=False)
 class Frame:
     """An open element, and what has to be done at its end."""
 
@@ -62,18 +63,21 @@ class Frame:
 
 
 class Finder:
-    """Reads a TEI file, and has its dates and its calendars then."""
+    """Reads a TEI file, and has its dates, its calendars and its encoding then."""
 
     def __init__(self, data: bytes):
         self.dates: List[Date] = []
         self.calendars: List[str] = []
+        self.encoding = "utf-8"
         self.is_tei = False
+        self._has_begun = False
         self._data = data
         self._open: List[Frame] = []
         self._texts: List[Frame] = []
         self._parser = expat.ParserCreate(namespace_separator=" ")
         self._parser.specified_attributes = True
         self._parser.buffer_text = True
+        self._parser.XmlDeclHandler = self._declare
         self._parser.StartElementHandler = self._start
         self._parser.EndElementHandler = self._end
         self._parser.CharacterDataHandler = self._add
@@ -92,9 +96,15 @@ class Finder:
             raise Unfit(f"line {why.lineno}, column {why.offset + 1}: {what}: the file is no "
                         "well-formed XML, and nothing is written") from None
         except (LookupError, ValueError) as why:
+            if self._has_begun:  # a fault of this program: an encoding is refused before
+                raise
             raise Unfit(f"the encoding of the file is not read: {why}: save it as UTF-8") from None
 
+    def _declare(self, _version: str, encoding: Optional[str], _standalone: int) -> None:
+        self.encoding = encoding or self.encoding
+
     def _start(self, name: str, attributes: Dict[str, str]) -> None:
+        self._has_begun = True
         is_tei = name.startswith(TEI)
         local = name[len(TEI):] if is_tei else ""
         self.is_tei = self.is_tei or is_tei
@@ -119,8 +129,12 @@ class Finder:
             frame.silenced, self._texts = self._texts, []
 
     def _scopes(self) -> List[Scope]:
-        """The open elements whose places are beside a date, the innermost first."""
-        return [frame.scope for frame in reversed(self._open) if frame.scope]
+        """The open elements whose places are beside a date, the innermost first.
+
+        What is about an editor's note, or about deleted text, is not beside a date in there.
+        """
+        inner = itertools.takewhile(lambda frame: frame.silenced is None, reversed(self._open))
+        return [frame.scope for frame in inner if frame.scope]
 
     def _is_place(self, local: str, attributes: Dict[str, str]) -> bool:
         return local in PLACES or (local in PLACES_BY_TYPE and attributes.get("type") == "place")
