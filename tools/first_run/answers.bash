@@ -47,6 +47,54 @@ try_answers() {
     hold "help is answered too" says_once "gives the same answer"
 }
 
+try_help() {
+    local word text
+    new_clone help
+    mkdir -p "$clone/cases"
+    printf '%s\n' "# Help." "" "== --version" "" "\$ oldstyle --version" "oldstyle 1" "" \
+        "== --help" "" "\$ oldstyle --help" "Usage" "" "Options" "" "== read" "" \
+        "\$ oldstyle read --help" "Other" > "$clone/cases/help.cases"
+    for word in --help -h help --version -V; do
+        text=$'Usage\n\nOptions'
+        [[ $word != *[vV]* ]] || text="oldstyle 1"
+        words=("$word")
+        run PATH=/usr/bin:/bin
+        hold "$word ends with 0, without a kit and a proof" ends_with 0
+        hold "and says nothing" says_nothing
+        hold "but the text of its case" gives "" "$text"
+    done
+    rm "$clone/cases/help.cases"
+    words=(--version)
+    run
+    hold "without such a case it is answered by a run" says_once "gives the same answer"
+}
+
+has_input() { test -s "$TMPDIR"/oldstyle.*/answer/input; }
+has_mode() { [ "$(stat -c %a "$TMPDIR"/oldstyle.*/"$1")" = "$2" ]; }
+
+try_private() {
+    local other
+    new_clone private
+    words=(serve)
+    start ""
+    await has_input
+    hold "what is piped in is its owner's alone" has_mode answer 700
+    hold "and so is the folder, but that root's may be gone through" \
+        has_mode . "$([ "$(id -u)" = 0 ] && echo 711 || echo 700)"
+    end_started
+    sleep 100 &
+    other=$!
+    hold "a number that is another's process has ended" signal_of "has_ended $other"
+    hold "and gets no signal" signal_of "end_process $other"
+    hold "and lives" kill -0 "$other"
+    hold "one of its own is alive" signal_of 'sleep 100 & ! has_ended $!'
+    hold "and gets a signal" signal_of 'sleep 100 & end_process $!; ! wait $!; has_ended $!'
+    kill "$other"
+}
+
+# signal_of COMMANDS: by the launcher's own words for processes.
+signal_of() { bash -c '. "$0"; eval "$1"' "$clone/tools/launcher/first_run.bash" "$1"; }
+
 # run_on FILE NAME=VALUE..: with the file as input.
 run_on() {
     status=0

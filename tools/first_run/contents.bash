@@ -121,8 +121,56 @@ try_read_only() {
 # What the program that stands in prints of a shell.
 completed() { printf '%s\n' "word: completions" "word: $1"; }
 
+# refused OPTION SAYS: before anything is proved or made.
+refused() {
+    words=(install "${@:3}" "$1")
+    run
+    hold "install $1 is refused" ends_with 125
+    hold "with the form" says_once "$2"
+    hold "and nothing is proved or made" bash -c \
+        "[ ! -s '$FAKE_KEPT/trace' ] && [ \$(ls '$at/here') = one ]"
+}
+
+try_install_words() {
+    refused --prefix=/usr/local "write ./oldstyle install /usr/local"
+    refused -x "oldstyle install .FOLDER."
+    refused two "takes one folder or none" one
+    words=(install --help)
+    run
+    hold "install --help ends with 0" ends_with 0
+    hold "and says its form" grep -q "^usage: ./oldstyle install .FOLDER." "$at/out"
+    hold "and nothing is made" test "$(ls "$at/here")" = one
+}
+
+# A file of an older version, and one of the user's beside it.
+try_uninstall() {
+    local list=share/oldstyle/files.txt
+    mkdir -p "$at/under/share/oldstyle/older"
+    touch "$at/under/share/oldstyle/older/file" "$at/under/share/oldstyle/own"
+    printf '%s\n' share/oldstyle/older/file ../here/one >> "$at/under/$list"
+    words=(install "$at/under")
+    run PATH=/usr/bin:/bin
+    hold "what an older version had more is removed" test ! -e "$at/under/share/oldstyle/older"
+    hold "each listed file is there" bash -c "cd '$at/under' && xargs ls < $list"
+    hold "and each file but the user's is listed" diff <(sort "$at/under/$list") <(cd "$at/under" &&
+        find . ! -type d ! -path ./share/oldstyle/own -printf '%P\n' | sort)
+    cp -a "$at/under" "$at/removed"
+    words=(uninstall "$at/removed")
+    run PATH=/usr/bin:/bin
+    hold "uninstall ends with 0" ends_with 0
+    hold "and leaves the user's file alone" test \
+        "$(cd "$at/removed" && find . ! -type d)" = ./share/oldstyle/own
+    hold "nothing out of the folder is removed" test -e "$at/here/one"
+    run PATH=/usr/bin:/bin
+    hold "once more it is refused" says_once "nothing is installed under $at/removed"
+    words=(uninstall --prefix=/usr)
+    run PATH=/usr/bin:/bin
+    hold "and so is an option" says_once "write ./oldstyle uninstall /usr"
+}
+
 try_install() {
     new_clone install
+    try_install_words
     words=(install "$at/under")
     run
     hold "install proves and builds first" is_proved_once
@@ -146,6 +194,7 @@ try_install() {
     run PATH=/usr/bin:/bin
     hold "a folder that can't be written is refused" ends_with 125
     hold "with the next step" says "name a folder that you may write to"
+    try_uninstall
     rm -rf "$clone"
     status=0
     (cd "$at/here" && "$at/under/bin/oldstyle" one two <<< "a line") > "$at/out" || status=$?

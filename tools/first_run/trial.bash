@@ -1,6 +1,7 @@
 # shellcheck shell=bash disable=SC2034  # part of `try` and `try_release`
 # What the trials of the script `oldstyle` share: clones of what is committed, with the script as it
 # stands, and runs of it with the stand-in `rt` beside this file in place of the kit's.
+unset CDPATH
 tools=$(cd "$(dirname "${BASH_SOURCE[0]}")" && pwd)
 top=$(dirname "$(dirname "$tools")")
 work=$(mktemp -d "${TMPDIR:-/tmp}/try_first_run.XXXXXX")
@@ -8,7 +9,8 @@ chmod 755 "$work"
 trap end_trial EXIT
 trap 'exit 130' INT TERM
 unset FAKE_KIT FAKE_BROKEN FAKE_DIES FAKE_SIZE FAKE_PAUSE FAKE_TRY FAKE_FAULT FAKE_OTHER NO_COLOR
-crates=$(grep '^[a-z]' "$top/crates.txt" | grep -cvE '^(osn_wire|osn_test_[a-z]*|osn_[a-z]*_tests)')
+# shellcheck source=tools/launcher/stamp.bash
+crates=$(cd "$top" && . tools/launcher/stamp.bash && needed_lines | wc -l)
 held=0
 failed=0
 

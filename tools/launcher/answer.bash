@@ -2,6 +2,7 @@
 # Answers before the proof: `rt try` of the kit runs the program without one, with checks while it
 # runs. Once the program is built it answers the same again, and both answers have to agree.
 most=1048576
+takes_some=""
 reader=""
 tried=""
 answered=""
@@ -74,10 +75,11 @@ prepare_answer() {
     place_files "$@"
     if takes_input "$@"; then
         exec {given}<&0
-        dd bs=64K iflag=count_bytes count=$((most + 1)) status=none <&"$given" > "$room/input" &
+        dd bs=64K iflag=count_bytes count=$((most + 1)) status=none <&"$given" > "$answer/input" &
         reader=$!
+        takes_some=yes
     else
-        : > "$room/input"
+        : > "$answer/input"
         start_answer
     fi
 }
@@ -107,17 +109,17 @@ place_files() {
 start_answer() {
     (cd "$room/copy/crates/oldstyle" && TMPDIR=$room/temporary \
         exec rt try "${data[@]}" -- "${words[@]}") \
-        < "$room/input" > "$room/output" 2> "$room/said" &
+        < "$answer/input" > "$answer/output" 2> "$answer/said" &
     tried=$!
 }
 
 # Starts the answer once the input has ended, and shows it once it is there.
 attend() {
-    if [ -n "$reader" ] && [ ! -e "$room/said" ] && has_ended "$reader"; then
-        if [ "$(stat -c %s "$room/input")" -le $most ]; then
+    if [ -n "$reader" ] && has_ended "$reader"; then
+        reader=""
+        if [ "$(stat -c %s "$answer/input")" -le $most ]; then
             start_answer
         else
-            : > "$room/said"
             share_evenly
             say "no answer before the proof: the input has more than 1 MiB"
         fi
@@ -127,23 +129,21 @@ attend() {
     fi
 }
 
-has_ended() { ! kill -0 "$1" 2> /dev/null; }
-
 take_answer() {
     local status=0
     wait "$tried" || status=$?
     tried=""
     share_evenly
-    if ! grep -q '^run=ended ' "$room/said"; then
-        say "no answer before the proof: $(sed -n 's/^checked: no-answer: //p' "$room/said" |
+    if ! grep -q '^run=ended ' "$answer/said"; then
+        say "no answer before the proof: $(sed -n 's/^checked: no-answer: //p' "$answer/said" |
             grep . || echo "rt try ended with status $status")"
         return
     fi
     answered=$status
-    said_by_program > "$room/errors"
+    said_by_program > "$answer/errors"
     clear_line
-    cat "$room/output" 2> /dev/null || true
-    cat "$room/errors" >&2
+    cat "$answer/output" 2> /dev/null || true
+    cat "$answer/errors" >&2
     say "this answer is not proved yet: the proof of $all functions takes tens of minutes on" \
         "$(nproc) processors, and the program then answers again; Ctrl-C ends it until the next run"
 }
@@ -151,7 +151,7 @@ take_answer() {
 # Prints what the program told standard error, with the words as they were typed.
 said_by_program() {
     local said file
-    said=$(sed -e '/^checked: ended/,$d' -e '/^rt: /d' "$room/said")
+    said=$(sed -e '/^checked: ended/,$d' -e '/^rt: /d' "$answer/said")
     for file in "${typed[@]}"; do
         said=${said//"$from/$file"/"$file"}
     done
@@ -166,14 +166,14 @@ answer_again() {
         exit "$answered"
     fi
     (cd "$from" && exec "$program" "$@") \
-        < "$room/input" > "$room/proved_output" 2> "$room/proved_errors" || status=$?
-    if [ "$status" = "$answered" ] && cmp -s "$room/output" "$room/proved_output" &&
-        cmp -s "$room/errors" "$room/proved_errors"; then
+        < "$answer/input" > "$answer/proved_output" 2> "$answer/proved_errors" || status=$?
+    if [ "$status" = "$answered" ] && cmp -s "$answer/output" "$answer/proved_output" &&
+        cmp -s "$answer/errors" "$answer/proved_errors"; then
         say "the program, now proved, gives the same answer"
         exit "$status"
     fi
-    rm -rf "$folder" && mkdir "$folder" &&
-        cp "$room/output" "$room/errors" "$room"/proved_* "$folder"
+    rm -rf "$folder" && mkdir -m 700 "$folder" &&
+        cp "$answer/output" "$answer/errors" "$answer"/proved_* "$folder"
     refuse "the program, now proved, gives ANOTHER ANSWER, with status $status for $answered:" \
         "compare output and errors with proved_output and proved_errors in $folder"
 }
@@ -183,10 +183,11 @@ run_on_input() {
     local status=0
     trap 'exit 130' INT TERM HUP PIPE
     exec {turn}<&-
-    mkfifo "$room/pipe"
-    feed > "$room/pipe" &
+    [ -z "$reader" ] || ! has_ended "$reader" || reader=""
+    mkfifo "$answer/pipe"
+    feed > "$answer/pipe" &
     feeder=$!
-    (cd "$from" && exec env --default-signal=INT,QUIT "$program" "$@") < "$room/pipe" &
+    (cd "$from" && exec env --default-signal=INT,QUIT "$program" "$@") < "$answer/pipe" &
     runs=$!
     wait "$runs" || status=$?
     runs=""
@@ -196,8 +197,10 @@ run_on_input() {
 # Passes on what was read, for as long as it is being read, and then what is left.
 feed() {
     local part
+    local follow=()
+    [ -z "$reader" ] || follow=(-f -s 0.1 --pid="$reader")
     trap 'kill "$part"; exit' TERM
-    tail -c +1 -f -s 0.1 --pid="$reader" "$room/input" &
+    tail -c +1 "${follow[@]}" "$answer/input" &
     part=$!
     wait "$part" || return
     cat <&"$given" &

@@ -23,7 +23,7 @@ first_run() {
     is_built || prove
     if [ -n "$answered" ]; then
         answer_again "$@"
-    elif [ -n "$reader" ]; then
+    elif [ -n "$takes_some" ]; then
         run_on_input "$@"
     fi
     end
@@ -48,11 +48,16 @@ interrupted() {
     exit 130
 }
 
+# Whether a process of this script has ended. Its number may be another's from then on.
+has_ended() { [[ " $(jobs -pr | tr '\n' ' ')" != *" $1 "* ]]; }
+
+end_process() { has_ended "$1" || kill "$1" 2> /dev/null || true; }
+
 # Ends what is at work: what `rt` started ends with it.
 clean_up() {
     local process
     for process in $prover $tried $reader $feeder $runs; do
-        kill "$process" 2> /dev/null || true
+        end_process "$process"
     done
     for process in $prover $tried $reader $feeder $runs; do
         wait "$process" 2> /dev/null || true

@@ -1,36 +1,81 @@
-# shellcheck shell=bash disable=SC2034,SC2154  # part of `oldstyle`
-# Puts the program, its manual, the texts that complete its words and the samples under a folder;
-# there it needs neither the kit nor this repository.
+# shellcheck shell=bash disable=SC2154  # part of `oldstyle`
+# Puts the program, its manual, the texts that complete its words and the samples under a folder,
+# where it needs neither the kit nor this repository, and takes them away again.
+to=""
+# Below the folder: names each file that was put there, this one too.
+list=share/oldstyle/files.txt
 
-# install_program PREFIX: an empty one stands for ~/.local.
-install_program() {
-    local to=${1:-${HOME:+$HOME/.local}}
-    [ -n "$to" ] ||
-        refuse "there is no home folder: name a folder, as ./oldstyle install /usr/local"
+# find_prefix install|uninstall [PREFIX]: sets the folder, which is ~/.local where none is named.
+find_prefix() {
+    local usage="./oldstyle $1 [FOLDER], as ./oldstyle $1 /usr/local; without one it is ~/.local"
+    case ${2:-} in
+        --help | -h)
+            [ $# != 2 ] || { echo "usage: $usage" && exit; }
+            ;;
+        --prefix=?*) refuse "$2 is no option: write ./oldstyle $1 ${2#*=}" ;;
+        -*) refuse "$2 is no option: $usage" ;;
+    esac
+    [ $# -le 2 ] || refuse "$1 takes one folder or none: quote one that has spaces"
+    to=${2:-${HOME:+$HOME/.local}}
+    [ -n "$to" ] || refuse "there is no home folder: name a folder, as ./oldstyle $1 /usr/local"
     [[ $to == /* ]] || to=$from/$to
-    put_under "$to" || refuse "it can't be installed under $to:" \
-        "name a folder that you may write to, as ./oldstyle install FOLDER"
+}
+
+install_program() {
+    put_all && remove_older && mv -f "$to/$list.new" "$to/$list" ||
+        refuse "it can't be installed under $to:" \
+            "name a folder that you may write to, as ./oldstyle install FOLDER"
     say "installed under $to: bin/oldstyle, share/man/man1/oldstyle.1, share/oldstyle/examples" \
         "and completions of bash, zsh and fish"
     [[ :$PATH: == *":$to/bin:"* ]] ||
         say "$to/bin is not on the PATH: add it, or start $to/bin/oldstyle"
 }
 
-# put_completions SHELL FILE: the program says how the shell completes its words.
-put_completions() { "$program" completions "$1" | install -D -m 644 /dev/stdin "$2"; }
+# put MODE FILE TARGET: puts a file below the folder, and lists it.
+put() { install -D -m "$1" "$2" "$to/$3" && echo "$3" >> "$to/$list.new"; }
+
+# put_completions SHELL TARGET: the program says how the shell completes its words.
+put_completions() { "$program" completions "$1" | put 644 /dev/stdin "$2"; }
 
 # The samples' own scripts find the program beside their folder.
-put_under() {
+put_all() {
     local sample mode
-    install -D -m 755 -t "$1/bin" "$program" &&
-        install -D -m 644 -t "$1/share/man/man1" docs/oldstyle.1 &&
-        put_completions bash "$1/share/bash-completion/completions/oldstyle" &&
-        put_completions zsh "$1/share/zsh/site-functions/_oldstyle" &&
-        put_completions fish "$1/share/fish/vendor_completions.d/oldstyle.fish" || return
+    mkdir -p "$to/${list%/*}" && echo "$list" > "$to/$list.new" &&
+        put 755 "$program" bin/oldstyle &&
+        put 644 docs/oldstyle.1 share/man/man1/oldstyle.1 &&
+        put_completions bash share/bash-completion/completions/oldstyle &&
+        put_completions zsh share/zsh/site-functions/_oldstyle &&
+        put_completions fish share/fish/vendor_completions.d/oldstyle.fish || return
     while read -r -d '' sample; do
         mode=644
         [ ! -x "$sample" ] || mode=755
-        install -D -m $mode "$sample" "$1/share/oldstyle/$sample" || return
+        put $mode "$sample" "share/oldstyle/$sample" || return
     done < <(find examples -name __pycache__ -prune -o -type f -print0)
-    ln -sfn ../../bin/oldstyle "$1/share/oldstyle/oldstyle"
+    ln -sfn ../../bin/oldstyle "$to/share/oldstyle/oldstyle" &&
+        echo share/oldstyle/oldstyle >> "$to/$list.new"
+}
+
+# Removes what an older version put there and this one has no more.
+remove_older() {
+    [ ! -e "$to/$list" ] || remove < <(LC_ALL=C comm -23 \
+        <(LC_ALL=C sort "$to/$list") <(LC_ALL=C sort "$to/$list.new"))
+}
+
+# Removes the listed files, and the folders below the folder that are empty then.
+remove() {
+    local file
+    while read -r file; do
+        [[ /$file/ != */../* ]] || continue
+        rm -f -- "$to/$file" || return
+        [ ! -d "$to/${file%/*}" ] ||
+            (cd "$to" && rmdir -p --ignore-fail-on-non-empty -- "${file%/*}") || return
+    done
+}
+
+uninstall_program() {
+    local files
+    [ -e "$to/$list" ] || refuse "nothing is installed under $to: $to/$list is not there"
+    mapfile -t files < "$to/$list"
+    printf '%s\n' "${files[@]}" | remove || refuse "it can't be removed from $to"
+    say "removed from $to: ${#files[@]} files"
 }

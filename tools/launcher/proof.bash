@@ -6,6 +6,7 @@ declare -gA functions=() since=() is_proved=()
 all=0
 proved=0
 room=""
+answer=""
 copied=""
 prover=""
 built_by=""
@@ -44,7 +45,8 @@ copy_sources() {
     fi
     # shellcheck disable=SC2015  # (`give_up` never follows what went well)
     mkdir -p "$out" && room=$(mktemp -d "${TMPDIR:-/tmp}/oldstyle.XXXXXX") &&
-        mkdir -p "$room/copy/.git" "$room/temporary" && chmod 711 "$room" "$room/temporary" &&
+        answer=$room/answer && mkdir -m 700 "$answer" &&
+        mkdir -p "$room/copy/.git" "$room/temporary" && open_room &&
         printf '%s\n' "${needed[@]}" > "$room/copy/crates.txt" &&
         cp -RL --parents "${sources[@]}" "$room/copy" &&
         copied=$(cd "$room/copy" && sum_of_sources) ||
@@ -55,6 +57,10 @@ copy_sources() {
         all=$((all + of_crate))
     done
 }
+
+# Lets `rt` run the program as nobody, which it does for root. Questions and answers are in a folder
+# that nobody else can enter even so.
+open_room() { [ "$(id -u)" != 0 ] || chmod 711 "$room" "$room/temporary"; }
 
 # `rt` locks a crate's folder while it works there. What is started from here holds the lock too.
 wait_for_turn() {
@@ -91,11 +97,11 @@ prove() {
     say "proving ${#crates[@]} crates with $all functions, and building the program"
     began=$SECONDS
     start_proof
-    while kill -0 "$prover" 2> /dev/null; do
+    while ! has_ended "$prover"; do
         show_progress
         attend
         # (of the others, those that are proved by now are kept)
-        ! grep -qs "NOT PROVED" "$log" || kill "$prover" 2> /dev/null || true
+        ! grep -qs "NOT PROVED" "$log" || end_process "$prover"
         sleep 1
     done
     wait "$prover" || status=$?

@@ -65,10 +65,9 @@ is_newer() {
     done)" ]
 }
 
-# Takes the program over that `rt` itself left there, once it proved and built it in this folder.
-take_over() {
-    write_stamp "$(sum_of_sources)" "$(rt version 2> /dev/null || true)" 2> /dev/null || true
-}
+# Takes the program over that `rt` itself left there, once it proved and built it in this folder:
+# its date alone says that, and no kit is named.
+take_over() { write_stamp "$(sum_of_sources)" "" 2> /dev/null || true; }
 
 # write_stamp SUM KIT: for the program, as proved from the sources of this sum by this kit.
 write_stamp() {
