@@ -302,7 +302,8 @@ def main():
         hold_encodings(letters)
     finally:
         browser.close()
-    hold("no process is left", not page.stop()[0])
+        left = page.stop()[0]
+    hold("no process is left", not left, left)
     return verdict("what was typed into the page is kept, and shown with its own answer")
 
 
