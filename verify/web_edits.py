@@ -239,6 +239,9 @@ def hold_overtaken_table(letters):
     browser.run(PAUSE)
     hold("a table that is overtaken tells nothing", not browser.one("#fault").text
          and browser.one("#progress").is_displayed(), browser.one("#fault").text)
+    letters.press("#save")
+    hold("a table that is still read is not saved", "still being read" in letters.told(),
+         letters.told())
     browser.run(RELEASE)
     letters.wait("3 rows")
 

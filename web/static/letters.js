@@ -201,6 +201,10 @@ function save() {
         tell(`Row ${number(open + 1)} is not asked yet: press its “Ask” or “Cancel”, then save.`);
         return;
     }
+    if (!named("running").hidden) {
+        tell("The table is still being read: wait for its end, or stop it, then save.");
+        return;
+    }
     const parts = [`${run.mark}${mending.header()}\n`];
     for (let at = 0; at < sheet.records.length; at += 5000) {
         parts.push(`${sheet.records.slice(at, at + 5000).join("\n")}\n`);
