@@ -2,6 +2,7 @@
 ghost use Rattle.std.specs.Prelude.{◌≡◌, [], IfErr, IfOk, Some, None, option_map, string_bytes};
 ghost use Rattle.osn_folder.specs.Folder.{Changes};
 ghost use Rattle.osn_lines.specs.Streams.{output_of};
+ghost use Rattle.osn_serve_commands.specs.InFolder as in_folder;
 ghost use Rattle.osn_serve_commands.specs.SaveTarget as spec;
 
 use osn_files::{FileFault, load_journal};
@@ -115,5 +116,25 @@ pub fn tell_target<E: Sink>(alloc: Global, errors: &mut E, path: &str, fault: Ta
             tell_line(errors, Status::WriteFault, text)
         }
         TargetFault::NoMemory => tell_no_memory(errors),
+    }
+}
+
+/// Whether what is found is left beside the journal that is saved.
+pub(crate) fn is_left_beside(found: SaveTarget) -> bool
+    ensures { result ≡ in_folder.is_left_beside found }
+{
+    match found {
+        SaveTarget::Journal => true,
+        SaveTarget::NoFile | SaveTarget::Empty => false,
+    }
+}
+
+/// The bytes that a file has to hold still that a journal is saved over, if it is no journal itself.
+pub(crate) fn bytes_of(found: SaveTarget) -> Option<&'static [u8]>
+    ensures { option_map (λ bytes. bytes.now) result ≡ in_folder.bytes_of found }
+{
+    match found {
+        SaveTarget::Empty => Some(&[]),
+        SaveTarget::NoFile | SaveTarget::Journal => None,
     }
 }

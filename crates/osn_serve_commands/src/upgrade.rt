@@ -14,7 +14,7 @@ ghost use Rattle.osn_serve_commands.specs.UpgradeInside.{IsNewest, IsOlder};
 
 use crate::held::read_kept;
 use crate::keep::cut_text;
-use crate::saving::report_unsaved;
+use crate::saved_file::report_unsaved;
 use osn_files::{LastLine, WholePart, journal_text_of};
 use osn_folder::{Folder, save_file};
 use osn_format::Version;

@@ -1,0 +1,156 @@
+//! The file that a journal is saved to: its lock, and how the journal goes there.
+ghost use Rattle.std.specs.Prelude.{◌≡◌, None, option_map, true, false};
+ghost use Rattle.std.specs.Prelude.{IfErr, IfOk, IfSome, string_bytes};
+ghost use Rattle.osn_lines.specs.Streams.{output_of};
+ghost use Rattle.osn_serve_commands.specs.Saving.{CannotLockIf, FinishesSave, LocksIf};
+ghost use Rattle.osn_serve_commands.specs.Saving.{TellsUnsaved, beside_line, changed_line};
+
+use crate::serve::ServeResult;
+use osn_folder::{Folder, KeepFault, SaveFault, save_beside, save_file};
+use osn_lines::Sink;
+use osn_report::{CommandFault, Status, report, tell_line, tell_no_memory, write_line};
+use osn_shown::Shown;
+use std::alloc::{AllocError, Global};
+
+/// A file that a journal will be saved to, and its lock.
+#[derive(Drop)]
+pub(crate) struct LockedFile<'a, L> {
+    pub(crate) path: &'a str,
+    pub(crate) lock: L,
+}
+
+/// Locks the file that the journal is to be saved to, if there is one.
+pub(crate) fn lock_if<'a, D: Folder>(
+    folder: &mut D,
+    path: Option<&'a str>,
+) -> Result<Option<LockedFile<'a, D::Lock>>, KeepFault>
+    ensures path { IfOk result (λ locked. option_map (λ file. file.path.now) locked
+        ≡ option_map (λ path. path.now) path.entry) }
+    ensures ok { IfOk result (λ locked. LocksIf (option_map (λ file. file.path.now) locked)
+        (D.known folder.old) (D.known folder.new)) }
+    ensures err { IfErr result (λ fault.
+        CannotLockIf (option_map (λ path. path.now) path.entry) fault
+        (D.known folder.old) (D.known folder.new)) }
+{
+    match path {
+        Some(path) => {
+            let lock = folder.lock_to_save(path)?;
+            Ok(Some(LockedFile { path, lock }))
+        }
+        None => Ok(None),
+    }
+}
+
+/// The line on a file that is not what it was, and on the one that has the journal.
+fn changed(alloc: Global, unfinished: &str) -> Result<String, AllocError>
+    ensures { IfOk result (λ text. string_bytes text ≡ changed_line unfinished.now) }
+{
+    format!(in alloc;
+        "oldstyle: the file has changed meanwhile and is left as it is: the journal is in {}\n",
+        Shown(unfinished)
+    )
+}
+
+/// The line on a journal that was there, and on the path that it is at now.
+fn beside_line(alloc: Global, path: &str, backup: &str) -> Result<String, AllocError>
+    ensures { IfOk result (λ text. string_bytes text ≡ beside_line path.now backup.now) }
+{
+    format!(in alloc;
+        "note: {} held another journal, which is now {}\n",
+        Shown(path),
+        Shown(backup)
+    )
+}
+
+/// Tells standard error why the journal is not saved for sure. Answers the status.
+pub(crate) fn report_unsaved<E: Sink>(alloc: Global, errors: &mut E, fault: SaveFault) -> Status
+    ensures { TellsUnsaved
+        (output_of E.contents E.has_failed E.holds_back errors.old errors.new) fault result }
+{
+    match fault {
+        SaveFault::NoMemory => tell_no_memory(errors),
+        SaveFault::WriteFault => report(alloc, errors, CommandFault::WriteFault),
+        SaveFault::NotSynced => {
+            write_line(
+                errors,
+                "oldstyle: the journal is saved, and the disk may not have it yet\n",
+            );
+            Status::WriteFault
+        }
+        SaveFault::Changed(unfinished) => {
+            let line = changed(alloc, unfinished.as_str());
+            tell_line(errors, Status::WriteFault, line)
+        }
+    }
+}
+
+/// Saves a journal in place of what is at a path, which has to hold still what was loaded, if that
+/// is given; or tells standard error why it could not.
+fn save_over<D: Folder, E: Sink>(
+    alloc: Global,
+    folder: &mut D,
+    file: LockedFile<'_, D::Lock>,
+    loaded: Option<&[u8]>,
+    text: &str,
+    errors: &mut E,
+) -> Status
+    ensures { FinishesSave false (option_map (λ bytes. bytes.now) loaded.entry) file.path.now
+        text.now (D.known folder.old) (D.known folder.new)
+        (output_of E.contents E.has_failed E.holds_back errors.old errors.new) result }
+{
+    match save_file(folder, alloc, file.lock, file.path, loaded, text) {
+        Ok(()) => Status::Done,
+        Err(fault) => report_unsaved(alloc, errors, fault),
+    }
+}
+
+/// Saves a journal in place of another one, which is left beside it. Standard error is told where
+/// that is; or why it could not be done.
+fn save_and_note<D: Folder, E: Sink>(
+    alloc: Global,
+    folder: &mut D,
+    file: LockedFile<'_, D::Lock>,
+    text: &str,
+    errors: &mut E,
+) -> Status
+    ensures { FinishesSave true None file.path.now text.now
+        (D.known folder.old) (D.known folder.new)
+        (output_of E.contents E.has_failed E.holds_back errors.old errors.new) result }
+{
+    match save_beside(folder, alloc, file.lock, file.path, text) {
+        Ok(backup) => {
+            let line = beside_line(alloc, file.path, backup.as_str());
+            tell_line(errors, Status::Done, line)
+        }
+        Err(fault) => report_unsaved(alloc, errors, fault),
+    }
+}
+
+/// Saves the journal that the service left, if any, or tells standard error why it could not. A
+/// journal that it replaces is left beside it, where that is said. Else the file that it replaces
+/// has to hold still what was loaded, if that is given.
+pub(crate) fn finish<D: Folder, E: Sink>(
+    alloc: Global,
+    folder: &mut D,
+    served: ServeResult,
+    locked: Option<LockedFile<'_, D::Lock>>,
+    loaded: Option<&[u8]>,
+    beside: bool,
+    errors: &mut E,
+) -> Status
+    ensures none { served.journal ≡ None
+        → (result ≡ served.status) × (errors.new ≡ errors.old) × (folder.new ≡ folder.old) }
+    ensures saved { IfSome locked.entry (λ file. IfSome served.journal (λ text.
+        FinishesSave beside (option_map (λ bytes. bytes.now) loaded.entry) file.path.now
+        (string_bytes text) (D.known folder.old) (D.known folder.new)
+        (output_of E.contents E.has_failed E.holds_back errors.old errors.new) result)) }
+{
+    let (Some(file), Some(journal)) = (locked, served.journal) else {
+        return served.status;
+    };
+    if beside {
+        save_and_note(alloc, folder, file, journal.as_str(), errors)
+    } else {
+        save_over(alloc, folder, file, loaded, journal.as_str(), errors)
+    }
+}
