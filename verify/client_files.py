@@ -238,8 +238,9 @@ def trees(installed):
          (b"2 DATE BET @#DJULIAN@ 1 FEB 1731/32 AND @#DJULIAN@ 5 MAY 1732", place), ()),
         *[((b"2 DATE " + left, place),) * 2 + ((),)
           for left in (b"Abt. 1731", b"Bet. 1731 - 1735", b"14  SEP  1752", b"11 FEB 1731/4")],
-        ((b"2 DATE 3 MAY 1640", b"2 PLAC Lon", b"3 CONC don", b"3 CONC , Mars"),
-         (b"2 DATE @#DJULIAN@ 3 MAY 1640", b"2 PLAC Lon", b"3 CONC don", b"3 CONC , Mars"), ()),
+        ((b"2 DATE 3 MAY 1640", b"2 PLAC Cheapside", b"3 CONC , Lon", b"3 CONC don"),
+         (b"2 DATE @#DJULIAN@ 3 MAY 1640", b"2 PLAC Cheapside", b"3 CONC , Lon", b"3 CONC don"),
+         ()),
         ((b"2 DATE 3 MAY 16", b"3 CONC 40", place),) * 2 + ((),),
         ((b"2 SOUR @S1@", b"3 DATA", b"4 DATE 3 MAY 1640", place),) * 2 + ((),),
     ]

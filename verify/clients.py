@@ -189,8 +189,8 @@ def faults(register, program, folder):
     for place, (call, name, told) in enumerate(calls):
         why = raised(call)
         yield f"fault {place}: {why!r}", type(why).__name__ == name and told in str(why)
-        yield f"fault {place} has one cause", why.__cause__ is not None or why.__suppress_context__ \
-            or why.__context__ is None
+        is_alone = why.__context__ is None or why.__suppress_context__
+        yield f"fault {place} has one cause", is_alone
         yield f"fault {place} can be shown", len(str(why)) < 900 and str(why).encode() != b""
     kept = list(register.read_many([("FR", "1"), ("GB", "1640")], refused=True))
     yield "a fault in its place", [type(row).__name__ for row in kept] == ["UnknownLand", "Reading"]
