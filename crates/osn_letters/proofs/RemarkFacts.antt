@@ -19,7 +19,8 @@ use Rattle.osn_written.specs.declared.written_date.DateFault.TheVariants as faul
 use Rattle.osn_written.specs.declared.written_date.WrittenDate.{WrittenDate}
 use Rattle.osn_written.specs.Absence.{absence}
 use Rattle.osn_written.specs.Finding.{extent_meant, is_by_other_calendar, reckoned}
-use Rattle.osn_written.specs.Meaning.{meaning}
+use Rattle.osn_written.specs.Double.{is_extent_not_counted_double}
+use Rattle.osn_written.specs.Meaning.{dated_by, meaning}
 use Rattle.osn_written.specs.ReadDate.{one_day}
 use Rattle.osn_letters.specs.declared.columns.Columns.{Columns}
 use Rattle.osn_letters.specs.declared.fault.LettersFault.{LettersFault}
@@ -154,18 +155,27 @@ meaning_apart edition w day given reason b (first ∷ rest) =
     apart_those (remarks_on_days day given (first ∷ rest) ++ beside b)
     (days_apart day given (first ∷ rest) b)
 
-found_apart : (edition : ℕ) (w : AnyDate) (b : Beside) (r : Result (List Run) NoDay)
-    → AreApart (fields_of_found edition w (beside b) r).remarks
-found_apart edition w b (Ok runs) = apart_those (beside b) (beside_apart b)
-found_apart edition w b (Err reason) =
+single_apart : (single : Bool) (b : Beside)
+    → AreApart (remarks_in ((single, remark.NotCountedDouble) ∷ beside b))
+single_apart single b = (refl, beside_apart b)
+
+found_apart : (edition : ℕ) (w : AnyDate) (single : Bool) (b : Beside)
+    (r : Result (List Run) NoDay)
+    → AreApart (fields_of_found edition w single (beside b) r).remarks
+found_apart edition w single b (Ok runs) =
+    apart_those ((single, remark.NotCountedDouble) ∷ beside b) (single_apart single b)
+found_apart edition w single b (Err reason) =
     apart_those ((true, remark.NoDay reason) ∷ beside b) (absence_apart true reason b)
 
-either_apart : (p : Profile) (edition : ℕ) (t : TerritoryModel) (w : AnyDate)
+either_apart : (p : Profile) (edition : ℕ) (own t : TerritoryModel) (w : AnyDate)
     (given : Option Weekday) (b : Beside) (one : Option WrittenDate)
-    → AreApart (fields_of_either p edition t w given (beside b) one).remarks
-either_apart p edition t w given b (Some day) =
-    meaning_apart edition w day given (none.Absent (absence p t day)) b (meaning p t day given)
-either_apart p edition t w given b None = found_apart edition w b (extent_meant p t w.extent)
+    → AreApart (fields_of_either p edition own t w given (beside b) one).remarks
+either_apart p edition own t w given b (Some day) =
+    meaning_apart edition w day given (none.Absent (absence p t day)) b
+    (dated_by p own (meaning p t day given))
+either_apart p edition own t w given b None =
+    found_apart edition w (is_extent_not_counted_double p own t w.extent) b
+    (extent_meant p t w.extent)
 
 -- ---- of a set of dates
 
@@ -208,7 +218,7 @@ reading_apart : (p : Profile) (edition : ℕ) (t : Option TerritoryModel) (named
     (ws : List AnyDate) (r : Result Written DateFault)
     → AreApart (fields_of_reading p edition t named ws r).remarks
 reading_apart p edition (Some t) named ws (Ok (written.Date w)) =
-    either_apart p edition (reckoned t w.reckoning) w (weekday_in named)
+    either_apart p edition t (reckoned t w.reckoning) w (weekday_in named)
     (w, weekday_in named, is_by_other_calendar p t w, is_malformed_weekday named) (one_day w)
 reading_apart p edition None named ws (Ok (written.Date w)) =
     let b : Beside = (w, weekday_in named, false, is_malformed_weekday named) in

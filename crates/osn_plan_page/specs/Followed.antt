@@ -7,21 +7,16 @@ use Rattle.std.specs.Fmt.{decimal}
 use Rattle.osn_days.specs.Chain.{date_of, days_with_date}
 use Rattle.osn_days.specs.Profile.{Profile}
 use Rattle.osn_lands.specs.declared.dated.DatedDay.{DatedDay}
-use Rattle.osn_lands.specs.Dated.{dated_on, dated_text}
+use Rattle.osn_lands.specs.Dated.{dated_on}
 use Rattle.osn_lands.specs.Territory.{TerritoryModel, regime_at}
-use Rattle.osn_pages.specs.Words.{weekday_words}
+use Rattle.osn_pages.specs.Words.{named_day}
 use Rattle.osn_plan_page.specs.EditDay.{day_before, day_numbered}
 
 -- GB: Wednesday 2 September 1752 is followed by Thursday 14 September 1752
 unfoldable pub days_words : List ℕ → DatedDay → DatedDay → List ℕ
 days_words code last first =
     code
-    ++ (codes ": "
-    ++ (weekday_words last.day
-    ++ (codes " "
-    ++ (dated_text last
-    ++ (codes " is followed by "
-    ++ (weekday_words first.day ++ (codes " " ++ dated_text first)))))))
+    ++ (codes ": " ++ (named_day last ++ (codes " is followed by " ++ named_day first)))
 
 -- how many dates are left out
 unfoldable pub left_out_words : ℕ → List ℕ

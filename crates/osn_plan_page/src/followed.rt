@@ -2,6 +2,7 @@
 ghost use Rattle.std.specs.Prelude.{◌≡◌, ◌++◌, OnOk, option_map, string_bytes};
 ghost use Rattle.std.specs.Option.{option_to_list};
 ghost use Rattle.osn_days.specs.Profile.{newest_rules};
+ghost use Rattle.osn_pages.specs.Words.{named_day};
 ghost use Rattle.osn_plan_page.specs.Followed as spec;
 
 use crate::edit_day::{day_before, day_numbered};
@@ -48,6 +49,14 @@ fn push_gap(out: &mut String, same: Option<Day>, first: Day) -> Result<(), Alloc
     }
 }
 
+/// Appends a day by its weekday and as it is dated.
+#[tactic(auto, unfolding(osn_pages::specs::Words::named_day))]
+fn push_day(out: &mut String, dated: DatedDay) -> Result<(), AllocError>
+    ensures { OnOk result (string_bytes out.new ≡ string_bytes out.old ++ named_day dated) }
+{
+    write!(out, "{} {}", dated.day.weekday().name(), dated)
+}
+
 /// Appends the last day before a change and the first one after.
 #[tactic(auto, unfolding(crate::specs::Followed::days_words))]
 fn push_days(
@@ -59,14 +68,10 @@ fn push_days(
     ensures { OnOk result (string_bytes out.new
         ≡ string_bytes out.old ++ spec.days_words code.now last first) }
 {
-    write!(
-        out,
-        "{code}: {} {} is followed by {} {}",
-        last.day.weekday().name(),
-        last,
-        first.day.weekday().name(),
-        first
-    )
+    write!(out, "{code}: ")?;
+    push_day(out, last)?;
+    out.push_str(" is followed by ")?;
+    push_day(out, first)
 }
 
 /// Appends the line of the day before a first day and of that day, as a territory dates both.

@@ -1,6 +1,7 @@
 //! The notes on an edit that an editor may not have meant.
 ghost use Rattle.std.specs.Prelude.{◌≡◌, ◌++◌, OnOk, string_bytes};
 ghost use Rattle.osn_days.specs.Profile.{newest_rules};
+ghost use Rattle.osn_pages.specs.Words.{weekday_words};
 ghost use Rattle.osn_plan_page.specs.Remark as spec;
 
 use crate::edit_day::day_numbered;
@@ -32,10 +33,11 @@ pub(crate) fn push_same_regime(
 
 /// Appends a note if the weekday of an Easter is not Sunday.
 #[tactic(auto, unfolding(crate::specs::Remark::weekday_note))]
-fn push_weekday(out: &mut String, code: &str, weekday: &str) -> Result<(), AllocError>
+fn push_weekday(out: &mut String, code: &str, day: Day) -> Result<(), AllocError>
     ensures { OnOk result (string_bytes out.new
-        ≡ string_bytes out.old ++ spec.weekday_note code.now weekday.now) }
+        ≡ string_bytes out.old ++ spec.weekday_note code.now (weekday_words day)) }
 {
+    let weekday = day.weekday().name();
     if weekday == "Sunday" {
         return Ok(());
     }
@@ -90,6 +92,6 @@ pub(crate) fn push_easter_notes(
     let Some(day) = day_numbered(number) else {
         return Ok(());
     };
-    push_weekday(out, code, day.weekday().name())?;
+    push_weekday(out, code, day)?;
     push_season(out, code, year, day)
 }
