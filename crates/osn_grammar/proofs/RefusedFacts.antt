@@ -20,7 +20,8 @@ use Rattle.osn_grammar.specs.declared.written.Written.TheVariants as say
 use Rattle.osn_grammar.specs.declared.written.WrittenDate.{WrittenDate}
 use Rattle.osn_grammar.specs.declared.extent.Beginning.{Beginning}
 use Rattle.osn_grammar.specs.declared.extent.Joining.TheVariants as joins
-use Rattle.osn_grammar.specs.Extent.{beginning_of, date_or_range, extent_of, first_date, first_read, range}
+use Rattle.osn_grammar.specs.Extent.{beginning_of, dashed_range, date_or_range, extent_of}
+use Rattle.osn_grammar.specs.Extent.{first_date, first_read}
 use Rattle.osn_grammar.specs.Extent.{range_after, range_of}
 use Rattle.osn_grammar.specs.Parts.{tells_time}
 use Rattle.osn_grammar.specs.Reading.{date_of, date_unless, is_undated}
@@ -51,6 +52,14 @@ range_refused true whole beginning last wrong = refl
 range_refused false whole beginning last wrong =
     bind_err last (λ end. first_date whole beginning end >>= (λ start.
     Ok (extent.FromTo start end))) wrong
+
+-- and so it is after a dash
+dashed_refused : (belongs none : Bool) (whole : Result SimpleDate DateFault) (beginning : Beginning)
+    (last : Result SimpleDate DateFault) → is_err last ≡ true
+    → is_err (if belongs then Err faults.Malformed
+    else (if none then Err faults.Malformed else range_of whole beginning last)) ≡ true
+dashed_refused true none whole beginning last wrong = refl
+dashed_refused false none whole beginning last wrong = range_refused none whole beginning last wrong
 
 -- after a month and a day these parts are no date, nor a range
 record AreNoDate (more : List Part) : Type 0 where
@@ -84,16 +93,16 @@ day_refused {more} y m d none o before =
     let at_end = (after_month ++ Dash ∷ []) ++ day ∷ [] in
     let end = range_after o joins.Any at_end more in
     let last = first_read (Err faults.Malformed) end in
-    let days = first_read (range o after_month (day ∷ more)) last in
+    let days = first_read (dashed_range o after_month (day ∷ more)) last in
     let months = first_read (Err faults.Malformed) days in
     both_err (Err faults.Malformed)
-    (first_read (range o at_month (month ∷ Dash ∷ day ∷ more)) months) refl
-    (both_err (range o at_month (month ∷ Dash ∷ day ∷ more)) months
-    (range_refused _ (simple_date o at_month) (beginning_of at_month)
+    (first_read (dashed_range o at_month (month ∷ Dash ∷ day ∷ more)) months) refl
+    (both_err (dashed_range o at_month (month ∷ Dash ∷ day ∷ more)) months
+    (dashed_refused _ _ (simple_date o at_month) (beginning_of at_month)
     (simple_date o (month ∷ Dash ∷ day ∷ more)) (none.month o m d))
     (both_err (Err faults.Malformed) days refl
-    (both_err (range o after_month (day ∷ more)) last
-    (range_refused _ (simple_date o after_month) (beginning_of after_month)
+    (both_err (dashed_range o after_month (day ∷ more)) last
+    (dashed_refused _ _ (simple_date o after_month) (beginning_of after_month)
     (simple_date o (day ∷ more)) (none.day o d))
     (both_err (Err faults.Malformed) end refl (none.range o at_end)))))
 

@@ -1,5 +1,6 @@
 -- From when to when a date may be: one date, a range of two, or a bound. This project's profile.
-use Rattle.std.specs.Prelude.{ℕ, Bool, true, false, ◌||◌, if◌then◌else◌, List, [], ◌∷◌, ◌++◌}
+use Rattle.std.specs.Prelude.{ℕ, Bool, true, false, not, ◌&&◌, ◌||◌, if◌then◌else◌}
+use Rattle.std.specs.Prelude.{List, [], ◌∷◌, ◌++◌}
 use Rattle.std.specs.Prelude.{Result, Ok, Err}
 use Rattle.osn_grammar.specs.declared.extent.Beginning.{Beginning}
 use Rattle.osn_grammar.specs.declared.extent.Beginning.TheVariants as begins
@@ -93,15 +94,31 @@ slashed_range o first last =
     else (if is_open last then not_before o first
     else range_in_digits first last)
 
+-- after a year, a dash and a number of one or two digits are part of that date, as in
+-- 1698-07-25 - 1699 and 1640-05/1641
+abbrev pub begins_short : List Part → Bool
+begins_short (Number m ∷ Dash ∷ rest) = not (is_long m)
+begins_short (Number m ∷ Slash ∷ Number y ∷ []) = not (is_long m)
+begins_short last = false
+
+abbrev pub is_whole_year : List Part → Bool
+is_whole_year (Number y ∷ []) = is_long y
+is_whole_year (Number y ∷ Slash ∷ Number l ∷ []) = is_long y
+is_whole_year first = false
+
+abbrev pub dashed_range : DateOrder → List Part → List Part → Result Extent DateFault
+dashed_range o first last =
+    if is_whole_year first && begins_short last then Err faults.Malformed else range o first last
+
 -- what joins two dates: `to`, `or`, a dash and a `/`, after `from` only `to` or a dash, and after
 -- `between` only `and`
 abbrev pub joined : DateOrder → Joining → List Part → Part → List Part → Result Extent DateFault
 joined o joins.Any first Slash last = slashed_range o first last
 joined o joins.Any first To last = range o first last
 joined o joins.Any first Or last = range o first last
-joined o joins.Any first Dash last = range o first last
+joined o joins.Any first Dash last = dashed_range o first last
 joined o joins.To first To last = range o first last
-joined o joins.To first Dash last = range o first last
+joined o joins.To first Dash last = dashed_range o first last
 joined o joins.And first And last = range o first last
 joined o joining first part last = Err faults.Malformed
 

@@ -156,6 +156,37 @@ fn slashed_range(order: DateOrder, first: &[Part], last: &[Part]) -> Result<Exte
     }
 }
 
+/// Whether parts are a year alone.
+fn is_whole_year(first: &[Part]) -> bool
+    ensures { result ≡ spec.is_whole_year first.now }
+{
+    match first {
+        [Number(y)] | [Number(y), Slash, Number(_)] => is_long(*y),
+        _ => false,
+    }
+}
+
+/// Whether parts begin with a number that a dash before it makes a part of the year's date, as in
+/// `1698-07-25 - 1699` and `1640-05/1641`.
+fn begins_short(last: &[Part]) -> bool
+    ensures { result ≡ spec.begins_short last.now }
+{
+    match last {
+        [Number(m), Dash, ..] | [Number(m), Slash, Number(_)] => !is_long(*m),
+        _ => false,
+    }
+}
+
+/// The range of two dates with a dash between them.
+fn dashed_range(order: DateOrder, first: &[Part], last: &[Part]) -> Result<Extent, DateFault>
+    ensures { result ≡ spec.dashed_range order first.now last.now }
+{
+    if is_whole_year(first) && begins_short(last) {
+        return Err(DateFault::Malformed);
+    }
+    range(order, first, last)
+}
+
 /// The range that a part joins, if it is one that joins.
 fn joined(
     order: DateOrder,
@@ -168,8 +199,9 @@ fn joined(
 {
     match (joining, part) {
         (Joining::Any, Slash) => slashed_range(order, first, last),
-        (Joining::Any, To | Or | Dash) => range(order, first, last),
-        (Joining::To, To | Dash) => range(order, first, last),
+        (Joining::Any | Joining::To, Dash) => dashed_range(order, first, last),
+        (Joining::Any, To | Or) => range(order, first, last),
+        (Joining::To, To) => range(order, first, last),
         (Joining::And, And) => range(order, first, last),
         _ => Err(DateFault::Malformed),
     }
