@@ -237,7 +237,7 @@ stands_as None held is = tt
 stands_as (Some given) held is = sym is
 
 -- the bytes that were read whole are those that the file holds
-read_whole : (known : Option Known) (path held : List ℕ) (bytes begun : Option (List ℕ))
+pub read_whole : (known : Option Known) (path held : List ℕ) (bytes begun : Option (List ℕ))
     → IsFileOf known path bytes → IfSome bytes (λ given. held ≡ given) → begun ≡ Some held
     → IsFileOf known path begun
 read_whole None path held bytes begun is read same = tt

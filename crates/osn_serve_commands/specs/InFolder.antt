@@ -132,7 +132,7 @@ abbrev pub SavesOverFound : Limits → Option (List ℕ) → ServeRules → Opti
 SavesOverFound limits save rules begun opened after i o e status =
     RefusesTarget limits save opened after o e status
     ⊎ ((found : SaveTarget) × (looked : Option Known)
-    × FindsTarget limits save opened looked found
+    × FindsTarget limits save opened looked found × Changes LeavesAllSafe opened looked
     × EndsServing limits save rules begun (bytes_of found) (is_left_beside found) looked after i o e
     status)
 

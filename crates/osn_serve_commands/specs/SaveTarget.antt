@@ -1,5 +1,5 @@
 -- What is at the path that a journal is to be saved to, before a line is answered.
-use Rattle.std.specs.Prelude.{◌≡◌, ◌⊎◌, ℕ, true, List, [], ◌∷◌, ◌++◌, codes, Option, None, IfSome}
+use Rattle.std.specs.Prelude.{◌≡◌, ◌⊎◌, ⊤, ℕ, true, List, [], ◌∷◌, ◌++◌, codes, Option, None, IfSome}
 use Rattle.osn_core.specs.Sequential.{ObjectState}
 use Rattle.osn_folder.specs.Folder.{Known, Changes, HasNoFile, IsFileOf, Opens, Stays}
 use Rattle.osn_lines.specs.declared.whole.ReadAllFault.{ReadAllFault}
@@ -40,7 +40,7 @@ HoldsTarget limits held Journal = (s : ObjectState) × MakesObject limits (Some 
 abbrev pub HoldsNoTarget : Limits → List ℕ → TargetFault → Type 0
 HoldsNoTarget limits held NoJournal =
     (refused : ℕ × LineFault) × (load newest_rules limits (lines held) ≡ Err refused)
-HoldsNoTarget limits held NotRead = ⊥
+HoldsNoTarget limits held NotRead = ⊤
 HoldsNoTarget limits held NoMemory = ⊤
 
 -- ---- what is at a path

@@ -94,8 +94,8 @@ fn save_over<D: Folder, E: Sink>(
     text: &str,
     errors: &mut E,
 ) -> Status
-    ensures { FinishesSave false (option_map (λ bytes. bytes.now) loaded.entry) file.path.now
-        text.now (D.known folder.old) (D.known folder.new)
+    ensures { FinishesSave false (option_map (λ bytes. bytes.now) loaded.entry)
+        file.entry.path.now text.now (D.known folder.old) (D.known folder.new)
         (output_of E.contents E.has_failed E.holds_back errors.old errors.new) result }
 {
     match save_file(folder, alloc, file.lock, file.path, loaded, text) {
@@ -113,7 +113,7 @@ fn save_and_note<D: Folder, E: Sink>(
     text: &str,
     errors: &mut E,
 ) -> Status
-    ensures { FinishesSave true None file.path.now text.now
+    ensures { FinishesSave true None file.entry.path.now text.now
         (D.known folder.old) (D.known folder.new)
         (output_of E.contents E.has_failed E.holds_back errors.old errors.new) result }
 {
@@ -123,6 +123,28 @@ fn save_and_note<D: Folder, E: Sink>(
             tell_line(errors, Status::Done, line)
         }
         Err(fault) => report_unsaved(alloc, errors, fault),
+    }
+}
+
+/// Saves a journal at a path: in place of another one, which is left beside it, where that is said;
+/// or else in place of what has to hold still what was loaded, if that is given.
+fn save_journal<D: Folder, E: Sink>(
+    alloc: Global,
+    folder: &mut D,
+    file: LockedFile<'_, D::Lock>,
+    loaded: Option<&[u8]>,
+    beside: bool,
+    text: &str,
+    errors: &mut E,
+) -> Status
+    ensures { FinishesSave beside (option_map (λ bytes. bytes.now) loaded.entry)
+        file.entry.path.now text.now (D.known folder.old) (D.known folder.new)
+        (output_of E.contents E.has_failed E.holds_back errors.old errors.new) result }
+{
+    if beside {
+        save_and_note(alloc, folder, file, text, errors)
+    } else {
+        save_over(alloc, folder, file, loaded, text, errors)
     }
 }
 
@@ -148,9 +170,13 @@ pub(crate) fn finish<D: Folder, E: Sink>(
     let (Some(file), Some(journal)) = (locked, served.journal) else {
         return served.status;
     };
-    if beside {
-        save_and_note(alloc, folder, file, journal.as_str(), errors)
-    } else {
-        save_over(alloc, folder, file, loaded, journal.as_str(), errors)
-    }
+    save_journal(
+        alloc,
+        folder,
+        file,
+        loaded,
+        beside,
+        journal.as_str(),
+        errors,
+    )
 }

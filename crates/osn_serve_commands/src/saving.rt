@@ -140,7 +140,7 @@ fn serve_over<D: Folder, J: Source, R: Source, W: Sink, E: Sink, T: Sink + Drop>
     errors: &mut E,
     terminal: Option<T>,
 ) -> Status
-    ensures { spec.SavesOverFound limits (Some file.path.now) rules
+    ensures { spec.SavesOverFound limits (Some file.entry.path.now) rules
         (input_if J.remaining J.has_failed journal.old journal.new)
         (D.known folder.old) (D.known folder.new)
         (input_of R.remaining R.has_failed input.old input.new)

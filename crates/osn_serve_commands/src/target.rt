@@ -1,5 +1,6 @@
 //! What is at the path that a journal is to be saved to, before a line is answered.
 ghost use Rattle.std.specs.Prelude.{◌≡◌, [], IfErr, IfOk, Some, None, option_map, string_bytes};
+ghost use Rattle.osn_folder.specs.Crash.{LeavesAllSafe};
 ghost use Rattle.osn_folder.specs.Folder.{Changes};
 ghost use Rattle.osn_lines.specs.Streams.{output_of};
 ghost use Rattle.osn_serve_commands.specs.InFolder as in_folder;
@@ -62,6 +63,7 @@ pub fn save_target<D: Folder>(
         (D.known folder.old) (D.known folder.new)) }
     ensures err { IfErr result (spec.IsNoTarget limits path.now
         (D.known folder.old) (D.known folder.new)) }
+    ensures crash { Changes LeavesAllSafe (D.known folder.old) (D.known folder.new) }
 {
     if folder.is_stream(path) {
         return Ok(SaveTarget::NoFile);
@@ -86,8 +88,9 @@ fn target_of(alloc: Global, limits: Limits, held: &[u8]) -> Result<SaveTarget, T
     }
     match load_journal(alloc, limits, &mut Bytes::new(held)) {
         Ok(_) => Ok(SaveTarget::Journal),
+        Err(FileFault::BadLine { .. }) => Err(TargetFault::NoJournal),
+        Err(FileFault::ReadFault) => Err(TargetFault::NotRead),
         Err(FileFault::NoMemory) => Err(TargetFault::NoMemory),
-        Err(FileFault::BadLine { .. } | FileFault::ReadFault) => Err(TargetFault::NoJournal),
     }
 }
 
