@@ -1,8 +1,15 @@
 -- What was found at the path of a save is what its contract says.
 use Rattle.std.proofs.Common.{◌≡◌, ℕ, Bool, true, List, [], ◌∷◌, Option, Some, None, IfSome}
-use Rattle.std.proofs.Common.{refl, sym, subst, ◌∙◌, inl, inr}
+use Rattle.std.proofs.Common.{Err, refl, sym, subst, ◌∙◌, inl, inr}
+use Rattle.osn_days.specs.Profile.{newest_rules}
+use Rattle.osn_files.specs.Faults.{MatchFileFault}
+use Rattle.osn_files.specs.Journal.{load}
+use Rattle.osn_files.specs.declared.fault.FileFault.{FileFault}
+use Rattle.osn_files.specs.declared.fault.FileFault.TheVariants as file_faults
+use Rattle.osn_files.specs.declared.fault.Role.TheVariants as roles
 use Rattle.osn_folder.specs.Crash.{LeavesAllSafe}
 use Rattle.osn_folder.specs.Folder.{Known, Changes, HasNoFile, IsFileOf, Opens}
+use Rattle.osn_lines.specs.Lines.{lines}
 use Rattle.osn_lines.specs.Streams.{Input, Output}
 use Rattle.osn_lines.specs.declared.whole.ReadAllFault.{ReadAllFault}
 use Rattle.osn_lines.specs.declared.whole.ReadAllFault.TheVariants as read_faults
@@ -12,7 +19,8 @@ use Rattle.osn_report.specs.declared.status.Status.{Status}
 use Rattle.osn_serve_commands.specs.InFolder.{EndsServing, SavesOverFound, bytes_of}
 use Rattle.osn_serve_commands.specs.InFolder.{is_left_beside}
 use Rattle.osn_serve_commands.specs.SaveTarget.{FindsNoFile, HoldsTarget, HoldsNoTarget}
-use Rattle.osn_serve_commands.specs.SaveTarget.{IsTarget, IsNoTarget, by_read}
+use Rattle.osn_serve_commands.specs.SaveTarget.{IsTarget, IsNoTarget, by_load}
+use Rattle.osn_serve_commands.specs.SaveTarget.{by_read}
 use Rattle.osn_serve_commands.specs.declared.target.SaveTarget.{SaveTarget}
 use Rattle.osn_serve_commands.specs.declared.target.SaveTarget.TheVariants.{NoFile, Empty}
 use Rattle.osn_serve_commands.specs.declared.target.SaveTarget.TheVariants.{Journal}
@@ -23,14 +31,14 @@ use Rattle.osn_serve_commands.specs.declared.target.TargetFault.TheVariants.{NoM
 -- where nothing was done, a crash leaves what it left
 pub same_safe : (known : Option Known) → Changes LeavesAllSafe known known
 same_safe None = tt
-same_safe (Some k) = (refl, (refl, refl))
+same_safe (Some k) = (refl, refl, refl)
 
 -- what is no file is not opened
 pub stream_found : (known : Option Known) (path : List ℕ) (found : Bool) → found ≡ true
     → IfSome known (λ k. found ≡ k.paths.is_stream path)
     → Changes (FindsNoFile path) known known
-stream_found None path found yes is = tt
-stream_found (Some k) path found yes is = inl (refl, sym is ∙ yes)
+stream_found None path found so is = tt
+stream_found (Some k) path found so is = inl (refl, sym is ∙ so)
 
 -- nothing is there
 pub nothing_found : (before after : Option Known) (path : List ℕ)
@@ -55,6 +63,23 @@ module _ (limits : Limits) (path held : List ℕ) (before after : Option Known)
   no_target_held NoJournal h = (held, (opens, file), h)
   no_target_held NotRead h = opens
   no_target_held NoMemory h = opens
+
+-- what a file holds makes no object
+pub not_loaded : (limits : Limits) (held given : List ℕ) (Spared Failed : Type 0)
+    (fault : FileFault) (why : TargetFault) → why ≡ by_load fault → given ≡ held
+    → MatchFileFault fault Spared Failed (λ named line why. (named ≡ roles.Journal)
+    × (load newest_rules limits (lines given) ≡ Err (line, why)))
+    → HoldsNoTarget limits held why
+not_loaded limits held given Spared Failed fault NotRead is same h = tt
+not_loaded limits held given Spared Failed fault NoMemory is same h = tt
+not_loaded limits held given Spared Failed (file_faults.BadLine role line cause) NoJournal is same
+    h = (
+      (line, cause),
+      subst (λ (b : List ℕ). load newest_rules limits (lines b)
+          ≡ Err (line, cause)) same h.1,
+    )
+not_loaded limits held given Spared Failed file_faults.ReadFault NoJournal is same h = absurd (cc)
+not_loaded limits held given Spared Failed file_faults.NoMemory NoJournal is same h = absurd (cc)
 
 -- it could not be read
 pub not_read : (limits : Limits) (path : List ℕ) (before after : Option Known)

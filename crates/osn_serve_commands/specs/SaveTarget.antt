@@ -8,6 +8,8 @@ use Rattle.osn_lines.specs.Lines.{lines}
 use Rattle.osn_lines.specs.Streams.{Output}
 use Rattle.osn_days.specs.Profile.{newest_rules}
 use Rattle.osn_files.specs.Journal.{load}
+use Rattle.osn_files.specs.declared.fault.FileFault.{FileFault}
+use Rattle.osn_files.specs.declared.fault.FileFault.TheVariants as file_faults
 use Rattle.osn_files.specs.declared.fault.LineFault.{LineFault}
 use Rattle.osn_register.specs.declared.limits.Limits.{Limits}
 use Rattle.osn_report.specs.Journal.{MakesObject}
@@ -27,6 +29,11 @@ use Rattle.osn_serve_commands.specs.declared.target.TargetFault.TheVariants.{Not
 abbrev pub by_read : ReadAllFault → TargetFault
 by_read read_faults.NoMemory = NoMemory
 by_read read_faults.ReadFault = NotRead
+
+abbrev pub by_load : FileFault → TargetFault
+by_load (file_faults.BadLine role line why) = NoJournal
+by_load file_faults.ReadFault = NotRead
+by_load file_faults.NoMemory = NoMemory
 
 -- ---- what a file is, by its bytes
 

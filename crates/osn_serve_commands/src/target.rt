@@ -47,6 +47,18 @@ impl From<ReadAllFault> for TargetFault {
     }
 }
 
+impl From<FileFault> for TargetFault {
+    ghost from_gives = { λ fault given. given ≡ spec.by_load fault };
+
+    fn from(fault: FileFault) -> TargetFault {
+        match fault {
+            FileFault::BadLine { .. } => TargetFault::NoJournal,
+            FileFault::ReadFault => TargetFault::NotRead,
+            FileFault::NoMemory => TargetFault::NoMemory,
+        }
+    }
+}
+
 /// What is at a path that a journal is to be saved to.
 ///
 /// # Errors
@@ -86,12 +98,8 @@ fn target_of(alloc: Global, limits: Limits, held: &[u8]) -> Result<SaveTarget, T
     if held.is_empty() {
         return Ok(SaveTarget::Empty);
     }
-    match load_journal(alloc, limits, &mut Bytes::new(held)) {
-        Ok(_) => Ok(SaveTarget::Journal),
-        Err(FileFault::BadLine { .. }) => Err(TargetFault::NoJournal),
-        Err(FileFault::ReadFault) => Err(TargetFault::NotRead),
-        Err(FileFault::NoMemory) => Err(TargetFault::NoMemory),
-    }
+    let _journal = load_journal(alloc, limits, &mut Bytes::new(held))?;
+    Ok(SaveTarget::Journal)
 }
 
 /// What is told of a path that no journal is saved to.
