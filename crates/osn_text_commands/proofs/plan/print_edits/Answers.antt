@@ -16,6 +16,7 @@ not_printed statuses.Refused line e other nothing = (refl, nothing)
 not_printed statuses.Misused line e other nothing = (refl, nothing)
 not_printed statuses.ReadFault line e other nothing = (refl, nothing)
 not_printed statuses.WriteFault line e other nothing = (refl, nothing)
+not_printed statuses.Unwritten line e other nothing = (refl, nothing)
 not_printed statuses.NoMemory line e other nothing = (refl, nothing)
 
 pub returns-in-Done : goal.returns-in-Done
