@@ -11,29 +11,31 @@ use Rattle.osn_report.specs.Messages.{EndsBy, TellsIfMade}
 use Rattle.osn_report.specs.declared.fault.CommandFault.TheVariants as command_faults
 use Rattle.osn_report.specs.declared.status.Status.{Status}
 use Rattle.osn_report.specs.declared.status.Status.TheVariants as statuses
+use Rattle.osn_shown.specs.Shown.{shown}
+
+-- what to do about a name that the text changes
+unfoldable pub renamed_help : List ℕ → List ℕ → List ℕ
+renamed_help name wanted = codes "\nhelp: write "
+    ++ (shown name ++ (codes " again, or give " ++ (shown wanted ++ codes " a code of its own\n")))
 
 -- the lines on a name that the text of this path changes: the code of the territory, its name and
 -- the one that the text has
 abbrev pub renamed_line : List ℕ → List ℕ → List ℕ → List ℕ → List ℕ
 renamed_line path code name wanted = codes "oldstyle: "
-    ++ (path
+    ++ (shown path
     ++ (codes ": "
-    ++ (code
+    ++ (shown code
     ++ (codes ": a name can't be changed: it is "
-    ++ (name
-    ++ (codes ", and the text has "
-    ++ (wanted
-    ++ (codes "\nhelp: write "
-    ++ (name
-    ++ (codes " again, or give " ++ (wanted ++ codes " a code of its own\n")))))))))))
+    ++ (shown name
+    ++ (codes ", and the text has " ++ (shown wanted ++ renamed_help name wanted)))))))
 
 -- the line on an edit that is refused, of the territory of this code that the text of this path
 -- has, and how more is allowed where that is at a limit
 abbrev pub refused_line : List ℕ → List ℕ → Refusal → List ℕ
 refused_line path code refusal = codes "oldstyle: "
-    ++ (path
+    ++ (shown path
     ++ (codes ": "
-    ++ (code
+    ++ (shown code
     ++ (codes ": "
     ++ refusal_end (refusal_number refusal) (refusal_name refusal ++ limit_hint refusal)))))
 

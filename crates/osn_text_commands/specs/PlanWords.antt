@@ -7,6 +7,7 @@ use Rattle.osn_register.specs.Refusal.{refusal_name, refusal_number}
 use Rattle.osn_register.specs.declared.refusal.Refusal.{Refusal}
 use Rattle.osn_report.specs.Fault.{refusal_end}
 use Rattle.osn_report.specs.Hint.{limit_hint}
+use Rattle.osn_shown.specs.Shown.{shown}
 
 -- the last line of a plan of this many edits, the next edition having this number
 abbrev pub plan_end : ℕ → ℕ → List ℕ
@@ -53,10 +54,11 @@ pending_line pending = pending_text pending (edits_word pending) advice
 -- would have nothing to change
 abbrev pub missing_line : List ℕ → List ℕ
 missing_line path =
-    codes "oldstyle: " ++ (path ++ codes ": there is no such journal yet: publish makes it\n")
+    codes "oldstyle: "
+    ++ (shown path ++ codes ": there is no such journal yet: publish makes it\n")
 
 abbrev pub absent_line : List ℕ → List ℕ
-absent_line path = codes "oldstyle: " ++ (path ++ codes ": there is no such journal yet\n")
+absent_line path = codes "oldstyle: " ++ (shown path ++ codes ": there is no such journal yet\n")
 
 -- the line on edits that a publish refuses
 abbrev pub refused_edits_line : Refusal → List ℕ
@@ -75,4 +77,4 @@ not_kept_line path version = codes "oldstyle: publish refuses a journal of versi
     ++ (decimal (version_number version)
     ++ (codes ": serve --keep with --upgrade saves it anew as version 4\n"
     ++ (codes "help: run oldstyle serve --keep "
-    ++ (path ++ codes " --upgrade < /dev/null, then publish\n"))))
+    ++ (shown path ++ codes " --upgrade < /dev/null, then publish\n"))))

@@ -13,6 +13,7 @@ use Rattle.osn_report.specs.Unopened.{unopened_line}
 use Rattle.osn_report.specs.declared.fault.CommandFault.TheVariants as command_faults
 use Rattle.osn_report.specs.declared.status.Status.{Status}
 use Rattle.osn_report.specs.declared.status.Status.TheVariants as statuses
+use Rattle.osn_shown.specs.Shown.{shown}
 use Rattle.osn_text_reader.specs.Text.{IsFaultOf, lands_of_text}
 use Rattle.osn_text_reader.specs.Words.{text_fault_text}
 use Rattle.osn_text_reader.specs.declared.fault.TextFault.{TextFault}
@@ -52,7 +53,7 @@ IsTextFileFault limits text fault =
 
 -- the line on a text of this path
 abbrev pub text_line : List ℕ → List ℕ → List ℕ
-text_line path said = codes "oldstyle: " ++ (path ++ (codes ": " ++ (said ++ codes "\n")))
+text_line path said = codes "oldstyle: " ++ (shown path ++ (codes ": " ++ (said ++ codes "\n")))
 
 -- standard error was told what a text says wrongly, or that memory ran out
 abbrev pub TellsText : List ℕ → Output → TextFault → Status → Type 0

@@ -7,7 +7,18 @@ use osn_lines::Sink;
 use osn_plan::PlanFault;
 use osn_register::Refusal;
 use osn_report::{Status, limit_hint, tell_line, tell_no_memory};
+use osn_shown::Shown;
 use std::alloc::{AllocError, Global};
+
+/// What to do about a name that a text changes.
+#[tactic(auto, unfolding(crate::specs::PlanFault::renamed_help))]
+fn renamed_help(alloc: Global, name: &str, wanted: &str) -> Result<String, AllocError>
+    ensures { IfOk result (λ help. string_bytes help ≡ spec.renamed_help name.now wanted.now) }
+{
+    let name = Shown(name);
+    let wanted = Shown(wanted);
+    format!(in alloc; "\nhelp: write {name} again, or give {wanted} a code of its own\n")
+}
 
 /// The lines on a name that the text of this path changes.
 fn renamed_line(
@@ -20,9 +31,13 @@ fn renamed_line(
     ensures { IfOk result (λ line. string_bytes line
         ≡ spec.renamed_line path.now code.now name.now wanted.now) }
 {
+    let help = renamed_help(alloc, name, wanted)?;
     format!(in alloc;
-        "oldstyle: {path}: {code}: a name can't be changed: it is {name}, and the text has \
-{wanted}\nhelp: write {name} again, or give {wanted} a code of its own\n"
+        "oldstyle: {}: {}: a name can't be changed: it is {}, and the text has {}{help}",
+        Shown(path),
+        Shown(code),
+        Shown(name),
+        Shown(wanted)
     )
 }
 
@@ -40,6 +55,8 @@ fn refused_line(
     let number = refusal.number();
     let name = refusal.name();
     let hint = limit_hint(refusal);
+    let path = Shown(path);
+    let code = Shown(code);
     format!(in alloc; "oldstyle: {path}: {code}: {number} {name}{hint}\n")
 }
 

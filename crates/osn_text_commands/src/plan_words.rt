@@ -5,6 +5,7 @@ ghost use Rattle.osn_text_commands.specs.PlanWords as spec;
 use osn_format::Version;
 use osn_register::Refusal;
 use osn_report::limit_hint;
+use osn_shown::Shown;
 use std::alloc::{AllocError, Global};
 use std::fmt::Write;
 
@@ -82,6 +83,7 @@ pub(crate) fn pending_line(alloc: Global, pending: usize) -> Result<String, Allo
 pub(crate) fn missing_line(alloc: Global, path: &str) -> Result<String, AllocError>
     ensures { IfOk result (λ line. string_bytes line ≡ spec.missing_line path.now) }
 {
+    let path = Shown(path);
     format!(in alloc; "oldstyle: {path}: there is no such journal yet: publish makes it\n")
 }
 
@@ -89,7 +91,7 @@ pub(crate) fn missing_line(alloc: Global, path: &str) -> Result<String, AllocErr
 pub(crate) fn absent_line(alloc: Global, path: &str) -> Result<String, AllocError>
     ensures { IfOk result (λ line. string_bytes line ≡ spec.absent_line path.now) }
 {
-    format!(in alloc; "oldstyle: {path}: there is no such journal yet\n")
+    format!(in alloc; "oldstyle: {}: there is no such journal yet\n", Shown(path))
 }
 
 /// The line on edits that a publish refuses.
@@ -122,6 +124,7 @@ pub(crate) fn not_kept_line(
     ensures { IfOk result (λ line. string_bytes line ≡ spec.not_kept_line path.now version) }
 {
     let number = version.number();
+    let path = Shown(path);
     format!(in alloc;
         "oldstyle: publish refuses a journal of version {number}: serve --keep with --upgrade \
 saves it anew as version 4\nhelp: run oldstyle serve --keep {path} --upgrade < /dev/null, \

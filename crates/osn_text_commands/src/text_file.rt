@@ -8,6 +8,7 @@ use osn_folder::OpenFailed;
 use osn_lines::{ReadAllFault, Sink, Source, read_all};
 use osn_register::{Limits, Register};
 use osn_report::{Status, tell_line, tell_no_memory, tell_unopened};
+use osn_shown::Shown;
 use osn_text_reader::{TextFault, parse_text};
 use std::alloc::{AllocError, Global};
 use std::str;
@@ -69,7 +70,7 @@ pub(crate) fn read_register<T: Source>(
 fn text_line(alloc: Global, path: &str, said: &str) -> Result<String, AllocError>
     ensures { IfOk result (λ line. string_bytes line ≡ spec.text_line path.now said.now) }
 {
-    format!(in alloc; "oldstyle: {path}: {said}\n")
+    format!(in alloc; "oldstyle: {}: {said}\n", Shown(path))
 }
 
 /// The line on a fault of the text of this path.
@@ -77,7 +78,7 @@ fn fault_line(alloc: Global, path: &str, fault: &TextFault) -> Result<String, Al
     ensures { IfOk result (λ line.
         string_bytes line ≡ spec.text_line path.now (text_fault_text fault.now)) }
 {
-    format!(in alloc; "oldstyle: {path}: {fault}\n")
+    format!(in alloc; "oldstyle: {}: {fault}\n", Shown(path))
 }
 
 /// Tells standard error what the text of this path says wrongly. Answers the status.
