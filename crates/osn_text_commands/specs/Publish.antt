@@ -1,6 +1,7 @@
 -- How a publish ends: what it printed and told, and what the file of the journal holds then.
 use Rattle.std.specs.Prelude.{◌≡◌, ◌⊎◌, ◌+◌, ◌++◌, ℕ, Bool, true, false, List, [], ◌∷◌, length}
-use Rattle.std.specs.Prelude.{take, Option, Some, None, IfSome}
+use Rattle.std.specs.Prelude.{take, codes, Option, Some, None, IfSome}
+use Rattle.std.specs.Io.KnownBytes.{Appends}
 use Rattle.std.specs.List.{All}
 use Rattle.std.specs.Option.{MatchOption}
 use Rattle.osn_days.specs.Profile.{newest_rules}
@@ -18,8 +19,8 @@ use Rattle.osn_register.specs.declared.edit.Edit.{Edit}
 use Rattle.osn_register.specs.declared.limits.Limits.{Limits}
 use Rattle.osn_register.specs.declared.refusal.Refusal.{Refusal}
 use Rattle.osn_register.specs.declared.refusal.Refusal.TheVariants as refusals
-use Rattle.osn_report.specs.Printing.{Prints, PrintsIfMade, PrintsNone}
-use Rattle.osn_report.specs.Messages.{TellsIfMade}
+use Rattle.osn_report.specs.Printing.{FailsToPrint, PrintsIfMade, PrintsNone}
+use Rattle.osn_report.specs.Messages.{Ends, TellsIfMade, TellsLine}
 use Rattle.osn_report.specs.declared.fault.CommandFault.{CommandFault}
 use Rattle.osn_report.specs.declared.fault.CommandFault.TheVariants.{OlderVersion, Refused}
 use Rattle.osn_report.specs.declared.status.Status.{Status}
@@ -51,6 +52,18 @@ abbrev pub standing_text : ObjectState → RegisterModel → List ℕ
 standing_text s wanted =
     plan_page newest_rules (published s) wanted.lands [] ++ standing_line (length s.batches)
 
+-- the line on an edition whose report could not be printed
+abbrev pub unprinted_line : List ℕ
+unprinted_line =
+    codes "oldstyle: the edition is in the journal, but its report could not be printed\n"
+
+-- of an edition that is in the journal this text was printed; or a front of it, where the output
+-- failed, which standard error was told. The publish is done either way
+abbrev pub PrintsReport : List ℕ → Output → Output → Status → Type 0
+PrintsReport text o e status =
+    (Ends e None status × Appends o.old o.new text)
+    ⊎ (TellsLine e statuses.Done unprinted_line status × FailsToPrint text o)
+
 -- ---- what the file holds
 
 -- The file is as it was; or its last line was cut off, if it was not finished, and else it is as it
@@ -74,8 +87,8 @@ LosesEdition CanStay held edits fault cut file =
     IsChangeFault fault file.fault × IsLeftWhole CanStay held edits cut file.contents
 
 -- Edits were to be written to the file as an edition, and this text to be printed. Which line was
--- cut off was told first, if one was. The edition is in the file and the text was printed, or it is
--- not, which standard error was told.
+-- cut off was told first, if one was. The edition is in the file and the text was printed, if it
+-- could be; or it is not, which standard error was told.
 pub record WritesEdition (CanStay : Type 0) (old file : FileState) (given : Option (List ℕ))
     (edits : List Edit) (text : List ℕ) (o e : Output) (status : Status) : Type 0 where
   pub cut : Option ℕ
@@ -83,7 +96,7 @@ pub record WritesEdition (CanStay : Type 0) (old file : FileState) (given : Opti
   pub failed : Bool
   pub held_back : Bool
   pub tells : TellsCut (first_output e between failed held_back) cut
-  pub ended : (Prints text o (later_output e between failed) status
+  pub ended : (PrintsReport text o (later_output e between failed) status
       × IfHeld old given (λ held. HoldsEdition held edits old.fault cut file))
       ⊎ ((fault : CommandFault) × PrintsNone fault o (later_output e between failed) status
       × IfHeld old given (λ held. LosesEdition CanStay held edits fault cut file))

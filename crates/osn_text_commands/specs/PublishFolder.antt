@@ -8,13 +8,13 @@ use Rattle.osn_lines.specs.Streams.{Input, Output}
 use Rattle.osn_register.specs.Plain.{RegisterModel}
 use Rattle.osn_register.specs.declared.limits.Limits.{Limits}
 use Rattle.osn_report.specs.Folders.{Folders, IsReadOf}
-use Rattle.osn_report.specs.Printing.{Prints, PrintsNone}
+use Rattle.osn_report.specs.Printing.{PrintsNone}
 use Rattle.osn_report.specs.declared.fault.CommandFault.TheVariants.{Keep}
 use Rattle.osn_report.specs.declared.status.Status.{Status}
 use Rattle.osn_serve_commands.specs.Keep.{TellsText, first_output, later_output}
 use Rattle.osn_serve_commands.specs.Upgrade.{CannotSaveAnew, SavesAnew}
 use Rattle.osn_text_commands.specs.Plan.{RefusesText}
-use Rattle.osn_text_commands.specs.Publish.{EndsPublish, IsOlderEdition}
+use Rattle.osn_text_commands.specs.Publish.{EndsPublish, IsOlderEdition, PrintsReport}
 use Rattle.osn_text_commands.specs.TextFile.{SaysRegister}
 
 -- ---- a journal that is saved with its edition
@@ -27,7 +27,7 @@ pub record TellsAndPrints (cut : Option (List ℕ)) (text : List ℕ) (o e : Out
   pub failed : Bool
   pub held_back : Bool
   pub tells : TellsText (first_output e between failed held_back) cut
-  pub prints : Prints text o (later_output e between failed) status
+  pub prints : PrintsReport text o (later_output e between failed) status
 
 -- a journal was saved in the file of this path, which held these bytes, whole, and then the text of
 -- its edition printed; or it is not saved for sure, and nothing was printed

@@ -8,12 +8,12 @@ ghost use Rattle.osn_text_commands.specs.PublishFolder as spec;
 ghost use Rattle.osn_text_commands.specs.PublishInside.{CanStay};
 
 use crate::edition::WholeEdition;
-use crate::publish::publish_command;
+use crate::publish::{print_report, publish_command};
 use crate::text_file::{read_register, tell_text_file};
 use osn_folder::{Folder, OpenFailed, open_file};
 use osn_lines::Sink;
 use osn_register::{Limits, Register};
-use osn_report::{CommandFault, Status, print_text, report};
+use osn_report::{CommandFault, Status, report};
 use osn_serve_commands::{save_anew, tell_cut};
 use std::alloc::Global;
 
@@ -39,7 +39,7 @@ fn save_edition<D: Folder, W: Sink, E: Sink>(
     match save_anew(alloc, folder, path, loaded, journal, errors) {
         Ok(()) => {
             tell_cut(errors, cut);
-            print_text(edition.text.as_str(), output, errors)
+            print_report(edition.text.as_str(), output, errors)
         }
         Err(status) => status,
     }

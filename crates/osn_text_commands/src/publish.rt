@@ -20,11 +20,11 @@ use osn_core::Object;
 use osn_files::{WholePart, give_source};
 use osn_folder::KeptFile;
 use osn_format::Version;
-use osn_lines::{Sink, Source};
+use osn_lines::{Sink, Source, write_all};
 use osn_plan::plan;
 use osn_plan_page::plan_page;
 use osn_register::{Edit, Limits, Refusal, Register};
-use osn_report::{CommandFault, Status, print, print_text, report, tell_line};
+use osn_report::{CommandFault, Status, print, report, tell_line, write_line};
 use osn_serve_commands::{HeldJournal, check_kept, cut_text_of, read_kept};
 use std::alloc::{AllocError, Global};
 
@@ -40,6 +40,25 @@ pub(crate) fn standing_text(
     let mut text = plan_page(alloc, object.register(), wanted, &[])?;
     push_standing(&mut text, object.batches().len())?;
     Ok(text)
+}
+
+/// Prints the text of an edition that is in the journal. Where the output failed, standard error is
+/// told so, and the publish is done all the same.
+pub(crate) fn print_report<W: Sink, E: Sink>(text: &str, output: &mut W, errors: &mut E) -> Status
+    ensures { spec.PrintsReport text.now
+        (output_of W.contents W.has_failed W.holds_back output.old output.new)
+        (output_of E.contents E.has_failed E.holds_back errors.old errors.new) result }
+{
+    match write_all(output, text.as_bytes()) {
+        Ok(()) => Status::Done,
+        Err(_) => {
+            write_line(
+                errors,
+                "oldstyle: the edition is in the journal, but its report could not be printed\n",
+            );
+            Status::Done
+        }
+    }
 }
 
 /// Writes an edition to the file, and prints its text.
@@ -63,7 +82,7 @@ fn publish_edition<K: KeptFile, W: Sink, E: Sink>(
         (output_of E.contents E.has_failed E.holds_back errors.old errors.new) result }
 {
     match write_edition(alloc, part, keeper, &edition.lines, errors) {
-        Ok(()) => print_text(edition.text.as_str(), output, errors),
+        Ok(()) => print_report(edition.text.as_str(), output, errors),
         Err(fault) => report(alloc, errors, fault),
     }
 }

@@ -20,7 +20,7 @@ returns-in-Ok g c =
             subst (λ old. TellsText
             (output_of g.E.Sink.contents g.E.Sink.has_failed g.E.Sink.holds_back old errors)
             (option_map string_bytes c.args.cut.now)) c.in-Ok.ensures.quiet c.tell_cut.ensures;
-        prints = rw (← c.as_str.ensures.value) c.print_text.ensures;
+        prints = rw (← c.as_str.ensures.value) c.print_report.ensures;
       },
     )
 

@@ -16,7 +16,7 @@ returns-in-Ok g c = λ given part_of edits lines.
       held_back = g.E.Sink.holds_back errors;
       tells = h.1;
       ended = inl (
-        rw (← c.as_str.ensures.value) c.print_text.ensures,
+        rw (← c.as_str.ensures.value) c.print_report.ensures,
         (λ held known got.
             made held known (known_bytes given held (IsWholePart c.args.part) got part_of)),
       );
