@@ -12,6 +12,7 @@ returns c = IfOk-weaker c.fields_of_days.result _ _ (λ fields same.
     same ∙ meant_are newest_rules c.args.edition c.args.own.now c.args.territory.now c.args.date
     c.args.day c.args.given _ _ c.in_ok-days.days.items _ _
     (c.in_ok-days.ensures
-    ∙ ap (dated_by newest_rules c.args.own.now) (slice ∙ c.in_ok-meant.ensures.value)) some
+    ∙ ap (dated_by newest_rules c.args.own.now)
+    (c.as_slice.ensures.value ∙ c.in_ok-meant.ensures.value)) some
     c.deref.ensures.value c.deref-2.ensures.value c.remarks_on_days-on_days.ensures)
     c.fields_of_days.ensures
