@@ -14,7 +14,6 @@ use Rattle.osn_page_commands.specs.Page.{ended, lacks_strict_day, PrintsTopicTex
 use Rattle.osn_page_commands.specs.declared.page_words.Topic.{Topic}
 use Rattle.osn_page_commands.specs.declared.page_words.Topic.TheVariants.{Year, Land, Set, Lands}
 use Rattle.osn_report.specs.Folders.{Folders, ReadsOne}
-use Rattle.osn_report.specs.Printing.{PrintsIfMade}
 use Rattle.osn_report.specs.Messages.{EndsBy, TellsIfMade}
 use Rattle.osn_report.specs.declared.fault.CommandFault.TheVariants.{NoMemory}
 use Rattle.osn_report.specs.declared.status.Status.{Status}

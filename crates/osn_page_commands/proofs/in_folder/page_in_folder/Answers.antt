@@ -5,8 +5,8 @@ use Rattle.osn_page_commands.proofs.PageLemmas.{page_printed}
 use Rattle.osn_page_commands.proofs.in_folder.page_in_folder.Goals as goal
 use Rattle.osn_report.specs.Folders.{folders_of}
 
-pub returns-in-Ok-Ok-clause-ok : goal.returns-in-Ok-Ok-clause-ok
-returns-in-Ok-Ok-clause-ok g c =
+pub returns-in_ok-file-in-Ok-Ok-clause-ok : goal.returns-in-Ok-Ok-clause-ok
+returns-in_ok-file-in-Ok-Ok-clause-ok g c =
     let found = c.in_ok-file in
     let new = c.print_topic.new in
     page_printed c.args.limits c.args.journal.now (page_words c.args.words)
