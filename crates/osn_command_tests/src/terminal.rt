@@ -9,7 +9,10 @@ use osn_report::ReadProgress;
 use std::alloc::Global;
 use std::io::Read;
 use std::process::Abort;
+use std::rt::Files;
+use std::sync::Wait;
 use std::test::Fail;
+use std::thread::Threads;
 use std::{fs, io, str};
 
 /// 64 MiB in bytes.
@@ -63,14 +66,12 @@ fn a_terminal_is_told_each_64_mebibytes(rt: HostRuntime) -> Result<(), Fail> {
 
 const FILES: [File; 2] = [("a.journal", PUBLISHED), ("places.csv", "place,code\n")];
 
-/// How a run of this line ends in a folder of its own, and what a terminal is told of it.
-fn told_of(
-    rt: &HostRuntime,
-    test: &str,
+/// How a run of this line ends, and what a terminal is told of it.
+fn told_of<R: Files<File = fs::File> + Threads + Wait + AllocGlobal>(
+    rt: &R,
     line: &str,
     input: impl Read + Drop,
 ) -> Result<(Left, Vec<u8>), Fail> {
-    let folder = entered(rt, test, &FILES)?;
     let words: Vec<&str> = line.split_whitespace().collect(rt.alloc())?;
     let (mut output, mut errors) = (sink(rt.alloc()), sink(rt.alloc()));
     let mut told = Vec::new(rt.alloc());
@@ -83,7 +84,6 @@ fn told_of(
         &mut errors,
         Some(Plain::new(&mut told)),
     );
-    fs::remove_dir_all(rt, folder.as_path())?;
     Ok((left_by(status, output, errors), told))
 }
 
@@ -93,9 +93,12 @@ const WRITTEN: &str = "place,date,days,gregorian,julian,dual,weekday_found,jdn,e
 kind,edtf,edition,remark\n";
 
 /// Checks what is told of a table of 64 MiB, of which all lines but the first are empty.
-fn is_told_of_table(rt: &HostRuntime, test: &str, line: &str) -> Result<(), Fail> {
+fn is_told_of_table<R: Files<File = fs::File> + Threads + Wait + AllocGlobal + Abort>(
+    rt: &R,
+    line: &str,
+) -> Result<(), Fail> {
     let empty = io::repeat(b'\n').take(STEP.saturating_sub(HEADER.len()) as u64);
-    let (left, told) = told_of(rt, test, line, HEADER.as_bytes().chain(empty))?;
+    let (left, told) = told_of(rt, line, HEADER.as_bytes().chain(empty))?;
     is_outcome(&left, (0, WRITTEN, ""))?;
     let line = "oldstyle: 64 MiB of the letters read\n";
     same(rt, str::from_utf8(&told)?, line);
@@ -104,16 +107,18 @@ fn is_told_of_table(rt: &HostRuntime, test: &str, line: &str) -> Result<(), Fail
 
 #[test]
 fn a_terminal_is_told_how_far_a_table_is(rt: HostRuntime) -> Result<(), Fail> {
-    is_told_of_table(&rt, "table", "oldstyle letters a.journal")
+    let folder = entered(&rt, "table", &FILES)?;
+    is_told_of_table(&rt, "oldstyle letters a.journal")?;
+    fs::remove_dir_all(&rt, folder.as_path())?;
+    Ok(())
 }
 
 #[test]
 fn a_terminal_is_told_how_far_a_table_with_places_is(rt: HostRuntime) -> Result<(), Fail> {
-    is_told_of_table(
-        &rt,
-        "places",
-        "oldstyle letters a.journal --places places.csv",
-    )
+    let folder = entered(&rt, "places", &FILES)?;
+    is_told_of_table(&rt, "oldstyle letters a.journal --places places.csv")?;
+    fs::remove_dir_all(&rt, folder.as_path())?;
+    Ok(())
 }
 
 const REFUSED: &str = "oldstyle: line 3 is refused, and no line after it was answered\n";
@@ -121,12 +126,14 @@ const REFUSED: &str = "oldstyle: line 3 is refused, and no line after it was ans
 /// An edition is published before a line is refused, at which the service ends.
 #[test]
 fn a_terminal_is_told_of_an_edition_before_a_refusal(rt: HostRuntime) -> Result<(), Fail> {
+    let folder = entered(&rt, "refusal", &FILES)?;
     let read = format!(in rt.alloc(); "{ADDED}{ADDED}")?;
     let line = "oldstyle serve --journal a.journal --stop-at-refusal";
-    let (left, told) = told_of(&rt, "refusal", line, read.as_bytes())?;
+    let (left, told) = told_of(&rt, line, read.as_bytes())?;
     let written = format!(in rt.alloc(); "{NOTED}{{\"fault\":10,\"name\":\"ExceptionExists\"}}\n")?;
     is_outcome(&left, (1, written.as_str(), REFUSED))?;
     let line = "oldstyle: 1 edition was saved nowhere: --save or --keep would have kept it\n";
     same(&rt, str::from_utf8(&told)?, line);
+    fs::remove_dir_all(&rt, folder.as_path())?;
     Ok(())
 }
