@@ -1,5 +1,5 @@
 //! A file in memory that is kept.
-ghost use Rattle.std.specs.Prelude.{◌≡◌, IfOk, None};
+ghost use Rattle.std.specs.Prelude.{◌≡◌, IfOk, None, Some};
 
 use osn_folder::{ChangeFailed, KeptFile, KeptFileFault};
 use std::alloc::{AllocError, Global};
@@ -33,15 +33,19 @@ impl MemoryFile {
         &self.contents
     }
 
-    /// Notes that a change failed for want of memory.
-    fn fail(&mut self) -> KeptFileFault {
+    /// Notes that a change failed because memory ran out.
+    fn fail(&mut self) -> KeptFileFault
+        ensures fault { self.new.fault ≡ Some result }
+        ensures contents { self.new.contents ≡ self.old.contents }
+        ensures synced { self.new.synced ≡ self.old.synced }
+    {
         self.fault = Some(KeptFileFault::ChangeFailed);
         KeptFileFault::ChangeFailed
     }
 }
 
 impl KeptFile for MemoryFile {
-    ghost use Rattle.std.specs.Prelude.{Some, false};
+    ghost use Rattle.std.specs.Prelude.{false};
 
     ghost contents = { λ f. Some f.contents.items };
 
