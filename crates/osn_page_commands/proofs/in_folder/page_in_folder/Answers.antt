@@ -5,7 +5,7 @@ use Rattle.osn_page_commands.proofs.PageLemmas.{page_printed}
 use Rattle.osn_page_commands.proofs.in_folder.page_in_folder.Goals as goal
 use Rattle.osn_report.specs.Folders.{folders_of}
 
-pub returns-in_ok-file-in-Ok-Ok-clause-ok : goal.returns-in-Ok-Ok-clause-ok
+pub returns-in_ok-file-in-Ok-Ok-clause-ok : goal.returns-in_ok-file-in-Ok-Ok-clause-ok
 returns-in_ok-file-in-Ok-Ok-clause-ok g c =
     let found = c.in_ok-file in
     let new = c.print_topic.new in
