@@ -142,8 +142,8 @@ abbrev pub PrintsPageOf : ObjectState → List ℕ → List ℕ → List ℕ →
     → Status → Type 0
 PrintsPageOf s path code date topic o e status =
     MatchOption (topic_refusal (published s) code topic)
-    (PrintsPageText topic (topic_text s code date topic) (lacks_strict_day (published s) code date topic)
-    o e status)
+    (PrintsPageText topic (topic_text s code date topic)
+    (lacks_strict_day (published s) code date topic) o e status)
     (λ refusal. IsRefused path code topic refusal o e status)
 
 -- of a journal: it is refused; or it makes an object, and that was done
