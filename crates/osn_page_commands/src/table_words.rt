@@ -14,12 +14,14 @@ use osn_report::Misuse;
 fn separator_of_word(word: Option<&str>) -> Result<Option<Separator>, Misuse>
     ensures { result ≡ spec.separator_of_word (option_map (λ word. word.now) word.entry) }
 {
+    let Some(word) = word else {
+        return Ok(None);
+    };
     match word {
-        None => Ok(None),
-        Some("comma") => Ok(Some(Separator::Comma)),
-        Some("semicolon") => Ok(Some(Separator::Semicolon)),
-        Some("tab") => Ok(Some(Separator::Tab)),
-        Some(_) => Err(Misuse::Separator),
+        "comma" => Ok(Some(Separator::Comma)),
+        "semicolon" => Ok(Some(Separator::Semicolon)),
+        "tab" => Ok(Some(Separator::Tab)),
+        _ => Err(Misuse::Separator),
     }
 }
 

@@ -7,7 +7,7 @@ use Rattle.osn_report.specs.Folders.{folders_of}
 
 pub returns-in_ok-file-in-Ok-Ok-clause-ok : goal.returns-in_ok-file-in-Ok-Ok-clause-ok
 returns-in_ok-file-in-Ok-Ok-clause-ok g c =
-    let found = c.in_ok-file in
+    let found = c.in_ok-file-in-Ok-Ok in
     let new = c.print_topic.new in
     page_printed c.args.limits c.args.journal.now (page_words c.args.words)
     (MayFail g.D.File.Source.has_failed)
