@@ -50,10 +50,10 @@ try_answers() {
 try_help() {
     local word text
     new_clone help
-    mkdir -p "$clone/cases"
+    mkdir -p "$clone/crates/osn_cases/data"
     printf '%s\n' "# Help." "" "== --version" "" "\$ oldstyle --version" "oldstyle 1" "" \
         "== --help" "" "\$ oldstyle --help" "Usage" "" "Options" "" "== read" "" \
-        "\$ oldstyle read --help" "Other" > "$clone/cases/help.cases"
+        "\$ oldstyle read --help" "Other" > "$clone/crates/osn_cases/data/help.cases"
     for word in --help -h help --version -V; do
         text=$'Usage\n\nOptions'
         [[ $word != *[vV]* ]] || text="oldstyle 1"
@@ -63,7 +63,7 @@ try_help() {
         hold "and says nothing" says_nothing
         hold "but the text of its case" gives "" "$text"
     done
-    rm "$clone/cases/help.cases"
+    rm "$clone/crates/osn_cases/data/help.cases"
     words=(--version)
     run
     hold "without such a case it is answered by a run" says_once "gives the same answer"

@@ -1,6 +1,6 @@
 //! What a command leaves, over a folder in memory.
+use crate::case_file::Step;
 use crate::memory_folder::MemoryFolder;
-use crate::section::Step;
 use osn_commands::run;
 use osn_lines::Plain;
 use std::alloc::{AllocError, Global};

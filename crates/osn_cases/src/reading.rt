@@ -1,33 +1,52 @@
-//! Files of cases, read into their sections.
+//! A file of cases, read into its steps.
+use crate::case_file::{Case, CaseFile, Step};
 use crate::escapes::push_line;
 use crate::expected::Expected;
-use crate::section::{Kind, Section, Step};
 use crate::words::words_of;
 use std::alloc::{AllocError, Global};
+use thiserror::Error;
 
-/// The sections of the lines so far, and where the next line belongs.
+/// Why a file is no file of cases, with the number of the line.
+#[derive(Debug, Drop, Error)]
+pub(crate) enum CaseFault {
+    /// A line comes before any command.
+    #[error("line {0}: the line belongs to no command, and a comment begins with '# '")]
+    NoCommand(usize),
+    /// The text that is given to the last command doesn't end.
+    #[error("line {0}: the line {1} is missing")]
+    NoEnd(usize, String),
+    #[error("line {0}: there is no case, which begins with '== ' and its title")]
+    NoCase(usize),
+    #[error("no memory")]
+    NoMemory(#[from] AllocError),
+}
+
+/// What the lines so far have, and where the next one belongs.
 #[derive(Drop)]
 struct Reading<'a> {
     alloc: Global,
-    sections: Vec<Section<'a>>,
+    file: CaseFile<'a>,
     /// The line that ends the text that is given to the last command.
     end: Option<String>,
     line: usize,
 }
 
 impl<'a> Reading<'a> {
-    fn begin(&mut self, kind: Kind, name: &'a str) -> Result<(), AllocError> {
-        self.sections.push(Section {
-            kind,
-            name,
+    fn begin_case(&mut self, title: &'a str) -> Result<(), AllocError> {
+        self.file.cases.push(Case {
             line: self.line,
+            title,
             steps: Vec::new(self.alloc),
         })?;
         Ok(())
     }
 
-    fn last_step(&mut self) -> Option<&mut Step> {
-        self.sections.last_mut()?.steps.last_mut()
+    /// The steps of the last case, or those before the first one.
+    fn steps(&mut self) -> &mut Vec<Step> {
+        match self.file.cases.last_mut() {
+            Some(case) => &mut case.steps,
+            None => &mut self.file.head,
+        }
     }
 
     fn add_step(&mut self, command: &str) -> Result<(), AllocError> {
@@ -46,18 +65,8 @@ impl<'a> Reading<'a> {
             given: Vec::new(self.alloc),
             expected: Expected::new(self.alloc),
         };
-        if let Some(section) = self.sections.last_mut() {
-            section.steps.push(step)?;
-        }
+        self.steps().push(step)?;
         Ok(())
-    }
-
-    /// Adds a line to what is given to the last command.
-    fn give(&mut self, line: &str) -> Result<(), AllocError> {
-        match self.last_step() {
-            Some(step) => push_line(&mut step.given, line),
-            None => Ok(()),
-        }
     }
 
     /// Takes a line of a text that is given to the last command, whose last line is `end`.
@@ -66,53 +75,67 @@ impl<'a> Reading<'a> {
             return Ok(());
         }
         self.end = Some(end);
-        self.give(line)
+        match self.steps().last_mut() {
+            Some(step) => push_line(&mut step.given, line),
+            None => Ok(()),
+        }
     }
 
-    fn take(&mut self, line: &'a str) -> Result<(), AllocError> {
+    /// Takes a line of input for the last command, or of what it is expected to leave.
+    fn take_answer(&mut self, line: &str) -> Result<(), CaseFault> {
+        let number = self.line;
+        let Some(step) = self.steps().last_mut() else {
+            return match line {
+                "" => Ok(()),
+                _ => Err(CaseFault::NoCommand(number)),
+            };
+        };
+        if line == ">" {
+            push_line(&mut step.given, "")?;
+        } else if let Some(given) = line.strip_prefix("> ") {
+            push_line(&mut step.given, given)?;
+        } else {
+            step.expected.add(number, line)?;
+        }
+        Ok(())
+    }
+
+    fn take(&mut self, line: &'a str) -> Result<(), CaseFault> {
         self.line = self.line.saturating_add(1);
         if let Some(end) = self.end.take() {
-            self.take_given(end, line)
-        } else if let Some(file) = line.strip_prefix("=== ") {
-            self.line = 0;
-            self.begin(Kind::Head, file)
+            self.take_given(end, line)?;
         } else if let Some(title) = line.strip_prefix("== ") {
-            self.begin(Kind::Case, title)
+            self.begin_case(title)?;
         } else if let Some(command) = line.strip_prefix("$ ") {
-            self.add_step(command)
-        } else if line == ">" {
-            self.give("")
-        } else if let Some(given) = line.strip_prefix("> ") {
-            self.give(given)
-        } else if line.starts_with("# ") {
-            Ok(())
-        } else {
-            let number = self.line;
-            match self.last_step() {
-                Some(step) => step.expected.add(number, line),
-                None => Ok(()),
-            }
+            self.add_step(command)?;
+        } else if !line.starts_with("# ") {
+            self.take_answer(line)?;
         }
+        Ok(())
     }
 }
 
-/// The sections of files of cases, each of which begins with a line `=== ` and its name.
+/// What a file of cases has.
 ///
 /// # Errors
 ///
-/// Out of memory.
-pub(crate) fn sections_of<'a>(
-    alloc: Global,
-    text: &'a str,
-) -> Result<Vec<Section<'a>>, AllocError> {
+/// Why it is none, and out of memory.
+pub(crate) fn read_cases<'a>(alloc: Global, text: &'a str) -> Result<CaseFile<'a>, CaseFault> {
     let mut reading = Reading {
         alloc,
-        sections: Vec::new(alloc),
+        file: CaseFile {
+            head: Vec::new(alloc),
+            cases: Vec::new(alloc),
+        },
         end: None,
         line: 0,
     };
     for line in text.lines() {
         reading.take(line)?;
     }
-    Ok(reading.sections)
+    match reading.end {
+        Some(end) => Err(CaseFault::NoEnd(reading.line, end)),
+        None if reading.file.cases.is_empty() => Err(CaseFault::NoCase(reading.line)),
+        None => Ok(reading.file),
+    }
 }

@@ -1,12 +1,63 @@
 //! Cases, run in turn, and what is printed of them.
 use crate::actual::do_step;
+use crate::case_file::{Case, CaseFile, Step};
 use crate::difference::{Difference, difference_of};
 use crate::memory_folder::MemoryFolder;
-use crate::section::{Kind, Section, Step};
+use std::fmt::Display;
 use std::io;
 use std::process::ExitCode;
 use std::sync::Wait;
 use std::thread::Threads;
+
+/// How many cases there were, and how many of them differ.
+#[derive(Clone, Copy)]
+pub(crate) struct Tally {
+    cases: u64,
+    differ: u64,
+}
+
+impl Tally {
+    pub(crate) const NONE: Tally = Tally {
+        cases: 0,
+        differ: 0,
+    };
+
+    fn add(&mut self, holds: bool) {
+        self.cases = self.cases.saturating_add(1);
+        if !holds {
+            self.differ = self.differ.saturating_add(1);
+        }
+    }
+
+    /// Prints why a file has no cases, which counts as one that differs.
+    ///
+    /// # Errors
+    ///
+    /// What the system refuses.
+    pub(crate) fn add_fault<R: Print, F: Display>(
+        &mut self,
+        rt: &R,
+        name: &str,
+        fault: &F,
+    ) -> io::Result<()> {
+        self.add(false);
+        println!(rt; "{name}: {fault}")
+    }
+
+    /// Prints the verdict. A run without cases fails.
+    ///
+    /// # Errors
+    ///
+    /// What the system refuses.
+    pub(crate) fn print_verdict<R: Print>(&self, rt: &R) -> io::Result<ExitCode> {
+        if self.cases > 0 && self.differ == 0 {
+            println!(rt; "all cases hold")?;
+            return Ok(ExitCode::SUCCESS);
+        }
+        println!(rt; "{} of {} cases differ", self.differ, self.cases)?;
+        Ok(ExitCode::FAILURE)
+    }
+}
 
 /// Prints where a step differs from what is expected of it.
 fn print_difference<R: Print>(rt: &R, step: &Step, difference: &Difference) -> io::Result<()> {
@@ -29,16 +80,17 @@ fn print_difference<R: Print>(rt: &R, step: &Step, difference: &Difference) -> i
 /// does.
 fn holds<R: Threads + Wait + AllocGlobal + Print>(
     rt: &R,
-    head: &Section,
-    case: &Section,
+    name: &str,
+    head: &[Step],
+    case: &Case,
 ) -> io::Result<bool> {
     let mut folder = MemoryFolder::new(rt.alloc());
     let mut holds = true;
-    for step in head.steps.iter().chain(case.steps.iter()) {
+    for step in head.iter().chain(case.steps.iter()) {
         let actual = do_step(rt, &mut folder, step)?;
         if let Some(difference) = difference_of(rt.alloc(), step, &actual)? {
             if holds {
-                println!(rt; "{}:{}: {}", head.name, case.line, case.name)?;
+                println!(rt; "{name}:{}: {}", case.line, case.title)?;
             }
             holds = false;
             print_difference(rt, step, &difference)?;
@@ -47,32 +99,19 @@ fn holds<R: Threads + Wait + AllocGlobal + Print>(
     Ok(holds)
 }
 
-/// Runs each case, and prints where it differs, and then the verdict. A run without cases fails.
+/// Runs each case of a file, prints where it differs, and counts it.
 ///
 /// # Errors
 ///
 /// What the system refuses, and out of memory.
 pub(crate) fn run_cases<R: Threads + Wait + AllocGlobal + Print>(
     rt: &R,
-    sections: &[Section],
-) -> io::Result<ExitCode> {
-    let (mut cases, mut differ) = (0u64, 0u64);
-    let mut head = None;
-    for section in sections {
-        match (section.kind, head) {
-            (Kind::Case, Some(head)) => {
-                cases = cases.saturating_add(1);
-                if !holds(rt, head, section)? {
-                    differ = differ.saturating_add(1);
-                }
-            }
-            _ => head = Some(section),
-        }
+    name: &str,
+    file: &CaseFile,
+    tally: &mut Tally,
+) -> io::Result<()> {
+    for case in &file.cases {
+        tally.add(holds(rt, name, &file.head, case)?);
     }
-    if cases > 0 && differ == 0 {
-        println!(rt; "all cases hold")?;
-        return Ok(ExitCode::SUCCESS);
-    }
-    println!(rt; "{differ} of {cases} cases differ")?;
-    Ok(ExitCode::FAILURE)
+    Ok(())
 }
