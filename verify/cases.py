@@ -1,0 +1,170 @@
+#!/usr/bin/env python3
+"""Runs the cases of the program over folders of the system, in place of folders in memory.
+
+The cases are those of crates/osn_cases/data, or the files that are named; README.md beside that
+folder has their form. The gate runs them by the code of the program over a folder in memory, which
+proves nothing about its main function, its files and the streams of the system. A command that
+names a path in `private/` or `broken/` is left out: those are folders of the memory alone. Prints
+each stream and each status that is not as its case says.
+"""
+import glob
+import os
+import re
+import subprocess
+import tempfile
+from concurrent.futures import ThreadPoolExecutor
+from dataclasses import dataclass, field
+from itertools import zip_longest
+
+from lib.checks import hold, verdict
+from lib.common import TOP, CommandLine, end, file_at
+
+FILES = os.path.join(TOP, "crates", "osn_cases", "data", "*.cases")
+LETTERS = {b"t": b"\t", b"r": b"\r", b"n": b"\n", b"0": b"\0", b"e": b"\x1b", b"\\": b"\\"}
+ESCAPE = re.compile(rb"\\(?:x([0-9a-f]{2})|([trn0e\\]))")
+WORD = re.compile(rb"""(?:"[^"]*"|'[^']*'|[^ "'])+""")
+STATUS = re.compile(rb"\[(\d+)\]")
+IN_MEMORY = (b"private/", b"broken/")
+
+
+@dataclass
+class Step:
+    """A command, the text that is given to it, and what it is expected to leave."""
+
+    line: int
+    words: list
+    given: bytes = b""
+    output: bytes = b""
+    errors: bytes = b""
+    status: int = 0
+    blanks: int = 0
+
+    def expect(self, line):
+        """Adds a line of what the command is expected to leave."""
+        if not line:
+            self.blanks += 1
+        elif found := STATUS.fullmatch(line):
+            self.status, self.blanks = int(found[1]), 0
+        elif line == b"!" or line.startswith(b"! "):
+            self.errors, self.blanks = self.errors + bytes_of(line[2:]), 0
+        else:
+            self.output += b"\n" * self.blanks + bytes_of(line)
+            self.blanks = 0
+
+
+@dataclass
+class Case:
+    """A case, or the head of a file, which has no title."""
+
+    line: int
+    title: bytes
+    steps: list = field(default_factory=list)
+
+
+def bytes_of(line):
+    """The bytes that a line of a case stands for."""
+    text = line.removesuffix(b" (no-eol)")
+    feed = b"\n" if text == line else b""
+    if text.endswith(b" (esc)"):
+        text = ESCAPE.sub(lambda it: bytes.fromhex(it[1].decode()) if it[1] else LETTERS[it[2]],
+                          text.removesuffix(b" (esc)"))
+    return text + feed
+
+
+def words_of(line):
+    """The words of a command."""
+    return [re.sub(rb""""([^"]*)"|'([^']*)'""", lambda it: it[1] or it[2] or b"", word)
+            for word in WORD.findall(bytes_of(line).rstrip())]
+
+
+def read_cases(text):
+    """The head of a file of cases and its cases."""
+    parts, closing = [Case(0, b"")], None
+    for number, line in enumerate(text.removesuffix(b"\n").split(b"\n"), 1):
+        steps = parts[-1].steps
+        if closing is not None:
+            if line == closing:
+                closing = None
+            else:
+                steps[-1].given += bytes_of(line)
+        elif line.startswith(b"== "):
+            parts.append(Case(number, line[3:]))
+        elif line.startswith(b"$ "):
+            steps.append(Step(number, words_of(line[2:])))
+            closing = steps[-1].words[-1] if b"<<" in steps[-1].words[-2:-1] else None
+        elif line == b">" or line.startswith(b"> "):
+            steps[-1].given += bytes_of(line[2:])
+        elif steps and not line.startswith(b"# "):
+            steps[-1].expect(line)
+    return parts
+
+
+def left(program, folder, step):
+    """What a command leaves in a folder: its output, its text on standard error, its status."""
+    words, given = step.words, step.given
+    if words[-2:-1] in ([b"<<"], [b"<"]):
+        if words[-2] == b"<":
+            with open(os.path.join(folder, words[-1]), "rb") as file:
+                given = file.read()
+        words = words[:-2]
+    match words:
+        case [b"oldstyle", *rest]:
+            done = subprocess.run(["oldstyle", *rest], executable=program, input=given, cwd=folder,
+                                  capture_output=True, timeout=60, check=False)
+            return done.stdout, done.stderr, done.returncode
+        case [b"cat", b">", name]:
+            with open(os.path.join(folder, name), "wb") as file:
+                file.write(given)
+            return b"", b"", 0
+        case [b"cat", name]:
+            with open(os.path.join(folder, name), "rb") as file:
+                return file.read(), b"", 0
+        case [b"ls"]:
+            names = sorted(os.listdir(folder))
+            return b"".join(name + b"\n" for name in names), b"", 0
+    raise ValueError(f"line {step.line} is no command")
+
+
+def difference(wanted, got):
+    """The first line of some bytes that differs from what is wanted, and that line."""
+    lines = zip_longest(got.splitlines(True), wanted.splitlines(True), fillvalue=b"(nothing)")
+    return next((f"{is_there!r}, and not {other!r}" for is_there, other in lines
+                 if is_there != other), "")
+
+
+def run_case(program, name, head, case):
+    """Runs a case after the head of its file, and answers how many commands it ran."""
+    place = f"{name}:{case.line}: {case.title.decode()}"
+    count = 0
+    with tempfile.TemporaryDirectory() as folder:
+        for step in [*head.steps, *case.steps]:
+            if any(word.startswith(IN_MEMORY) for word in step.words):
+                continue
+            count += 1
+            output, errors, status = left(program, os.fsencode(folder), step)
+            for what, wanted, got in (("errors", step.errors, errors),
+                                      ("output", step.output, output),
+                                      ("status", b"%d" % step.status, b"%d" % status)):
+                hold(f"{place}: line {step.line}, {what}:", wanted == got, difference(wanted, got))
+    return count
+
+
+def main():
+    line = CommandLine(__doc__)
+    line.add_program()
+    line.add_argument("files", nargs="*", metavar="FILE", type=file_at,
+                      help="a file of cases; all of the gate where none is named")
+    options = line.read()
+    cases = commands = 0
+    for path in options.files or sorted(glob.glob(FILES)):
+        with open(path, "rb") as file:
+            head, *rest = read_cases(file.read())
+        with ThreadPoolExecutor(2) as pool:
+            commands += sum(pool.map(lambda case: run_case(options.program, os.path.basename(path),
+                                                           head, case), rest))
+        cases += len(rest)
+    return verdict(f"{cases} cases of {commands} commands hold over folders of the system")
+
+
+if __name__ == "__main__":
+    end(main)
