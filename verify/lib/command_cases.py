@@ -85,7 +85,13 @@ TEXT = ["[GB]", 'name = "Great Britain"', *KEYS, "[[GB.changes]]",
 # Files by their names, and commands over them, each with the lines of its standard input.
 FILES = {"a.journal": BEGUN, "a.script": SCRIPT, "a.questions": QUESTIONS, "a.schedule": STEPS,
          "a.transcript": TRANSCRIPT, "saved.journal": BEGUN[:2], "a.toml": TEXT,
-         "a.older": ['{"journal":2}', ADD_ROME, PUBLISH]}
+         "a.older": ['{"journal":2}', ADD_ROME, PUBLISH],
+         "a.places": ["note;place;code", "capital; London ;GB", ";Nowhere;XX"],
+         "a.faulty": ["[GB]", 'name = "Great Britain"', "fly = 1"]}
+LETTERS = ["id,place,date,weekday,text", '1, GB,11 February 1731,friday ,"Dear Sir, I"',
+           '2,London,1752-09-05,,"said ""no"""', "3,FR,1 April 1543,,two",
+           '4,Nowhere,1731-02-11,,"a line', 'and another"',
+           '5,GB,"[1752-09-02,1752-09-14]",,']
 COMMANDS = [
     ("", SESSION),
     ("serve --journal a.journal --save saved.journal", SESSION[:-1]),
@@ -100,6 +106,9 @@ COMMANDS = [
     ("read a.journal GB 1752-09-05", []),
     ("read a.journal ZZ 1752-09-05", []),
     ("read a.journal GB 1700-02-29", []),
+    ("read a.journal GB 1752-09", []),
+    ("read a.journal GB [1752-09-02,1752-09-14]", []),
+    ("read a.journal GB [1752-09-04,1752-09-05]", []),
     ("convert julian 1752-09-02", []),
     ("convert julian 1752-09-31", []),
     ("day a.journal GB 639797", []),
@@ -107,10 +116,13 @@ COMMANDS = [
     ("territory a.journal", []),
     ("territory a.journal GB", []),
     ("letters a.journal", ["place,date", "GB,1731/32-02-11", "FR,1543-04-01", "GB,1752-09-05"]),
+    ("letters --places a.places --summary a.journal", LETTERS),
     ("text a.journal", []),
+    ("text a.journal GB", []),
     ("text a.journal ZZ", []),
     ("plan a.script a.toml", []),
     ("plan a.script a.schedule", []),
+    ("plan a.script a.faulty", []),
     ("replay --readers 1 a.schedule", []),
     ("desk a.script a.questions", []),
     ("audit a.journal a.transcript", []),
