@@ -108,11 +108,12 @@ def left(program, folder, step):
                 given = file.read()
         words = words[:-2]
     match words:
-        case [b"oldstyle", *rest]:
-            done = subprocess.run(["oldstyle", *rest], executable=program, input=given, cwd=folder,
+        case [b"oldstyle" | b"./oldstyle" as name, *rest]:
+            done = subprocess.run([name, *rest], executable=program, input=given, cwd=folder,
                                   capture_output=True, timeout=60, check=False)
             return done.stdout, done.stderr, done.returncode
         case [b"cat", b">", name]:
+            os.makedirs(os.path.dirname(os.path.join(folder, name)), exist_ok=True)
             with open(os.path.join(folder, name), "wb") as file:
                 file.write(given)
             return b"", b"", 0

@@ -82,7 +82,7 @@ pub(crate) fn do_step<R: Threads + Wait + AllocGlobal>(
         words => (words, step.given.clone()?),
     };
     match words {
-        [program, ..] if program.as_str() == "oldstyle" => {
+        [program, ..] if matches!(program.as_str(), "oldstyle" | "./oldstyle") => {
             Ok(run_program(rt, folder, words, &input))
         }
         [cat, to, name] if cat.as_str() == "cat" && to.as_str() == ">" => {
