@@ -125,12 +125,15 @@ def month_length(territory, month):
     return f"has at most {30 if territory.has_month_and_day((0, 2, 30)) else 29} days"
 
 
+def three_digits_lines(date):
+    return ["year of three digits"] if date.has_three_digits else []
+
+
 def reading_page(place, date, given):
     days = place.territory.days_meant(date, given)
     lines = [line for day in days for line in meant_lines(place.territory, date, given, day)]
     return [f"{date_written(date)} in {place.heading()}",
-            *(lines or why_lines(place.territory, date)),
-            *(["year of three digits"] if date.has_three_digits else [])]
+            *(lines or why_lines(place.territory, date)), *three_digits_lines(date)]
 
 
 # The pages of days, months and territories.

@@ -8,7 +8,8 @@ from typing import NamedTuple, Optional
 
 from lib.calendars import HIGH, MONTHS
 from lib.date_meaning import Territory, Written, weekday_of, years_about
-from lib.page_texts import date_written, day_line, meant_lines, why_lines, years_written
+from lib.page_texts import (date_written, day_line, meant_lines, three_digits_lines, why_lines,
+                            years_written)
 
 NAMES = [MONTHS]
 NAMES += [line.split() for line in (
@@ -231,7 +232,8 @@ def reckoned_page(place, date, given, reckoning):
     runs, own = (runs_of(sorted(found)) or "first"
                  for found in (days, place.territory.days_meant(date)))
     return [f"{named}{date_written(date)} {sign} in {place.heading()}",
-            *(lines or why_lines(by_name, date)), *calendar_lines(place, reckoning, runs, own)]
+            *(lines or why_lines(by_name, date)), *three_digits_lines(date),
+            *calendar_lines(place, reckoning, runs, own)]
 
 
 def span_page(place, span, weekday=None):
