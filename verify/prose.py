@@ -13,7 +13,6 @@ import io
 import os
 import re
 import subprocess
-import sys
 import tokenize
 
 from lib.common import TOP, CommandLine, end
