@@ -1,9 +1,10 @@
 #!/usr/bin/env python3
 """Finds the forms of prose.words in documents, help texts and comments, and counts them by folder.
 
-A document is a file of Markdown, or the manual. It has to have none of these forms: each is printed
-with its line, and the status is 1. Code, and what a program prints, is passed over. In comments and
-help texts the forms are only counted; --all prints these too, and FOLDER.. names where to look.
+A document is a file of Markdown, or the manual. It must have none of these forms, and no link that
+leads nowhere: each is printed with its line, and the status is 1. Code, and what a program prints,
+is ignored. In comments and help texts the forms are only counted; --all prints these too, and
+FOLDER.. names where to look.
 
 The words of README.md and docs/ are counted as `wc -w` does, without what scripts write there.
 """
@@ -116,12 +117,12 @@ READERS = {".md": in_markdown, ".1": in_manual, ".py": in_python, ".rt": after(r
            ".css": in_stars, ".bash": after(r"#!?\s?"), ".cases": after(r"(?:#|==)\s"),
            ".toml": after(r"#\s"), ".edits": after(r"#\s"), ".edit": after(r"#\s"),
            ".R": after(r"#'?\s?")}
-HELP = "cases/help.cases"
+HELP = "help.cases"
 
 
 def reader_of(path, text):
     """What reads the blocks of a file, if it has any."""
-    if path == HELP:
+    if os.path.basename(path) == HELP:
         return lambda text: joined(enumerate(text.split("\n"), 1))
     first = text.split("\n", 1)[0]
     if first.startswith("#!"):
@@ -136,12 +137,12 @@ def is_document(path):
 def folder_of(path):
     """The folder under which a file is counted."""
     parts = path.split("/")
-    if path == HELP:
+    if os.path.basename(path) == HELP:
         return "help texts"
     if parts[0] == "crates":
         return f"crates/*/{parts[2]}" if len(parts) > 3 else "crates"
-    kind = "" if len(parts) > 1 else "top"
-    return kind or parts[0] + (", documents" if is_document(path) else ", comments")
+    return (parts[0] if len(parts) > 1 else "top") + (
+        ", documents" if is_document(path) else ", comments")
 
 
 def finds(path, text, forms, allowed):
@@ -154,6 +155,30 @@ def finds(path, text, forms, allowed):
                 if not any(it in line for it in allowed[path]):
                     at = int(begin + 0.5) + block.count("\n", 0, found.start())
                     yield at, " ".join(found[0].split()), better
+
+
+def anchors(text):
+    """What a link may name of a document: its headings, in small letters, joined by hyphens."""
+    for line in re.sub(r"^```.*?^```$", "", text, flags=re.M | re.S).split("\n"):
+        if line.startswith("#"):
+            yield re.sub(r"[^\w -]", "", line.lstrip("# ").lower()).replace(" ", "-")
+
+
+def lost_links(path, text):
+    """Each link of a document whose file or heading is not there, with its line."""
+    for number, line in enumerate(text.split("\n"), 1):
+        for link in re.findall(r"\]\(([^)\s]+)\)", re.sub(r"`[^`]*`", "", line)):
+            if "://" in link:
+                continue
+            name, _, anchor = link.partition("#")
+            at = os.path.normpath(os.path.join(TOP, os.path.dirname(path), name)) if name else path
+            at = os.path.join(TOP, at)
+            if not os.path.exists(at):
+                yield number, link
+            elif anchor and at.endswith(".md"):
+                with open(at, encoding="utf-8") as file:
+                    if anchor not in anchors(file.read()):
+                        yield number, link
 
 
 def words_of(text):
@@ -183,11 +208,15 @@ def main():
             wrong += is_document(path)
             if is_document(path) or options.all:
                 print(f"{path}:{number}: {found}: write {better}")
+        for number, link in lost_links(path, text) if path.endswith(".md") else ():
+            wrong += 1
+            print(f"{path}:{number}: {link} leads nowhere")
     for folder in sorted(files):
-        if READERS and count[folder]:
+        if count[folder]:
             print(f"{count[folder]:6} in {files[folder]:4} files of {folder}")
-    print(f"{wrong} forms of our own in documents, {sum(count.values()) - wrong} in comments and help "
-          f"texts; README.md and docs have {words} words")
+    others = sum(count[folder] for folder in count if not folder.endswith("documents"))
+    print(f"{wrong} faults in documents, {others} forms in comments and help texts; README.md and "
+          f"docs have {words} words")
     return 1 if wrong else 0
 
 
