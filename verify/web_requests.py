@@ -2,10 +2,9 @@
 """Tries the page by requests that go wrong, and looks at what it leaves.
 
 Requests that are broken, too long or too large each have their status, and the next good one is
-answered. Processes of the program are killed beneath the page, readers go away in
-the midst of a table, and the journal is published anew, left unfinished and taken away. The page is
-ended by three signals: none of its processes is left. What its command tells of wrong words is
-tried too.
+answered. Processes of the program are killed beneath the page, readers go away in the midst of a
+table, and the journal is published anew, left unfinished and taken away. The page is ended by three
+signals: none of its processes is left. What its command tells of wrong words is tried too.
 """
 import json
 import os
@@ -20,8 +19,7 @@ from urllib.parse import urlencode
 
 from lib.checks import hold, verdict
 from lib.common import CommandLine, end
-from web_runs import (SAMPLES, Page, first_line, free_port, python_of_page,
-                      variables_of_page)
+from web_runs import SAMPLES, Page, free_port, python_of_page, variables_of_page
 
 MEBIBYTE = 1024 * 1024
 

@@ -11,7 +11,7 @@ import tempfile
 import time
 from urllib.parse import urlencode
 
-from command_line import MISSING, SCRIPT
+from command_line import need_python
 from lib.common import TOP, compact
 
 SAMPLES = os.path.join(TOP, "examples", "samples.journal")
@@ -27,14 +27,8 @@ def free_port():
 
 
 def python_of_page():
-    """A Python that has what the page requires: this one, or the system's."""
-    for python in (sys.executable, "/usr/bin/python3"):
-        if os.path.exists(python) and not subprocess.run(
-                [python, "-c", "import flask, waitress"], capture_output=True).returncode:
-            return python
-    print(f"{SCRIPT}: flask and waitress are missing: install the Debian packages python3-flask "
-          "and python3-waitress", file=sys.stderr)
-    return sys.exit(MISSING)
+    """A Python that has what the page requires."""
+    return need_python("flask, waitress", "the Debian packages python3-flask and python3-waitress")
 
 
 def variables_of_page(**others):

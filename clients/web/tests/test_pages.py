@@ -8,6 +8,7 @@ from urllib.parse import urlencode
 
 import pytest
 from conftest import SAMPLES
+from werkzeug.test import EnvironBuilder, run_wsgi_app
 
 from oldstyle_web.context import Page
 
@@ -138,9 +139,10 @@ def test_a_table_over_the_limit_is_told(page_of: Callable[..., Page], program: s
         assert reply.status_code == 413 and "larger than 1 MB" in reply.text
 
 
-def test_a_table_has_its_length_told(client: Any) -> None:
-    reply = client.post("/letters", environ_overrides={"CONTENT_LENGTH": ""})
-    assert reply.status_code == 411
+def test_a_table_has_its_length_told(page: Page) -> None:
+    environ = EnvironBuilder("/letters", method="POST").get_environ()
+    environ.pop("CONTENT_LENGTH", None)
+    assert run_wsgi_app(page, environ, buffered=True)[1].startswith("411 ")
 
 
 def test_other_hosts_are_refused_if_the_page_has_names(page_of: Callable[..., Page],

@@ -1,7 +1,6 @@
 """The application: its pages, what all its replies carry, and how it tells what can't be answered."""
 from __future__ import annotations
 
-import ipaddress
 import logging
 from datetime import datetime, timezone
 from typing import Any, Callable
