@@ -161,3 +161,17 @@ def test_wrong_words_are_told_in_a_line_or_two(words: list[str], wanted: str) ->
     done: Any = subprocess.run([*COMMAND, *words], env={**VARIABLES, "OLDSTYLE": "/bin/true"},
                                capture_output=True, text=True, check=False)
     assert done.returncode and wanted in done.stderr and "Traceback" not in done.stderr
+
+
+def test_a_large_table_takes_bounded_memory(program: str, script: Callable[[str], str]) -> None:
+    one = Served(script(f'[ "$1" = letters ] && exec cat; exec {program} "$@"'))
+    status = Path(f"/proc/{one.process.pid}/status")
+
+    def peak() -> int:
+        return int(re.findall(r"VmHWM:\s+(\d+) kB", status.read_text())[0]) * 1024
+    one.ask("/letters", b"place,date\nGB,1731\n")
+    before, table = peak(), b"place,date\n" + b"GB,11 February 1731\n" * 2_500_000
+    assert one.ask("/letters", table) == 200
+    print(f"{len(table)} bytes took {peak() - before}")
+    assert peak() - before < 16 * 1024 * 1024
+    one.end()

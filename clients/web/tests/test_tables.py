@@ -3,7 +3,7 @@ from __future__ import annotations
 
 import io
 import tempfile
-import time
+from pathlib import Path
 from typing import IO, Callable
 
 import pytest
@@ -37,23 +37,19 @@ def test_a_byte_order_mark_is_kept() -> None:
     assert tables.byte_order_mark(io.BytesIO(TEXT.encode())) == b""
 
 
+def held_in(rows: IO[bytes]) -> bytes:
+    rows.seek(0)
+    with rows:
+        return rows.read()
+
+
 def test_all_rows_come_and_the_place_is_given_back(script: Callable[[str], str]) -> None:
     work = Tables(Settings(SAMPLES, script("exec cat"), tables=1))
     held = b"place,date\n" + b"GB,1731\n" * 500_000
-    for _ in range(2):
-        rows = work.rows({}, table_of(held), None)
-        assert b"".join(rows) == held
-        rows.close()
-        rows.close()
-
-
-def test_a_table_that_is_closed_ends_its_program(script: Callable[[str], str]) -> None:
-    work = Tables(Settings(SAMPLES, script("echo row; exec sleep 60"), tables=1))
-    rows, began = work.rows({}, table_of(b"place,date\n"), None), time.monotonic()
-    rows.close()
-    assert time.monotonic() - began < 3
-    assert rows.process is not None and rows.process.returncode is not None
-    assert work.places.acquire(blocking=False)
+    unread = work.rows({}, table_of(held), None)
+    marked = b"\xef\xbb\xbf" + held
+    assert held_in(work.rows({}, table_of(marked), None)) == b"\xef\xbb\xbf" + marked
+    assert held_in(unread) == held
 
 
 def test_a_table_that_is_late_is_told(script: Callable[[str], str]) -> None:
@@ -61,17 +57,27 @@ def test_a_table_that_is_late_is_told(script: Callable[[str], str]) -> None:
     with pytest.raises(Problem) as why:
         work.rows({}, table_of(b"place,date\n"), None)
     assert why.value.code == 503 and "took too long" in str(why.value.description)
+    work = Tables(Settings(SAMPLES, script("echo row; exec sleep 60"), tables=1, table_seconds=0.5))
+    rows = held_in(work.rows({}, table_of(b"place,date\n"), None))
+    assert rows == b"row\nthe table took too long, and was ended\n"
     assert work.places.acquire(blocking=False)
 
 
+def test_a_line_of_the_journal_that_is_just_written_is_awaited(tmp_path: Path,
+                                                               script: Callable[[str], str]) -> None:
+    once = tmp_path / "once"
+    program = script(f"[ -e {once} ] && exec cat; touch {once}\n"
+                     "echo 'oldstyle: journal line 9: 32 NotJson' >&2; exit 1")
+    rows = Tables(Settings(SAMPLES, program)).rows({}, table_of(b"place,date\n"), None)
+    assert held_in(rows) == b"place,date\n"
+
+
 def test_tables_too_many_are_told(script: Callable[[str], str]) -> None:
-    work = Tables(Settings(SAMPLES, script("echo row; exec sleep 60"), tables=1,
-                           question_seconds=0.1))
-    rows = work.rows({}, table_of(b"place,date\n"), None)
+    work = Tables(Settings(SAMPLES, script("exec cat"), tables=1, question_seconds=0.1))
+    work.places.acquire()
     with pytest.raises(Problem) as why:
         work.rows({}, table_of(b"place,date\n"), None)
     assert why.value.code == 503
-    rows.close()
 
 
 def test_a_program_that_is_gone_is_told_without_its_path() -> None:
@@ -96,9 +102,7 @@ def test_a_fault_of_the_table_is_told_in_the_words_of_the_page(
 def test_a_fault_after_the_first_rows_is_the_last_line(script: Callable[[str], str], told: str,
                                                        last: bytes) -> None:
     work = Tables(Settings(SAMPLES, script("echo row; echo 'oldstyle: a fault' >&2; exit 1")))
-    rows = work.rows({"told": told}, table_of(b"x\n"), None)
-    assert b"".join(rows) == b"row\n" + last
-    rows.close()
+    assert held_in(work.rows({"told": told}, table_of(b"x\n"), None)) == b"row\n" + last
 
 
 @pytest.mark.parametrize("fields", [{"separator": "x"}, {"order": "x"},

@@ -25,8 +25,6 @@ HELLO = b'{"op":"lands","reader":1}\n'
 LONGEST_HEAD = 32_768
 # A connection on which nothing moves is closed after so many seconds.
 IDLE_SECONDS, LOOK_SECONDS = 30, 5
-# So many bytes of a reply wait for their reader in files, and the thread that made them is free.
-MOST_WAITING = 1 << 40
 # What a form has beside its files.
 REST_OF_FORM = 65_536
 
@@ -113,7 +111,7 @@ def server_of(options: argparse.Namespace, app: Page) -> Any:
             connection_limit=options.connections, channel_timeout=IDLE_SECONDS,
             cleanup_interval=LOOK_SECONDS, asyncore_use_poll=True,
             max_request_header_size=LONGEST_HEAD, max_request_body_size=most,
-            outbuf_high_watermark=MOST_WAITING, clear_untrusted_proxy_headers=True)
+            clear_untrusted_proxy_headers=True)
     except (OSError, ValueError) as why:
         at = f"the port {options.port} of {options.address}"
         if isinstance(why, OSError) and why.errno == errno.EADDRINUSE:

@@ -8,6 +8,7 @@ from dataclasses import dataclass
 from typing import IO
 
 from flask import Blueprint, Response, abort, render_template, request
+from werkzeug.wsgi import wrap_file
 
 from .context import page
 from .problems import Problem
@@ -38,8 +39,12 @@ def form() -> Response:
 def rows() -> Response:
     """The rows of a table, as the program writes them."""
     sent = received()
-    response = Response(page().tables.rows(sent.fields, sent.table, sent.places),
+    rows = page().tables.rows(sent.fields, sent.table, sent.places)
+    size = rows.tell()
+    rows.seek(0)
+    response = Response(wrap_file(request.environ, rows), direct_passthrough=True,
                         content_type="text/csv; charset=utf-8")
+    response.content_length = size
     response.headers["Content-Disposition"] = f'attachment; filename="{found_name(sent.name)}"'
     return response
 

@@ -1,15 +1,16 @@
-"""Tables of letters: the command `letters` over a table that was sent, its rows passed on as they
-come."""
+"""Tables of letters: the command `letters` over a table that was sent."""
 from __future__ import annotations
 
 import codecs
 import json
+import os
 import re
 import subprocess
 import tempfile
 import threading
 import time
-from typing import IO, Callable, Iterator, Mapping
+from dataclasses import dataclass
+from typing import IO, Mapping
 
 from .problems import Problem, busy, unavailable
 from .settings import Settings, in_bytes, reason_of
@@ -63,123 +64,80 @@ def byte_order_mark(file: IO[bytes]) -> bytes:
 
 
 class Tables:
-    """Runs `letters`, some at once."""
+    """Runs `letters`, some at once, from files into files: neither a table nor its rows are held in
+    memory, and no run waits for who reads its rows."""
 
     def __init__(self, settings: Settings):
         self.settings = settings
         self.places = threading.BoundedSemaphore(settings.tables)
 
     def rows(self, fields: Mapping[str, str], table: IO[bytes],
-             places: IO[bytes] | None) -> Rows:
-        """The rows of a table that was sent, of which the first have come."""
-        words = [self.settings.program, "letters", self.settings.journal, *options_of(fields),
-                 *self.settings.limit_words()]
+             places: IO[bytes] | None) -> IO[bytes]:
+        """A file of the rows of a table, and of how it ended if the fields ask for that."""
+        options = options_of(fields)
         mark = byte_order_mark(table)
         if not self.places.acquire(timeout=self.settings.question_seconds):
             raise busy("Other tables are read just now.")
-        rows = Rows(self.settings, words, table, places, self.places.release)
-        rows.mark, rows.tells_end = mark, fields.get("told") == "1"
+        rows: IO[bytes] = tempfile.TemporaryFile()
         try:
-            rows.start()
+            end = self.written(options, table, places, rows, mark)
         except BaseException:
             rows.close()
             raise
+        finally:
+            self.places.release()
+        if fields.get("told") == "1":
+            rows.write(MARK + json.dumps({"status": end.status, "told": end.told}).encode())
+        elif end.told:
+            rows.write(f"{end.told}\n".encode())
         return rows
 
-
-class Rows:
-    """The rows of a table, block by block. Closing them ends the program."""
-
-    def __init__(self, settings: Settings, words: list[str], table: IO[bytes],
-                 places: IO[bytes] | None, ended: Callable[[], None]):
-        self.settings, self.words, self.table, self.places = settings, words, table, places
-        self.ended: Callable[[], None] | None = ended
-        self.mark, self.tells_end, self.first, self.is_late = b"", False, b"", False
-        self.errors: IO[bytes] = tempfile.TemporaryFile()
-        self.process: subprocess.Popen[bytes] | None = None
-        self.clock = threading.Timer(settings.table_seconds, self.end_late)
-        self.clock.daemon = True
-
-    def start(self) -> None:
-        """Has the program write the first rows, or tells the fault if there is none."""
-        self.clock.start()
+    def written(self, options: list[str], table: IO[bytes], places: IO[bytes] | None,
+                rows: IO[bytes], mark: bytes) -> End:
+        """Has the program write the rows after a mark, or raises why there is none. A line of the
+        journal that is just being written is awaited."""
+        words, passed = [self.settings.program, "letters", self.settings.journal, *options,
+                         *self.settings.limit_words()], []
+        if places:
+            passed.append(places.fileno())
+            words += ["--places", f"/dev/fd/{passed[0]}"]
+        rows.write(mark)
         for _ in range(TRIES):
-            self.process = self.begun()
-            if first := self.block():
-                self.first = first
-                return
-            status, told = self.process.wait(), self.told()
-            if not told.startswith(OF_JOURNAL):
+            for file in (table, places):
+                if file:
+                    file.seek(0)
+            end = self.ended(words, passed, table, rows)
+            if rows.seek(0, os.SEEK_END) > len(mark):
+                return end
+            if not end.told.startswith(OF_JOURNAL):
                 break
             time.sleep(0.03)
-        if status in (1, 2) and not told.startswith(OF_JOURNAL):
-            raise Problem(422, NAME_YOURS.sub(YOUR_NAME, told))
-        raise unavailable(told)
+        if end.status in (1, 2) and not end.told.startswith(OF_JOURNAL):
+            raise Problem(422, NAME_YOURS.sub(YOUR_NAME, end.told))
+        raise unavailable(end.told)
 
-    def begun(self) -> subprocess.Popen[bytes]:
-        """The program over the table, from its beginning."""
-        words, passed = self.words, []
-        if self.places:
-            self.places.seek(0)
-            passed.append(self.places.fileno())
-            words = [*words, "--places", f"/dev/fd/{passed[0]}"]
-        self.table.seek(0)
-        self.errors.seek(0)
-        self.errors.truncate()
+    def ended(self, words: list[str], passed: list[int], table: IO[bytes],
+              rows: IO[bytes]) -> End:
+        """How a run of the program over a table ended."""
+        rows.flush()
         try:
-            return subprocess.Popen(in_bytes(words), stdin=self.table, stdout=subprocess.PIPE,
-                                    stderr=self.errors, bufsize=0, pass_fds=passed)
+            done = subprocess.run(in_bytes(words), stdin=table, stdout=rows, pass_fds=passed,
+                                  stderr=subprocess.PIPE, check=False,
+                                  timeout=self.settings.table_seconds)
+        except subprocess.TimeoutExpired:
+            return End(-1, "the table took too long, and was ended")
         except OSError as why:
-            raise unavailable(reason_of(why)) from None
-
-    def block(self) -> bytes:
-        """The next bytes of the rows, or nothing at their end."""
-        assert self.process and self.process.stdout
-        return self.process.stdout.read(BLOCK)
-
-    def told(self) -> str:
-        """What the program told, once it has ended."""
-        assert self.process
-        status = self.process.wait()
-        self.errors.seek(0)
-        told = self.settings.shown(self.errors.read(4096).decode(errors="replace"))
+            return End(-1, reason_of(why))
+        told = self.settings.shown(done.stderr.decode(errors="replace"))
         told = PLACES_FILE.sub("the table of places", told)
-        if status < 0 and not told:
-            return "the table took too long, and was ended" if self.is_late else \
-                "the program was ended before the table did"
-        return told
+        if done.returncode < 0 and not told:
+            told = "the program was ended before the table did"
+        return End(done.returncode, told)
 
-    def end_late(self) -> None:
-        """Ends the program, since its time is up."""
-        self.is_late = True
-        if self.process:
-            self.process.kill()
 
-    def __iter__(self) -> Iterator[bytes]:
-        yield self.mark
-        yield self.first
-        while block := self.block():
-            yield block
-        told = self.told()
-        if self.tells_end:
-            assert self.process
-            yield MARK + json.dumps({"status": self.process.returncode, "told": told}).encode()
-        elif told:
-            yield f"{told}\n".encode()
+@dataclass(frozen=True)
+class End:
+    """How a run ended: its status, and what it told."""
 
-    def close(self) -> None:
-        """Ends the program, if it hasn't ended, and gives its place back."""
-        if self.ended is None:
-            return
-        ended, self.ended = self.ended, None
-        try:
-            self.clock.cancel()
-            if self.process and self.process.stdout:
-                self.process.kill()
-                self.process.stdout.close()
-                self.process.wait()
-            for file in (self.table, self.places, self.errors):
-                if file:
-                    file.close()
-        finally:
-            ended()
+    status: int
+    told: str

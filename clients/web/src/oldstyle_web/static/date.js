@@ -1,6 +1,8 @@
 // One date: asks as it is typed, keeps the address, and copies the citation.
 const form = document.getElementById("question");
 const answer = document.getElementById("answer");
+// What is read aloud: one sentence of an answer, and not all of it at each pause in typing.
+const said = document.getElementById("said");
 const WAIT = 180;
 let timer = 0;
 let asking = null;
@@ -50,6 +52,7 @@ async function ask() {
 function show(told, question) {
     shown = question;
     answer.innerHTML = told.html;
+    said.textContent = told.said ?? "";
     document.title = told.title;
     history.replaceState(null, "", told.address);
     offerCopy();
@@ -63,6 +66,7 @@ function tell(sentence, question) {
     line.className = "reason";
     line.textContent = sentence;
     answer.replaceChildren(line);
+    said.textContent = sentence;
 }
 
 // Puts buttons that copy beside the link, where the browser lets a page copy.
@@ -83,6 +87,7 @@ function copyButton(name, text) {
         try {
             await navigator.clipboard.writeText(text());
             button.textContent = "Copied";
+            said.textContent = "Copied.";
         } catch {
             button.textContent = "Not allowed: mark it and copy";
         }
