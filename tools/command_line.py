@@ -106,6 +106,23 @@ def need(command, package):
         sys.exit(MISSING)
 
 
+def python_with(modules):
+    """A Python that has modules, this one or the system's, or None."""
+    for python in (sys.executable, "/usr/bin/python3"):
+        if os.path.exists(python) and not subprocess.run(
+                [python, "-c", f"import {modules}"], capture_output=True, check=False).returncode:
+            return python
+    return None
+
+
+def need_python(modules, package):
+    """A Python that has modules; the script ends if there is none."""
+    if (python := python_with(modules)) is None:
+        print(f"{SCRIPT}: no Python has {modules}: install {package}", file=sys.stderr)
+        sys.exit(MISSING)
+    return python
+
+
 def end(main):
     """Ends the script with the status of its main function. What the system or a command refuses
     is told in a line."""

@@ -2,10 +2,10 @@
 import os
 import shutil
 import subprocess
-import sys
 
 import client_tools
 from client_tools import JOURNAL, SAMPLES, read
+from command_line import need_python
 from lib.common import TOP
 
 PLACES = os.path.join(SAMPLES, "places.csv")
@@ -31,9 +31,11 @@ class Installed:
         self.folder = os.path.join(folder, "environment")
         self.path = os.path.join(self.folder, "bin")
         self.variables = {**os.environ, "OLDSTYLE": program, "PIP_NO_INDEX": "1"}
-        subprocess.run([sys.executable, "-m", "venv", self.folder], check=True)
+        subprocess.run([need_python("setuptools, wheel", "python3-setuptools and python3-wheel"),
+                        "-m", "venv", "--system-site-packages", self.folder], check=True)
         alone = ["unshare", "--net"] if os.getuid() == 0 and shutil.which("unshare") else []
-        words = [*alone, os.path.join(self.path, "pip"), "install", "./clients/python"]
+        words = [*alone, os.path.join(self.path, "pip"), "install", "--no-build-isolation",
+                 "./clients/python"]
         self.done = self.run(words)
 
     def run(self, words, data=b"", folder=TOP, **variables):

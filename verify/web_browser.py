@@ -153,7 +153,9 @@ def hold_keyboard(browser, page, program):
     browser.wait("the answer", lambda: browser.all(".found"))
     wrong = differences(inner(browser), program, SAMPLES, "GB", "11 February 1731")
     hold("the answer by keyboard", not wrong, *wrong)
-    hold("the answer is told", browser.one("#answer").get_attribute("aria-live") == "polite")
+    said = browser.one("#said[role=status]").get_attribute("textContent")
+    hold("the answer is told in one sentence", said.startswith("“11 February 1731” in Great Britain")
+         and not browser.all("#answer [aria-live]"), said)
 
 
 def hold_month(browser, page):
@@ -163,6 +165,10 @@ def hold_month(browser, page):
     hold("the day after the gap is marked", marked == ["14"], marked)
     hold("the gap is told", "Wednesday 2 September 1752 was followed by Thursday 14 September 1752."
          in browser.one(".gap-note").text)
+    browser.run("document.querySelector('.month td a').focus()")
+    for wanted in ("2", "14", "15"):
+        browser.press(Keys.TAB)
+        hold(f"Tab reaches {wanted}", browser.focused().text == wanted, browser.focused().text)
     browser.run("document.querySelector('.month td a').focus()")
     for key, wanted in ((Keys.ARROW_RIGHT, "2"), (Keys.ARROW_RIGHT, "14"), (Keys.ARROW_DOWN, "21"),
                         (Keys.HOME, "17"), (Keys.END, "23"), (Keys.ARROW_UP, "16")):

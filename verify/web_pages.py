@@ -1,7 +1,7 @@
 #!/usr/bin/env python3
 """Holds the page against the program, by requests: dates, months and tables of letters.
 
-A run of `python3 -m web` answers over the samples, and then over random territories. Each answer
+A run of `oldstyle-web` answers over the samples, and then over random territories. Each answer
 of a typed date, of the forms in docs/DATES.md and of random ones, is held against what `read`
 prints and what the query `written` answers; each month against `month`. Each table that is sent
 comes back as `letters` writes it, byte by byte, or with the fault that it tells.

@@ -1,12 +1,12 @@
 #!/usr/bin/env python3
-"""Has 200 readers ask the page under gunicorn for a minute, while a keeper publishes editions.
+"""Has 200 readers ask the page for a minute, while a keeper publishes editions.
 
 A run of `serve --keep` adds territories and moves a change, and publishes now and then. Meanwhile
 each reader asks for dates, months, places and years without a pause. No request may be refused or
 fail, no reader may be told an earlier edition than before, nor one that is not published yet, and
 each answer of a typed date is held against what a register with the edits up to its edition
-answers. At the end a worker is killed, all are started anew, and gunicorn is told to stop: no
-process may be left each time. It wants gunicorn.
+answers. At the end the page is told to stop: no process may be left. Under gunicorn a worker is
+killed before that, and all are started anew.
 """
 import http.client
 import json
@@ -159,10 +159,11 @@ def main():
     line.add_program()
     line.add_number("--readers", 200, "readers at once")
     line.add_number("--seconds", 60, "how long they ask")
-    line.add_number("--workers", 4, "workers of gunicorn")
+    line.add_number("--workers", 0, "workers of gunicorn; 0 has the page serve itself", 0)
     line.add_number("--editions", 4, "editions a second")
     options = line.read()
-    need("gunicorn", "the Debian package gunicorn")
+    if options.workers:
+        need("gunicorn", "the Debian package gunicorn")
     with tempfile.TemporaryDirectory() as folder:
         journal = os.path.join(folder, "kept.journal")
         saved = [options.program, "serve", "--journal", SAMPLES, "--save", journal]
@@ -183,7 +184,7 @@ def with_readers(options, journal):
     for reader in readers:
         reader.join()
     keeper.stop()
-    left = stay(page)
+    left = stay(page) if options.workers else []
     more, errors = page.stop()
     left += more
     wrong = [one for reader in readers for one in reader.wrong]

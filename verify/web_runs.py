@@ -11,6 +11,7 @@ import tempfile
 import time
 from urllib.parse import urlencode
 
+from command_line import need_python
 from lib.common import TOP, compact
 
 SAMPLES = os.path.join(TOP, "examples", "samples.journal")
@@ -25,13 +26,15 @@ def free_port():
         return taken.getsockname()[1]
 
 
-def script(folder, text):
-    """A stand-in of the program, which is a script of the shell."""
-    path = os.path.join(folder, "program")
-    with open(path, "w", encoding="utf-8") as file:
-        file.write(f"#!/bin/sh\n{text}\n")
-    os.chmod(path, 0o755)
-    return path
+def python_of_page():
+    """A Python that has what the page requires."""
+    return need_python("flask, waitress", "the Debian packages python3-flask and python3-waitress")
+
+
+def variables_of_page(**others):
+    """The environment in which the page is found."""
+    folders = [os.path.join(TOP, "clients", name, "src") for name in ("python", "web")]
+    return {**os.environ, "PYTHONPATH": os.pathsep.join(folders), **others}
 
 
 def process_table():
@@ -79,13 +82,13 @@ class Page:
 
     def __init__(self, program, journal, options=(), workers=0, threads=0):
         self.host, self.port, self.started = "127.0.0.1", free_port(), {}
-        words = [sys.executable, "-m", "web", journal, "--program", program, "--port",
+        words = [python_of_page(), "-m", "oldstyle_web", journal, "--program", program, "--port",
                  str(self.port), *options]
-        variables = {**os.environ, "OLDSTYLE_JOURNAL": journal, "OLDSTYLE_PROGRAM": program}
+        variables = variables_of_page(OLDSTYLE_JOURNAL=journal, OLDSTYLE=program)
         if workers:
             words = ["gunicorn", "--bind", f"{self.host}:{self.port}", "--worker-class", "gthread",
                      "--workers", str(workers), "--threads", str(threads), "--log-level",
-                     "warning", *options, "web.wsgi:application"]
+                     "warning", *options, "oldstyle_web.wsgi:application"]
         self.errors = tempfile.TemporaryFile("w+")
         self.process = subprocess.Popen(words, cwd=TOP, env=variables, stdout=subprocess.DEVNULL,
                                         stderr=self.errors)
@@ -123,7 +126,7 @@ class Page:
         try:
             connection.request(method, path, body, headers or {})
             reply = connection.getresponse()
-            return reply.status, dict(reply.getheaders()), reply.read()
+            return reply.status, reply.headers, reply.read()
         finally:
             connection.close()
 

@@ -1,6 +1,7 @@
 # shellcheck shell=bash disable=SC2154  # part of `oldstyle`
-# Puts the program, its manual, the texts that complete its words and the samples under a folder,
-# where it needs neither the kit nor this repository, and takes them away again.
+# Puts the program, its manual, the texts that complete its words, the clients in Python and the
+# samples under a folder, where they need neither the kit nor this repository, and takes them away
+# again.
 to=""
 # Below the folder: names each file that was put there, this one too.
 list=share/oldstyle/files.txt
@@ -25,8 +26,9 @@ install_program() {
     put_all && remove_older && mv -f "$to/$list.new" "$to/$list" ||
         refuse "it can't be installed under $to:" \
             "name a folder that you may write to, as ./oldstyle install FOLDER"
-    say "installed under $to: bin/oldstyle, share/man/man1/oldstyle.1, share/oldstyle/examples" \
-        "and completions of bash, zsh and fish"
+    say "installed under $to: bin/oldstyle, bin/oldstyle-web, bin/oldstyle-tei," \
+        "bin/oldstyle-gedcom, share/man/man1/oldstyle.1, share/oldstyle/examples and completions" \
+        "of bash, zsh and fish"
     [[ :$PATH: == *":$to/bin:"* ]] ||
         say "$to/bin is not on the PATH: add it, or start $to/bin/oldstyle"
 }
@@ -37,6 +39,20 @@ put() { install -D -m "$1" "$2" "$to/$3" && echo "$3" >> "$to/$list.new"; }
 # put_completions SHELL TARGET: the program says how the shell completes its words.
 put_completions() { "$program" completions "$1" | put 644 /dev/stdin "$2"; }
 
+# put_clients: puts the packages of Python, and a command for each of their programs.
+put_clients() {
+    local folder file name
+    for folder in clients/python/src clients/web/src; do
+        while read -r -d '' file; do
+            put 644 "$folder/$file" "share/oldstyle/python/$file" || return
+        done < <(cd "$folder" && find . -name __pycache__ -prune -o -name '*.egg-info' -prune \
+            -o -type f -printf '%P\0')
+    done
+    for name in oldstyle-web oldstyle-tei oldstyle-gedcom; do
+        put 755 tools/launcher/client.py "bin/$name" || return
+    done
+}
+
 # The samples' own scripts find the program beside their folder.
 put_all() {
     local sample mode
@@ -45,7 +61,8 @@ put_all() {
         put 644 docs/oldstyle.1 share/man/man1/oldstyle.1 &&
         put_completions bash share/bash-completion/completions/oldstyle &&
         put_completions zsh share/zsh/site-functions/_oldstyle &&
-        put_completions fish share/fish/vendor_completions.d/oldstyle.fish || return
+        put_completions fish share/fish/vendor_completions.d/oldstyle.fish &&
+        put_clients || return
     while read -r -d '' sample; do
         mode=644
         [ ! -x "$sample" ] || mode=755

@@ -1,6 +1,6 @@
 """Requests to the page in the browser, changed at random: a target of fuzz.py.
 
-A run of `python3 -m web` is sent requests, as bytes that were changed and by addresses whose words
+A run of `oldstyle-web` is sent requests, as bytes that were changed and by addresses whose words
 were. Each has a reply with a status that docs/SERVING.md names, never 500, and a body as long as
 its head says. The page tells no fault of its own, and the next good request is answered. What it
 answers to a date is what the query `written` answers.
@@ -20,8 +20,8 @@ AT_ONCE = 40
 SECONDS = 40
 HEAD = re.compile(rb"HTTP/1\.[01] (\d{3}) [^\r\n]*\r\n(.*?)\r\n\r\n", re.S)
 LENGTH = re.compile(rb"^content-length: (\d+)\r?$", re.I | re.M)
-# Those of docs/SERVING.md, and what the standard library replies to what is no HTTP.
-STATUSES = {200, 304, 400, 404, 405, 408, 411, 413, 414, 421, 422, 431, 501, 503, 505}
+# Those of the page's README, and what waitress replies to what is no HTTP.
+STATUSES = {200, 304, 400, 404, 405, 411, 413, 414, 421, 422, 431, 501, 503}
 PATHS = ["", "answer.json", "month", "year", "day", "place", "letters", "static/page.css",
          "nowhere"]
 MEMBERS = {"code": [*CODES, "ZZ", "gb", ""], "date": None, "weekday": [*WEEKDAYS, "", "Fryday"],
@@ -131,7 +131,7 @@ class Web:
     def why_other_dates(self, dates):
         """Each date that the page answers otherwise than the query."""
         asked = [(given, date, json.loads(held[HEAD.match(held).end():])) for given, date, held
-                 in dates if held.startswith(b"HTTP/1.0 200")]
+                 in dates if HEAD.match(held)[1] == b"200"]
         asked = [one for one in asked if "written" in one[2]]
         lines = [compact({"op": "written", "reader": 1, "code": date["code"],
                           "date": date["date"].strip(),

@@ -6,16 +6,17 @@
 """
 from .answers import Day, Land, Period, Reading, Run
 from .faults import (BadCode, BadDate, BadField, DayOffLine, Fault, JournalRefused, LineTooLong,
-                     NotJson, NotObject, OldstyleError, PlacesRefused, ProgramDiffers,
-                     ProgramEnded, ProgramFailed, ProgramMissing, ReadOnly, UnknownLand,
-                     UnknownOp, UnknownReader, YearOffRange)
+                     NotJson, NotObject, OldstyleError, PlacesRefused, ProgramBusy,
+                     ProgramDiffers, ProgramEnded, ProgramFailed, ProgramMissing, ProgramSlow,
+                     ReadOnly, UnknownLand, UnknownOp, UnknownReader, YearOffRange)
 from .frames import read_frame
 from .places import Places
+from .pool import Pool
 from .register import Register
 
 __version__ = "0.1.0"
 __all__ = ["BadCode", "BadDate", "BadField", "Day", "DayOffLine", "Fault", "JournalRefused", "Land",
            "LineTooLong", "NotJson", "NotObject", "OldstyleError", "Period", "Places",
-           "PlacesRefused", "ProgramDiffers", "ProgramEnded", "ProgramFailed", "ProgramMissing",
-           "ReadOnly", "Reading", "Register", "Run", "UnknownLand", "UnknownOp", "UnknownReader",
-           "YearOffRange", "read_frame"]
+           "PlacesRefused", "Pool", "ProgramBusy", "ProgramDiffers", "ProgramEnded",
+           "ProgramFailed", "ProgramMissing", "ProgramSlow", "ReadOnly", "Reading", "Register",
+           "Run", "UnknownLand", "UnknownOp", "UnknownReader", "YearOffRange", "read_frame"]

@@ -128,6 +128,15 @@ class ProgramEnded(ProgramFailed):
         self.told = told
 
 
+class ProgramSlow(ProgramFailed):
+    """The program did not answer in the time that was given. It is started anew if it is asked
+    again."""
+
+
+class ProgramBusy(ProgramFailed):
+    """All runs of a pool answered others for as long as was waited."""
+
+
 class JournalRefused(ProgramEnded):
     """The program ended since it could not open or load the journal."""
 

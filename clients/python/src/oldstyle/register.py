@@ -21,20 +21,21 @@ class Register:
 
     `program` names the program; without it the environment variable OLDSTYLE does, or it is
     `oldstyle` on the PATH. With `follow` the answers are those of the editions that another run
-    publishes meanwhile: that wants a program that knows `serve --follow`.
+    publishes meanwhile: that wants a program that knows `serve --follow`. A reply that takes more
+    than `timeout` seconds raises `ProgramSlow`.
 
     Several threads may ask a register. A process that is forked, and the next question after an
     exception amid one, such as KeyboardInterrupt, open the journal anew.
     """
 
     def __init__(self, journal: Union[str, "os.PathLike[str]"], *, program: Optional[str] = None,
-                 follow: bool = False):
+                 follow: bool = False, timeout: Optional[float] = None):
         path = rooted(os.fspath(journal))
         words = ["--follow"] if follow else ["--read-only", "--journal"]
         if follow and not os.path.exists(path):
             raise JournalRefused(f"{path}: {unreadable(path)}", 0, "")
         self._program = program_at(program)
-        self._service = Service([self._program, "serve", *words, path])
+        self._service = Service([self._program, "serve", *words, path], timeout)
         try:
             self.lands()
         except BaseException:

@@ -10,11 +10,12 @@ import signal
 import subprocess
 import tempfile
 import threading
+import time
 import weakref
 from typing import IO, Deque, Iterable, Iterator, List, Optional, Sequence, Tuple, TypeVar
 
 from .faults import (JournalRefused, ProgramDiffers, ProgramEnded, ProgramFailed,
-                     ProgramMissing)
+                     ProgramMissing, ProgramSlow)
 
 Row = TypeVar("Row")
 PIECE = 1 << 16
@@ -53,11 +54,12 @@ class Service:
     """The program with its words, which several threads may ask.
 
     It is started anew for the next question in a process that was forked since, and after an
-    exception amid a question, such as one that a signal raised.
+    exception amid a question, such as one that a signal raised or that the time was up.
     """
 
-    def __init__(self, command: Sequence[str]):
+    def __init__(self, command: Sequence[str], timeout: Optional[float] = None):
         self._command = command
+        self._timeout = timeout
         self._is_closed = False
         self._connection = Connection(command)
 
@@ -69,7 +71,7 @@ class Service:
     def ask(self, line: bytes) -> bytes:
         """The reply to a line."""
         connection = self._current()
-        return connection.wait(connection.send([line])[0])
+        return connection.wait(connection.send([line])[0], self._last())
 
     def ask_many(self, lines: Iterable[Tuple[Row, bytes]],
                  ahead: int) -> Iterator[Tuple[Row, bytes]]:
@@ -93,11 +95,15 @@ class Service:
             is_over = failed is not None or not batch
             while len(waiting) > (0 if is_over else ahead // 2):
                 row, ticket = waiting.popleft()
-                yield row, ticket.reply or connection.wait(ticket)
+                yield row, ticket.reply or connection.wait(ticket, self._last())
             if failed is not None:
                 raise failed
             if is_over:
                 return
+
+    def _last(self) -> Optional[float]:
+        """Until when the next reply is waited for."""
+        return None if self._timeout is None else time.monotonic() + self._timeout
 
     def _current(self) -> "Connection":
         """The connection to ask, which is a new one if the last one can't be asked any more."""
@@ -146,11 +152,12 @@ class Connection:
         self._finalizer = weakref.finalize(self, end, self._process, self._errors, self._owner)
 
     def is_lost(self) -> bool:
-        """Whether another process began it, or an exception interrupted an exchange."""
+        """Whether another process began it, or an exception interrupted an exchange, such as that
+        the program was too slow."""
         if self._owner != os.getpid():
             return True
         with self._lock:
-            return self._refusal is self._lost
+            return self._refusal is self._lost or isinstance(self._refusal, ProgramSlow)
 
     def close(self) -> None:
         """Ends the program if this process started it. Threads that wait for it stop waiting."""
@@ -172,20 +179,28 @@ class Connection:
             self._refusal = None
         return tickets
 
-    def wait(self, ticket: Ticket) -> bytes:
-        """The reply to a line that was sent."""
+    def wait(self, ticket: Ticket, last: Optional[float] = None) -> bytes:
+        """The reply to a line that was sent. If it doesn't come before the last moment, the program
+        is asked no more."""
         while ticket.reply is None:
             self._check_owner()
             with self._lock:
                 if ticket.reply is None:
                     self._begin()
                     try:
+                        if last is not None and time.monotonic() > last:
+                            raise ProgramSlow(f"{self._command[0]} did not answer in time: ask "
+                                              "again, or give it more time")
                         self._exchange()
                     except ProgramFailed as why:
                         self._refusal = why
                         raise
                     self._refusal = None
         return ticket.reply
+
+    def ask(self, lines: Sequence[bytes], last: float) -> List[bytes]:
+        """The replies to lines, all of which come before the last moment."""
+        return [self.wait(ticket, last) for ticket in self.send(lines)]
 
     def _check_owner(self) -> None:
         """Refuses questions of another process, where the lock may be held for ever."""

@@ -1,0 +1,94 @@
+"""Some runs of the program that answer lines, each lent to one caller at a time."""
+from __future__ import annotations
+
+import os
+import queue
+import time
+from typing import Dict, List, Optional, Sequence
+
+from .faults import ProgramBusy, ProgramEnded, ProgramSlow
+from .service import PATIENCE, Connection, closed
+
+
+class Pool:
+    """Runs of `command`, `size` at most, for callers in several threads and processes.
+
+    A run is started if it is needed, and first asked the lines `opening`, whose replies are not
+    looked at. One that ends or is too slow is replaced, and its question asked once more. A
+    process that is forked starts runs of its own.
+    """
+
+    def __init__(self, command: Sequence[str], size: int, *, seconds: float,
+                 opening: Sequence[bytes] = ()):
+        self._command, self._size, self._seconds = command, size, seconds
+        self._opening = opening
+        self._is_closed = False
+        # By the process that may lend them: what another one left is not touched.
+        self._idle: Dict[int, "queue.LifoQueue[Optional[Connection]]"] = {}
+
+    def ask(self, lines: Sequence[bytes]) -> List[bytes]:
+        """The replies to lines, which end by line feeds, all by one run.
+
+        A run and the replies have `seconds`, and a run that is started has them anew. Then
+        `ProgramBusy` or `ProgramSlow` is raised.
+        """
+        idle = self._lent()
+        last = time.monotonic() + self._seconds
+        try:
+            connection = idle.get(timeout=self._seconds)
+        except queue.Empty:
+            raise ProgramBusy(f"all {self._size} runs of {self._command[0]} answer others: ask "
+                              "again in a moment") from None
+        fit = None
+        try:
+            if connection is not None:
+                try:
+                    replies = connection.ask(lines, last)
+                    fit = connection
+                    return replies
+                except (ProgramEnded, ProgramSlow):
+                    connection.close()
+            connection = self._started()
+            replies = connection.ask(lines, time.monotonic() + self._seconds)
+            fit = connection
+            return replies
+        finally:
+            # (after whatever exception nobody can say which replies are still to come)
+            if fit is None and connection is not None:
+                connection.close()
+            idle.put(fit)
+
+    def close(self) -> None:
+        """Ends the runs of this process, those that are lent as soon as they come back."""
+        self._is_closed = True
+        if (idle := self._idle.get(os.getpid())) is None:
+            return
+        last = time.monotonic() + PATIENCE
+        for _ in range(self._size):
+            try:
+                connection = idle.get(timeout=max(0, last - time.monotonic()))
+            except queue.Empty:
+                return
+            if connection is not None:
+                connection.close()
+
+    def _lent(self) -> "queue.LifoQueue[Optional[Connection]]":
+        """What this process may lend: runs, and places for some that are not started yet."""
+        if self._is_closed:
+            raise closed()
+        process = os.getpid()
+        if process not in self._idle:
+            places: "queue.LifoQueue[Optional[Connection]]" = queue.LifoQueue()
+            for _ in range(self._size):
+                places.put(None)
+            self._idle.setdefault(process, places)
+        return self._idle[process]
+
+    def _started(self) -> Connection:
+        connection = Connection(self._command)
+        try:
+            connection.ask(self._opening, time.monotonic() + self._seconds)
+        except BaseException:
+            connection.close()
+            raise
+        return connection

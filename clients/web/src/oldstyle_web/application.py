@@ -1,0 +1,141 @@
+"""The application: its pages, what all its replies carry, and how it tells what can't be answered."""
+from __future__ import annotations
+
+import logging
+from datetime import datetime, timezone
+from typing import Any, Callable
+from urllib.parse import unquote_to_bytes, urlsplit
+
+from flask import Response, jsonify, request
+from werkzeug.exceptions import HTTPException
+
+from . import api, dates, letters, months, pages, words
+from .context import NAME, Page, page
+from .problems import Problem
+from .settings import Settings, is_loopback
+
+LONGEST_QUERY = 4096
+MOST_MEMBERS = 20
+POLICY = ("default-src 'none'; script-src 'self'; style-src 'self'; img-src 'self'; "
+          "connect-src 'self'; form-action 'self'; base-uri 'none'; frame-ancestors 'none'")
+HEADERS = {"Content-Security-Policy": POLICY, "X-Content-Type-Options": "nosniff",
+           "Referrer-Policy": "no-referrer", "Cross-Origin-Opener-Policy": "same-origin",
+           "Cross-Origin-Resource-Policy": "same-origin"}
+SENTENCES = {404: "There is no such page here. Begin with one date.",
+             405: "That method is not taken here.",
+             500: "Something is wrong in this page. It was written down for those who run it."}
+access = logging.getLogger("oldstyle_web.access")
+
+
+def create_app(settings: Settings) -> Page:
+    """The application over a journal, for any server of WSGI."""
+    app = Page(settings)
+    app.config["MAX_CONTENT_LENGTH"] = settings.max_upload
+    app.register_blueprint(pages.blueprint)
+    app.register_blueprint(letters.blueprint)
+    app.register_blueprint(api.blueprint)
+    app.register_error_handler(HTTPException, told)
+    app.before_request(refuse_other_hosts)
+    app.before_request(refuse_broken_queries)
+    app.after_request(finished)
+    app.url_defaults(add_version)
+    app.context_processor(lambda: {"journal": settings.journal_name})
+    app.jinja_env.globals.update(
+        NAME=NAME, WEEKDAYS=words.WEEKDAYS, MONTHS=words.MONTHS, ORDERS=words.ORDERS,
+        KINDS=dates.KINDS, MONTH_CHOICES=list(enumerate(words.MONTHS, 1)),
+        WEEKDAY_CHOICES=[("", "none given"), *((name, name) for name in words.WEEKDAYS)],
+        ORDER_CHOICES=[("", "as it is usual"), *words.ORDERS.items()])
+    filters: list[Callable[[Any], Any]] = [
+        words.full, words.in_words, words.year_in, words.regime_text, words.sources_text,
+        months.caption, dates.cited_day]
+    for function in filters:
+        app.add_template_filter(function)
+    return app
+
+
+def add_version(endpoint: str, values: dict[str, Any]) -> None:
+    """Names the version in the address of a file."""
+    if endpoint == "static":
+        values.setdefault("v", page().version)
+
+
+def refuse_other_hosts() -> None:
+    """Refuses a request that names another host, if the page has names: a foreign page may lead a
+    name of its own here (DNS rebinding)."""
+    named, hosts = request.environ.get("HTTP_HOST"), page().settings.hosts
+    if hosts and named is not None and not is_named(named, hosts):
+        raise Problem(421, f"This page is not served by that name: ask {hosts[0]} for it.")
+
+
+def is_named(host: str, hosts: tuple[str, ...]) -> bool:
+    """Whether a header Host names one of some hosts. Addresses of this machine are all one."""
+    try:
+        name = urlsplit(f"//{host}").hostname or ""
+    except ValueError:
+        return False
+    return name in hosts or is_loopback(name) and any(map(is_loopback, hosts))
+
+
+def refuse_broken_queries() -> None:
+    """Refuses addresses that are too long, or whose words are no text."""
+    if len(request.query_string) > LONGEST_QUERY:
+        raise Problem(414, f"The address has more than {LONGEST_QUERY} characters.")
+    try:
+        unquote_to_bytes(request.query_string).decode()
+    except UnicodeDecodeError:
+        raise broken_query() from None
+    if request.query_string.count(b"&") >= MOST_MEMBERS:
+        raise broken_query()
+
+
+def broken_query() -> Problem:
+    return Problem(400, "The address has what is no text in UTF-8, or too many members: ask again "
+                   "by the form.")
+
+
+def told(why: HTTPException) -> Response:
+    """What is told of a request that can't be answered, in the form that it asks for."""
+    status = why.code or 500
+    sentence = why.description or "" if isinstance(why, Problem) else \
+        SENTENCES.get(status, f"{why.name}.")
+    if status == 413 and not isinstance(why, Problem):
+        sentence = too_large(page().settings.max_upload)
+    wanted = request.accept_mimetypes
+    is_for_programs = request.path == "/answer.json" or request.path.startswith("/api/")
+    if is_for_programs or "application/json" in wanted.values():
+        response = jsonify(status=status, told=sentence)
+    elif "text/html" in wanted.values():
+        response = Response(pages.problem(status, sentence))
+    else:
+        response = Response(f"{sentence}\n", mimetype="text/plain")
+    response.status_code = status
+    response.headers["Cache-Control"] = "no-store"
+    headers = why.headers if isinstance(why, Problem) else {}
+    response.headers.update(headers)
+    if (methods := getattr(why, "valid_methods", None)) is not None:
+        response.headers["Allow"] = ", ".join(sorted(methods))
+    return response
+
+
+def too_large(most: int) -> str:
+    return (f"The table is larger than {most // (1024 * 1024)} MB, which is the most that is taken "
+            "here. Send it in parts, or use oldstyle letters.")
+
+
+def finished(response: Response) -> Response:
+    """Adds what all replies carry, and writes the line of the request."""
+    for name, value in HEADERS.items():
+        response.headers.setdefault(name, value)
+    response.headers.setdefault("Cache-Control", "no-store")
+    access.info('%s - - [%s] "%s %s %s" %s %s', request.remote_addr or "-",
+                datetime.now(timezone.utc).strftime("%d/%b/%Y:%H:%M:%S %z"), request.method,
+                words.visible(request.environ.get("RAW_URI") or asked()),
+                request.environ.get("SERVER_PROTOCOL", ""), response.status_code,
+                response.content_length if response.content_length is not None else "-")
+    return response
+
+
+def asked() -> str:
+    """The path and the words of a request."""
+    query = request.query_string.decode("latin-1")
+    return request.path + (f"?{query}" if query else "")

@@ -1,0 +1,75 @@
+"""The page of letters: its form, and the rows of a table that is sent."""
+from __future__ import annotations
+
+import os
+import shutil
+import tempfile
+from dataclasses import dataclass
+from typing import IO
+
+from flask import Blueprint, Response, abort, render_template, request
+from werkzeug.wsgi import wrap_file
+
+from .context import page
+from .problems import Problem
+from .replies import tagged
+
+blueprint = Blueprint("letters", __name__)
+
+
+@dataclass(frozen=True)
+class Sent:
+    """What a request sent: the fields of a form, a table and its name, and a table of places."""
+
+    fields: dict[str, str]
+    table: IO[bytes]
+    name: str
+    places: IO[bytes] | None
+
+
+@blueprint.get("/letters")
+def form() -> Response:
+    """The form, and the room for the rows."""
+    text = render_template("letters.html", title="Letters", here="letters",
+                           most=page().settings.max_upload)
+    return tagged(Response(text), 0)
+
+
+@blueprint.post("/letters")
+def rows() -> Response:
+    """The rows of a table, as the program writes them."""
+    sent = received()
+    rows = page().tables.rows(sent.fields, sent.table, sent.places)
+    size = rows.tell()
+    rows.seek(0)
+    response = Response(wrap_file(request.environ, rows), direct_passthrough=True,
+                        content_type="text/csv; charset=utf-8")
+    response.content_length = size
+    response.headers["Content-Disposition"] = f'attachment; filename="{found_name(sent.name)}"'
+    return response
+
+
+def received() -> Sent:
+    """What a request sends: a form with files, or one table as it is. The words of the address
+    count before those of the form."""
+    if request.content_length is None:
+        raise Problem(411, "The length of what is sent has to be told, in Content-Length.")
+    if request.content_length > page().settings.max_upload:
+        abort(413)
+    fields = request.args.to_dict()
+    if request.mimetype == "multipart/form-data":
+        if (table := request.files.get("table")) is None:
+            raise Problem(400, "No table was sent: choose a file in CSV.")
+        places = request.files.get("places")
+        return Sent(request.form.to_dict() | fields, table.stream, table.filename or "",
+                    places.stream if places and places.filename else None)
+    table_file = tempfile.TemporaryFile()
+    shutil.copyfileobj(request.stream, table_file)
+    return Sent(fields, table_file, "", None)
+
+
+def found_name(name: str) -> str:
+    """The name of the table that is saved, of signs that no header minds."""
+    stem = os.path.splitext(name.replace("\\", "/").rpartition("/")[2])[0]
+    kept = "".join(sign for sign in stem if sign.isascii() and (sign.isalnum() or sign in "-_ "))
+    return f"{kept.strip() or 'letters'}-found.csv"

@@ -1,0 +1,137 @@
+"""A place's line of time: its periods and changes, and the years about each change."""
+from __future__ import annotations
+
+from dataclasses import dataclass
+
+from oldstyle import Day, Period, Run
+
+from .months import Change, changes_of
+from .printed import Printer, listed_easters
+from .register import Asking
+from .words import BEGINNINGS, LAST_DAY, full, year_in
+
+STEPS = [10, 20, 25, 50, 100, 200, 500, 1000, 2000]
+MOST_MARKS = 9
+
+
+@dataclass(frozen=True)
+class YearRow:
+    """A year as the place counted it: its runs of days, and those that it counted double."""
+
+    year: int
+    runs: list[Run]
+    double: list[Run]
+
+    @property
+    def text(self) -> str:
+        """The year in words."""
+        if not self.runs:
+            return f"The place had no day of the year {self.year}."
+        text = f"The year {self.year} went from {' and from '.join(map(run_text, self.runs))}."
+        if self.double:
+            text += f" Counted double: {' and '.join(map(run_text, self.double))}."
+        return text
+
+
+@dataclass(frozen=True)
+class Detail:
+    """The years about changes that are near to one another."""
+
+    changes: list[Change]
+    rows: list[YearRow]
+
+    @property
+    def title(self) -> str:
+        return "The change of " + " and of ".join(change.found.dual for change in self.changes)
+
+
+@dataclass(frozen=True)
+class PeriodRow:
+    """A period as a row of a table. It has no first or last day at an end of the line."""
+
+    first: Day | None
+    last: Day | None
+    calendar: str
+    beginning: str
+    rule: str
+
+
+@dataclass(frozen=True)
+class PlaceFound:
+    """A territory: its periods, its changes, its listed Easters, and what is drawn of it."""
+
+    code: str
+    name: str
+    periods: list[Period]
+    changes: list[Change]
+    listed: list[str]
+    window: tuple[int, int]
+    marks: list[tuple[int, int]]
+    details: list[Detail]
+
+    @property
+    def sources(self) -> list[str]:
+        return [period.source for period in self.periods if period.source]
+
+    @property
+    def rows(self) -> list[PeriodRow]:
+        firsts = [None, *(change.found for change in self.changes)]
+        lasts = [*(change.before for change in self.changes), None]
+        return [PeriodRow(first, last, period.calendar.capitalize(), BEGINNINGS[period.style],
+                          period.rule.capitalize())
+                for period, first, last in zip(self.periods, firsts, lasts)]
+
+
+def run_text(run: Run) -> str:
+    return f"{full(run.first)} to {full(run.last)}"
+
+
+def place_found(printer: Printer, asking: Asking, code: str, name: str) -> PlaceFound:
+    """What the program tells of a territory."""
+    periods = asking.periods(code)
+    changes = changes_of(asking, code, periods)
+    window = window_of(periods)
+    return PlaceFound(code, name, periods, changes, listed_easters(printer, asking, code), window,
+                      marks_in(asking, code, *window),
+                      [Detail(group, rows_about(asking, code, group)) for group in groups(changes)])
+
+
+def window_of(periods: list[Period]) -> tuple[int, int]:
+    """The days that are drawn: about the changes, or all if there is none."""
+    starts = [period.first for period in periods[1:]]
+    if not starts:
+        return 1, LAST_DAY
+    room = max(20_000, (starts[-1] - starts[0]) // 3)
+    return max(1, starts[0] - room), min(LAST_DAY, starts[-1] + room)
+
+
+def marks_in(asking: Asking, code: str, first: int, last: int) -> list[tuple[int, int]]:
+    """Round years of the window, each with the number of its first day, as the program tells it."""
+    low, high = (year_in(end.gregorian) for end in asking.days(code, (first, last)))
+    step = next((step for step in STEPS if (high - low) // step < MOST_MARKS), STEPS[-1])
+    years = [year for year in range(low - low % step + step, high + 1, step) if 1 <= year <= 9999]
+    found = asking.runs(code, (f"1 January {year:04} N.S." for year in years))
+    return [(year, runs[0].first.day) for year, runs in zip(years, found) if runs]
+
+
+def groups(changes: list[Change]) -> list[list[Change]]:
+    """Changes, those together that are at most two years apart as the place counted them."""
+    grouped: list[list[Change]] = []
+    for change in changes:
+        if grouped and year_in(change.found.label) - year_in(grouped[-1][-1].found.label) <= 2:
+            grouped[-1].append(change)
+        else:
+            grouped.append([change])
+    return grouped
+
+
+def rows_about(asking: Asking, code: str, group: list[Change]) -> list[YearRow]:
+    """The years from the one before the first of these changes to the one after the last."""
+    start, end = group[0], group[-1]
+    first = min(year_in(start.before.label), year_in(start.found.label)) - 1
+    last = max(year_in(end.found.label), year_in(end.before.label)) + 1
+    years = [year for year in range(first, last + 1)[:12] if 0 <= year <= 9999]
+    found = asking.runs(code, (date for year in years
+                               for date in (f"{year:04}", f"{year:04}/{year + 1:04}")))
+    return [YearRow(year, runs, [run for run in double if "/" in run.first.dual])
+            for year, runs, double in zip(years, found[::2], found[1::2])]

@@ -1,0 +1,224 @@
+"""What the program prints for people, read by its lines: what no query of the service tells yet.
+
+All that reads a printed page is here: what `read` says of a date beside its days, the Easters that
+`territory` lists, and the feasts and months of `almanac`.
+"""
+from __future__ import annotations
+
+import re
+import subprocess
+import threading
+import time
+from collections import OrderedDict
+from dataclasses import dataclass, field
+
+from .problems import busy, no_place, unavailable
+from .register import Asking
+from .settings import Settings, in_bytes, reason_of
+from .words import MONTHS, WEEKDAYS
+
+EDITION = re.compile(r", edition (\d+)$")
+KEPT = 2_000
+NO_LAND = "no territory has the code"
+# Of a line of the journal that is just being written, which is awaited.
+UNFINISHED, TRIES = "oldstyle: journal line ", 10
+
+DAY_LINE = re.compile(r"day (\d+)    JDN \d+( ok| not \w+)?$")
+COUNT = re.compile(r"(\d+) days?$")
+WAITING = re.compile(r"\d+ edits? (is|are) not published yet$")
+SOURCE = re.compile(r"\(source: (.+)\)")
+FLAGS = {"approximate", "in doubt", "supplied by an editor"}
+OPEN_ENDS = {"from any earlier day", "to   any later day"}
+OTHER_ORDER = ", or say --order dmy or mdy"
+LISTED = "listed Easter of "
+ALMANAC_DAY = re.compile(r"(\w+) +(\d+) (.+)")
+FEASTS = {"Septuagesima", "Ash Wednesday", "Easter", "Ascension", "Pentecost", "Trinity"}
+
+
+@dataclass(frozen=True)
+class Page:
+    """The lines of a page, and what was told if there is none."""
+
+    lines: list[str]
+    told: str
+
+
+class Printer:
+    """Runs commands of the program, some at once, and keeps pages that were told of an edition."""
+
+    def __init__(self, settings: Settings):
+        self.settings = settings
+        self.places = threading.BoundedSemaphore(settings.commands)
+        self.lock = threading.Lock()
+        self.kept: OrderedDict[tuple[int, tuple[str, ...]], Page] = OrderedDict()
+
+    def page(self, asking: Asking, *words: str) -> Page:
+        """A page that names its edition in its first line, or one that is kept of the edition that
+        was told."""
+        return self.held(asking, words) or self.keep(asking, words, self.printed(asking, words))
+
+    def framed_page(self, asking: Asking, *words: str) -> Page:
+        """A page that names no edition: those before it and after it have to be the same one."""
+        if (page := self.held(asking, words)) is None:
+            asking.lands()
+            page = self.printed(asking, words)
+            asking.lands()
+            self.keep(asking, words, page)
+        return page
+
+    def held(self, asking: Asking, words: tuple[str, ...]) -> Page | None:
+        with self.lock:
+            for edition in asking.editions:
+                if (edition, words) in self.kept:
+                    self.kept.move_to_end((edition, words))
+                    return self.kept[edition, words]
+        return None
+
+    def keep(self, asking: Asking, words: tuple[str, ...], page: Page) -> Page:
+        """Keeps a page if one edition alone was told with it."""
+        if len(asking.editions) == 1:
+            with self.lock:
+                self.kept[next(iter(asking.editions)), words] = page
+                while len(self.kept) > KEPT:
+                    self.kept.popitem(last=False)
+        return page
+
+    def printed(self, asking: Asking, words: tuple[str, ...]) -> Page:
+        """The page as the program prints it now."""
+        for _ in range(TRIES):
+            status, out, told = self.run(words)
+            if not told.startswith(UNFINISHED):
+                break
+            time.sleep(0.03)
+        if status in (0, 2):
+            page = Page(out.split("\n")[:-1], told.strip())
+            if page.lines and (named := EDITION.search(page.lines[0])):
+                asking.editions.add(int(named[1]))
+            return page
+        if NO_LAND in told:
+            raise no_place(words[1])
+        raise unavailable(self.settings.shown(told.partition("\n")[0]))
+
+    def run(self, words: tuple[str, ...]) -> tuple[int, str, str]:
+        """The status of a command over the journal, and what it wrote on both streams."""
+        settings, (command, *others) = self.settings, words
+        if not self.places.acquire(timeout=settings.question_seconds):
+            raise busy("Many questions are asked at once.")
+        try:
+            done = subprocess.run(
+                in_bytes([settings.program, command, *settings.limit_words(), settings.journal,
+                          *others]),
+                stdin=subprocess.DEVNULL, capture_output=True, check=False,
+                timeout=settings.question_seconds)
+        except subprocess.TimeoutExpired:
+            raise busy("The program took too long for that question.") from None
+        except OSError as why:
+            raise unavailable(reason_of(why)) from None
+        finally:
+            self.places.release()
+        return done.returncode, done.stdout.decode(), done.stderr.decode(errors="replace")
+
+
+@dataclass
+class PrintedDate:
+    """What `read` prints of a date beside what the query `written` answers."""
+
+    read_as: str = ""
+    notes: list[str] = field(default_factory=list)
+    counts: list[int] = field(default_factory=list)
+    agreeing: dict[int, str] = field(default_factory=dict)
+    sources: list[str] = field(default_factory=list)
+
+
+def printed_date(printer: Printer, asking: Asking, code: str, name: str, date: str, weekday: str,
+                 order: str) -> PrintedDate:
+    """The page of a written date."""
+    words = ["read", code, *(["--weekday", weekday] if weekday else []),
+             *(["--order", order] if order else []), "--", date]
+    page = printer.page(asking, *words)
+    return date_on(page, name, code, date, weekday)
+
+
+def date_on(page: Page, name: str, code: str, date: str = "", weekday: str = "") -> PrintedDate:
+    """What the lines of a page say of a date."""
+    found = PrintedDate()
+    if not page.lines:
+        if page.told:
+            first = page.told.partition("\n")[0].removesuffix(OTHER_ORDER)
+            found.notes.append(without_word(first, date, weekday))
+        return found
+    found.read_as = page.lines[0].rpartition(", edition ")[0].removesuffix(f" in {name} ({code})")
+    for line in page.lines[1:]:
+        if line in OPEN_ENDS or WAITING.search(line):
+            continue
+        if day := DAY_LINE.search(line):
+            found.agreeing[int(day[1])] = (day[2] or "").strip()
+        elif count := COUNT.fullmatch(line):
+            found.counts.append(int(count[1]))
+        elif found.notes and (source := SOURCE.fullmatch(line)):
+            found.notes[-1] += f" {line}"
+            found.sources.append(source[1])
+        elif not FLAGS.issuperset(line.split("; ")):
+            found.notes.append(line)
+    return found
+
+
+def without_word(told: str, date: str, weekday: str) -> str:
+    """What is told of a wrong word, without that word and the program's name."""
+    told = told.removeprefix("oldstyle: ")
+    for word in (date, weekday, *WEEKDAYS):
+        if word and told.startswith(f"{word}: "):
+            return told[len(word) + 2:]
+    return told
+
+
+def listed_easters(printer: Printer, asking: Asking, code: str) -> list[str]:
+    """The lines of the Easters that a territory lists."""
+    return listed_on(printer.page(asking, "territory", code))
+
+
+def listed_on(page: Page) -> list[str]:
+    """The lines of listed Easters, each with the source that may follow it."""
+    listed: list[str] = []
+    for line in page.lines:
+        if line.startswith(LISTED):
+            listed.append(line)
+        elif listed and SOURCE.fullmatch(line):
+            listed[-1] += f" {line}"
+    return listed
+
+
+@dataclass(frozen=True)
+class AlmanacLine:
+    """A line of the almanac. If there is no day of it, the text says why."""
+
+    name: str
+    weekday: str
+    day: int | None
+    text: str
+
+
+@dataclass
+class Almanac:
+    """The feasts of a year, and the first days of its months."""
+
+    feasts: list[AlmanacLine] = field(default_factory=list)
+    months: list[AlmanacLine] = field(default_factory=list)
+
+
+def almanac(printer: Printer, asking: Asking, code: str, year: int) -> Almanac:
+    """What the almanac of a year has."""
+    return almanac_on(printer.framed_page(asking, "almanac", code, str(year)))
+
+
+def almanac_on(page: Page) -> Almanac:
+    """The lines of feasts and of months."""
+    found = Almanac()
+    for line in page.lines:
+        name, text = line[:13].strip(), line[13:].strip()
+        lines = found.feasts if name in FEASTS else found.months if name in MONTHS else None
+        if lines is not None:
+            day = ALMANAC_DAY.fullmatch(text)
+            lines.append(AlmanacLine(name, day[1], int(day[2]), day[3]) if day
+                         else AlmanacLine(name, "", None, text))
+    return found

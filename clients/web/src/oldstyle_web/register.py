@@ -1,0 +1,167 @@
+"""The register as the page asks it: each answer of one edition, and none of an earlier one."""
+from __future__ import annotations
+
+import json
+import os
+import threading
+import time
+from dataclasses import dataclass
+from typing import Any, Callable, Iterable, Sequence, TypeVar
+
+from oldstyle import (Day, Land, Period, Pool, ProgramBusy, ProgramEnded, ProgramFailed,
+                      ProgramSlow, Run)
+from oldstyle.answers import day_of, known, run_of
+
+from .problems import AGAIN, Problem, busy, no_place, unavailable
+from .settings import Settings
+
+Found = TypeVar("Found")
+TRIES = 20
+UNKNOWN_LAND, BAD_CODE = 3, 1
+# A register of its own, by which a day is named in the Swedish calendar.
+SWEDISH = [b'{"op":"add_land","code":"SW","name":"Swedish","calendar":"swedish","style":"january",'
+           b'"rule":"julian"}\n', b'{"op":"publish"}\n']
+
+
+@dataclass(frozen=True)
+class DatedDay:
+    """A day as a territory dated it, its period, and its date by the Swedish calendar."""
+
+    found: Day
+    period: Period
+    swedish: str
+
+
+class Register:
+    """Asks the runs of the program that answer lines."""
+
+    def __init__(self, settings: Settings):
+        self.settings = settings
+        self.highest = 0
+        self.lock = threading.Lock()
+        self.pool = Pool(settings.serving_words(), settings.processes,
+                         seconds=settings.question_seconds)
+        self.swedish = Pool([settings.program, "serve"], 1, seconds=settings.question_seconds,
+                            opening=SWEDISH)
+
+    def of_one_edition(self, work: Callable[[Asking], Found]) -> tuple[int, Found]:
+        """The edition, and what the work gives that was told of it alone. The work is done again
+        if an edition came between, or if the edition is an earlier one than somebody was told
+        before. What such an edition lacks is told to nobody."""
+        least = self.highest
+        for _ in range(TRIES):
+            asking = Asking(self)
+            try:
+                found = work(asking)
+            except Problem:
+                if self.may_tell(asking, least):
+                    raise
+            else:
+                if self.may_tell(asking, least):
+                    return next(iter(asking.editions), 0), found
+            time.sleep(0.02)
+        raise Problem(503, "The register's edition changes just now, or its journal has fewer "
+                      f"editions than before. {AGAIN}", Retry_After="2")
+
+    def may_tell(self, asking: Asking, least: int) -> bool:
+        """Whether one edition alone was told, from the least one on. If the journal is gone there
+        is none, whoever asks first."""
+        if 0 in asking.editions and not os.path.exists(self.settings.journal):
+            raise unavailable("its journal isn't there")
+        with self.lock:
+            self.highest = max({self.highest, *asking.editions})
+        return len(asking.editions) <= 1 and all(told >= least for told in asking.editions)
+
+    def replies(self, pool: Pool, lines: Sequence[bytes]) -> list[bytes]:
+        """The replies to lines, or the problem of a program that gives none."""
+        try:
+            return pool.ask(lines)
+        except ProgramBusy:
+            raise busy("All processes are at work.") from None
+        except ProgramSlow:
+            raise unavailable("no answer in time") from None
+        except ProgramEnded as why:
+            raise unavailable(self.settings.shown(why.told.partition("\n")[0])) from None
+        except ProgramFailed:
+            raise unavailable("it can't be started") from None
+
+    def close(self) -> None:
+        self.pool.close()
+        self.swedish.close()
+
+
+class Asking:
+    """What one request asks, and the editions that were told."""
+
+    def __init__(self, register: Register):
+        self.register = register
+        self.editions: set[int] = set()
+
+    def reply(self, question: dict[str, Any]) -> tuple[bytes, dict[str, Any]]:
+        """The reply to a question, an object of `op` and its members, as a line and as it reads."""
+        line, = self.register.replies(self.register.pool, [line_of(question)])
+        reply = json.loads(line)
+        if "edition" in reply:
+            self.editions.add(reply["edition"])
+        return line, reply
+
+    def answers(self, questions: Iterable[dict[str, Any]]) -> list[dict[str, Any]]:
+        """The answers to questions."""
+        asked = list(questions)
+        if not asked:
+            return []
+        lines = self.register.replies(self.register.pool, [line_of(one) for one in asked])
+        return [self.answer_of(one, json.loads(line)) for one, line in zip(asked, lines)]
+
+    def answer_of(self, question: dict[str, Any], reply: dict[str, Any]) -> dict[str, Any]:
+        if "edition" in reply:
+            self.editions.add(reply["edition"])
+        if "answer" in reply:
+            answer: dict[str, Any] = reply["answer"]
+            return answer
+        if reply["fault"] in (UNKNOWN_LAND, BAD_CODE):
+            raise no_place(question["code"])
+        raise Problem(400, f"The register refuses that: {reply['fault']} {reply['name']}.")
+
+    def lands(self) -> list[Land]:
+        answer, = self.answers([{"op": "lands"}])
+        return [known(Land, land) for land in answer["lands"]]
+
+    def periods(self, code: str) -> list[Period]:
+        answer, = self.answers([{"op": "periods", "code": code}])
+        return [known(Period, period) for period in answer["periods"]]
+
+    def days(self, code: str, numbers: Iterable[int]) -> list[Day]:
+        """The days with these numbers, as the territory dated them."""
+        return [day_of(answer["found"]) for answer in self.answers(
+            {"op": "day", "code": code, "day": number} for number in numbers)]
+
+    def dated_days(self, code: str, numbers: Sequence[int]) -> list[DatedDay]:
+        """The days with these numbers, each with its period."""
+        answers = self.answers({"op": "day", "code": code, "day": number} for number in numbers)
+        return [DatedDay(day_of(answer["found"]), known(Period, answer | answer["regime"]), text)
+                for answer, text in zip(answers, self.swedish_texts(numbers))]
+
+    def swedish_texts(self, numbers: Sequence[int]) -> list[str]:
+        """The dates of days by the Swedish calendar."""
+        lines = [line_of({"op": "day", "code": "SW", "day": number}) for number in numbers]
+        replies = self.register.replies(self.register.swedish, lines) if lines else []
+        return [json.loads(line)["answer"]["found"]["dual"] for line in replies]
+
+    def runs(self, code: str, dates: Iterable[str]) -> list[list[Run]]:
+        """The runs of days that each of some dates means."""
+        return [[run_of(run) for run in answer["runs"]] for answer in self.answers(
+            {"op": "written", "code": code, "date": date} for date in dates)]
+
+
+def line_of(question: dict[str, Any]) -> bytes:
+    """The line of a question."""
+    return json.dumps({"reader": 1, **question}).encode() + b"\n"
+
+
+def name_in(lands: list[Land], code: str) -> str:
+    """The name of a territory that the list has to have."""
+    for land in lands:
+        if land.code == code:
+            return land.name
+    raise no_place(code)

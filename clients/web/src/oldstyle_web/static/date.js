@@ -1,0 +1,103 @@
+// One date: asks as it is typed, keeps the address, and copies the citation.
+const form = document.getElementById("question");
+const answer = document.getElementById("answer");
+// What is read aloud: one sentence of an answer, and not all of it at each pause in typing.
+const said = document.getElementById("said");
+const WAIT = 180;
+let timer = 0;
+let asking = null;
+let shown = questionOf((field) => field.defaultValue ?? chosenFirst(field));
+
+// The question by the fields' words, as an address has it.
+function questionOf(word) {
+    const members = new URLSearchParams();
+    for (const field of form.elements) {
+        if (field.name) members.set(field.name, word(field).trim());
+    }
+    return members.toString();
+}
+
+// What a list had chosen when the page came.
+function chosenFirst(list) {
+    return [...list.options].find((option) => option.defaultSelected)?.value ?? "";
+}
+
+// Whatever is on its way is the answer to other words than those that are typed now.
+function later() {
+    asking?.abort();
+    clearTimeout(timer);
+    timer = setTimeout(ask, WAIT);
+}
+
+async function ask() {
+    asking?.abort();
+    const question = questionOf((field) => field.value);
+    if (question === shown) return;
+    asking = new AbortController();
+    try {
+        const reply = await fetch(`${form.dataset.answer}?${question}`,
+            {signal: asking.signal, headers: {Accept: "application/json"}});
+        const told = await reply.json();
+        if (reply.ok) {
+            show(told, question);
+        } else {
+            tell(told.told, question);
+        }
+    } catch (why) {
+        if (why.name === "AbortError") return;
+        tell("The page’s server doesn’t answer. Try again.", question);
+    }
+}
+
+function show(told, question) {
+    shown = question;
+    answer.innerHTML = told.html;
+    said.textContent = told.said ?? "";
+    document.title = told.title;
+    history.replaceState(null, "", told.address);
+    offerCopy();
+}
+
+function tell(sentence, question) {
+    shown = null;
+    document.title = form.dataset.title;
+    history.replaceState(null, "", `${form.action}?${question}`);
+    const line = document.createElement("p");
+    line.className = "reason";
+    line.textContent = sentence;
+    answer.replaceChildren(line);
+    said.textContent = sentence;
+}
+
+// Puts buttons that copy beside the link, where the browser lets a page copy.
+function offerCopy() {
+    const link = document.getElementById("link");
+    if (!link || !navigator.clipboard) return;
+    const citation = document.getElementById("citation");
+    link.after(copyButton("Copy the citation", () => citation.textContent),
+        copyButton("Copy the link", () => link.href));
+}
+
+function copyButton(name, text) {
+    const button = document.createElement("button");
+    button.type = "button";
+    button.className = "plain";
+    button.textContent = name;
+    button.addEventListener("click", async () => {
+        try {
+            await navigator.clipboard.writeText(text());
+            button.textContent = "Copied";
+            said.textContent = "Copied.";
+        } catch {
+            button.textContent = "Not allowed: mark it and copy";
+        }
+        setTimeout(() => { button.textContent = name; }, 2000);
+    });
+    return button;
+}
+
+form.addEventListener("input", later);
+form.addEventListener("change", later);
+// A page that comes back from the browser's memory may have other words in its fields.
+window.addEventListener("pageshow", ask);
+offerCopy();

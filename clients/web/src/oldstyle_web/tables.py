@@ -1,0 +1,143 @@
+"""Tables of letters: the command `letters` over a table that was sent."""
+from __future__ import annotations
+
+import codecs
+import json
+import os
+import re
+import subprocess
+import tempfile
+import threading
+import time
+from dataclasses import dataclass
+from typing import IO, Mapping
+
+from .problems import Problem, busy, unavailable
+from .settings import Settings, in_bytes, reason_of
+from .words import order_of
+
+BLOCK = 65536
+# What stands between the table and the line of how it ended, if that is asked for.
+MARK = b"\x1e"
+ROLES = ["place", "date", "weekday", "year", "month", "day"]
+SEPARATORS = ["comma", "semicolon", "tab"]
+LONGEST_NAME = 200
+# Of a line of the journal that is just being written, which is awaited.
+OF_JOURNAL, TRIES = "journal line ", 10
+NAME_YOURS = re.compile(r"name yours by --(\w+)$")
+YOUR_NAME = r"name yours in the field “Column of \1s” (column_\1)"
+PLACES_FILE = re.compile(r"/dev/fd/\d+")
+
+
+def options_of(fields: Mapping[str, str]) -> list[str]:
+    """The options of `letters` that the fields of a form say."""
+    words = []
+    for role in ROLES:
+        if name := fields.get(f"column_{role}", ""):
+            if len(name) > LONGEST_NAME or "\0" in name:
+                raise Problem(400, f"The name of the column of {role}s is too long.")
+            words.append(f"--{role}={name}")
+    if separator := fields.get("separator", ""):
+        if separator not in SEPARATORS:
+            raise Problem(400, "A separator is comma, semicolon or tab.")
+        words += ["--separator", separator]
+    if order := order_of(fields.get("order", "")):
+        words += ["--order", order]
+    return words
+
+
+def byte_order_mark(file: IO[bytes]) -> bytes:
+    """The byte order mark with which a table begins, if any. One that is not UTF-8, such as a
+    workbook, is refused."""
+    file.seek(0)
+    mark = codecs.BOM_UTF8 if file.read(3) == codecs.BOM_UTF8 else b""
+    file.seek(0)
+    decoder = codecs.getincrementaldecoder("utf-8")()
+    try:
+        while block := file.read(BLOCK):
+            if "\0" in decoder.decode(block):
+                raise ValueError
+        decoder.decode(b"", final=True)
+    except ValueError:
+        raise Problem(422, "The table is not UTF-8: save the table as CSV UTF-8.") from None
+    return mark
+
+
+class Tables:
+    """Runs `letters`, some at once, from files into files: neither a table nor its rows are held in
+    memory, and no run waits for who reads its rows."""
+
+    def __init__(self, settings: Settings):
+        self.settings = settings
+        self.places = threading.BoundedSemaphore(settings.tables)
+
+    def rows(self, fields: Mapping[str, str], table: IO[bytes],
+             places: IO[bytes] | None) -> IO[bytes]:
+        """A file of the rows of a table, and of how it ended if the fields ask for that."""
+        options = options_of(fields)
+        mark = byte_order_mark(table)
+        if not self.places.acquire(timeout=self.settings.question_seconds):
+            raise busy("Other tables are read just now.")
+        rows: IO[bytes] = tempfile.TemporaryFile()
+        try:
+            end = self.written(options, table, places, rows, mark)
+        except BaseException:
+            rows.close()
+            raise
+        finally:
+            self.places.release()
+        if fields.get("told") == "1":
+            rows.write(MARK + json.dumps({"status": end.status, "told": end.told}).encode())
+        elif end.told:
+            rows.write(f"{end.told}\n".encode())
+        return rows
+
+    def written(self, options: list[str], table: IO[bytes], places: IO[bytes] | None,
+                rows: IO[bytes], mark: bytes) -> End:
+        """Has the program write the rows after a mark, or raises why there is none. A line of the
+        journal that is just being written is awaited."""
+        words, passed = [self.settings.program, "letters", self.settings.journal, *options,
+                         *self.settings.limit_words()], []
+        if places:
+            passed.append(places.fileno())
+            words += ["--places", f"/dev/fd/{passed[0]}"]
+        rows.write(mark)
+        for _ in range(TRIES):
+            for file in (table, places):
+                if file:
+                    file.seek(0)
+            end = self.ended(words, passed, table, rows)
+            if rows.seek(0, os.SEEK_END) > len(mark):
+                return end
+            if not end.told.startswith(OF_JOURNAL):
+                break
+            time.sleep(0.03)
+        if end.status in (1, 2) and not end.told.startswith(OF_JOURNAL):
+            raise Problem(422, NAME_YOURS.sub(YOUR_NAME, end.told))
+        raise unavailable(end.told)
+
+    def ended(self, words: list[str], passed: list[int], table: IO[bytes],
+              rows: IO[bytes]) -> End:
+        """How a run of the program over a table ended."""
+        rows.flush()
+        try:
+            done = subprocess.run(in_bytes(words), stdin=table, stdout=rows, pass_fds=passed,
+                                  stderr=subprocess.PIPE, check=False,
+                                  timeout=self.settings.table_seconds)
+        except subprocess.TimeoutExpired:
+            return End(-1, "the table took too long, and was ended")
+        except OSError as why:
+            return End(-1, reason_of(why))
+        told = self.settings.shown(done.stderr.decode(errors="replace"))
+        told = PLACES_FILE.sub("the table of places", told)
+        if done.returncode < 0 and not told:
+            told = "the program was ended before the table did"
+        return End(done.returncode, told)
+
+
+@dataclass(frozen=True)
+class End:
+    """How a run ended: its status, and what it told."""
+
+    status: int
+    told: str

@@ -1,0 +1,124 @@
+"""The words of a request, each held against what is allowed, and words for what comes back."""
+from __future__ import annotations
+
+from typing import Any
+import re
+
+from markupsafe import Markup
+from oldstyle import Day, Period
+
+from .problems import Problem
+
+MONTHS = ["January", "February", "March", "April", "May", "June", "July", "August", "September",
+          "October", "November", "December"]
+WEEKDAYS = ["Sunday", "Monday", "Tuesday", "Wednesday", "Thursday", "Friday", "Saturday"]
+ORDERS = {"dmy": "day, month, year", "mdy": "month, day, year"}
+CODE = re.compile(r"[A-Z][A-Z0-9]{1,7}")
+LONGEST_DATE = 200
+LAST_DAY = 3_652_059
+BEGINNINGS = {"january": "1 January", "annunciation": "25 March", "nativity": "25 December",
+              "september": "1 September", "pisan": "the 25 March before", "easter": "Easter"}
+# Control characters, and those that turn the direction of the text around them.
+HIDDEN = [*range(0x20), *range(0x7f, 0xa0), *range(0x202a, 0x202f), *range(0x2066, 0x206a)]
+SHOWN = {sign: f"<U+{sign:04X}>" for sign in HIDDEN}
+
+
+def visible(text: str) -> str:
+    """A text with its characters that are not printed as their numbers."""
+    return text.translate(SHOWN)
+
+
+def written_out(value: Any) -> Any:
+    """What a template writes of a value: a text that is visible, and nothing of None."""
+    if value is None:
+        return ""
+    if isinstance(value, str) and not isinstance(value, Markup):
+        return visible(value)
+    return value
+
+
+def code_of(text: str) -> str:
+    """A code of a territory, or nothing if none is chosen."""
+    if text and not CODE.fullmatch(text):
+        raise Problem(400, f"{shown(text)} is no code of a territory: a code is 2 to 8 capital "
+                      "letters or digits, the first a letter. Choose one of the list.")
+    return text
+
+
+def date_of(text: str) -> str:
+    """A date as it is written, without the blanks around it."""
+    text = text.strip()
+    if len(text) > LONGEST_DATE:
+        raise Problem(400, f"The date has {len(text)} characters: write {LONGEST_DATE} at most.")
+    if text != visible(text):
+        raise Problem(400, "The date has a character that is not printed: write it anew.")
+    return text
+
+
+def weekday_of(text: str) -> str:
+    """The English name of a weekday, or nothing."""
+    if text and text.capitalize() not in WEEKDAYS:
+        raise Problem(400, f"{shown(text)} is no weekday: write its English name, as Friday.")
+    return text.capitalize()
+
+
+def order_of(text: str) -> str:
+    """The order of day and month in numbers, or nothing."""
+    if text and text not in ORDERS:
+        raise Problem(400, f"{shown(text)} is no order: it is dmy, for 11/2/1731 as 11 February, "
+                      "or mdy, for 2/11/1731.")
+    return text
+
+
+def number_of(name: str, text: str, least: int, most: int) -> int | None:
+    """A whole number, or None if none is written."""
+    text = text.strip()
+    if not text:
+        return None
+    if not (text.isascii() and text.isdigit() and len(text) <= 9 and least <= int(text) <= most):
+        raise Problem(400, f"{shown(text)} is no {name}: write a whole number from {least} to "
+                      f"{most}.")
+    return int(text)
+
+
+def month_of(text: str) -> int | None:
+    """A month by its number or its English name, or None if none is written."""
+    if (name := text.strip().capitalize()) in MONTHS:
+        return MONTHS.index(name) + 1
+    if text.strip() and not (text.strip().isascii() and text.strip().isdigit()):
+        raise Problem(400, f"{shown(text)} is no month: write its English name, or 1 to 12.")
+    return number_of("month", text, 1, 12)
+
+
+def shown(text: str) -> str:
+    """A word of a reader as a sentence has it."""
+    return f"“{text[:60]}{'…' if len(text) > 60 else ''}”"
+
+
+def in_words(date: str) -> str:
+    """A date of the program, as 1732-02-22, in words."""
+    year, month, day = date.split("-")
+    return f"{int(day)} {MONTHS[int(month) - 1]} {int(year)}"
+
+
+def full(found: Day) -> str:
+    """The weekday and the dual text of a day found."""
+    return f"{found.weekday} {found.dual}"
+
+
+def year_in(date: str) -> int:
+    """The year of a date of the program."""
+    return int(date.split("-")[0])
+
+
+def regime_text(regime: Period) -> str:
+    """A regime in words."""
+    return (f"{regime.calendar.capitalize()} calendar, years from {BEGINNINGS[regime.style]}, "
+            f"Easter by the {regime.rule.capitalize()} rule")
+
+
+def sources_text(sources: list[str]) -> str:
+    """Sources in a sentence of their own, or nothing."""
+    kept = list(dict.fromkeys(sources))
+    text = "; ".join(kept).removesuffix(".")
+    return f"Source{'s' if len(kept) > 1 else ''}: {text}." if kept else ""

@@ -1,0 +1,109 @@
+"""Pages that the program prints for people, read by their lines."""
+from __future__ import annotations
+
+import subprocess
+import sys
+from pathlib import Path
+from types import SimpleNamespace
+from typing import Callable
+
+import pytest
+from conftest import SAMPLES
+
+from oldstyle_web import printed
+from oldstyle_web.printed import AlmanacLine, Page, Printer
+from oldstyle_web.problems import Problem
+from oldstyle_web.settings import Settings
+
+NAME = "A\u2028B\x85C"
+
+
+def asking(*editions: int) -> SimpleNamespace:
+    return SimpleNamespace(editions=set(editions), lands=lambda: None)
+
+
+def test_a_name_with_line_separators_is_one_line(script: Callable[[str], str]) -> None:
+    printing = f"printf '%s\\n' '11 February 1731 in {NAME} (AA), edition 2' 'second line'"
+    one = asking()
+    page = Printer(Settings(SAMPLES, script(printing))).page(one, "read", "AA")
+    assert page.lines == [f"11 February 1731 in {NAME} (AA), edition 2", "second line"]
+    assert one.editions == {2}
+    assert printed.date_on(page, NAME, "AA").read_as == "11 February 1731"
+
+
+def test_a_source_belongs_to_the_note_before_it() -> None:
+    found = printed.date_on(Page([
+        "3 September 1752 in Great Britain (GB), edition 5",
+        "skipped: Wednesday 2 September 1752 was followed by a day", "(source: 24 Geo. II c. 23)",
+        "nearest: a day", "2 edits are not published yet", "approximate; in doubt"], ""),
+        "Great Britain", "GB")
+    assert found.sources == ["24 Geo. II c. 23"]
+    assert found.notes == ["skipped: Wednesday 2 September 1752 was followed by a day (source: "
+                           "24 Geo. II c. 23)", "nearest: a day"]
+
+
+def test_days_and_counts_are_no_notes() -> None:
+    found = printed.date_on(Page([
+        "x in A (AA), edition 1", "from any earlier day",
+        "Friday 11 February 1731/2    22 February 1732 Gregorian    11 February 1732 Julian    "
+        "day 632287    JDN 2353712 not Monday", "31 days"], ""), "A", "AA")
+    assert (found.agreeing, found.counts, found.notes) == ({632287: "not Monday"}, [31], [])
+
+
+def test_what_is_told_of_a_date_lacks_the_date() -> None:
+    told = "oldstyle: 11/2/1731: open between day and month, or say --order dmy or mdy\nmore"
+    found = printed.date_on(Page([], told), "A", "AA", "11/2/1731")
+    assert found.notes == ["open between day and month"]
+
+
+def test_listed_easters_have_their_sources() -> None:
+    page = Page(["A (AA), edition 1", "always: x", "(source: X)", "listed Easter of 1: a",
+                 "(source: Y)", "listed Easter of 2: b"], "")
+    assert printed.listed_on(page) == ["listed Easter of 1: a (source: Y)", "listed Easter of 2: b"]
+
+
+def test_feasts_and_months_of_an_almanac() -> None:
+    found = printed.almanac_on(Page([
+        "From 1 January 1752, day 639551: julian calendar", "(source: Acts no 24 of 1751)",
+        "Easter by rule", "Easter        Sunday     639639 29 March 1752",
+        "Trinity       off the line", "January       Wednesday  639551 1752-01-12",
+        "February      none"], ""))
+    assert found.feasts == [AlmanacLine("Easter", "Sunday", 639639, "29 March 1752"),
+                            AlmanacLine("Trinity", "", None, "off the line")]
+    assert found.months == [AlmanacLine("January", "Wednesday", 639551, "1752-01-12"),
+                            AlmanacLine("February", "", None, "none")]
+
+
+def test_the_page_that_was_asked_for_last_stays(monkeypatch: pytest.MonkeyPatch) -> None:
+    monkeypatch.setattr(printed, "KEPT", 2)
+    printer = Printer(Settings(SAMPLES, "/bin/true"))
+    runs: list[str] = []
+    monkeypatch.setattr(printer, "printed",
+                        lambda _asking, words: runs.append(words[0]) or Page([words[0]], ""))
+    for name in "abacab":
+        assert printer.page(asking(1), name).lines == [name]
+    assert runs == ["a", "b", "c", "b"]
+
+
+def test_a_page_between_two_editions_is_not_kept(monkeypatch: pytest.MonkeyPatch) -> None:
+    printer = Printer(Settings(SAMPLES, "/bin/true"))
+    monkeypatch.setattr(printer, "printed", lambda _asking, _words: Page(["x"], ""))
+    printer.page(asking(1, 2), "almanac")
+    assert not printer.kept
+
+
+def test_no_path_is_told_of_a_program_that_is_gone() -> None:
+    with pytest.raises(Problem) as why:
+        Printer(Settings(SAMPLES, "/none/of/it")).run(("read",))
+    assert why.value.code == 503 and "/" not in str(why.value.description)
+
+
+def test_words_reach_the_program_in_utf_8(tmp_path: Path) -> None:
+    code = ("import sys; from oldstyle_web import printed, settings\n"
+            "assert sys.getfilesystemencoding() == 'ascii'\n"
+            "one = printed.Printer(settings.Settings('j', '/bin/echo'))\n"
+            "print(one.run(('read', 'f\\xe9vrier \\u2013 1650'))[1].encode())")
+    done = subprocess.run([sys.executable, "-c", code], capture_output=True, text=True, check=False,
+                          env={"LC_ALL": "C", "PYTHONUTF8": "0", "PYTHONCOERCECLOCALE": "0",
+                               "PYTHONPATH": ":".join(sys.path)})
+    assert repr("read j février – 1650\n".encode()) in done.stdout, done

@@ -1,0 +1,117 @@
+"""Tables of letters: what is sent, the rows as they come, and how a run of `letters` ends."""
+from __future__ import annotations
+
+import io
+import tempfile
+from pathlib import Path
+from typing import IO, Callable
+
+import pytest
+from conftest import SAMPLES
+
+from oldstyle_web import tables
+from oldstyle_web.letters import found_name
+from oldstyle_web.problems import Problem
+from oldstyle_web.settings import Settings
+from oldstyle_web.tables import Tables
+
+TEXT = "place,date\nKöln,1 May 1700\n"
+
+
+def table_of(held: bytes) -> IO[bytes]:
+    table = tempfile.TemporaryFile()
+    table.write(held)
+    return table
+
+
+@pytest.mark.parametrize("held", [
+    TEXT.encode("cp1252"), TEXT.encode("utf-16"), TEXT.encode("utf-16-le"), b"PK\3\4\0\0", b"K\xc3"])
+def test_a_table_that_is_not_utf_8_is_refused(held: bytes) -> None:
+    with pytest.raises(Problem) as why:
+        tables.byte_order_mark(io.BytesIO(held))
+    assert why.value.code == 422
+
+
+def test_a_byte_order_mark_is_kept() -> None:
+    assert tables.byte_order_mark(io.BytesIO(TEXT.encode("utf-8-sig"))) == b"\xef\xbb\xbf"
+    assert tables.byte_order_mark(io.BytesIO(TEXT.encode())) == b""
+
+
+def held_in(rows: IO[bytes]) -> bytes:
+    rows.seek(0)
+    with rows:
+        return rows.read()
+
+
+def test_all_rows_come_and_the_place_is_given_back(script: Callable[[str], str]) -> None:
+    work = Tables(Settings(SAMPLES, script("exec cat"), tables=1))
+    held = b"place,date\n" + b"GB,1731\n" * 500_000
+    unread = work.rows({}, table_of(held), None)
+    marked = b"\xef\xbb\xbf" + held
+    assert held_in(work.rows({}, table_of(marked), None)) == b"\xef\xbb\xbf" + marked
+    assert held_in(unread) == held
+
+
+def test_a_table_that_is_late_is_told(script: Callable[[str], str]) -> None:
+    work = Tables(Settings(SAMPLES, script("exec sleep 60"), tables=1, table_seconds=0.2))
+    with pytest.raises(Problem) as why:
+        work.rows({}, table_of(b"place,date\n"), None)
+    assert why.value.code == 503 and "took too long" in str(why.value.description)
+    work = Tables(Settings(SAMPLES, script("echo row; exec sleep 60"), tables=1, table_seconds=0.5))
+    rows = held_in(work.rows({}, table_of(b"place,date\n"), None))
+    assert rows == b"row\nthe table took too long, and was ended\n"
+    assert work.places.acquire(blocking=False)
+
+
+def test_a_line_of_the_journal_that_is_just_written_is_awaited(tmp_path: Path,
+                                                               script: Callable[[str], str]) -> None:
+    once = tmp_path / "once"
+    program = script(f"[ -e {once} ] && exec cat; touch {once}\n"
+                     "echo 'oldstyle: journal line 9: 32 NotJson' >&2; exit 1")
+    rows = Tables(Settings(SAMPLES, program)).rows({}, table_of(b"place,date\n"), None)
+    assert held_in(rows) == b"place,date\n"
+
+
+def test_tables_too_many_are_told(script: Callable[[str], str]) -> None:
+    work = Tables(Settings(SAMPLES, script("exec cat"), tables=1, question_seconds=0.1))
+    work.places.acquire()
+    with pytest.raises(Problem) as why:
+        work.rows({}, table_of(b"place,date\n"), None)
+    assert why.value.code == 503
+
+
+def test_a_program_that_is_gone_is_told_without_its_path() -> None:
+    work = Tables(Settings(SAMPLES, "/none/of/it", tables=1))
+    with pytest.raises(Problem) as why:
+        work.rows({}, table_of(b"place,date\n"), None)
+    assert why.value.code == 503 and "/" not in str(why.value.description)
+    assert work.places.acquire(blocking=False)
+
+
+def test_a_fault_of_the_table_is_told_in_the_words_of_the_page(
+        script: Callable[[str], str]) -> None:
+    program = script("echo 'oldstyle: line 1: no column date: name yours by --date' >&2; exit 1")
+    with pytest.raises(Problem) as why:
+        Tables(Settings(SAMPLES, program)).rows({}, table_of(b"x\n"), None)
+    assert why.value.code == 422
+    assert "name yours in the field “Column of dates” (column_date)" in str(why.value.description)
+
+
+@pytest.mark.parametrize("told, last", [("1", b'\x1e{"status": 1, "told": "a fault"}'),
+                                        ("", b"a fault\n")])
+def test_a_fault_after_the_first_rows_is_the_last_line(script: Callable[[str], str], told: str,
+                                                       last: bytes) -> None:
+    work = Tables(Settings(SAMPLES, script("echo row; echo 'oldstyle: a fault' >&2; exit 1")))
+    assert held_in(work.rows({"told": told}, table_of(b"x\n"), None)) == b"row\n" + last
+
+
+@pytest.mark.parametrize("fields", [{"separator": "x"}, {"order": "x"},
+                                    {"column_place": "x" * 201}])
+def test_wrong_options_are_refused(fields: dict[str, str]) -> None:
+    with pytest.raises(Problem):
+        tables.options_of(fields)
+
+
+def test_the_name_of_what_is_saved_is_harmless() -> None:
+    assert found_name('a/b\\my "letters"; x.csv') == "my letters x-found.csv"
+    assert found_name("") == "letters-found.csv"
