@@ -1,9 +1,8 @@
 -- The service of a journal that is followed, by its options.
 use Rattle.std.proofs.Common.{◌≡◌, ◌||◌, ℕ, Bool, true, false, List, Option, Some, None}
 use Rattle.std.proofs.Common.{Result}
-use Rattle.std.proofs.Common.{OnErr, is_some, option_map, refl, sym, subst}
+use Rattle.std.proofs.Common.{IfErr, is_some, option_map, refl, sym, subst}
 use Rattle.osn_register.specs.declared.limits.Limits.{Limits}
-use Rattle.osn_folder.specs.Folder.{Known, CannotOpen}
 use Rattle.osn_invocation.specs.Invocation.{ServiceModel}
 use Rattle.osn_lines.specs.Streams.{Input, Output}
 use Rattle.osn_report.specs.Folders.{Folders}
@@ -23,12 +22,11 @@ followed_by limits journal save keep given found service CanFail d i o e status 
 
 -- where none is followed, the files that are opened are those of the other options
 pub unfollowed_by : {T E : Type 0} (result : Result T E) (journal keep given : Option (List ℕ))
-    (before after : Option Known) (P Q : Type 0) → given ≡ None
-    → OnErr result (CannotOpen (opened_by journal keep None) before after × P × Q)
-    → OnErr result (CannotOpen (opened_by journal keep given) before after × P × Q)
-unfollowed_by result journal keep given before after P Q is h =
-    subst (λ k. OnErr result (CannotOpen (opened_by journal keep k) before after × P × Q)) (sym is)
-    h
+    (Why : List (List ℕ) → E → Type 0) → given ≡ None
+    → IfErr result (Why (opened_by journal keep None))
+    → IfErr result (Why (opened_by journal keep given))
+unfollowed_by result journal keep given Why is h =
+    subst (λ k. IfErr result (Why (opened_by journal keep k))) (sym is) h
 
 -- a journal that is followed goes with no other
 module _ {P : Type 0} (now : P → List ℕ) (limits : Limits) where
@@ -46,7 +44,7 @@ module _ {P : Type 0} (now : P → List ℕ) (limits : Limits) where
   pub followed_alone : (journal save keep : Option P) (path : List ℕ) (service : ServiceModel)
       (CanFail : Bool → Type 0) (d : Folders) (i : Input) (o e : Output) (status : Status)
       → ((is_some journal || is_some save) || is_some keep) ≡ false
-      → EndsFollowing limits service d o e status
+      → EndsFollowing limits path service d o e status
       → RunsByFiles limits (option_map now journal) (option_map now save) (option_map now keep)
       (Some path) service CanFail d i o e status
   followed_alone None None None path service CanFail d i o e status given h = h

@@ -1,8 +1,8 @@
 -- The service by its options, over the files of a folder.
 use Rattle.std.proofs.Common.{◌≡◌, ◌||◌, ℕ, Bool, true, false, List, Option, Some, None, Result}
-use Rattle.std.proofs.Common.{OnErr, is_some, option_map, sym, subst}
+use Rattle.std.proofs.Common.{IfErr, is_some, option_map, sym, subst}
 use Rattle.osn_register.specs.declared.limits.Limits.{Limits}
-use Rattle.osn_folder.specs.Folder.{Known, CannotOpen, path_if}
+use Rattle.osn_folder.specs.Folder.{path_if}
 use Rattle.osn_invocation.specs.Invocation.{ServiceModel}
 use Rattle.osn_lines.specs.Streams.{Input, Output}
 use Rattle.osn_report.specs.Folders.{Folders}
@@ -23,14 +23,12 @@ pub served_by : (limits : Limits) (journal save given found : Option (List ℕ))
 served_by limits journal save given found service CanFail d i o e status is h =
     subst (λ k. RunsEditing limits journal save k service CanFail d i o e status) (sym is) h
 
--- where none is kept, the journal is the file that could not be opened
+-- where none is kept, the files that are opened are those of the journal
 pub unserved_by : {T E : Type 0} (result : Result T E) (journal given : Option (List ℕ))
-    (before after : Option Known) (P Q : Type 0) → given ≡ None
-    → OnErr result (CannotOpen (path_if journal) before after × P × Q)
-    → OnErr result (CannotOpen (opened_by journal given None) before after × P × Q)
-unserved_by {T} {E} result journal given before after P Q is h =
-    subst (λ k. OnErr result (CannotOpen (opened_by journal k None) before after × P × Q)) (sym is)
-    h
+    (Why : List (List ℕ) → E → Type 0) → given ≡ None → IfErr result (Why (path_if journal))
+    → IfErr result (Why (opened_by journal given None))
+unserved_by result journal given Why is h =
+    subst (λ k. IfErr result (Why (opened_by journal k None))) (sym is) h
 
 -- a journal that is kept goes with no other
 module _ {P : Type 0} (now : P → List ℕ) (limits : Limits) where

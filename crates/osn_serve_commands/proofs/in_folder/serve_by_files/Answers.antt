@@ -13,7 +13,7 @@ returns-in-None-clause-ok g c =
 pub returns-in-None-clause-err : goal.returns-in-None-clause-err
 returns-in-None-clause-err g c =
     unfollowed_by c.serve_edits.result (option_map (λ path. path.now) c.args.options.journal)
-    (option_map (λ path. path.now) c.args.options.keep) _ _ _ _ _
+    (option_map (λ path. path.now) c.args.options.keep) _ _
     (ap (option_map (λ path. path.now)) c.in-None.is)
     c.serve_edits.ensures.err
 

@@ -15,7 +15,7 @@ returns-in_ok-file-in-Some-clause-ok g c =
       subst (λ path. LocksIf path (g.D.Folder.known c.args.folder.now)
           (g.D.Folder.known c.lock_if.new.folder)) c.in-Ok.ensures.path c.in-Ok.ensures.ok,
       replacing_ran c.args.limits _ _ _ _ _ (MayFail g.D.File.Source.has_failed) _ _ _ _ _ _
-          c.in-Ok.ensures.path c.rules_of-rules.ensures c.in-Some.path.now
+          _ c.path_or_none-in-Some.ensures c.in-Ok.ensures.path c.rules_of-rules.ensures c.in-Some.path.now
           (input_of g.D.File.Source.remaining g.D.File.Source.has_failed found.file left)
           (sym c.replaced_path.ensures ∙ ap (option_map (λ path. path.now)) c.in-Some.is)
           found.ensures.file (λ yes. (left, yes)) (λ yes. absurd (cc)) found.ensures.ok
@@ -32,7 +32,7 @@ returns-in_ok-source-in-None-clause-ok g c =
       subst (λ path. LocksIf path (g.D.Folder.known c.args.folder.now)
           (g.D.Folder.known c.lock_if.new.folder)) c.in-Ok.ensures.path c.in-Ok.ensures.ok,
       service_ran c.args.limits _ _ _ _ _ (MayFail file.has_failed) _ _ _ _ _ _
-          c.in-Ok.ensures.path c.rules_of-rules.ensures
+          _ c.path_or_none-in-None.ensures c.in-Ok.ensures.path c.rules_of-rules.ensures
           (input_if file.remaining file.has_failed found.source left)
           (sym c.replaced_path.ensures ∙ ap (option_map (λ path. path.now)) c.in-None.is)
           (given_if file.remaining file.has_failed _ _ found.source left found.ensures.file)
