@@ -1,4 +1,4 @@
-"""The register as the page asks it: one edition an answer, and none earlier than one that was told."""
+"""The register as the page asks it: each answer of one edition, and none of an earlier one."""
 from __future__ import annotations
 
 import json
