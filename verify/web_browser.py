@@ -76,6 +76,9 @@ def hold_typed(browser, page, program):
         wrong = differences(inner(browser), program, SAMPLES, code, date, weekday)
         slowest = max(slowest, took - (time.monotonic() - began))
         hold(f"the typed {date}", not wrong, *wrong)
+        said = browser.one("#said[role=status]").get_attribute("textContent")
+        hold(f"{date} is read aloud in one sentence", said.startswith(f"“{date}” in ") and
+             not browser.all("#answer [aria-live], #answer [role=status]"), said)
         hold(f"the citation of {date}", browser.one("#citation").text.endswith(
             "by the calendar change register, edition 5 of samples.journal."))
     hold("the page answers within a second of its command", slowest < 1, slowest)
@@ -153,9 +156,6 @@ def hold_keyboard(browser, page, program):
     browser.wait("the answer", lambda: browser.all(".found"))
     wrong = differences(inner(browser), program, SAMPLES, "GB", "11 February 1731")
     hold("the answer by keyboard", not wrong, *wrong)
-    said = browser.one("#said[role=status]").get_attribute("textContent")
-    hold("the answer is told in one sentence", said.startswith("“11 February 1731” in Great Britain")
-         and not browser.all("#answer [aria-live]"), said)
 
 
 def hold_month(browser, page):

@@ -17,7 +17,7 @@ from lib.common import TOP, compact
 SAMPLES = os.path.join(TOP, "examples", "samples.journal")
 SERVES = re.compile(r"http://([0-9.]+):(\d+)/")
 ACCESS = re.compile(r"[0-9a-f.:]+ - - \[.*\] \".*\" \d{3} \S+")
-WAIT = 20
+WAIT = 60
 
 
 def free_port():

@@ -18,6 +18,8 @@ from web_runs import Page
 
 AT_ONCE = 40
 SECONDS = 40
+# How long a reply is waited for if the request is not whole.
+QUIET = 0.5
 HEAD = re.compile(rb"HTTP/1\.[01] (\d{3}) [^\r\n]*\r\n(.*?)\r\n\r\n", re.S)
 LENGTH = re.compile(rb"^content-length: (\d+)\r?$", re.I | re.M)
 # Those of the page's README, and what waitress replies to what is no HTTP.
@@ -59,25 +61,42 @@ WORDS = [b"GET ", b"POST ", b"HEAD ", b" HTTP/1.1", b" HTTP/9.9", b" HTTP/1.1\r\
 
 
 def sent(page, given):
-    """All that is replied to bytes."""
+    """The first reply to bytes. If they are no whole request, none comes while more is awaited."""
     held = b""
     with socket.create_connection((page.host, page.port), SECONDS) as connection:
         try:
             connection.sendall(given)
-            connection.shutdown(socket.SHUT_WR)
-            while block := connection.recv(65_536):
+            connection.settimeout(SECONDS if is_whole(given) else QUIET)
+            while (size := reply_size(given, held)) is None or len(held) < size:
+                if not (block := connection.recv(65_536)):
+                    break
                 held += block
-        except ConnectionError:
+        except (ConnectionError, TimeoutError):
             pass
-    return held
+    return held[:reply_size(given, held)]
+
+
+def is_whole(given):
+    """Whether bytes are a request of which nothing more is to come, as far as is seen at once."""
+    head, ends, body = given.partition(b"\r\n\r\n")
+    return bool(ends) and head.startswith(b"GET ") and not body and b"ontent-" not in head
+
+
+def reply_size(given, held):
+    """How many bytes a reply has, or None if its head doesn't say so yet."""
+    if not (head := HEAD.match(held)):
+        return None
+    if given.startswith(b"HEAD ") or head[1] == b"304":
+        return head.end()
+    length = LENGTH.search(head[2])
+    return head.end() + int(length[1]) if length else None
 
 
 def why_wrong(given, held):
     """What is wrong with a reply."""
-    # (the standard library takes the line so, with the white space of Latin-1 between its words)
     words = given.partition(b"\n")[0].decode("latin-1").split()
-    if not words or len(words) == 2 and words[0] == "GET":
-        # (no request; or one of the first version of HTTP, whose reply has no head)
+    if not held and not is_whole(given) or len(words) < 3:
+        # (no request; or one of the first version of HTTP)
         return ""
     head = HEAD.match(held)
     if not head or int(head[1]) not in STATUSES:

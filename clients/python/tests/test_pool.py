@@ -53,8 +53,8 @@ def test_a_run_that_was_killed_is_replaced(pools: List[Pool]) -> None:
 
 
 def test_the_opening_is_asked_of_each_new_run(pools: List[Pool]) -> None:
-    pools.append(pool := Pool(["sh", "-c", 'read first; echo; while read x; do echo "$first"; done'],
-                              1, seconds=5, opening=[b"opened\n"]))
+    script = 'read first; echo; while read line; do echo "$first"; done'
+    pools.append(pool := Pool(["sh", "-c", script], 1, seconds=5, opening=[b"opened\n"]))
     assert pool.ask([b"x\n"]) == [b"opened"]
 
 

@@ -25,7 +25,8 @@ def table_of(held: bytes) -> IO[bytes]:
 
 
 @pytest.mark.parametrize("held", [
-    TEXT.encode("cp1252"), TEXT.encode("utf-16"), TEXT.encode("utf-16-le"), b"PK\3\4\0\0", b"K\xc3"])
+    TEXT.encode("cp1252"), TEXT.encode("utf-16"), TEXT.encode("utf-16-le"), b"PK\3\4\0\0",
+    b"K\xc3"])
 def test_a_table_that_is_not_utf_8_is_refused(held: bytes) -> None:
     with pytest.raises(Problem) as why:
         tables.byte_order_mark(io.BytesIO(held))
@@ -63,8 +64,8 @@ def test_a_table_that_is_late_is_told(script: Callable[[str], str]) -> None:
     assert work.places.acquire(blocking=False)
 
 
-def test_a_line_of_the_journal_that_is_just_written_is_awaited(tmp_path: Path,
-                                                               script: Callable[[str], str]) -> None:
+def test_a_line_of_the_journal_that_is_just_written_is_awaited(
+        tmp_path: Path, script: Callable[[str], str]) -> None:
     once = tmp_path / "once"
     program = script(f"[ -e {once} ] && exec cat; touch {once}\n"
                      "echo 'oldstyle: journal line 9: 32 NotJson' >&2; exit 1")

@@ -1,4 +1,4 @@
-"""The application: its pages, what all its replies carry, and how it tells what can't be answered."""
+"""The application: its pages, what all replies carry, and what is told of the others."""
 from __future__ import annotations
 
 import logging

@@ -20,8 +20,8 @@ from .words import MONTHS, WEEKDAYS
 EDITION = re.compile(r", edition (\d+)$")
 KEPT = 2_000
 NO_LAND = "no territory has the code"
-# Of a line of the journal that is just being written, which is awaited.
-UNFINISHED, TRIES = "oldstyle: journal line ", 10
+# Of a line of the journal that is just being written, which is awaited for so many seconds.
+UNFINISHED, AWAITED = "oldstyle: journal line ", 1
 
 DAY_LINE = re.compile(r"day (\d+)    JDN \d+( ok| not \w+)?$")
 COUNT = re.compile(r"(\d+) days?$")
@@ -85,9 +85,10 @@ class Printer:
 
     def printed(self, asking: Asking, words: tuple[str, ...]) -> Page:
         """The page as the program prints it now."""
-        for _ in range(TRIES):
+        last = time.monotonic() + AWAITED
+        while True:
             status, out, told = self.run(words)
-            if not told.startswith(UNFINISHED):
+            if not told.startswith(UNFINISHED) or time.monotonic() > last:
                 break
             time.sleep(0.03)
         if status in (0, 2):

@@ -22,8 +22,8 @@ MARK = b"\x1e"
 ROLES = ["place", "date", "weekday", "year", "month", "day"]
 SEPARATORS = ["comma", "semicolon", "tab"]
 LONGEST_NAME = 200
-# Of a line of the journal that is just being written, which is awaited.
-OF_JOURNAL, TRIES = "journal line ", 10
+# Of a line of the journal that is just being written, which is awaited for so many seconds.
+OF_JOURNAL, AWAITED = "journal line ", 1
 NAME_YOURS = re.compile(r"name yours by --(\w+)$")
 YOUR_NAME = r"name yours in the field “Column of \1s” (column_\1)"
 PLACES_FILE = re.compile(r"/dev/fd/\d+")
@@ -102,14 +102,15 @@ class Tables:
             passed.append(places.fileno())
             words += ["--places", f"/dev/fd/{passed[0]}"]
         rows.write(mark)
-        for _ in range(TRIES):
+        last = time.monotonic() + AWAITED
+        while True:
             for file in (table, places):
                 if file:
                     file.seek(0)
             end = self.ended(words, passed, table, rows)
             if rows.seek(0, os.SEEK_END) > len(mark):
                 return end
-            if not end.told.startswith(OF_JOURNAL):
+            if not end.told.startswith(OF_JOURNAL) or time.monotonic() > last:
                 break
             time.sleep(0.03)
         if end.status in (1, 2) and not end.told.startswith(OF_JOURNAL):

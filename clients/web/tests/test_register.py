@@ -1,0 +1,98 @@
+"""The register as the page asks it: each answer of one edition, and none of an earlier one."""
+from __future__ import annotations
+
+import json
+from typing import Any, Iterator, Sequence
+
+import pytest
+from conftest import SAMPLES
+
+from oldstyle_web.problems import Problem
+from oldstyle_web.register import Asking, Register
+from oldstyle_web.settings import Settings
+
+DAY = {"day": 632287, "dual": "11 February 1731/2", "gregorian": "1732-02-22", "jdn": 2353712,
+       "julian": "1732-02-11", "label": "1731-02-11", "weekday": "Friday", "new": {"member": 1}}
+PERIOD = {"calendar": "julian", "rule": "julian", "style": "annunciation", "first": 1,
+          "last": 639550, "source": "A book", "new": 1}
+
+
+class Told(Register):
+    """A register whose runs tell editions in turn."""
+
+    def __init__(self, *editions: int, journal: str = SAMPLES):
+        super().__init__(Settings(journal, "/none"))
+        self.editions = iter(editions)
+        self.answer: dict[str, Any] = {"lands": [{"code": "GB", "name": "x", "new": 1}]}
+
+    def replies(self, pool: object, lines: Sequence[bytes]) -> list[bytes]:
+        return [json.dumps({"answer": self.answer, "edition": next(self.editions), "new": 1,
+                            "reader": 1}).encode() for _ in lines]
+
+
+def twice(asking: Asking) -> str:
+    asking.lands()
+    return asking.lands()[0].name
+
+
+def test_an_answer_is_of_one_edition() -> None:
+    assert Told(1, 2, 2, 2).of_one_edition(twice) == (2, "x")
+
+
+def test_no_edition_is_told_that_is_earlier_than_one_that_was_told() -> None:
+    register = Told(3, 3, 2, 2, 3, 3)
+    assert [register.of_one_edition(twice)[0] for _ in range(2)] == [3, 3]
+
+
+def test_editions_that_change_all_the_time_are_told(monkeypatch: pytest.MonkeyPatch) -> None:
+    monkeypatch.setattr("time.sleep", lambda _seconds: None)
+    with pytest.raises(Problem) as why:
+        Told(*range(1, 100)).of_one_edition(twice)
+    assert why.value.code == 503 and why.value.headers == {"Retry-After": "2"}
+
+
+def test_what_an_earlier_edition_lacks_is_told_to_nobody() -> None:
+    def work(asking: Asking) -> str:
+        asking.lands()
+        if asking.editions == {1}:
+            raise Problem(404, "there is no such place")
+        return "found"
+    register = Told(2, 1, 2)
+    register.of_one_edition(Asking.lands)
+    assert register.of_one_edition(work) == (2, "found")
+
+
+def test_a_journal_that_is_gone_is_told() -> None:
+    with pytest.raises(Problem) as why:
+        Told(0, journal="/none/of/it").of_one_edition(Asking.lands)
+    assert why.value.code == 503 and "isn't there" in str(why.value.description)
+
+
+def test_members_that_a_newer_program_adds_are_ignored() -> None:
+    register = Told(*[1] * 9)
+    asking = Asking(register)
+    assert asking.lands()[0].code == "GB"
+    register.answer = {"periods": [PERIOD]}
+    assert asking.periods("GB")[0].source == "A book"
+    register.answer = {"found": DAY, "regime": {"calendar": "julian", "rule": "julian",
+                                                "style": "annunciation", "new": 1},
+                       "first": 1, "last": 639550, "new": 1}
+    found, = asking.dated_days("GB", [632287])
+    assert (found.found.label, found.period.style, found.period.source) == (
+        "1731-02-11", "annunciation", None)
+    register.answer = {"runs": [{"first": DAY, "last": DAY, "new": 1}]}
+    assert asking.runs("GB", ["x"])[0][0].first.day == 632287
+
+
+@pytest.fixture(params=["", "exit 1", "exec sleep 60"])
+def failing(request: Any, script: Any) -> Iterator[Register]:
+    program = script(request.param) if request.param else "/none/of/it"
+    register = Register(Settings(SAMPLES, program, question_seconds=0.3))
+    yield register
+    register.close()
+
+
+def test_a_program_that_fails_is_told_without_a_path(failing: Register) -> None:
+    with pytest.raises(Problem) as why:
+        failing.of_one_edition(Asking.lands)
+    assert why.value.code == 503 and "/" not in str(why.value.description)
