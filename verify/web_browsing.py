@@ -4,6 +4,8 @@ import sys
 import tempfile
 import time
 
+from command_line import MISSING
+
 try:
     from selenium import webdriver
     from selenium.webdriver.common.by import By
@@ -54,8 +56,9 @@ class Browser:
 
     def __init__(self, size="screen", scripts=True, dark=False):
         if webdriver is None:
-            sys.exit("selenium is missing: install the Debian packages python3-selenium, chromium "
-                     "and chromium-driver, and run this script by /usr/bin/python3")
+            print("selenium is missing: install the Debian packages python3-selenium, chromium and "
+                  "chromium-driver, and run this script by /usr/bin/python3", file=sys.stderr)
+            sys.exit(MISSING)
         self.room = tempfile.TemporaryDirectory()
         self.folder = self.room.name
         options = webdriver.ChromeOptions()
