@@ -7,6 +7,8 @@ use Rattle.osn_invocation.specs.Invocation.{ServiceModel}
 use Rattle.osn_lines.specs.Streams.{Input, Output}
 use Rattle.osn_report.specs.Folders.{Folders}
 use Rattle.osn_report.specs.Printing.{PrintsNone}
+use Rattle.osn_report.specs.Failure.{IsNotRead}
+use Rattle.osn_report.specs.declared.fault.CommandFault.{CommandFault}
 use Rattle.osn_report.specs.declared.fault.CommandFault.TheVariants.{FollowedWithOther}
 use Rattle.osn_report.specs.declared.status.Status.{Status}
 use Rattle.osn_serve_commands.specs.InFolder.{EndsFollowing, RunsByFiles, opened_by}
@@ -21,12 +23,16 @@ followed_by limits journal save keep given found service CanFail d i o e status 
     subst (λ k. RunsByFiles limits journal save keep k service CanFail d i o e status) (sym is) h
 
 -- where none is followed, the files that are opened are those of the other options
-pub unfollowed_by : {T E : Type 0} (result : Result T E) (journal keep given : Option (List ℕ))
-    (Why : List (List ℕ) → E → Type 0) → given ≡ None
-    → IfErr result (Why (opened_by journal keep None))
-    → IfErr result (Why (opened_by journal keep given))
-unfollowed_by result journal keep given Why is h =
-    subst (λ k. IfErr result (Why (opened_by journal keep k))) (sym is) h
+pub unfollowed_by : {T F : Type 0} (result : Result T F) (path : F → List ℕ)
+    (fault : F → CommandFault) (journal keep given : Option (List ℕ)) (d : Folders) (P Q : Type 0)
+    → given ≡ None
+    → IfErr result (λ failure. IsNotRead (opened_by journal keep None) d (path failure)
+    (fault failure) × P × Q)
+    → IfErr result (λ failure. IsNotRead (opened_by journal keep given) d (path failure)
+    (fault failure) × P × Q)
+unfollowed_by result path fault journal keep given d P Q is h =
+    subst (λ k. IfErr result (λ failure. IsNotRead (opened_by journal keep k) d (path failure)
+    (fault failure) × P × Q)) (sym is) h
 
 -- a journal that is followed goes with no other
 module _ {P : Type 0} (now : P → List ℕ) (limits : Limits) where

@@ -7,6 +7,8 @@ use Rattle.osn_invocation.specs.Invocation.{ServiceModel}
 use Rattle.osn_lines.specs.Streams.{Input, Output}
 use Rattle.osn_report.specs.Folders.{Folders}
 use Rattle.osn_report.specs.Printing.{PrintsNone}
+use Rattle.osn_report.specs.Failure.{IsNotRead}
+use Rattle.osn_report.specs.declared.fault.CommandFault.{CommandFault}
 use Rattle.osn_report.specs.declared.fault.CommandFault.TheVariants.{KeptWithOther}
 use Rattle.osn_report.specs.declared.fault.CommandFault.TheVariants.{UpgradeWithoutKeep}
 use Rattle.osn_report.specs.declared.status.Status.{Status}
@@ -24,11 +26,15 @@ served_by limits journal save given found service CanFail d i o e status is h =
     subst (λ k. RunsEditing limits journal save k service CanFail d i o e status) (sym is) h
 
 -- where none is kept, the files that are opened are those of the journal
-pub unserved_by : {T E : Type 0} (result : Result T E) (journal given : Option (List ℕ))
-    (Why : List (List ℕ) → E → Type 0) → given ≡ None → IfErr result (Why (path_if journal))
-    → IfErr result (Why (opened_by journal given None))
-unserved_by result journal given Why is h =
-    subst (λ k. IfErr result (Why (opened_by journal k None))) (sym is) h
+pub unserved_by : {T F : Type 0} (result : Result T F) (path : F → List ℕ)
+    (fault : F → CommandFault) (journal given : Option (List ℕ)) (d : Folders) (P Q : Type 0)
+    → given ≡ None
+    → IfErr result (λ failure. IsNotRead (path_if journal) d (path failure) (fault failure) × P × Q)
+    → IfErr result (λ failure. IsNotRead (opened_by journal given None) d (path failure)
+    (fault failure) × P × Q)
+unserved_by result path fault journal given d P Q is h =
+    subst (λ k. IfErr result (λ failure. IsNotRead (opened_by journal k None) d (path failure)
+    (fault failure) × P × Q)) (sym is) h
 
 -- a journal that is kept goes with no other
 module _ {P : Type 0} (now : P → List ℕ) (limits : Limits) where

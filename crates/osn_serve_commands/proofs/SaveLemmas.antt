@@ -28,7 +28,7 @@ use Rattle.osn_report.specs.Printing.{PrintsNoneAt}
 use Rattle.osn_report.specs.Messages.{Ends, EndsBy, Tells, TellsAt, TellsNothing}
 use Rattle.osn_report.specs.declared.fault.CommandFault.{CommandFault}
 use Rattle.osn_report.specs.declared.fault.CommandFault.TheVariants.{File, NoMemory, RefusedLine}
-use Rattle.osn_report.specs.declared.fault.CommandFault.TheVariants.{Service}
+use Rattle.osn_report.specs.declared.fault.CommandFault.TheVariants.{ReadFault, Service}
 use Rattle.osn_report.specs.declared.status.Status.{Status}
 use Rattle.osn_serve_commands.specs.InFolder.{CanFailIf, EndsSaving, EndsServing, IsNotReadWhole}
 use Rattle.osn_serve_commands.specs.InFolder.{RunsService, SavesOverFound, replaced_path}
@@ -194,31 +194,36 @@ module _ {E D J P : Type 0} (contents : E → Option (List ℕ)) (has_failed hol
 one_of : (at : List ℕ → Option (List ℕ)) (paths : List (List ℕ)) (path : List ℕ)
     → first_missed at paths ≡ Some path → IsOneOf paths path
 one_of at [] path is = absurd (cc)
-one_of at (first ∷ paths) path is = by (is_some (at first)) is
+one_of at (first ∷ paths) path is = by (is_some (at first)) is (one_of at paths path)
   where
     by : (there : Bool) → (if there then first_missed at paths else Some first) ≡ Some path
-        → IsOneOf (first ∷ paths) path
-    by true h = inr (one_of at paths path h)
-    by false h = inl (sym (same_Some _ _ h))
+        → (first_missed at paths ≡ Some path → IsOneOf paths path) → IsOneOf (first ∷ paths) path
+    by true h rest = inr (rest h)
+    by false h rest = inl (sym (same_Some _ _ h))
 
 missed_first : (save : Option (List ℕ)) (paths : List (List ℕ)) (path : List ℕ)
-    (cause : OpenFailed) (before locked after : Option Known) → LocksIf save before locked
-    → IsUnopened paths path cause locked after → IsUnopened paths path cause before after
-missed_first None paths path cause before locked after same h =
-    subst (λ k. IsUnopened paths path cause k after) same h
-missed_first (Some save) paths path cause None None after lock h = h
-missed_first (Some save) paths path cause None (Some m) after lock h =
+    (cause : OpenFailed) (old locked new : Option Known) → LocksIf save old locked
+    → IsUnopened paths path cause locked new → IsUnopened paths path cause old new
+missed_first None paths path cause old locked new same h =
+    subst (λ k. IsUnopened paths path cause k new) same h
+missed_first (Some save) paths path cause None None new lock h = h
+missed_first (Some save) paths path cause None (Some m) new lock h =
     ((h.0.0, tt), one_of m.at paths path h.1, tt)
-missed_first (Some save) paths path cause (Some k) None after lock h = absurd lock
-missed_first (Some save) paths path cause (Some k) (Some m) after lock h =
-    subst (λ n. IsUnopened paths path cause (Some n) after) lock.0 h
+missed_first (Some save) paths path cause (Some k) None new lock h = absurd lock
+missed_first (Some save) paths path cause (Some k) (Some m) new lock h =
+    subst (λ n. IsUnopened paths path cause (Some n) new) lock.0 h
 
-pub locked_first : (save : Option (List ℕ)) (paths : List (List ℕ)) (path : List ℕ)
-    (fault : CommandFault) (before locked after : Option Known) → LocksIf save before locked
-    → IsNotRead paths (record { before = locked; after = after }) path fault
-    → IsNotRead paths (record { before = before; after = after }) path fault
-locked_first save paths path fault before locked after lock h =
-    (h.0, h.1, missed_first save paths path h.0 before locked after lock h.2)
+pub not_opened : (save : Option (List ℕ)) (paths : List (List ℕ)) (path named : List ℕ)
+    (fault : CommandFault) (cause : OpenFailed) (old locked new : Option Known)
+    → LocksIf save old locked → (path ≡ named) × (fault ≡ ReadFault cause)
+    → IsUnopened paths named cause locked new
+    → IsNotRead paths (record { before = old; after = new }) path fault
+not_opened save paths path named fault cause old locked new lock is h = (
+  cause,
+  is.1,
+  missed_first save paths path cause old locked new lock
+      (subst (λ p. IsUnopened paths p cause locked new) (sym is.0) h),
+)
 
 -- ---- over the files of a folder
 
@@ -252,6 +257,18 @@ replaces_journal : (journal save : Option (List ℕ)) (path : List ℕ)
 replaces_journal None save path h = absurd (cc)
 replaces_journal (Some journal) None path h = absurd (cc)
 replaces_journal (Some journal) (Some save) path h = ap Some (of_journal journal save path h)
+
+-- the journal that is to be replaced could not be opened once it was locked
+pub replaced_unopened : (journal save lock : Option (List ℕ)) (replaced path named : List ℕ)
+    (fault : CommandFault) (cause : OpenFailed) (old locked new : Option Known)
+    → replaced_path journal save ≡ Some replaced → LocksIf lock old locked
+    → (path ≡ named) × (fault ≡ ReadFault cause)
+    → IsUnopened (replaced ∷ []) named cause locked new
+    → IsNotRead (path_if journal) (record { before = old; after = new }) path fault
+replaced_unopened journal save lock replaced path named fault cause old locked new by held is h =
+    subst (λ j. IsNotRead (path_if j) (record { before = old; after = new }) path fault)
+    (sym (replaces_journal journal save replaced by))
+    (not_opened lock (replaced ∷ []) path named fault cause old locked new held is h)
 
 -- bytes that are known have to stand still
 stands_as : (bytes : Option (List ℕ)) (held : List ℕ) → bytes ≡ Some held
