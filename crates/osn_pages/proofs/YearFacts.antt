@@ -73,7 +73,8 @@ year_of_runs p t year (r ∷ rs) first last are some is_first is_last =
     let at_end : last.last ≡ last_end r rs =
     ap (λ (x : Run). x.last) (is_last ∙ ap (λ n. get_or (r ∷ rs) n last) count)
     ∙ last_at r rs last in
-    ap (λ (x : Run). spec.year_ends_line year (dated_on p t x.first) (dated_on p t last.last)) is_first
+    ap (λ (x : Run). spec.year_ends_line year (dated_on p t x.first) (dated_on p t last.last))
+    is_first
     ∙ ap (λ e. spec.year_ends_line year (dated_on p t r.first) (dated_on p t e))
     (at_end ∙ sym both.ends)
     ∙ ap (spec.year_line p t year) (sym both.begins)

@@ -1,5 +1,5 @@
--- What changes at the start of a period: how many dates are left out or come twice, and what part of
--- the reckoning is another than before. This project's profile.
+-- What changes at the start of a period: how many dates are left out or come twice, and what part
+-- of the reckoning is another than before. This project's profile.
 use Rattle.std.specs.Prelude.{ℕ, ◌-◌, ◌==◌, nat_lt, if◌then◌else◌, List, [], ◌∷◌, ◌++◌, codes}
 use Rattle.std.specs.Fmt.{decimal}
 
