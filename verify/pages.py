@@ -5,9 +5,9 @@ Random territories are put into a journal, with their changes near one another, 
 edits that wait. Of each date the page of `read` is held against the one of `page_texts.py`, which
 asks every day of the line that has the month and day. So are those of months, years, ranges,
 bounds and sets in random forms, by `spans.py`, with the answer of the query `written`, and the
-pages of days about the changes, of the date's month, of conversions, and of the territories. Words
-that are wrong, codes that are unknown and files that are not there have to be told as docs/PAGES.md
-says.
+pages of days about the changes, of the date's month and year, of conversions, and of the
+territories. Words that are wrong, codes that are unknown and files that are not there have to be
+told as docs/PAGES.md says.
 """
 import os
 import random
@@ -21,6 +21,7 @@ from lib.date_meaning import Malformed, Territory, days_by_month_and_day, parse
 from lib.page_texts import (Place, conversion_page, day_page, list_page, month_page, pending_lines,
                             reading_page, territory_page)
 from lib.spans import reckoned_page, span_answer, span_near, span_page, text_of
+from lib.year_page import year_page
 
 EACH = 40
 # The Julian day number of a day is its number and this.
@@ -40,7 +41,10 @@ WEEKDAY = "a weekday is written by its English name, as Friday"
 CALENDAR = "a calendar is gregorian, julian or swedish; after the word day or jdn, write a number"
 DAY_NUMBER = "a day number is 1 to 3652059"
 JULIAN_NUMBER = 'a Julian day number is 1721426 to 5373484, as "JDN 2353712"'
-EITHER_NUMBER = ('{0} may be a day number or a Julian day number: write "day {0}" or "JDN {0}"')
+EITHER = "{0} may be a day number or a Julian day number: write "
+EITHER_NUMBER = EITHER + '"day {0}" or "JDN {0}" in its place, with the quotes'
+CONVERSION = EITHER + 'oldstyle convert jdn {0}, or oldstyle convert day "day {0}"'
+YEAR = "a year is 1 to 9999 as the place counted it: of 1731/2 write 1731"
 # Words that are wrong, of which the last one is told, and what is told of it. FILE is the journal.
 MISTAKES = [
     ("read FILE XX 1700-01-01 --weekday Fryday", WEEKDAY),
@@ -52,10 +56,13 @@ MISTAKES = [
     ("day FILE XX 3652060", DAY_NUMBER),
     ("day FILE XX 2353712", EITHER_NUMBER.format(2353712)),
     ("day FILE XX 1721426", EITHER_NUMBER.format(1721426)),
-    ("convert day 3652059", EITHER_NUMBER.format(3652059)),
+    ("convert day 3652059", CONVERSION.format(3652059)),
     ("convert jdn 1721425", JULIAN_NUMBER),
     ("convert JDN 5373485", JULIAN_NUMBER),
     ("day none XX 0", DAY_NUMBER),
+    ("year none XX 0", YEAR),
+    ("year FILE XX 10000", YEAR),
+    ("year FILE XX 1731/2", YEAR),
     ("read none XX Fryday", WRONG_WORDS["form"]),
     ("month none XX 1700 13", "a month is 1 to 12 or its English name"),
     ("day FILE XX 1751-02-30", "the gregorian calendar has no such date in the years 1 to 9999"),
@@ -95,7 +102,7 @@ def mistakes(program, journal):
     unknown = f"oldstyle: no territory has the code ZZ: see oldstyle territory {journal}"
     gone = journal + ".gone"
     for words in (["read", "XX", "1700-01-01"], ["day", "XX", "1"], ["month", "XX", "1700", "1"],
-                  ["territory", "XX"]):
+                  ["year", "XX", "1700"], ["territory", "XX"]):
         name, _, *others = words
         said = f"oldstyle: {gone}: no such file"
         yield from differs(program, [name, journal, "ZZ", *others], [], 1, unknown)
@@ -181,6 +188,11 @@ class Asked:
         lines = month_page(self.place, year, month)
         yield from self.page(["month", "XX", str(year), word], lines)
 
+    def year(self, label):
+        if 1 <= label[0] <= 9_999:
+            lines = year_page(self.place, label[0])
+            yield from self.page(["year", "XX", str(label[0])], lines)
+
     def conversion(self, label):
         calendar, weekday = self.chance.choice(CALENDARS), self.chance.choice(["", *WEEKDAYS])
         found = [day for day in days_by_month_and_day(calendar).get(label[1:], [])
@@ -205,6 +217,7 @@ class Asked:
         yield from self.span(label)
         yield from self.day()
         yield from self.month(label)
+        yield from self.year(label)
         yield from self.conversion(label)
 
 

@@ -18,7 +18,7 @@ closed=""
 why_no_answer() {
     local file
     if ! only_reads "$@"; then
-        echo "one is given to read, convert, day, month, territory, almanac, letters, text, plan," \
+        echo "one is given to read, convert, day, month, year, territory, almanac, letters, text, plan," \
             "audit, replay, completions, and serve without --save, --keep and --follow"
     elif takes_input "$@" && [ -t 0 ]; then
         echo "the input is a terminal; give it as < FILE, or by a pipe"
@@ -42,7 +42,7 @@ only_reads() {
         [[ ! $word =~ ^--(save|keep|follow)(=|$) ]] || return 1
     done
     case ${1:-} in
-        "" | read | convert | day | month | territory | almanac) ;;
+        "" | read | convert | day | month | year | territory | almanac) ;;
         letters | text | plan | audit | replay | serve | completions | help) ;;
         *) asks_help "$@" ;;
     esac

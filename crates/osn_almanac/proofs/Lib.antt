@@ -1,3 +1,4 @@
 mod EndFacts
 pub mod Text
 pub mod TrimmedFacts
+mod YearFacts

@@ -41,7 +41,7 @@ fn push_feast_in(out: &mut String, feast: Feast, on_day: &Answer) -> Result<(), 
 }
 
 /// The number of a feast's day, of a year with that Easter.
-fn feast_day(easter: Day, feast: Feast) -> i64
+pub(crate) fn feast_day(easter: Day, feast: Feast) -> i64
     ensures { result ≡ pos easter +ℤ days_after_easter feast }
 {
     i64::from(easter.number()) + i64::from(feast.days_after_easter())

@@ -1,6 +1,6 @@
-//! The almanac of a territory and year: its figures, changes, feasts and months, for those who lay
-//! it beside dated letters. It is made of what the register answers, and of nothing else. What the
-//! crate promises to those above is that the text is its definition, line by line.
+//! A year of a territory: its almanac, for those who lay it beside dated letters, and its page, as
+//! the territory counted the year. The almanac is made of what the register answers, and of nothing
+//! else. What the crate promises to those above is that each text is its definition, line by line.
 #![tactic(auto)]
 
 mod almanac;
@@ -11,5 +11,10 @@ mod feast;
 mod figures;
 mod heading;
 mod months;
+mod year_changes;
+mod year_days;
+mod year_feasts;
+mod year_page;
 
 pub use almanac::almanac_text;
+pub use year_page::year_page_text;

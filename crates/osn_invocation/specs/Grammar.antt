@@ -92,6 +92,11 @@ abbrev pub month_grammar : App
 month_grammar = command_with (codes "month") (journal_arg ∷ required_arg (codes "code")
     ∷ required_arg (codes "year") ∷ required_arg (codes "month") ∷ limits_option ∷ [])
 
+-- `year JOURNAL CODE YEAR [--limits LIMITS]`
+abbrev pub year_grammar : App
+year_grammar = command_with (codes "year") (journal_arg ∷ required_arg (codes "code")
+    ∷ required_arg (codes "year") ∷ limits_option ∷ [])
+
 -- `territory JOURNAL [CODE] [--limits LIMITS]`
 abbrev pub territory_grammar : App
 territory_grammar = command_with (codes "territory")
@@ -175,7 +180,8 @@ with_command program command = with_subcommand program command.top
 -- the commands that say what a date means
 abbrev pub date_commands : List App
 date_commands =
-    read_grammar ∷ convert_grammar ∷ day_grammar ∷ month_grammar ∷ territory_grammar ∷ []
+    read_grammar ∷ convert_grammar ∷ day_grammar ∷ month_grammar ∷ year_grammar
+    ∷ territory_grammar ∷ []
 
 -- those for tables, the service and the register as a text
 abbrev pub table_commands : List App

@@ -24,13 +24,14 @@ use Rattle.osn_invocation.specs.declared.invocation.PageWords.TheVariants as pag
 -- a page of what a journal published. An almanac is that of a territory's code and a year. The
 -- reading of a date is by a code, the date, the weekday that it is said to be, and the order of its
 -- three numbers. It says whether a date without a day is a refusal. A day is by a code and a date
--- or day number, a month by a code, a year and the month. The periods are those of a code's
--- territory, or the page lists all territories
+-- or day number, a month by a code, a year and the month, and a year by a code and the year. The
+-- periods are those of a code's territory, or the page lists all territories
 pub data PageWordsModel : Type 0 where
   almanac_words : Text → ℕ → PageWordsModel
   reading_words : Text → Text → Option Text → Option Text → Bool → PageWordsModel
   day_words : Text → Text → PageWordsModel
   month_words : Text → Text → Text → PageWordsModel
+  year_words : Text → Text → PageWordsModel
   territory_words : Option Text → PageWordsModel
 
 -- what the service is asked for beside files: whether a journal that is kept is saved anew first,
@@ -197,6 +198,9 @@ abbrev pub month_page : List Row → PageWordsModel
 month_page given = month_words (text_of (codes "code") given) (text_of (codes "year") given)
     (text_of (codes "month") given)
 
+abbrev pub year_page : List Row → PageWordsModel
+year_page given = year_words (text_of (codes "code") given) (text_of (codes "year") given)
+
 abbrev pub territory_page : List Row → PageWordsModel
 territory_page given = territory_words (first_of (codes "code") given)
 
@@ -207,8 +211,9 @@ page_or_serve name given =
     else (if bytes_eq name (codes "read") then page_command given (read_page given)
     else (if bytes_eq name (codes "day") then page_command given (day_page given)
     else (if bytes_eq name (codes "month") then page_command given (month_page given)
+    else (if bytes_eq name (codes "year") then page_command given (year_page given)
     else (if bytes_eq name (codes "territory") then page_command given (territory_page given)
-    else serve_command given))))
+    else serve_command given)))))
 
 -- what a command of the register's text asks for, by its name, and what another one asks for
 abbrev pub text_or_page : Text → List Row → CommandModel
@@ -251,6 +256,7 @@ page_words (pages.Read code date weekday order strict) = reading_words code.now 
     (option_map (λ name. name.now) weekday) (option_map (λ word. word.now) order) strict
 page_words (pages.Day code date) = day_words code.now date.now
 page_words (pages.Month code year month) = month_words code.now year.now month.now
+page_words (pages.Year code year) = year_words code.now year.now
 page_words (pages.Territory code) = territory_words (option_map (λ code. code.now) code)
 
 abbrev pub service_model : ServeOptions → ServiceModel

@@ -36,7 +36,7 @@ const LIMITS: Argument = Valued(
 );
 
 /// The commands that say what a date means, in the order in which help lists them.
-pub(crate) const DATES: [CommandRow; 5] = [
+pub(crate) const DATES: [CommandRow; 6] = [
     CommandRow {
         name: "read",
         about: "Says which day a written date means in a territory, or why it means none",
@@ -121,6 +121,25 @@ A month that the year has at its beginning and at its end is printed twice.",
                 "The year as the territory counted it, 0 to 10000",
             ),
             Required("month", "MONTH", "The month, 1 to 12 or its English name"),
+            LIMITS,
+        ],
+    },
+    CommandRow {
+        name: "year",
+        about: "Prints a year as a territory counted it, with its months, changes and feasts",
+        examples: "Example:
+  ./oldstyle year examples/samples.journal GB 1731
+
+The year goes from its first day there to its last one. Its feasts are those that the territory
+dated in it. The figures are of the year from 1 January, and the page says so.",
+        arguments: &[
+            JOURNAL,
+            CODE,
+            Required(
+                "year",
+                "YEAR",
+                "The year as the territory counted it, 1 to 9999",
+            ),
             LIMITS,
         ],
     },
@@ -332,10 +351,16 @@ editions of the replies may differ from run to run.",
         examples: "Example:
   ./oldstyle almanac examples/samples.journal GB 1752
 
-The months are those of the year as the territory counted it, and all else is of the year from 1
-January. Where the year began on 25 March, February of 1731 is the one of 1731/2, and Easter is the
-one of 1731.",
-        arguments: &[JOURNAL, CODE, Year("The year, 1 to 9999"), LIMITS],
+YEAR stands for two years: the months are those of the year as the territory counted it, and the
+figures, the changes and the feasts are those of the year from 1 January. Where the year began on
+25 March, almanac 1731 has February of 1731/2, and Easter and Ash Wednesday of 1731 from 1 January.
+The command year prints one year alone.",
+        arguments: &[
+            JOURNAL,
+            CODE,
+            Year("The year, 1 to 9999: of the months as counted there, of all else from 1 January"),
+            LIMITS,
+        ],
     },
     CommandRow {
         name: "audit",

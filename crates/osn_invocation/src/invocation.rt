@@ -11,7 +11,7 @@ ghost use Rattle.osn_invocation.specs.Invocation.{convert_command, day_page, des
 ghost use Rattle.osn_invocation.specs.Invocation.{invocation_by, invocation_in};
 ghost use Rattle.osn_invocation.specs.Invocation.{model_of, month_page, page_command, page_words};
 ghost use Rattle.osn_invocation.specs.Invocation.{read_page, replay_command, serve_command};
-ghost use Rattle.osn_invocation.specs.Invocation.{territory_page, with_limits};
+ghost use Rattle.osn_invocation.specs.Invocation.{territory_page, with_limits, year_page};
 
 use crate::given::{is_given, number_of, text_of, value_of};
 use crate::grammar::command_line;
@@ -83,6 +83,13 @@ pub enum PageWords<'a> {
         year: &'a str,
         /// The month, by its number or its English name.
         month: &'a str,
+    },
+    /// A year as a territory counted it.
+    Year {
+        /// The code of the territory.
+        code: &'a str,
+        /// The year as the territory counted it.
+        year: &'a str,
     },
     /// The periods of a territory, or all territories.
     Territory {
@@ -241,6 +248,7 @@ fn command_of<'a>(name: &str, given: &ArgMatches<'a>) -> CommandWords<'a>
         "read" => page_of(given, read_of(given)),
         "day" => page_of(given, day_of(given)),
         "month" => page_of(given, month_of(given)),
+        "year" => page_of(given, year_of(given)),
         "territory" => page_of(given, territory_of(given)),
         _ => serve_of(given),
     }
@@ -363,6 +371,16 @@ fn month_of<'a>(given: &ArgMatches<'a>) -> PageWords<'a>
         code: text_of(given, "code"),
         year: text_of(given, "year"),
         month: text_of(given, "month"),
+    }
+}
+
+/// Which page the arguments of `year` ask for.
+fn year_of<'a>(given: &ArgMatches<'a>) -> PageWords<'a>
+    ensures { page_words result ≡ year_page (rows_of (found_of given.now)) }
+{
+    PageWords::Year {
+        code: text_of(given, "code"),
+        year: text_of(given, "year"),
     }
 }
 

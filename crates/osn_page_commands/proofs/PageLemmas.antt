@@ -12,7 +12,8 @@ use Rattle.osn_page_commands.specs.Page.{PrintsTopic, RunsPage, PrintsPageOf}
 use Rattle.osn_page_commands.specs.Page.{topic_refusal, topic_text, published, refusal_line}
 use Rattle.osn_page_commands.specs.Page.{ended, lacks_strict_day, PrintsTopicText}
 use Rattle.osn_page_commands.specs.declared.page_words.Topic.{Topic}
-use Rattle.osn_page_commands.specs.declared.page_words.Topic.TheVariants.{Year, Land, Set, Lands}
+use Rattle.osn_page_commands.specs.declared.page_words.Topic.TheVariants.{Almanac, Year, Land}
+use Rattle.osn_page_commands.specs.declared.page_words.Topic.TheVariants.{Set, Lands}
 use Rattle.osn_report.specs.Folders.{Folders, ReadsOne}
 use Rattle.osn_report.specs.Messages.{EndsBy, TellsIfMade}
 use Rattle.osn_report.specs.declared.fault.CommandFault.TheVariants.{NoMemory}
@@ -27,6 +28,7 @@ unmade_same lacks status is = rw is refl
 -- there was no memory for the text of a page
 lacks_text : (topic : Topic) (text : List ℕ) (o e : Output) (status : Status)
     → o.new ≡ o.old → EndsBy e NoMemory status → PrintsTopicText topic text o e status
+lacks_text (Almanac year) text o e status same told = inr (same, told)
 lacks_text (Year year) text o e status same told = inr (same, told)
 lacks_text (Land page is_strict) text o e status same told = inr (same, told)
 lacks_text (Set given is_strict) text o e status same told = inr (same, told)

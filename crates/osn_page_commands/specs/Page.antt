@@ -2,8 +2,10 @@
 use Rattle.std.specs.Prelude.{◌≡◌, ◌⊎◌, ◌++◌, ℕ, pos, List, [], ◌∷◌, length, codes, Option, None, Some}
 use Rattle.std.specs.Prelude.{Bool, true, false, ◌&&◌, if◌then◌else◌, MatchResult}
 use Rattle.std.specs.Option.{MatchOption}
+use Rattle.std.specs.Fmt.{decimal}
 use Rattle.std.specs.Result.{is_err}
 use Rattle.osn_almanac.specs.Almanac.{almanac, almanac_refusal}
+use Rattle.osn_almanac.specs.YearPage.{year_page}
 use Rattle.osn_days.specs.Profile.{newest_rules}
 use Rattle.osn_grammar.specs.declared.written.WrittenDate.{WrittenDate as AnyDate}
 use Rattle.osn_grammar.specs.Reading.{members}
@@ -13,6 +15,7 @@ use Rattle.osn_register.specs.Plain.{LandModel, code_refusal}
 use Rattle.osn_register.specs.declared.limits.Limits.{Limits}
 use Rattle.osn_register.specs.declared.refusal.Refusal.{Refusal}
 use Rattle.osn_register.specs.declared.refusal.Refusal.TheVariants.{BadCode, UnknownLand}
+use Rattle.osn_register.specs.declared.refusal.Refusal.TheVariants.{YearOffRange}
 use Rattle.osn_core.specs.Sequential.{ObjectState, lands_of}
 use Rattle.osn_lines.specs.Streams.{Input, Output}
 use Rattle.osn_files.specs.declared.fault.FileFault.{FileFault}
@@ -30,7 +33,8 @@ use Rattle.osn_pages.specs.declared.page.Published.{Published}
 use Rattle.osn_page_commands.specs.PageWords.{topic_of_words, takes_memory, code_of, date_text_of}
 use Rattle.osn_page_commands.specs.PageWords.{wrong_word}
 use Rattle.osn_page_commands.specs.declared.page_words.Topic.{Topic}
-use Rattle.osn_page_commands.specs.declared.page_words.Topic.TheVariants.{Year, Land, Set, Lands}
+use Rattle.osn_page_commands.specs.declared.page_words.Topic.TheVariants.{Almanac, Year, Land}
+use Rattle.osn_page_commands.specs.declared.page_words.Topic.TheVariants.{Set, Lands}
 use Rattle.osn_report.specs.Fault.{numbered_line}
 use Rattle.osn_report.specs.Folders.{Folders, ReadsOne}
 use Rattle.osn_report.specs.Journal.{MakesObject, MakesNoObject}
@@ -56,7 +60,9 @@ edition_of s = record { edition = length s.batches; pending = length s.pending }
 -- the text of what was asked for, of what an object has published, where this is the text of its
 -- date
 abbrev pub topic_text : ObjectState → List ℕ → List ℕ → Topic → List ℕ
-topic_text s code date (Year year) = almanac newest_rules (published s) code (pos year)
+topic_text s code date (Almanac year) = almanac newest_rules (published s) code (pos year)
+topic_text s code date (Year year) =
+    year_page newest_rules (published s) code (edition_of s) year
 topic_text s code date (Land page is_strict) =
     page_text newest_rules (published s) code (edition_of s) page
 topic_text s code date (Set given is_strict) =
@@ -65,7 +71,8 @@ topic_text s code date Lands = territories_page (published s) (length s.batches)
 
 -- why it is refused
 abbrev pub topic_refusal : List LandModel → List ℕ → Topic → Option Refusal
-topic_refusal lands code (Year year) = almanac_refusal newest_rules lands code (pos year)
+topic_refusal lands code (Almanac year) = almanac_refusal newest_rules lands code (pos year)
+topic_refusal lands code (Year year) = code_refusal lands code
 topic_refusal lands code (Land page is_strict) = code_refusal lands code
 topic_refusal lands code (Set given is_strict) = code_refusal lands code
 topic_refusal lands code Lands = None
@@ -95,6 +102,7 @@ lacks_set lands code date = is_set_without_day (named_of code lands) date
 
 -- that, where the words ask for a day
 abbrev pub lacks_strict_day : List LandModel → List ℕ → List ℕ → Topic → Bool
+lacks_strict_day lands code date (Almanac year) = false
 lacks_strict_day lands code date (Year year) = false
 lacks_strict_day lands code date (Land page is_strict) = is_strict && lacks_day lands code page
 lacks_strict_day lands code date (Set given is_strict) = is_strict && lacks_set lands code date
@@ -107,17 +115,41 @@ ended lacks status = status
 
 -- ---- what is told of a refusal
 
+-- that a word can be no code, and what a code is
+abbrev pub no_code : List ℕ → List ℕ
+no_code code =
+    shown code ++ codes ": a code is 2 to 8 capital letters or digits, the first a letter"
+
+-- that no territory of a journal has the code, and where the codes are listed
+abbrev pub no_land : List ℕ → List ℕ → List ℕ
+no_land path code =
+    codes "no territory has the code "
+    ++ (shown code ++ (codes ": see oldstyle territory " ++ shown path))
+
 -- the line on a refusal of a page on a territory: what was typed, and what to do
 abbrev pub land_refusal_line : List ℕ → List ℕ → Refusal → List ℕ
-land_refusal_line path code BadCode = codes "oldstyle: "
-    ++ (shown code ++ codes ": a code is 2 to 8 capital letters or digits, the first a letter\n")
-land_refusal_line path code UnknownLand = codes "oldstyle: no territory has the code "
-    ++ (shown code ++ (codes ": see oldstyle territory " ++ (shown path ++ codes "\n")))
+land_refusal_line path code BadCode = codes "oldstyle: " ++ (no_code code ++ codes "\n")
+land_refusal_line path code UnknownLand =
+    codes "oldstyle: " ++ (no_land path code ++ codes "\n")
 land_refusal_line path code refusal = numbered_line refusal
 
--- the line on a refusal; that of an almanac has its number and name
+-- of an almanac the line has the number and name, and the next one says what is allowed
+abbrev pub almanac_help : List ℕ → List ℕ → ℕ → Refusal → List ℕ
+almanac_help path code year BadCode = codes "help: " ++ (no_code code ++ codes "\n")
+almanac_help path code year UnknownLand = codes "help: " ++ (no_land path code ++ codes "\n")
+almanac_help path code year YearOffRange =
+    codes "help: " ++ (decimal year ++ codes ": a year is 1 to 9999\n")
+almanac_help path code year refusal = []
+
+abbrev pub almanac_refusal_lines : List ℕ → List ℕ → ℕ → Refusal → List ℕ
+almanac_refusal_lines path code year refusal =
+    numbered_line refusal ++ almanac_help path code year refusal
+
+-- what is told of a refusal
 abbrev pub refusal_line : List ℕ → List ℕ → Topic → Refusal → List ℕ
-refusal_line path code (Year year) refusal = numbered_line refusal
+refusal_line path code (Almanac year) refusal =
+    almanac_refusal_lines path code year refusal
+refusal_line path code (Year year) refusal = land_refusal_line path code refusal
 refusal_line path code (Land page is_strict) refusal = land_refusal_line path code refusal
 refusal_line path code (Set given is_strict) refusal = land_refusal_line path code refusal
 refusal_line path code Lands refusal = numbered_line refusal
@@ -131,7 +163,8 @@ IsRefused path code topic refusal o e status =
 
 -- the text of a page was printed. Where an almanac could not be written, standard error was told
 abbrev pub PrintsTopicText : Topic → List ℕ → Output → Output → Status → Type 0
-PrintsTopicText (Year year) text o e status = PrintsOrReports text o e status
+PrintsTopicText (Almanac year) text o e status = PrintsOrReports text o e status
+PrintsTopicText (Year year) text o e status = PrintsIfMade text o e status
 PrintsTopicText (Land page is_strict) text o e status = PrintsIfMade text o e status
 PrintsTopicText (Set given is_strict) text o e status = PrintsIfMade text o e status
 PrintsTopicText Lands text o e status = PrintsIfMade text o e status

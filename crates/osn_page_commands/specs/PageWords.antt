@@ -1,5 +1,5 @@
 -- What the words of a command line ask for, or which word is not what its place asks for.
-use Rattle.std.specs.Prelude.{ℕ, Bool, true, false, ◌&&◌, nat_le, if◌then◌else◌, codes, List}
+use Rattle.std.specs.Prelude.{ℕ, pos, Bool, true, false, ◌&&◌, nat_le, if◌then◌else◌, codes, List}
 use Rattle.std.specs.Prelude.{[], ◌∷◌, Option, Some, None, Result, Ok, Err}
 use Rattle.std.specs.Option.{ok_or}
 use Rattle.std.specs.Str.{bytes_eq}
@@ -16,17 +16,19 @@ use Rattle.osn_grammar.specs.declared.written.WrittenDate.{WrittenDate as AnyDat
 use Rattle.osn_pages.specs.Conversion.{days_of_written}
 use Rattle.osn_pages.specs.declared.page.Page.{Page}
 use Rattle.osn_pages.specs.declared.page.Page.TheVariants as pages
+use Rattle.osn_register.specs.Plain.{is_off_years}
 use Rattle.osn_written.specs.ReadDate.{read_date}
 use Rattle.osn_written.specs.WrittenDate.{written_date, number_of, weekday_named}
 use Rattle.osn_written.specs.declared.written_date.DateFault.{DateFault}
 use Rattle.osn_written.specs.declared.written_date.DateFault.TheVariants as faults
 use Rattle.osn_written.specs.declared.written_date.WrittenDate.{WrittenDate}
 use Rattle.osn_invocation.specs.Invocation.{PageWordsModel, almanac_words, reading_words, day_words}
-use Rattle.osn_invocation.specs.Invocation.{month_words, territory_words}
+use Rattle.osn_invocation.specs.Invocation.{month_words, year_words, territory_words}
 use Rattle.osn_page_commands.specs.DayNumber.{day_by_number, day_by_julian, is_julian_word}
 use Rattle.osn_page_commands.specs.Order.{order_of_word}
 use Rattle.osn_page_commands.specs.declared.page_words.Topic.{Topic}
-use Rattle.osn_page_commands.specs.declared.page_words.Topic.TheVariants.{Year, Land, Set, Lands}
+use Rattle.osn_page_commands.specs.declared.page_words.Topic.TheVariants.{Almanac, Year, Land}
+use Rattle.osn_page_commands.specs.declared.page_words.Topic.TheVariants.{Set, Lands}
 use Rattle.osn_report.specs.declared.misuse.Misuse.{Misuse}
 use Rattle.osn_report.specs.declared.misuse.Misuse.TheVariants as misuses
 
@@ -144,10 +146,16 @@ day_page_of None text = page_of_date (date_of_word text)
 
 -- ---- a conversion: its day, and the weekday that the date names, if any
 
+-- of a number that may be either this command asks which is meant
+abbrev pub on_conversion : Misuse → Misuse
+on_conversion (misuses.WhichDayNumber number) = misuses.WhichConversion number
+on_conversion misuse = misuse
+
 -- by a number
 abbrev pub conversion_by_number : Option (Result ℕ Misuse) → Result (ℕ × Option Weekday) Misuse
 conversion_by_number None = Err misuses.DayNumber
-conversion_by_number (Some day) = without_weekday day
+conversion_by_number (Some (Ok day)) = Ok (day, None)
+conversion_by_number (Some (Err misuse)) = Err (on_conversion misuse)
 
 -- by a date in the calendar of a word
 abbrev pub day_by_date : List ℕ → List ℕ → Result (ℕ × Option Weekday) Misuse
@@ -189,14 +197,28 @@ month_page_of year month = do
   number ← month_of_word (number_of month) month
   Ok (pages.Month year number)
 
+-- ---- a year
+
+-- one that has figures
+abbrev pub year_numbered : Option ℕ → Result ℕ Misuse
+year_numbered None = Err misuses.Year
+year_numbered (Some year) =
+    if is_off_years newest_rules (pos year) then Err misuses.Year else Ok year
+
+abbrev pub year_topic_of : List ℕ → Result Topic Misuse
+year_topic_of text = do
+  year ← year_numbered (number_of text)
+  Ok (Year year)
+
 -- ---- a page
 
 abbrev pub topic_of_words : PageWordsModel → Result Topic Misuse
-topic_of_words (almanac_words code year) = Ok (Year year)
+topic_of_words (almanac_words code year) = Ok (Almanac year)
 topic_of_words (reading_words code date weekday order strict) =
     topic_of_reading date weekday order strict
 topic_of_words (day_words code date) = of_land (day_page_of (day_by_number date) date) false
 topic_of_words (month_words code year month) = of_land (month_page_of year month) false
+topic_of_words (year_words code year) = year_topic_of year
 topic_of_words (territory_words None) = Ok Lands
 topic_of_words (territory_words (Some code)) = Ok (Land pages.Periods false)
 
@@ -210,6 +232,7 @@ takes_memory (almanac_words code year) = false
 takes_memory (reading_words code date weekday order strict) = true
 takes_memory (day_words code date) = day_takes_memory (day_by_number date)
 takes_memory (month_words code year month) = false
+takes_memory (year_words code year) = false
 takes_memory (territory_words code) = false
 
 -- the text of the date that is named, if any
@@ -218,6 +241,7 @@ date_text_of (reading_words code date weekday order strict) = date
 date_text_of (almanac_words code year) = []
 date_text_of (day_words code date) = []
 date_text_of (month_words code year month) = []
+date_text_of (year_words code year) = []
 date_text_of (territory_words code) = []
 
 -- the code of the territory that is named, if any
@@ -226,6 +250,7 @@ code_of (almanac_words code year) = code
 code_of (reading_words code date weekday order strict) = code
 code_of (day_words code date) = code
 code_of (month_words code year month) = code
+code_of (year_words code year) = code
 code_of (territory_words None) = []
 code_of (territory_words (Some code)) = code
 
@@ -242,5 +267,6 @@ wrong_word (reading_words code date weekday order strict) misuse =
 wrong_word (day_words code date) misuse = date
 wrong_word (month_words code year month) misuses.Month = month
 wrong_word (month_words code year month) misuse = year
+wrong_word (year_words code year) misuse = year
 wrong_word (almanac_words code year) misuse = []
 wrong_word (territory_words code) misuse = []

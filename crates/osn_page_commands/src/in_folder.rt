@@ -27,9 +27,9 @@ fn unopened(words: PageWords<'_>, cause: OpenFailed) -> CommandFault
     }
 }
 
-/// The commands `almanac`, `read`, `day`, `month` and `territory`: opens the journal of a path, and
-/// prints the page that the words ask for, on what it published under these limits. The journal is
-/// read whole before anything is printed.
+/// The commands `almanac`, `read`, `day`, `month`, `year` and `territory`: opens the journal of a
+/// path, and prints the page that the words ask for, on what it published under these limits. The
+/// journal is read whole before anything is printed.
 ///
 /// If a word is not what its place asks for, standard error says so before a file is opened. If no
 /// page is printed, standard error says why, and the status says it too. With `--strict` a date

@@ -12,6 +12,7 @@ mod order;
 mod page;
 mod page_words;
 mod places;
+mod refusal_lines;
 mod table_faults;
 mod table_words;
 
@@ -19,4 +20,4 @@ pub use conversion::convert_command;
 pub use in_folder::page_in_folder;
 pub use letters::{EndRules, letters_command};
 pub use letters_files::letters_in_folder;
-pub use page::land_refusal_line;
+pub use refusal_lines::land_refusal_line;

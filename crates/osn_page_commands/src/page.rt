@@ -6,16 +6,16 @@ ghost use Rattle.osn_register.specs.Refusal.{IsRefusalOrNoMemory};
 ghost use Rattle.osn_page_commands.specs.Page as spec;
 
 use crate::page_words::Topic;
-use osn_almanac::almanac_text;
+use crate::refusal_lines::refusal_line;
+use osn_almanac::{almanac_text, year_page_text};
 use osn_core::Object;
 use osn_lines::Sink;
 use osn_pages::{
     Page, Published, has_no_day, page_text, set_has_no_day, set_page_text, territories_page,
 };
 use osn_register::{Limits, Refusal, Register};
-use osn_report::{Status, print, print_or_report, refused, tell_line, tell_no_memory};
-use osn_shown::Shown;
-use std::alloc::{AllocError, Global};
+use osn_report::{Status, print, print_or_report, tell_line, tell_no_memory};
+use std::alloc::Global;
 
 /// The page that was asked for, on what an object has published. `date` is the text of its date.
 fn text_of(
@@ -38,7 +38,8 @@ fn text_of(
         pending: object.pending().len(),
     };
     match *topic {
-        Topic::Year(year) => almanac_text(alloc, register, code, i64::from(year)),
+        Topic::Almanac(year) => almanac_text(alloc, register, code, i64::from(year)),
+        Topic::Year(year) => year_page_text(alloc, register, code, published, year),
         Topic::Land { page, .. } => page_text(alloc, register, code, published, page),
         Topic::Set { weekday, .. } => {
             set_page_text(alloc, register, code, published, date, weekday)
@@ -135,51 +136,6 @@ fn ended(lacks_day: bool, printed: Status) -> Status
     }
 }
 
-/// The line on a refusal of what is asked of a territory, with the path of the journal.
-///
-/// # Errors
-///
-/// Want of memory, and nothing else.
-pub fn land_refusal_line(
-    alloc: Global,
-    path: &str,
-    code: &str,
-    refusal: Refusal,
-) -> Result<String, AllocError>
-    ensures { IfOk result (λ line.
-        string_bytes line ≡ spec.land_refusal_line path.now code.now refusal) }
-{
-    match refusal {
-        Refusal::BadCode => format!(in alloc;
-            "oldstyle: {}: a code is 2 to 8 capital letters or digits, the first a letter\n",
-            Shown(code)
-        ),
-        Refusal::UnknownLand => format!(in alloc;
-            "oldstyle: no territory has the code {}: see oldstyle territory {}\n",
-            Shown(code),
-            Shown(path)
-        ),
-        _ => refused(alloc, refusal.number(), refusal.name()),
-    }
-}
-
-/// The line on a refusal of what was asked for.
-fn refusal_line(
-    alloc: Global,
-    path: &str,
-    code: &str,
-    topic: &Topic,
-    refusal: Refusal,
-) -> Result<String, AllocError>
-    ensures { IfOk result (λ line.
-        string_bytes line ≡ spec.refusal_line path.now code.now topic.now refusal) }
-{
-    match topic {
-        Topic::Land { .. } | Topic::Set { .. } => land_refusal_line(alloc, path, code, refusal),
-        Topic::Year(_) | Topic::Lands => refused(alloc, refusal.number(), refusal.name()),
-    }
-}
-
 /// Prints the text of a page. Standard error is told at once where an almanac could not be written.
 fn print_text_of<W: Sink, E: Sink>(
     topic: &Topic,
@@ -192,8 +148,10 @@ fn print_text_of<W: Sink, E: Sink>(
         (output_of E.contents E.has_failed E.holds_back errors.old errors.new) result }
 {
     match topic {
-        Topic::Year(_) => print_or_report(Ok(text), output, errors),
-        Topic::Land { .. } | Topic::Set { .. } | Topic::Lands => print(Ok(text), output, errors),
+        Topic::Almanac(_) => print_or_report(Ok(text), output, errors),
+        Topic::Year(_) | Topic::Land { .. } | Topic::Set { .. } | Topic::Lands => {
+            print(Ok(text), output, errors)
+        }
     }
 }
 

@@ -7,7 +7,7 @@ ghost use Rattle.osn_page_commands.specs.PageWords as spec;
 
 use crate::day_number::{day_by_julian, day_by_number, is_julian_word};
 use crate::order::order_of_word;
-use osn_days::{Calendar, Day, Keyword, Weekday, month_named};
+use osn_days::{Calendar, Day, Keyword, Weekday, Year, month_named};
 use osn_grammar::{DateOrder, Written, WrittenDate as AnyDate};
 use osn_invocation::PageWords;
 use osn_pages::{Page, day_of_written};
@@ -19,7 +19,9 @@ use std::alloc::{AllocError, Global};
 #[derive(Clone, Copy, Debug, PartialEq, Eq)]
 pub(crate) enum Topic {
     /// A year of a territory, as an almanac.
-    Year(u32),
+    Almanac(u32),
+    /// A year as a territory counted it.
+    Year(Year),
     /// What this page says of a territory.
     Land {
         page: Page,
@@ -161,12 +163,23 @@ fn without_weekday(day: Result<Day, Misuse>) -> Result<DayAndWeekday, Misuse>
     Ok((day?, None))
 }
 
+/// The same misuse, where `convert` asks which number is meant.
+fn on_conversion(misuse: Misuse) -> Misuse
+    ensures { result ≡ spec.on_conversion misuse }
+{
+    match misuse {
+        Misuse::WhichDayNumber(number) => Misuse::WhichConversion(number),
+        _ => misuse,
+    }
+}
+
 /// The day of a text that is a number.
 fn conversion_by_number(text: &str) -> Result<DayAndWeekday, Misuse>
     ensures { result ≡ spec.conversion_by_number (day_in text.now) }
 {
     match day_by_number(text) {
-        Some(day) => without_weekday(day),
+        Some(Ok(day)) => Ok((day, None)),
+        Some(Err(misuse)) => Err(on_conversion(misuse)),
         None => Err(Misuse::DayNumber),
     }
 }
@@ -259,6 +272,23 @@ fn month_page_of(year: &str, month: &str) -> Result<Page, Misuse>
     Ok(Page::Month { year, month })
 }
 
+/// The year that a number is, where the year has figures.
+fn year_numbered(number: Option<u32>) -> Result<Year, Misuse>
+    ensures { result ≡ spec.year_numbered number }
+{
+    match number {
+        Some(number) => Year::new(i64::from(number)).ok_or(Misuse::Year),
+        None => Err(Misuse::Year),
+    }
+}
+
+/// The page on a year.
+fn year_topic_of(year: &str) -> Result<Topic, Misuse>
+    ensures { result ≡ spec.year_topic_of year.now }
+{
+    Ok(Topic::Year(year_numbered(number_of(year))?))
+}
+
 /// A page on a territory, as what is asked for.
 fn of_land(page: Result<Page, Misuse>, is_strict: bool) -> Result<Topic, Misuse>
     ensures { result ≡ spec.of_land page is_strict }
@@ -278,7 +308,7 @@ pub(crate) fn topic_of_words(
     ensures memory { OnErr result (spec.takes_memory (page_words words.entry) ≡ true) }
 {
     match words {
-        PageWords::Almanac { year, .. } => Ok(Ok(Topic::Year(year))),
+        PageWords::Almanac { year, .. } => Ok(Ok(Topic::Almanac(year))),
         PageWords::Read {
             date,
             weekday,
@@ -288,6 +318,7 @@ pub(crate) fn topic_of_words(
         } => topic_of_reading(alloc, date, weekday, order, strict),
         PageWords::Day { date, .. } => Ok(of_land(day_page_of(alloc, date)?, false)),
         PageWords::Month { year, month, .. } => Ok(of_land(month_page_of(year, month), false)),
+        PageWords::Year { year, .. } => Ok(year_topic_of(year)),
         PageWords::Territory { code: None } => Ok(Ok(Topic::Lands)),
         PageWords::Territory { code: Some(_) } => Ok(of_land(Ok(Page::Periods), false)),
     }
@@ -312,6 +343,7 @@ pub(crate) fn code_of<'a>(words: PageWords<'a>) -> &'a str
         | PageWords::Read { code, .. }
         | PageWords::Day { code, .. }
         | PageWords::Month { code, .. }
+        | PageWords::Year { code, .. }
         | PageWords::Territory { code: Some(code) } => code,
         PageWords::Territory { code: None } => "",
     }
@@ -338,7 +370,7 @@ pub(crate) fn wrong_word<'a>(words: PageWords<'a>, misuse: Misuse) -> &'a str
         ) => order,
         (PageWords::Read { date, .. } | PageWords::Day { date, .. }, _) => date,
         (PageWords::Month { month, .. }, Misuse::Month) => month,
-        (PageWords::Month { year, .. }, _) => year,
+        (PageWords::Month { year, .. } | PageWords::Year { year, .. }, _) => year,
         (PageWords::Almanac { .. } | PageWords::Territory { .. }, _) => "",
     }
 }

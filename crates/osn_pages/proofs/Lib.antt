@@ -1,5 +1,5 @@
 pub mod LawFacts
-mod GridFacts
+pub mod GridFacts
 mod MonthFacts
 mod NearestFacts
 mod PeriodFacts

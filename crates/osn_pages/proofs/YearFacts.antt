@@ -64,7 +64,7 @@ last_at r (next ∷ rs) d = last_at next rs d
 pub year_of_runs : (p : Profile) (t : TerritoryModel) (year : ℕ) (runs : List Run)
     (first last : Run) → AreRuns runs → 0 < length runs → first ≡ get_or runs 0 first
     → last ≡ get_or runs (length runs - 1) last
-    → spec.year_ends year (dated_on p t first.first) (dated_on p t last.last)
+    → spec.year_ends_line year (dated_on p t first.first) (dated_on p t last.last)
     ≡ spec.year_line p t year (days_in runs)
 year_of_runs p t year [] first last are some is_first is_last = absurd (omega (arith, some))
 year_of_runs p t year (r ∷ rs) first last are some is_first is_last =
@@ -73,8 +73,9 @@ year_of_runs p t year (r ∷ rs) first last are some is_first is_last =
     let at_end : last.last ≡ last_end r rs =
     ap (λ (x : Run). x.last) (is_last ∙ ap (λ n. get_or (r ∷ rs) n last) count)
     ∙ last_at r rs last in
-    ap (λ (x : Run). spec.year_ends year (dated_on p t x.first) (dated_on p t last.last)) is_first
-    ∙ ap (λ e. spec.year_ends year (dated_on p t r.first) (dated_on p t e))
+    ap (λ (x : Run). spec.year_ends_line year (dated_on p t x.first) (dated_on p t last.last))
+    is_first
+    ∙ ap (λ e. spec.year_ends_line year (dated_on p t r.first) (dated_on p t e))
     (at_end ∙ sym both.ends)
     ∙ ap (spec.year_line p t year) (sym both.begins)
 

@@ -1,4 +1,5 @@
 pub mod Words
+pub mod Turn
 pub mod SourceLine
 pub mod Heading
 pub mod Nearest

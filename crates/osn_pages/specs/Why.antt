@@ -1,7 +1,6 @@
 -- The lines that say why a written date means no day. This project's profile.
 use Rattle.std.specs.Prelude.{ℕ, Bool, ◌-◌, ◌==◌, if◌then◌else◌, List, [], ◌∷◌, ◌++◌, map, pos}
 use Rattle.std.specs.Prelude.{Option, codes}
-use Rattle.std.specs.Fmt.{decimal}
 use Rattle.std.specs.List.{flat_map, list_any}
 use Rattle.std.specs.Str.{bytes_eq}
 use Rattle.osn_days.specs.Month.{month_name}
@@ -23,7 +22,8 @@ use Rattle.osn_written.specs.Absence.{absence}
 use Rattle.osn_written.specs.Meaning.{label_of}
 use Rattle.osn_pages.specs.Nearest.{nearest}
 use Rattle.osn_pages.specs.SourceLine.{source_text}
-use Rattle.osn_pages.specs.Words.{named_day, numbered_day}
+use Rattle.osn_pages.specs.Turn.{turned_line}
+use Rattle.osn_pages.specs.Words.{numbered_day, year_ends, empty_year_line, followed}
 
 -- ---- a line about a day
 
@@ -64,20 +64,14 @@ not_of_calendar_line p t month =
 
 -- ---- a gap
 
--- the day before a change and the day of the change, as the territory named both
+-- the day before a change and the day of the change
 unfoldable pub skip_line : DatedDay → DatedDay → List ℕ
-skip_line before change =
-    codes "skipped: "
-    ++ (named_day before ++ (codes " was followed by " ++ (numbered_day change ++ codes "\n")))
+skip_line before change = codes "skipped: " ++ (followed before change ++ codes "\n")
 
--- that the year began on another date from the change on, with these words of both
-unfoldable pub beginning_text : List ℕ → List ℕ → List ℕ
-beginning_text old new =
-    codes "the year's beginning changed: until then "
-    ++ (old ++ (codes ", from then on " ++ (new ++ codes "\n")))
-
+-- that the year began on another date from the change on
 abbrev pub beginning_line : Style → Style → List ℕ
-beginning_line old new = beginning_text (beginning_of_year old) (beginning_of_year new)
+beginning_line old new =
+    turned_line (codes "the year's beginning") (beginning_of_year old) (beginning_of_year new)
 
 -- the two styles are one
 abbrev pub is_style : Style → Style → Bool
@@ -104,23 +98,18 @@ last_day d [] = d
 last_day d (next ∷ ds) = last_day next ds
 
 -- from which day to which the year went
-unfoldable pub year_ends : ℕ → DatedDay → DatedDay → List ℕ
-year_ends year first last =
-    codes "no such date in that year: the year "
-    ++ (decimal year
-    ++ (codes " went there from "
-    ++ (numbered_day first ++ (codes " to " ++ (numbered_day last ++ codes "\n")))))
+unfoldable pub year_ends_line : ℕ → DatedDay → DatedDay → List ℕ
+year_ends_line year first last =
+    codes "no such date in that year: " ++ (year_ends year first last ++ codes "\n")
 
 -- that the year had no day there
-unfoldable pub no_year_line : ℕ → List ℕ
-no_year_line year =
-    codes "no such date in that year: the place had no day of the year "
-    ++ (decimal year ++ codes "\n")
+abbrev pub no_year_line : ℕ → List ℕ
+no_year_line year = codes "no such date in that year: " ++ empty_year_line year
 
 -- the same of the days that the year had there
 abbrev pub year_line : Profile → TerritoryModel → ℕ → List ℕ → List ℕ
 year_line p t year [] = no_year_line year
-year_line p t year (d ∷ ds) = year_ends year (dated_on p t d) (dated_on p t (last_day d ds))
+year_line p t year (d ∷ ds) = year_ends_line year (dated_on p t d) (dated_on p t (last_day d ds))
 
 -- ---- the whole
 

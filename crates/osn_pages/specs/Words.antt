@@ -31,3 +31,19 @@ named_day x = weekday_words x.day ++ (codes " " ++ dated_text x)
 -- the same with its number: Thursday 14 September 1752 (day 639797)
 unfoldable pub numbered_day : DatedDay → List ℕ
 numbered_day x = named_day x ++ (codes " (day " ++ (decimal x.day ++ codes ")"))
+
+-- from which day to which a year went: the year 1731 went there from .. to ..
+unfoldable pub year_ends : ℕ → DatedDay → DatedDay → List ℕ
+year_ends year first last =
+    codes "the year "
+    ++ (decimal year
+    ++ (codes " went there from " ++ (numbered_day first ++ (codes " to " ++ numbered_day last))))
+
+-- the day before a change and the day of the change, as the territory named both
+unfoldable pub followed : DatedDay → DatedDay → List ℕ
+followed before change =
+    named_day before ++ (codes " was followed by " ++ numbered_day change)
+
+-- that no day had the year
+unfoldable pub empty_year_line : ℕ → List ℕ
+empty_year_line year = codes "the place had no day of the year " ++ (decimal year ++ codes "\n")

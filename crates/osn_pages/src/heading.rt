@@ -6,8 +6,12 @@ use std::alloc::AllocError;
 use std::fmt::Write;
 
 /// Appends the territory, by its name and code, and the edition.
+///
+/// # Errors
+///
+/// Want of memory, and nothing else.
 #[tactic(auto, unfolding(crate::specs::Heading::land_heading))]
-pub(crate) fn push_land_heading(
+pub fn push_land_heading(
     out: &mut String,
     name: &str,
     code: &str,
@@ -20,8 +24,12 @@ pub(crate) fn push_land_heading(
 }
 
 /// Appends how many edits are not published yet, where any is.
+///
+/// # Errors
+///
+/// Want of memory, and nothing else.
 #[tactic(auto, unfolding(crate::specs::Heading::pending_line))]
-pub(crate) fn push_pending(out: &mut String, count: usize) -> Result<(), AllocError>
+pub fn push_pending(out: &mut String, count: usize) -> Result<(), AllocError>
     ensures { OnOk result (string_bytes out.new
         ≡ string_bytes out.old ++ spec.pending_line count) }
 {

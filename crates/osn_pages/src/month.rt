@@ -22,7 +22,11 @@ fn push_run(days: &mut Vec<DatedDay>, territory: &Territory, run: Run) -> Result
 }
 
 /// The days of these runs, as the territory dated them.
-fn dated_days(
+///
+/// # Errors
+///
+/// `AllocError` where there is no memory for the list.
+pub fn dated_days(
     alloc: Global,
     territory: &Territory,
     runs: &[Run],

@@ -88,8 +88,12 @@ pub(crate) fn push_named_day(
 }
 
 /// Appends the line of a day, of which no weekday is asked.
+///
+/// # Errors
+///
+/// Want of memory, and nothing else.
 #[tactic(auto, unfolding(crate::specs::Reading::verdict))]
-pub(crate) fn push_day(out: &mut String, dated: DatedDay) -> Result<(), AllocError>
+pub fn push_day(out: &mut String, dated: DatedDay) -> Result<(), AllocError>
     ensures { OnOk result (string_bytes out.new
         ≡ string_bytes out.old ++ spec.plain_day_line dated) }
 {

@@ -29,8 +29,12 @@ fn push_to(out: &mut String, dated: DatedDay) -> Result<(), AllocError>
 }
 
 /// Appends how many days there are.
+///
+/// # Errors
+///
+/// Want of memory, and nothing else.
 #[tactic(auto, unfolding(crate::specs::Runs::count_line))]
-fn push_count(out: &mut String, count: u32) -> Result<(), AllocError>
+pub fn push_count(out: &mut String, count: usize) -> Result<(), AllocError>
     ensures { OnOk result (string_bytes out.new ≡ string_bytes out.old ++ spec.count_line count) }
 {
     match count {
@@ -69,7 +73,7 @@ fn push_whole(out: &mut String, territory: &Territory, run: Run) -> Result<(), A
         ≡ string_bytes out.old ++ spec.whole_lines newest_rules territory.now run) }
 {
     push_ends(out, territory, run.first, run.last)?;
-    push_count(out, day_count(run.first, run.last))
+    push_count(out, day_count(run.first, run.last) as usize)
 }
 
 /// Appends the lines of a run that has no first day.

@@ -11,7 +11,8 @@ ghost use Rattle.osn_pages.specs.Why as spec;
 use crate::land_sources::LandSources;
 use crate::nearest::nearest_days;
 use crate::source_line::push_source;
-use crate::words::{NamedDay, NumberedDay};
+use crate::turn::push_turned;
+use crate::words::{Followed, NumberedDay, YearEnds, push_empty_year};
 use osn_days::{Day, Keyword, month_name};
 use osn_lands::{DatedDay, Run, Style, Territory};
 use osn_written::{Absence, WrittenDate, absence_of};
@@ -128,12 +129,7 @@ fn push_skip_line(out: &mut String, before: DatedDay, change: DatedDay) -> Resul
     ensures { OnOk result (string_bytes out.new
         ≡ string_bytes out.old ++ spec.skip_line before change) }
 {
-    writeln!(
-        out,
-        "skipped: {} was followed by {}",
-        NamedDay(before),
-        NumberedDay(change)
-    )
+    writeln!(out, "skipped: {}", Followed { before, change })
 }
 
 /// Whether the two styles are one.
@@ -141,19 +137,6 @@ fn is_style(one: Style, other: Style) -> bool
     ensures { result ≡ spec.is_style one other }
 {
     one.word() == other.word()
-}
-
-/// Appends that the year began on another date from a change on, with these words of both.
-#[tactic(auto, unfolding(crate::specs::Why::beginning_text))]
-fn push_beginning_text(out: &mut String, old: &str, new: &str) -> Result<(), AllocError>
-    ensures { OnOk result (string_bytes out.new
-        ≡ string_bytes out.old ++ spec.beginning_text old.now new.now) }
-{
-    writeln!(
-        out,
-        "the year's beginning changed: until then {}, from then on {}",
-        old, new
-    )
 }
 
 /// Appends, where a change is one of the year's beginning, that it is, and the nearest days.
@@ -172,7 +155,12 @@ fn push_beginning(
     if is_style(old, new) {
         return Ok(());
     }
-    push_beginning_text(out, old.beginning_of_year(), new.beginning_of_year())?;
+    push_turned(
+        out,
+        "the year's beginning",
+        old.beginning_of_year(),
+        new.beginning_of_year(),
+    )?;
     push_nearest(alloc, out, territory, date)
 }
 
@@ -218,7 +206,7 @@ fn push_skips(
 }
 
 /// Appends from which day to which a year went.
-#[tactic(auto, unfolding(crate::specs::Why::year_ends))]
+#[tactic(auto, unfolding(crate::specs::Why::year_ends_line))]
 fn push_year_ends(
     out: &mut String,
     year: u16,
@@ -226,27 +214,22 @@ fn push_year_ends(
     last: DatedDay,
 ) -> Result<(), AllocError>
     ensures { OnOk result (string_bytes out.new
-        ≡ string_bytes out.old ++ spec.year_ends year first last) }
+        ≡ string_bytes out.old ++ spec.year_ends_line year first last) }
 {
-    writeln!(
-        out,
-        "no such date in that year: the year {} went there from {} to {}",
-        year,
-        NumberedDay(first),
-        NumberedDay(last)
-    )
+    let ends = YearEnds {
+        year: year as u32,
+        first,
+        last,
+    };
+    writeln!(out, "no such date in that year: {ends}")
 }
 
 /// Appends that the territory had no day of a year.
-#[tactic(auto, unfolding(crate::specs::Why::no_year_line))]
 fn push_no_year(out: &mut String, year: u16) -> Result<(), AllocError>
     ensures { OnOk result (string_bytes out.new ≡ string_bytes out.old ++ spec.no_year_line year) }
 {
-    writeln!(
-        out,
-        "no such date in that year: the place had no day of the year {}",
-        year
-    )
+    out.push_str("no such date in that year: ")?;
+    push_empty_year(out, year as u32)
 }
 
 /// Appends from which day to which a year went, of which these are the runs of days.

@@ -1,15 +1,18 @@
 //! Days and dates in English words.
-ghost use Rattle.std.specs.Prelude.{◌≡◌};
+ghost use Rattle.std.specs.Prelude.{◌≡◌, ◌++◌, OnOk, string_bytes};
+ghost use Rattle.osn_pages.specs.Words as spec;
 
 use osn_days::{Calendar, Day, date_of, month_name};
 use osn_lands::DatedDay;
+use std::alloc::AllocError;
 use std::fmt;
+use std::fmt::Write;
 
 /// The date of a day in a calendar, as `22 February 1732`.
-#[derive(Clone, Copy)]
-pub(crate) struct DayInCalendar {
-    pub(crate) calendar: Calendar,
-    pub(crate) day: Day,
+#[derive(Clone, Copy, Debug, PartialEq, Eq)]
+pub struct DayInCalendar {
+    pub calendar: Calendar,
+    pub day: Day,
 }
 
 impl fmt::Display for DayInCalendar {
@@ -26,8 +29,8 @@ impl fmt::Display for DayInCalendar {
 }
 
 /// A day by its weekday and as it is dated, as `Friday 11 February 1731/2`.
-#[derive(Clone, Copy)]
-pub(crate) struct NamedDay(pub(crate) DatedDay);
+#[derive(Clone, Copy, Debug, PartialEq, Eq)]
+pub struct NamedDay(pub DatedDay);
 
 impl fmt::Display for NamedDay {
     ghost use Rattle.std.specs.Prelude.{Some};
@@ -58,4 +61,69 @@ impl fmt::Display for NumberedDay {
         let number = self.0.day.number();
         write!(f, "{named} (day {number})")
     }
+}
+
+/// From which day to which a year went.
+#[derive(Clone, Copy, Debug, PartialEq, Eq)]
+pub struct YearEnds {
+    /// The year as the territory counted it.
+    pub year: u32,
+    /// Its first day.
+    pub first: DatedDay,
+    /// Its last day.
+    pub last: DatedDay,
+}
+
+impl fmt::Display for YearEnds {
+    ghost use Rattle.std.specs.Prelude.{Some};
+    ghost use Rattle.osn_pages.specs.Words.{year_ends};
+
+    ghost output = { λ x. Some (year_ends x.year x.first x.last) };
+
+    #[tactic(auto, unfolding(crate::specs::Words::year_ends))]
+    fn fmt<W: fmt::Write>(&self, f: &mut fmt::Formatter<W>) -> fmt::Result {
+        let first = NumberedDay(self.first);
+        let last = NumberedDay(self.last);
+        write!(
+            f,
+            "the year {} went there from {first} to {last}",
+            self.year
+        )
+    }
+}
+
+/// The day before a change, and the day of the change.
+#[derive(Clone, Copy, Debug, PartialEq, Eq)]
+pub struct Followed {
+    /// The day before.
+    pub before: DatedDay,
+    /// The day of the change.
+    pub change: DatedDay,
+}
+
+impl fmt::Display for Followed {
+    ghost use Rattle.std.specs.Prelude.{Some};
+    ghost use Rattle.osn_pages.specs.Words.{followed};
+
+    ghost output = { λ x. Some (followed x.before x.change) };
+
+    #[tactic(auto, unfolding(crate::specs::Words::followed))]
+    fn fmt<W: fmt::Write>(&self, f: &mut fmt::Formatter<W>) -> fmt::Result {
+        let before = NamedDay(self.before);
+        let change = NumberedDay(self.change);
+        write!(f, "{before} was followed by {change}")
+    }
+}
+
+/// Appends that no day had a year.
+///
+/// # Errors
+///
+/// Want of memory, and nothing else.
+#[tactic(auto, unfolding(crate::specs::Words::empty_year_line))]
+pub fn push_empty_year(out: &mut String, year: u32) -> Result<(), AllocError>
+    ensures { OnOk result (string_bytes out.new
+        ≡ string_bytes out.old ++ spec.empty_year_line year) }
+{
+    writeln!(out, "the place had no day of the year {year}")
 }

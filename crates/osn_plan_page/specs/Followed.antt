@@ -1,14 +1,13 @@
 -- The line on a change of regime that shows the last day before it and the first one after, as the
 -- territory dates both, and how many dates are left out between them or come twice. This project's
 -- profile.
-use Rattle.std.specs.Prelude.{ℕ, ◌-◌, ◌==◌, nat_lt, if◌then◌else◌, ℤ, List, [], ◌∷◌, ◌++◌, codes}
-use Rattle.std.specs.Prelude.{Option, Some, None}
-use Rattle.std.specs.Fmt.{decimal}
+use Rattle.std.specs.Prelude.{ℕ, ℤ, List, [], ◌++◌, codes, Option, Some, None}
 use Rattle.osn_days.specs.Chain.{date_of, days_with_date}
 use Rattle.osn_days.specs.Profile.{Profile}
 use Rattle.osn_lands.specs.declared.dated.DatedDay.{DatedDay}
 use Rattle.osn_lands.specs.Dated.{dated_on}
 use Rattle.osn_lands.specs.Territory.{TerritoryModel, regime_at}
+use Rattle.osn_pages.specs.Turn.{gap_words}
 use Rattle.osn_pages.specs.Words.{named_day}
 use Rattle.osn_plan_page.specs.EditDay.{day_before, day_numbered}
 
@@ -17,26 +16,6 @@ unfoldable pub days_words : List ℕ → DatedDay → DatedDay → List ℕ
 days_words code last first =
     code
     ++ (codes ": " ++ (named_day last ++ (codes " is followed by " ++ named_day first)))
-
--- how many dates are left out
-unfoldable pub left_out_words : ℕ → List ℕ
-left_out_words dates =
-    if dates == 1 then codes ": 1 date left out"
-    else codes ": " ++ (decimal dates ++ codes " dates left out")
-
--- how many dates come twice, if any do
-unfoldable pub twice_words : ℕ → List ℕ
-twice_words dates =
-    if dates == 0 then []
-    else (if dates == 1 then codes ": 1 date comes twice"
-    else codes ": " ++ (decimal dates ++ codes " dates come twice"))
-
--- A date that the calendar before has on a later day: those of the days up to it are left out. On
--- an earlier day: those of the days from it on come twice.
-abbrev pub gap_words : List ℕ → ℕ → List ℕ
-gap_words [] first = codes ": by the calendar before, no day has that date"
-gap_words (same ∷ others) first =
-    if nat_lt first same then left_out_words (same - first) else twice_words (first - same)
 
 -- the line of the day before a first day and of that day: the date of the first day is looked up in
 -- the calendar before

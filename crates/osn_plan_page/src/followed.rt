@@ -1,61 +1,14 @@
 //! The line on a change of regime that shows the last day before it and the first one after.
 ghost use Rattle.std.specs.Prelude.{◌≡◌, ◌++◌, OnOk, option_map, string_bytes};
-ghost use Rattle.std.specs.Option.{option_to_list};
 ghost use Rattle.osn_days.specs.Profile.{newest_rules};
-ghost use Rattle.osn_pages.specs.Words.{named_day};
 ghost use Rattle.osn_plan_page.specs.Followed as spec;
 
 use crate::edit_day::{day_before, day_numbered};
 use osn_days::{Day, date_of, day_of};
 use osn_lands::{DatedDay, Territory};
+use osn_pages::{NamedDay, push_gap};
 use std::alloc::AllocError;
 use std::fmt::Write;
-
-/// Appends how many dates are left out.
-#[tactic(auto, unfolding(crate::specs::Followed::left_out_words))]
-fn push_left_out(out: &mut String, dates: u32) -> Result<(), AllocError>
-    ensures { OnOk result (string_bytes out.new
-        ≡ string_bytes out.old ++ spec.left_out_words dates) }
-{
-    match dates {
-        1 => out.push_str(": 1 date left out"),
-        _ => write!(out, ": {dates} dates left out"),
-    }
-}
-
-/// Appends how many dates come twice, if any do.
-#[tactic(auto, unfolding(crate::specs::Followed::twice_words))]
-fn push_twice(out: &mut String, dates: u32) -> Result<(), AllocError>
-    ensures { OnOk result (string_bytes out.new
-        ≡ string_bytes out.old ++ spec.twice_words dates) }
-{
-    match dates {
-        0 => Ok(()),
-        1 => out.push_str(": 1 date comes twice"),
-        _ => write!(out, ": {dates} dates come twice"),
-    }
-}
-
-/// Appends how many dates are left out or come twice at a change, if this day has, by the calendar
-/// before, the date of the first day after it.
-fn push_gap(out: &mut String, same: Option<Day>, first: Day) -> Result<(), AllocError>
-    ensures { OnOk result (string_bytes out.new
-        ≡ string_bytes out.old ++ spec.gap_words (option_to_list same) first) }
-{
-    match same {
-        None => out.push_str(": by the calendar before, no day has that date"),
-        Some(same) if first < same => push_left_out(out, same.number() - first.number()),
-        Some(same) => push_twice(out, first.number() - same.number()),
-    }
-}
-
-/// Appends a day by its weekday and as it is dated.
-#[tactic(auto, unfolding(osn_pages::specs::Words::named_day))]
-fn push_day(out: &mut String, dated: DatedDay) -> Result<(), AllocError>
-    ensures { OnOk result (string_bytes out.new ≡ string_bytes out.old ++ named_day dated) }
-{
-    write!(out, "{} {}", dated.day.weekday().name(), dated)
-}
 
 /// Appends the last day before a change and the first one after.
 #[tactic(auto, unfolding(crate::specs::Followed::days_words))]
@@ -68,10 +21,12 @@ fn push_days(
     ensures { OnOk result (string_bytes out.new
         ≡ string_bytes out.old ++ spec.days_words code.now last first) }
 {
-    write!(out, "{code}: ")?;
-    push_day(out, last)?;
-    out.push_str(" is followed by ")?;
-    push_day(out, first)
+    write!(
+        out,
+        "{code}: {} is followed by {}",
+        NamedDay(last),
+        NamedDay(first)
+    )
 }
 
 /// Appends the line of the day before a first day and of that day, as a territory dates both.

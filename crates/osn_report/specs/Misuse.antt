@@ -11,6 +11,7 @@ use Rattle.osn_report.specs.declared.misuse.Misuse.{Misuse}
 use Rattle.osn_report.specs.declared.misuse.Misuse.TheVariants.{Date, Weekday, OtherWeekday}
 use Rattle.osn_report.specs.declared.misuse.Misuse.TheVariants.{Calendar, DayNumber, DoubleDate}
 use Rattle.osn_report.specs.declared.misuse.Misuse.TheVariants.{JulianDayNumber, WhichDayNumber}
+use Rattle.osn_report.specs.declared.misuse.Misuse.TheVariants.{WhichConversion, Year}
 use Rattle.osn_report.specs.declared.misuse.Misuse.TheVariants.{NoSuchDate, Month, Limits}
 use Rattle.osn_report.specs.declared.misuse.Misuse.TheVariants.{Separator, Order, Shell}
 use Rattle.osn_report.specs.declared.misuse.Misuse.TheVariants.{OpenOrder, DateAndParts}
@@ -57,11 +58,18 @@ misuse_text JulianDayNumber = codes
 misuse_text (WhichDayNumber number) =
     decimal number
     ++ (codes " may be a day number or a Julian day number: write \"day "
-    ++ (decimal number ++ (codes "\" or \"JDN " ++ (decimal number ++ codes "\""))))
+    ++ (decimal number
+    ++ (codes "\" or \"JDN " ++ (decimal number ++ codes "\" in its place, with the quotes"))))
+misuse_text (WhichConversion number) =
+    decimal number
+    ++ (codes " may be a day number or a Julian day number: write oldstyle convert jdn "
+    ++ (decimal number
+    ++ (codes ", or oldstyle convert day \"day " ++ (decimal number ++ codes "\""))))
 misuse_text DoubleDate = codes "a date with both years is a territory's: use oldstyle read"
 misuse_text (NoSuchDate calendar) = codes "the "
     ++ (calendar_word calendar ++ codes " calendar has no such date in the years 1 to 9999")
 misuse_text Month = codes "a month is 1 to 12 or its English name"
+misuse_text Year = codes "a year is 1 to 9999 as the place counted it: of 1731/2 write 1731"
 misuse_text Limits = codes
     "limits are some of lands=N,changes=N,exceptions=N,edits=N,editions=N, with a comma between"
 misuse_text Separator = codes "a separator is comma, semicolon or tab"

@@ -30,12 +30,16 @@ pub enum Misuse {
     JulianDayNumber,
     /// It is this number alone, which may be a day number or a Julian day number.
     WhichDayNumber(u32),
+    /// It is such a number, and `convert` is to say the day of it.
+    WhichConversion(u32),
     /// It is a date with both years, and stands for one of a calendar.
     DoubleDate,
     /// The calendar has no such date, or has it off the line of days.
     NoSuchDate(Calendar),
     /// It stands for a month, and is no month.
     Month,
+    /// It stands for a year that has figures, as a territory counted it, and is none.
+    Year,
     /// It stands for limits, and names no limits.
     Limits,
     /// It stands for what separates fields, and is no separator.
@@ -117,7 +121,12 @@ number",
             Misuse::WhichDayNumber(number) => write!(
                 f,
                 "{number} may be a day number or a Julian day number: write \"day {number}\" or \
-\"JDN {number}\"",
+\"JDN {number}\" in its place, with the quotes",
+            ),
+            Misuse::WhichConversion(number) => write!(
+                f,
+                "{number} may be a day number or a Julian day number: write oldstyle convert jdn \
+{number}, or oldstyle convert day \"day {number}\"",
             ),
             Misuse::DoubleDate => f.write_str(
                 "a date with both years is a territory's: use oldstyle read",
@@ -128,6 +137,9 @@ number",
                 calendar.word()
             ),
             Misuse::Month => f.write_str("a month is 1 to 12 or its English name"),
+            Misuse::Year => f.write_str(
+                "a year is 1 to 9999 as the place counted it: of 1731/2 write 1731",
+            ),
             Misuse::Limits => f.write_str(
                 "limits are some of lands=N,changes=N,exceptions=N,edits=N,editions=N, \
 with a comma between",

@@ -1,0 +1,197 @@
+//! The changes that a year has, as a territory counted it, that end it or that pass it over.
+ghost use Rattle.std.specs.Prelude.{◌≡◌, ◌++◌, ◌<◌, ◌-◌, OnOk, string_bytes};
+ghost use Rattle.std.specs.List.{flat_map};
+ghost use Rattle.osn_days.specs.Profile.{newest_rules};
+ghost use Rattle.osn_register.specs.Plain.{sources_of};
+ghost use Rattle.osn_almanac.specs.YearPage as spec;
+
+use crate::year_days::label_year;
+use osn_days::{Day, Keyword, Year, date_of, day_of};
+use osn_lands::{Period, Regime, Territory};
+use osn_pages::{Followed, push_gap, push_source, push_turned};
+use osn_register::Register;
+use std::alloc::AllocError;
+use std::fmt::Write;
+
+/// Whether the year is one of these two, or lies between them.
+fn is_between(before: i32, year: i32, after: i32) -> bool
+    ensures { result ≡ spec.is_between before year after }
+{
+    (before <= year && year <= after) || (after <= year && year <= before)
+}
+
+/// The day before a change.
+fn day_before(change: Day) -> Day
+    requires { 1 < change }
+    ensures { result ≡ change - 1 }
+{
+    Day::on_line(i64::from(change.number()) - 1)
+}
+
+/// Whether the year has a change, is ended by it or is passed over by it.
+fn is_change_of(territory: &Territory, year: Year, change: Day) -> bool
+    requires { 1 < change }
+    ensures { result ≡ spec.is_change_of newest_rules territory.now year change }
+{
+    is_between(
+        territory.dated(day_before(change)).label.year,
+        label_year(year),
+        territory.dated(change).label.year,
+    )
+}
+
+/// Appends that a part of the reckoning changed, if it did.
+fn push_if_other(out: &mut String, part: &str, old: &str, new: &str) -> Result<(), AllocError>
+    ensures { OnOk result (string_bytes out.new
+        ≡ string_bytes out.old ++ spec.turned_if_other part.now old.now new.now) }
+{
+    if old == new {
+        return Ok(());
+    }
+    push_turned(out, part, old, new)
+}
+
+/// Appends that the calendar changed, if it did.
+fn push_calendar(out: &mut String, old: Regime, new: Regime) -> Result<(), AllocError>
+    ensures { OnOk result (string_bytes out.new
+        ≡ string_bytes out.old ++ spec.calendar_turned old new) }
+{
+    push_if_other(
+        out,
+        "the calendar",
+        old.calendar.word(),
+        new.calendar.word(),
+    )
+}
+
+/// Appends that the beginning of the year changed, if it did.
+fn push_beginning(out: &mut String, old: Regime, new: Regime) -> Result<(), AllocError>
+    ensures { OnOk result (string_bytes out.new
+        ≡ string_bytes out.old ++ spec.beginning_turned old new) }
+{
+    push_if_other(
+        out,
+        "the year's beginning",
+        old.style.beginning_of_year(),
+        new.style.beginning_of_year(),
+    )
+}
+
+/// Appends that the rule of Easter changed, if it did.
+fn push_rule(out: &mut String, old: Regime, new: Regime) -> Result<(), AllocError>
+    ensures { OnOk result (string_bytes out.new
+        ≡ string_bytes out.old ++ spec.rule_turned old new) }
+{
+    push_if_other(out, "the rule of Easter", old.rule.word(), new.rule.word())
+}
+
+/// Appends which parts of the reckoning changed.
+#[tactic(auto, unfolding(crate::specs::YearPage::turned_lines))]
+fn push_parts(out: &mut String, old: Regime, new: Regime) -> Result<(), AllocError>
+    ensures { OnOk result (string_bytes out.new
+        ≡ string_bytes out.old ++ spec.turned_lines old new) }
+{
+    push_calendar(out, old, new)?;
+    push_beginning(out, old, new)?;
+    push_rule(out, old, new)
+}
+
+/// Appends the day before a change and the day of the change, and how many dates were left out.
+#[tactic(auto, unfolding(crate::specs::YearPage::followed_line))]
+fn push_followed(
+    out: &mut String,
+    territory: &Territory,
+    last: Day,
+    change: Day,
+) -> Result<(), AllocError>
+    requires change { 1 < change }
+    requires last { last ≡ change - 1 }
+    ensures { OnOk result (string_bytes out.new
+        ≡ string_bytes out.old ++ spec.followed_line newest_rules territory.now change) }
+{
+    let followed = Followed {
+        before: territory.dated(last),
+        change: territory.dated(change),
+    };
+    write!(out, "{followed}")?;
+    let date = date_of(territory.regime_at(change).calendar, change);
+    push_gap(
+        out,
+        day_of(territory.regime_at(last).calendar, date),
+        change,
+    )?;
+    out.push_str("\n")
+}
+
+/// Appends the lines of a change.
+#[tactic(auto, unfolding(crate::specs::YearPage::change_lines))]
+fn push_change(
+    out: &mut String,
+    register: &Register,
+    code: &str,
+    territory: &Territory,
+    change: Day,
+) -> Result<(), AllocError>
+    requires { 1 < change }
+    ensures { OnOk result (string_bytes out.new ≡ string_bytes out.old
+        ++ spec.change_lines newest_rules territory.now
+        (sources_of code.now register.now.lands) change) }
+{
+    let last = day_before(change);
+    push_followed(out, territory, last, change)?;
+    push_source(out, register.period_source(code, change))?;
+    push_parts(out, territory.regime_at(last), territory.regime_at(change))
+}
+
+/// Appends the lines of the change with which a period begins, where it is one of the year.
+fn push_change_if(
+    out: &mut String,
+    register: &Register,
+    code: &str,
+    territory: &Territory,
+    year: Year,
+    period: &Period,
+) -> Result<(), AllocError>
+    ensures { OnOk result (string_bytes out.new ≡ string_bytes out.old
+        ++ spec.change_lines_if newest_rules territory.now
+        (sources_of code.now register.now.lands) year period.now) }
+{
+    if period.first > Day::FIRST && is_change_of(territory, year, period.first) {
+        return push_change(out, register, code, territory, period.first);
+    }
+    Ok(())
+}
+
+/// Appends the lines of the changes of the year, of those with which these periods begin.
+fn push_changes_among(
+    out: &mut String,
+    register: &Register,
+    code: &str,
+    territory: &Territory,
+    year: Year,
+    periods: &[Period],
+) -> Result<(), AllocError>
+    ensures { OnOk result (string_bytes out.new ≡ string_bytes out.old
+        ++ flat_map (spec.change_lines_if newest_rules territory.now
+        (sources_of code.now register.now.lands) year) periods.now) }
+{
+    for period in periods {
+        push_change_if(out, register, code, territory, year, period)?;
+    }
+    Ok(())
+}
+
+/// Appends the lines of the year's changes.
+pub(crate) fn push_changes(
+    out: &mut String,
+    register: &Register,
+    code: &str,
+    territory: &Territory,
+    year: Year,
+) -> Result<(), AllocError>
+    ensures { OnOk result (string_bytes out.new ≡ string_bytes out.old
+        ++ spec.changes_text newest_rules territory.now
+        (sources_of code.now register.now.lands) year) }
+{
+    push_changes_among(out, register, code, territory, year, territory.periods())
+}

@@ -1,0 +1,126 @@
+//! The page of a year as a territory counted it.
+ghost use Rattle.std.specs.Prelude.{◌≡◌, ◌++◌, None, IfOk, IfErr, OnOk, string_bytes};
+ghost use Rattle.osn_days.specs.Profile.{newest_rules};
+ghost use Rattle.osn_register.specs.Plain.{code_refusal, sources_of};
+ghost use Rattle.osn_register.specs.Refusal.{IsRefusalOrNoMemory};
+ghost use Rattle.osn_pages.specs.Heading.{pending_line};
+ghost use Rattle.osn_almanac.specs.YearPage as spec;
+
+use crate::figures::push_figures;
+use crate::year_changes::push_changes;
+use crate::year_days::push_days;
+use crate::year_feasts::push_feasts;
+use osn_days::Year;
+use osn_lands::Territory;
+use osn_pages::{Published, push_land_heading, push_pending};
+use osn_register::{Refusal, Register};
+use std::alloc::{AllocError, Global};
+use std::fmt::Write;
+
+/// The room that the text gets at first: that of a year without a change takes some 2,300 bytes.
+const ROOM: usize = 4096;
+
+/// Appends the year, the territory and the edition.
+#[tactic(auto, unfolding(crate::specs::YearPage::year_heading, osn_pages::specs::Heading::heading))]
+fn push_heading(
+    out: &mut String,
+    year: Year,
+    name: &str,
+    code: &str,
+    edition: usize,
+) -> Result<(), AllocError>
+    ensures { OnOk result (string_bytes out.new
+        ≡ string_bytes out.old ++ spec.year_heading year name.now code.now edition) }
+{
+    write!(out, "the year {} in ", year.number())?;
+    push_land_heading(out, name, code, edition)
+}
+
+/// Appends of which year the figures are.
+#[tactic(auto, unfolding(crate::specs::YearPage::figures_heading))]
+fn push_figures_heading(out: &mut String, year: Year) -> Result<(), AllocError>
+    ensures { OnOk result (string_bytes out.new
+        ≡ string_bytes out.old ++ spec.figures_heading year) }
+{
+    writeln!(out, "of the year {} counted from 1 January:", year.number())
+}
+
+/// Appends the figures of the year from 1 January, and that they are those.
+fn push_figures_of(
+    alloc: Global,
+    out: &mut String,
+    register: &Register,
+    year: Year,
+) -> Result<(), AllocError>
+    ensures { OnOk result (string_bytes out.new
+        ≡ string_bytes out.old ++ spec.figures_text newest_rules register.now.lands year) }
+{
+    push_figures_heading(out, year)?;
+    push_figures(alloc, out, register, i64::from(year.number()))
+}
+
+/// Appends the lines of a territory's year, its days first.
+fn push_year(
+    alloc: Global,
+    out: &mut String,
+    register: &Register,
+    code: &str,
+    territory: &Territory,
+    year: Year,
+) -> Result<(), AllocError>
+    ensures { OnOk result (string_bytes out.new ≡ string_bytes out.old
+        ++ spec.year_lines newest_rules register.now.lands territory.now
+        (sources_of code.now register.now.lands) year) }
+{
+    push_days(alloc, out, territory, year)?;
+    push_changes(out, register, code, territory, year)?;
+    push_feasts(alloc, out, register, code, territory, year)?;
+    push_figures_of(alloc, out, register, year)
+}
+
+/// The whole text of a year's page.
+fn text_of(
+    alloc: Global,
+    register: &Register,
+    code: &str,
+    name: &str,
+    territory: &Territory,
+    published: Published,
+    year: Year,
+) -> Result<String, AllocError>
+    ensures { IfOk result (λ s. string_bytes s
+        ≡ spec.year_heading year name.now code.now published.edition
+        ++ (spec.year_lines newest_rules register.now.lands territory.now
+        (sources_of code.now register.now.lands) year ++ pending_line published.pending)) }
+{
+    let mut text = String::with_capacity(alloc, ROOM)?;
+    push_heading(&mut text, year, name, code, published.edition)?;
+    push_year(alloc, &mut text, register, code, territory, year)?;
+    push_pending(&mut text, published.pending)?;
+    Ok(text)
+}
+
+/// The page of a year of the territory of that code as it counted the year, by what was published.
+/// Its feasts are those that the territory dated in the year, and its figures those of the year
+/// from 1 January.
+///
+/// # Errors
+///
+/// `BadCode` for a code that no territory can have, then `UnknownLand` where none has it. Else
+/// `NoMemory` where no memory is found.
+pub fn year_page_text(
+    alloc: Global,
+    register: &Register,
+    code: &str,
+    published: Published,
+    year: Year,
+) -> Result<String, Refusal>
+    ensures lawful { OnOk result (code_refusal register.now.lands code.now ≡ None) }
+    ensures text { IfOk result (λ s. string_bytes s
+        ≡ spec.year_page newest_rules register.now.lands code.now published year) }
+    ensures refused { IfErr result
+        (IsRefusalOrNoMemory (code_refusal register.now.lands code.now)) }
+{
+    let (name, territory) = register.land(code)?;
+    Ok(text_of(alloc, register, code, name, territory, published, year)?)
+}

@@ -1,0 +1,129 @@
+//! What standard error is told of a refused page.
+ghost use Rattle.std.specs.Prelude.{◌≡◌, ◌++◌, IfOk, OnOk, string_bytes, codes};
+ghost use Rattle.osn_page_commands.specs.Page as spec;
+
+use crate::page_words::Topic;
+use osn_register::Refusal;
+use osn_report::refused;
+use osn_shown::Shown;
+use std::alloc::{AllocError, Global};
+use std::fmt;
+use std::fmt::Write;
+
+/// That a word can be no code.
+#[derive(Clone, Copy)]
+struct NoCode<'a>(&'a str);
+
+impl<'a> fmt::Display for NoCode<'a> {
+    ghost use Rattle.std.specs.Prelude.{Some};
+    ghost use Rattle.osn_page_commands.specs.Page.{no_code};
+
+    ghost output = { λ x. Some (no_code x.0.now) };
+
+    fn fmt<W: fmt::Write>(&self, f: &mut fmt::Formatter<W>) -> fmt::Result {
+        let code = Shown(self.0);
+        write!(
+            f,
+            "{code}: a code is 2 to 8 capital letters or digits, the first a letter"
+        )
+    }
+}
+
+/// That the journal of a path has no territory of a code.
+#[derive(Clone, Copy)]
+struct NoLand<'a> {
+    path: &'a str,
+    code: &'a str,
+}
+
+impl<'a> fmt::Display for NoLand<'a> {
+    ghost use Rattle.std.specs.Prelude.{Some};
+    ghost use Rattle.osn_page_commands.specs.Page.{no_land};
+
+    ghost output = { λ x. Some (no_land x.path.now x.code.now) };
+
+    fn fmt<W: fmt::Write>(&self, f: &mut fmt::Formatter<W>) -> fmt::Result {
+        let code = Shown(self.code);
+        let path = Shown(self.path);
+        write!(
+            f,
+            "no territory has the code {code}: see oldstyle territory {path}"
+        )
+    }
+}
+
+/// The line on a refusal of what is asked of a territory, with the path of the journal.
+///
+/// # Errors
+///
+/// Want of memory, and nothing else.
+pub fn land_refusal_line(
+    alloc: Global,
+    path: &str,
+    code: &str,
+    refusal: Refusal,
+) -> Result<String, AllocError>
+    ensures { IfOk result (λ line.
+        string_bytes line ≡ spec.land_refusal_line path.now code.now refusal) }
+{
+    match refusal {
+        Refusal::BadCode => format!(in alloc; "oldstyle: {}\n", NoCode(code)),
+        Refusal::UnknownLand => format!(in alloc; "oldstyle: {}\n", NoLand { path, code }),
+        _ => refused(alloc, refusal.number(), refusal.name()),
+    }
+}
+
+/// Appends what is allowed where an almanac was refused, and what to do next.
+fn push_help(
+    line: &mut String,
+    path: &str,
+    code: &str,
+    year: u32,
+    refusal: Refusal,
+) -> Result<(), AllocError>
+    ensures { OnOk result (string_bytes line.new
+        ≡ string_bytes line.old ++ spec.almanac_help path.now code.now year refusal) }
+{
+    match refusal {
+        Refusal::BadCode => writeln!(line, "help: {}", NoCode(code)),
+        Refusal::UnknownLand => writeln!(line, "help: {}", NoLand { path, code }),
+        Refusal::YearOffRange => writeln!(line, "help: {year}: a year is 1 to 9999"),
+        _ => Ok(()),
+    }
+}
+
+/// The lines on the refusal of an almanac.
+fn almanac_lines(
+    alloc: Global,
+    path: &str,
+    code: &str,
+    year: u32,
+    refusal: Refusal,
+) -> Result<String, AllocError>
+    ensures { IfOk result (λ lines.
+        string_bytes lines ≡ spec.almanac_refusal_lines path.now code.now year refusal) }
+{
+    let mut lines = refused(alloc, refusal.number(), refusal.name())?;
+    push_help(&mut lines, path, code, year, refusal)?;
+    Ok(lines)
+}
+
+/// What is told of a refusal of what was asked for.
+pub(crate) fn refusal_line(
+    alloc: Global,
+    path: &str,
+    code: &str,
+    topic: &Topic,
+    refusal: Refusal,
+) -> Result<String, AllocError>
+    ensures { IfOk result (λ line.
+        string_bytes line ≡ spec.refusal_line path.now code.now topic.now refusal) }
+{
+    match *topic {
+        Topic::Almanac(year) => almanac_lines(alloc, path, code, year, refusal),
+        Topic::Year(_) | Topic::Land { .. } | Topic::Set { .. } => {
+            land_refusal_line(alloc, path, code, refusal)
+        }
+        Topic::Lands => refused(alloc, refusal.number(), refusal.name()),
+    }
+}
