@@ -222,8 +222,7 @@ unopened words cause = NotOpened cause
 abbrev pub PageFails : Limits → List ℕ → PageWordsModel → (Bool → Type 0) → Folders → List ℕ
     → CommandFault → Type 0
 PageFails limits journal words CanFail d path fault =
-    (path ≡ journal)
-    × (((cause : OpenFailed) × (fault ≡ unopened words cause)
-    × IsUnopened (journal ∷ []) journal cause d.before d.after)
-    ⊎ ReadsOne journal CanFail d (λ file. (why : FileFault)
+    ((cause : OpenFailed) × (fault ≡ unopened words cause)
+    × IsUnopened (journal ∷ []) path cause d.before d.after)
+    ⊎ ((path ≡ journal) × ReadsOne journal CanFail d (λ file. (why : FileFault)
     × (fault ≡ File why) × MakesNoObject limits file why))

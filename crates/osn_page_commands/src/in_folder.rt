@@ -10,7 +10,7 @@ ghost use Rattle.osn_report.specs.Folders.{folders_of};
 use crate::page::print_page;
 use crate::page_words::{code_of, date_text_of, topic_of_words, wrong_word};
 use osn_files::load_journal;
-use osn_folder::{Folder, OpenFailed, open_file};
+use osn_folder::{Folder, OpenFailed, open_named};
 use osn_invocation::PageWords;
 use osn_lines::Sink;
 use osn_register::Limits;
@@ -64,12 +64,12 @@ pub fn page_in_folder<'a, D: Folder, W: Sink, E: Sink>(
         }
         Err(_) => return Ok(tell_no_memory(errors)),
     };
-    let mut file = match open_file(folder, journal) {
+    let mut file = match open_named(folder, journal) {
         Ok(file) => file,
-        Err(cause) => {
+        Err(why) => {
             return Err(Failure {
-                path: journal,
-                fault: unopened(words, cause),
+                path: why.path,
+                fault: unopened(words, why.cause),
             });
         }
     };
