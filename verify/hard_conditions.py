@@ -40,6 +40,8 @@ def not_read(words):
     for path, cause in ("a.gone", "no such file"), ("a.folder", "is a directory"):
         if path in words and words.startswith(FOR_PEOPLE):
             return 3, "", f"oldstyle: {path}: {cause}\n"
+        if path in words:
+            return 3, "", f"{READ_FAULT[2]}note: {path}: {cause}\n"
     return READ_FAULT
 
 
@@ -143,12 +145,14 @@ def try_folders():
                     changed = words.replace(name, place)
                     told = run(folder, changed, GIVEN)
                     compare(condition, changed, (told, held(folder)), (not_read(changed), before))
-    for condition, place in [("a folder to save in", "a.folder"), ("no folder", "none/saved")]:
+    for condition, place, cause in [("a folder to save in", "a.folder", "write fault"),
+                                    ("no folder", "none/saved", "no such folder")]:
         with filled() as folder:
             before, words = held(folder), f"serve --save {place}"
             status, told, errors = run(folder, words, GIVEN)
             got = (status, errors, told, held(folder))
-            compare(condition, words, got, (*WRITE_FAULT, run(folder, "", GIVEN)[1], before))
+            noted = f"{WRITE_FAULT[1]}note: {place}: {cause}\n"
+            compare(condition, words, got, (3, noted, run(folder, "", GIVEN)[1], before))
 
 
 def padded(line):
@@ -263,7 +267,8 @@ def try_full_disk():
         told = run(folder, "serve --journal a.journal", GIVEN)[1]
         status, replies, errors = run(folder, words, GIVEN)
         texts = {name: text for name, (_, text) in held(disk).items() if name != "other"}
-        wanted = (*WRITE_FAULT, told, {"saved.journal": old})
+        noted = f"{WRITE_FAULT[1]}note: a.folder/saved.journal: no space left on the device\n"
+        wanted = (3, noted, told, {"saved.journal": old})
         compare("a full disk", words, (status, errors, replies, texts), wanted)
         os.remove(os.path.join(disk, "other"))
         path = "a.folder/saved.journal"
@@ -281,7 +286,8 @@ def try_long_files():
             before = held(folder)
             status, replies, errors = run(folder, SAVING, GIVEN, preexec_fn=lambda: limited(length))
             got = (status, errors, replies, held(folder))
-            compare("a limit on the length of files", SAVING, got, (*WRITE_FAULT, told, before))
+            noted = f"{WRITE_FAULT[1]}note: saved.journal: write fault\n"
+            compare("a limit on the length of files", SAVING, got, (3, noted, told, before))
 
 
 # ---- memory

@@ -157,7 +157,7 @@ def read_beside(program, path, running, counts):
         else:
             counts["refused"] += 1
             hold(f"a reader is told {done.stderr!r}", re.fullmatch(
-                r"oldstyle: journal line \d+: 32 NotJson\n", done.stderr))
+                r"oldstyle: journal line \d+: 32 NotJson\nhelp: .*\n", done.stderr))
 
 
 def try_others(program, path, seed):
@@ -213,7 +213,7 @@ def is_stopped_by(program, what, path, limit=None):
     lines, rest = journal_lines(path)
     wanted = [HEAD] + [compact(request) for request in edits_of(400)]
     hold(f"{what}: {done.returncode} {done.stderr!r}",
-         (done.returncode, done.stderr) == (3, "oldstyle: write fault\n"))
+         done.returncode == 3 and done.stderr.startswith("oldstyle: write fault\nnote: "))
     hold(f"{what}: {len(replies)} told, {len(lines) - 1} held",
          len(replies) <= len(lines) - 1 <= len(replies) + 1)
     hold(f"{what}: other lines", lines == wanted[:len(lines)] and is_front(rest, wanted, lines))
@@ -265,7 +265,7 @@ def try_no_folder(program, folder):
         for name in ("a.journal", "b.journal"):
             done = run(program, ["serve", "--keep", os.path.join(disk, name)], [PUBLISH])
             hold(f"read alone: {done}", (done.returncode, done.stdout, done.stderr)
-                 == (3, "", "oldstyle: read fault\n"))
+                 == (3, "", f"oldstyle: read fault\nnote: {disk}/{name}: read fault\n"))
         hold("read alone: other files", os.listdir(disk) == ["a.journal"])
     print("a disk that is read alone: refused, and nothing changed", flush=True)
 

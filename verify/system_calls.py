@@ -15,6 +15,7 @@ file where the journal is to be made: that file has to stay.
 """
 import os
 import random
+import re
 import shutil
 import stat
 import subprocess
@@ -35,6 +36,8 @@ CHANGED = "oldstyle: the file has changed meanwhile and is left as it is: the jo
 NOTED = " held another journal, which is now "
 NOT_SYNCED = "oldstyle: the journal is saved, and the disk may not have it yet\n"
 FAULTS = ["oldstyle: read fault\n", "oldstyle: write fault\n"]
+# The cause that is told after one of them is not held: it is that of the call that was refused.
+FAULT_NOTE = re.compile(r"(oldstyle: (?:read|write) fault\n)note: .*\n")
 # The errors that a call may meet.
 ERRORS = {
     "open": ["EACCES", "EMFILE", "ENOSPC"], "lock": ["ENOLCK", "EAGAIN"], "read": ["EIO"],
@@ -109,6 +112,7 @@ def try_way(program, way, inject=None):
         fill(folder, way)
         before = files_in(folder)
         done = traced([program, *way.words.split()], folder, way.session.given(), inject)
+        done = done._replace(err=FAULT_NOTE.sub(r"\1", done.err))
         after = files_in(folder)
         goes_on = run_again(program, way, folder) if way.name.startswith("keep") else None
         return done, before, after, goes_on

@@ -1,7 +1,7 @@
 //! A file in memory that is kept.
 ghost use Rattle.std.specs.Prelude.{◌≡◌, IfOk, None, Some};
 
-use osn_folder::{ChangeFailed, KeptFile, KeptFileFault};
+use osn_folder::{ChangeCause, ChangeFailed, KeptFile, KeptFileFault};
 use std::alloc::{AllocError, Global};
 
 /// A file in memory that is kept.
@@ -39,8 +39,9 @@ impl MemoryFile {
         ensures contents { self.new.contents ≡ self.old.contents }
         ensures synced { self.new.synced ≡ self.old.synced }
     {
-        self.fault = Some(KeptFileFault::ChangeFailed);
-        KeptFileFault::ChangeFailed
+        let fault = KeptFileFault::ChangeFailed(ChangeCause::Other);
+        self.fault = Some(fault);
+        fault
     }
 }
 

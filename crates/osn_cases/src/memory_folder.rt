@@ -1,7 +1,8 @@
 //! A folder in memory, in which each case runs.
 use crate::kept_file::MemoryFile;
 use osn_folder::{
-    ChangeFailed, Folder, FollowFault, FollowedFile, KeepFault, MoveFault, OpenFailed, SaveFault,
+    ChangeCause, ChangeFailed, Folder, FollowFault, FollowedFile, KeepFault, MoveFault, OpenFailed,
+    SaveFault,
 };
 use osn_lines::{Plain, ended_length};
 use std::alloc::{AllocError, Global};
@@ -74,7 +75,7 @@ impl FollowedFile for MemoryFollowed {
     fn look(&mut self, alloc: Global) -> Result<Vec<u8>, FollowFault> {
         let ended = &self.lines[..ended_length(&self.lines)];
         if ended.len() > 1_073_741_824 {
-            return Err(FollowFault::NotRead);
+            return Err(FollowFault::NotRead(OpenFailed::Other));
         }
         let gained = Vec::from_slice(alloc, ended)?;
         self.lines.clear();
@@ -106,11 +107,11 @@ impl Folder for MemoryFolder {
     fn keep(&mut self, path: &str) -> Result<(MemoryFile, Plain<Cursor<Vec<u8>>>), KeepFault> {
         let Ok((kept, contents)) = MemoryFile::of(self.alloc, self.contents(path).unwrap_or(b""))
         else {
-            return Err(KeepFault::NotOpened);
+            return Err(KeepFault::NotOpened(OpenFailed::Other));
         };
         match self.write(path, &contents) {
             Ok(()) => Ok((kept, Plain::new(Cursor::new(contents)))),
-            Err(_) => Err(KeepFault::NotOpened),
+            Err(_) => Err(KeepFault::NotOpened(make_cause_at(path))),
         }
     }
 
@@ -148,8 +149,10 @@ impl Folder for MemoryFolder {
         text: &str,
     ) -> Result<String, SaveFault> {
         let path = format!(in alloc; "{place}.unfinished")?;
-        self.write(path.as_str(), text.as_bytes())?;
-        Ok(path)
+        match self.write(path.as_str(), text.as_bytes()) {
+            Ok(()) => Ok(path),
+            Err(_) => Err(SaveFault::WriteFault(change_cause_at(place))),
+        }
     }
 
     fn back_up(&mut self, alloc: Global, place: &str) -> Result<String, SaveFault> {
@@ -161,7 +164,7 @@ impl Folder for MemoryFolder {
                 return Ok(path);
             }
         }
-        Err(SaveFault::WriteFault)
+        Err(SaveFault::WriteFault(ChangeCause::Other))
     }
 
     fn holds(
@@ -189,14 +192,33 @@ impl Folder for MemoryFolder {
     }
 }
 
-/// Why nothing is opened at a path without a file. In the folder `private` nothing may be read, and
-/// in the folder `broken` the system fails.
+/// Why nothing is opened at a path without a file. In the folder `private` nothing may be read, in
+/// the folder `broken` the system fails, and a path `PATH/` is a folder.
 fn cause_at(path: &str) -> OpenFailed {
-    if path.starts_with("private/") {
+    if path.ends_with('/') {
+        OpenFailed::IsDirectory
+    } else if path.starts_with("private/") {
         OpenFailed::PermissionDenied
     } else if path.starts_with("broken/") {
         OpenFailed::Other
     } else {
         OpenFailed::NotFound
+    }
+}
+
+/// Why no file is made at a path to be kept.
+fn make_cause_at(path: &str) -> OpenFailed {
+    match cause_at(path) {
+        OpenFailed::NotFound => OpenFailed::NoFolder,
+        cause => cause,
+    }
+}
+
+/// Why no text is written at a path. In the folder `full` no space is left.
+fn change_cause_at(path: &str) -> ChangeCause {
+    if path.starts_with("full/") {
+        ChangeCause::NoSpace
+    } else {
+        ChangeCause::NoFolder
     }
 }

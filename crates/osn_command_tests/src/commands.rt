@@ -47,6 +47,7 @@ fn streams_that_fail(rt: HostRuntime) -> Result<(), Fail> {
     let left = serve_command(
         alloc,
         Limits::standard(),
+        "a.journal",
         &mut failing,
         ServeRules::editing(8),
         true,
@@ -59,7 +60,7 @@ fn streams_that_fail(rt: HostRuntime) -> Result<(), Fail> {
     same(
         &rt,
         str::from_utf8(&errors.into_inner())?,
-        "oldstyle: read fault\n",
+        "oldstyle: read fault\nnote: a.journal: read fault\n",
     );
     let mut errors = sink(alloc);
     let mut none: Option<Plain<Failing>> = None;
@@ -67,6 +68,7 @@ fn streams_that_fail(rt: HostRuntime) -> Result<(), Fail> {
     let left = serve_command(
         alloc,
         Limits::standard(),
+        "",
         &mut none,
         ServeRules::editing(8),
         true,

@@ -34,22 +34,38 @@ const UNSAVED: [RunRow; 4] = [
     (
         "oldstyle serve --save /dev/full",
         NOTHING,
-        (3, REFUSED, "oldstyle: write fault\n"),
+        (
+            3,
+            REFUSED,
+            "oldstyle: write fault\nnote: /dev/full: write fault\n",
+        ),
     ),
     (
         "oldstyle serve --save folder",
         NOTHING,
-        (3, REFUSED, "oldstyle: write fault\n"),
+        (
+            3,
+            REFUSED,
+            "oldstyle: write fault\nnote: folder: write fault\n",
+        ),
     ),
     (
         "oldstyle serve --save nowhere/b.journal",
         NOTHING,
-        (3, REFUSED, "oldstyle: write fault\n"),
+        (
+            3,
+            REFUSED,
+            "oldstyle: write fault\nnote: nowhere/b.journal: no such folder\n",
+        ),
     ),
     (
         "oldstyle serve --journal gone.journal --save a.journal",
         NOTHING,
-        (3, "", "oldstyle: read fault\n"),
+        (
+            3,
+            "",
+            "oldstyle: read fault\nnote: gone.journal: no such file\n",
+        ),
     ),
 ];
 
@@ -138,12 +154,20 @@ const ASTRAY: [RunRow; 2] = [
     (
         "oldstyle serve --save astray.journal",
         "",
-        (3, "", "oldstyle: read fault\n"),
+        (
+            3,
+            "",
+            "oldstyle: read fault\nnote: astray.journal: no such file\n",
+        ),
     ),
     (
         "oldstyle serve --save round.journal",
         "",
-        (3, "", "oldstyle: read fault\n"),
+        (
+            3,
+            "",
+            "oldstyle: read fault\nnote: round.journal: no such file\n",
+        ),
     ),
 ];
 

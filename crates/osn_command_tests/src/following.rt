@@ -10,7 +10,11 @@ const LANDS: &str = "{\"op\":\"lands\",\"reader\":1}\n";
 const NOTHING: [RunRow; 1] = [(
     "oldstyle serve --follow folder",
     LANDS,
-    (3, "", "oldstyle: read fault\n"),
+    (
+        3,
+        "",
+        "oldstyle: read fault\nnote: folder: is a directory\n",
+    ),
 )];
 
 #[test]

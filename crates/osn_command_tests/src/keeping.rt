@@ -76,12 +76,20 @@ const NOWHERE: [RunRow; 2] = [
     (
         "oldstyle serve --keep folder",
         LANDS,
-        (3, "", "oldstyle: read fault\n"),
+        (
+            3,
+            "",
+            "oldstyle: read fault\nnote: folder: is a directory\n",
+        ),
     ),
     (
         "oldstyle serve --keep nowhere/a.journal",
         LANDS,
-        (3, "", "oldstyle: read fault\n"),
+        (
+            3,
+            "",
+            "oldstyle: read fault\nnote: nowhere/a.journal: no such folder\n",
+        ),
     ),
 ];
 

@@ -3,7 +3,7 @@ ghost use Rattle.std.specs.Prelude.{◌≡◌, Err, IfOk, Some, false};
 
 use crate::support::compare::same;
 use osn_core::Object;
-use osn_folder::{ChangeFailed, KeptFile, KeptFileFault};
+use osn_folder::{ChangeCause, ChangeFailed, KeptFile, KeptFileFault};
 use osn_journal::serve_kept;
 use osn_lines::{Interrupted, Plain};
 use osn_register::Limits;
@@ -58,12 +58,12 @@ impl KeptFile for MemoryFile {
 
     fn append(&mut self, bytes: &[u8]) -> Result<(), KeptFileFault> {
         if self.appends == 0 {
-            return self.fail(KeptFileFault::ChangeFailed);
+            return self.fail(KeptFileFault::ChangeFailed(ChangeCause::Other));
         }
         self.appends -= 1;
         match self.contents.extend_from_slice(bytes) {
             Ok(()) => Ok(()),
-            Err(_) => self.fail(KeptFileFault::ChangeFailed),
+            Err(_) => self.fail(KeptFileFault::ChangeFailed(ChangeCause::Other)),
         }
     }
 
@@ -83,7 +83,7 @@ impl KeptFile for MemoryFile {
                 self.synced = synced;
                 Ok(())
             }
-            Err(_) => self.fail(KeptFileFault::ChangeFailed),
+            Err(_) => self.fail(KeptFileFault::ChangeFailed(ChangeCause::Other)),
         }
     }
 }
@@ -110,7 +110,9 @@ const KEPT: [&str; 4] = [
     "{\"code\":\"RM\",\"day\":547610,\"op\":\"add_exception\",\"year\":1500}\n",
 ];
 
-const FAILED: ServiceFault<KeptFileFault> = ServiceFault::NotKept(KeptFileFault::ChangeFailed);
+const FAILED: ServiceFault<KeptFileFault> = ServiceFault::NotKept(KeptFileFault::ChangeFailed(
+    ChangeCause::Other,
+));
 
 /// The number of appends that a file takes, and what comes of the lines. Then how many replies are
 /// written, how many lines the file holds, and how many of them are on the disk.

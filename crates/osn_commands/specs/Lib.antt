@@ -1,4 +1,3 @@
 pub mod Completions
 pub mod Limits
-pub mod Unopened
 pub mod Run

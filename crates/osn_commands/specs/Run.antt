@@ -1,5 +1,5 @@
 -- What a run of the program does, with the files of a folder.
-use Rattle.std.specs.Prelude.{◌≡◌, ◌≢◌, ◌⊎◌, Bool, List, [], ◌∷◌, ℕ, Option, Some, None}
+use Rattle.std.specs.Prelude.{◌≡◌, ◌≢◌, ◌⊎◌, Bool, List, [], ◌∷◌, ℕ}
 use Rattle.std.specs.Prelude.{MatchResult, unwrap_or}
 use Rattle.clap.specs.Words.{Text, fault_of, IsAmong}
 use Rattle.clap.specs.declared.error.kind.ErrorKind.{ErrorKind}
@@ -15,43 +15,32 @@ use Rattle.osn_invocation.specs.Invocation.{auditing, converting, completing, re
 use Rattle.osn_invocation.specs.Invocation.{planning, publishing, writing_text}
 use Rattle.osn_invocation.specs.Invocation.{invocation_in}
 use Rattle.osn_lines.specs.Streams.{Input, Output}
-use Rattle.osn_file_commands.specs.Audit.{PrintsAudit}
-use Rattle.osn_file_commands.specs.Replay.{PrintsReplay}
-use Rattle.osn_file_commands.specs.Transcript.{PrintsTranscript}
+use Rattle.osn_file_commands.specs.Audit.{Audits, AuditFails}
+use Rattle.osn_file_commands.specs.Replay.{Replays, ReplayFails}
+use Rattle.osn_file_commands.specs.Transcript.{Transcribes, TranscribesNot}
 use Rattle.osn_page_commands.specs.Conversion.{PrintsConversion}
 use Rattle.osn_page_commands.specs.LettersFiles.{RunsLetters}
-use Rattle.osn_page_commands.specs.Page.{RunsPage}
+use Rattle.osn_page_commands.specs.Page.{PageFails, RunsPage}
 use Rattle.osn_report.specs.Folders.{Folders, ReadsOne, ReadsTwo}
-use Rattle.osn_report.specs.Printing.{Prints}
-use Rattle.osn_report.specs.Messages.{EndsBy, Tells, TellsIfMade, TellsLine, TellsMisuse}
+use Rattle.osn_report.specs.Failure.{FailsOnOne, FailsOnTwo, IsNotRead}
+use Rattle.osn_report.specs.Printing.{Prints, PrintsNoneAt, PrintsOrReports}
+use Rattle.osn_report.specs.Messages.{EndsBy, TellsLine, TellsMisuse}
+use Rattle.osn_report.specs.declared.fault.CommandFault.{CommandFault}
 use Rattle.osn_report.specs.declared.fault.CommandFault.TheVariants.{NotOpened, NoMemory}
 use Rattle.osn_report.specs.declared.status.Status.{Status}
 use Rattle.osn_report.specs.declared.status.Status.TheVariants as statuses
-use Rattle.osn_report.specs.Unopened.{unopened_line}
 use Rattle.osn_serve_commands.specs.InFolder.{RunsServing, opened_by}
 use Rattle.osn_text_commands.specs.InFolder.{PlansInFolder}
 use Rattle.osn_text_commands.specs.PublishFolder.{PublishesInFolder}
 use Rattle.osn_text_commands.specs.Text.{PrintsText}
 use Rattle.osn_commands.specs.Completions.{PrintsCompletions}
 use Rattle.osn_commands.specs.Limits.{limits_of_words}
-use Rattle.osn_commands.specs.Unopened.{named_file}
 
 -- ---- each command
 
--- the paths of the files that are opened before anything else, in the order of the arguments. What
--- becomes of a file that is opened after another one was read, the command says
-abbrev pub files_of : CommandModel → List Text
-files_of (serving journal save kept followed service) = opened_by journal kept followed
-files_of (replaying readers schedule) = schedule ∷ []
-files_of (working script questions) = script ∷ questions ∷ []
-files_of (printing journal page) = journal ∷ []
-files_of (auditing journal transcript) = journal ∷ transcript ∷ []
-files_of (converting calendar date) = []
-files_of (completing shell) = []
-files_of (reading_letters journal asked) = journal ∷ []
-files_of (writing_text journal code) = journal ∷ []
-files_of (planning journal text) = journal ∷ []
-files_of (publishing journal text) = text ∷ []
+-- a text like this was printed
+abbrev pub PrintsSuch : (List ℕ → Type 0) → Output → Output → Status → Type 0
+PrintsSuch IsText o e status = (text : List ℕ) × IsText text × PrintsOrReports text o e status
 
 -- the command that is asked for was run under these limits, with the files that the arguments name.
 -- This is what it wrote to standard output, what standard error was told, and its status. The facts
@@ -61,15 +50,15 @@ abbrev pub Runs : Limits → CommandModel → (Bool → Type 0) → Type 0 → F
 Runs limits (serving journal save keep follow service) CanFail CanStay d i o e status =
     RunsServing limits journal save keep follow service CanFail d i o e status
 Runs limits (replaying readers schedule) CanFail CanStay d i o e status =
-    ReadsOne schedule CanFail d (λ file. PrintsReplay limits readers file o e status)
+    ReadsOne schedule CanFail d (λ file. PrintsSuch (Replays limits readers file) o e status)
 Runs limits (working script questions) CanFail CanStay d i o e status =
     ReadsTwo script questions CanFail d
-    (λ editor readers. PrintsTranscript limits editor readers o e status)
+    (λ editor readers. PrintsSuch (Transcribes limits editor readers) o e status)
 Runs limits (printing journal page) CanFail CanStay d i o e status =
     RunsPage limits journal page CanFail d o e status
 Runs limits (auditing journal transcript) CanFail CanStay d i o e status =
     ReadsTwo journal transcript CanFail d
-    (λ edits told. PrintsAudit limits edits told o e status)
+    (λ edits told. PrintsSuch (Audits limits edits told) o e status)
 Runs limits (converting calendar date) CanFail CanStay d i o e status =
     (d.after ≡ d.before) × PrintsConversion calendar date o e status
 Runs limits (completing shell) CanFail CanStay d i o e status =
@@ -82,6 +71,35 @@ Runs limits (planning journal text) CanFail CanStay d i o e status =
     PlansInFolder limits journal text CanFail d o e status
 Runs limits (publishing journal text) CanFail CanStay d i o e status =
     PublishesInFolder limits journal text CanFail CanStay d o e status
+
+-- ---- why a command ended early
+
+-- the file of a path could not be opened, which the line says with the path
+abbrev pub IsUnopened : List ℕ → Folders → List ℕ → CommandFault → Type 0
+IsUnopened file d path fault =
+    (path ≡ file) × ((cause : OpenFailed) × (fault ≡ NotOpened cause))
+    × CannotOpen (file ∷ []) d.before d.after
+
+-- why the command ended early that is asked for, by this fault at the file of this path: nothing was
+-- printed, and standard error was told nothing yet
+abbrev pub Fails : Limits → CommandModel → (Bool → Type 0) → Folders → List ℕ → CommandFault
+    → Type 0
+Fails limits (serving journal save kept followed service) CanFail d path fault =
+    IsNotRead (opened_by journal kept followed) d path fault
+Fails limits (replaying readers schedule) CanFail d path fault =
+    FailsOnOne schedule CanFail d (ReplayFails readers) path fault
+Fails limits (working script questions) CanFail d path fault =
+    FailsOnTwo script questions CanFail d (TranscribesNot limits) path fault
+Fails limits (printing journal page) CanFail d path fault =
+    PageFails limits journal page CanFail d path fault
+Fails limits (auditing journal transcript) CanFail d path fault =
+    FailsOnTwo journal transcript CanFail d (AuditFails limits) path fault
+Fails limits (converting calendar date) CanFail d path fault = ⊥
+Fails limits (completing shell) CanFail d path fault = ⊥
+Fails limits (reading_letters journal asked) CanFail d path fault = IsUnopened journal d path fault
+Fails limits (writing_text journal code) CanFail d path fault = IsUnopened journal d path fault
+Fails limits (planning journal text) CanFail d path fault = IsUnopened journal d path fault
+Fails limits (publishing journal text) CanFail d path fault = IsUnopened text d path fault
 
 -- ---- a run
 
@@ -105,20 +123,14 @@ abbrev pub ShowsOrEnds : ErrorKind → Output → Output → Status → Type 0
 ShowsOrEnds kind o e status =
     HasNoMemory o e status ⊎ ((kind ≢ OutOfMemory) × Shows kind o e status)
 
--- standard error was told that a file could not be opened: of the file of this path by the path and
--- by some cause
-abbrev pub TellsUnopened : Option Text → Output → Status → Type 0
-TellsUnopened None e status = Tells e NotOpened status
-TellsUnopened (Some path) e status =
-    (cause : OpenFailed) × TellsIfMade e statuses.ReadFault (unopened_line path cause) status
-
--- what is asked for was done under its limits, where the files could be opened
+-- what is asked for was done under its limits; or it ended early, and standard error was told why and
+-- at which file
 abbrev pub RunsUnder : Limits → CommandModel → (Bool → Type 0) → Type 0 → Folders → Input → Output
     → Output → Status → Type 0
 RunsUnder limits command CanFail CanStay d i o e status =
     Runs limits command CanFail CanStay d i o e status
-    ⊎ (CannotOpen (files_of command) d.before d.after
-    × (o.new ≡ o.old) × TellsUnopened (named_file command) e status)
+    ⊎ ((path : Text) × (fault : CommandFault) × Fails limits command CanFail d path fault
+    × PrintsNoneAt path fault o e status)
 
 -- that, or the words of the limits are none
 abbrev pub RunsInvocation : InvocationModel → (Bool → Type 0) → Type 0 → Folders → Input → Output

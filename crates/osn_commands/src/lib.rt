@@ -7,7 +7,6 @@ mod completing;
 mod display;
 mod limits;
 mod program;
-mod unopened;
 
 pub use display::tell_no_words;
 pub use program::run;

@@ -1,23 +1,27 @@
 //! The program: the arguments are read, files are opened, and the command is called.
-ghost use Rattle.std.specs.Prelude.{◌≡◌, map, [], IfErr, IfOk, OnErr, option_map, unwrap_or};
-ghost use Rattle.osn_folder.specs.Folder.{CannotOpen, MayFail};
+ghost use Rattle.std.specs.Prelude.{◌≡◌, map, [], Ok, Err, IfErr, IfOk, option_map, unwrap_or};
+ghost use Rattle.std.specs.Prelude.{string_bytes, true};
+ghost use Rattle.std.specs.Result.{is_ok};
+ghost use Rattle.osn_folder.specs.Folder.{MayFail};
+ghost use Rattle.osn_folder.specs.declared.fault.OpenFailed.{OpenFailed};
 ghost use Rattle.osn_invocation.specs.Invocation.{command_model, model_of};
 ghost use Rattle.osn_lines.specs.Streams.{input_of, output_of};
 ghost use Rattle.osn_report.specs.Folders.{folders_of};
+ghost use Rattle.osn_report.specs.Printing.{PrintsOrReports};
+ghost use Rattle.osn_report.specs.declared.fault.CommandFault.{CommandFault};
 ghost use Rattle.osn_text_commands.specs.PublishInside.{CanStay};
-ghost use Rattle.osn_commands.specs.Run.{Runs, RunsArgs, RunsInvocation, files_of};
+ghost use Rattle.osn_commands.specs.Run.{Fails, Runs, RunsArgs, RunsInvocation};
 
 use crate::completing::completions_command;
 use crate::display::show;
 use crate::limits::limits_of_words;
-use crate::unopened::{named_file, tell_unopened_file};
 use osn_file_commands::{audit_in_folder, desk_in_folder, replay_in_folder};
 use osn_folder::{Folder, OpenFailed};
 use osn_invocation::{CommandWords, Invocation, parse_args};
 use osn_lines::{Sink, Source};
 use osn_page_commands::{convert_command, letters_in_folder, page_in_folder};
 use osn_register::Limits;
-use osn_report::{Status, tell_misuse};
+use osn_report::{CommandFault, Failure, Status, print_or_report, report_at, tell_misuse};
 use osn_serve_commands::serve_in_folder;
 use osn_text_commands::{plan_in_folder, publish_in_folder, text_in_folder};
 use std::convert::AsStr;
@@ -95,22 +99,56 @@ where
     let command = invocation.command;
     match execute(rt, limits, folder, command, input, output, errors, terminal) {
         Ok(status) => status,
-        Err(cause) => tell_unopened_file(alloc, errors, named_file(command), cause),
+        Err(failure) => report_at(alloc, errors, failure.path, failure.fault),
     }
 }
 
-/// Opens the files that are read, and calls the command. Where a file could not be opened, nothing
-/// was told yet, and nothing was done.
-fn execute<F, D: Folder, R: Source, W: Sink, E: Sink, T: Sink + Drop>(
+/// Prints the text of a command, if there is one.
+fn printed<'a, W: Sink, E: Sink>(
+    made: Result<String, Failure<'a>>,
+    output: &mut W,
+    errors: &mut E,
+) -> Result<Status, Failure<'a>>
+    ensures ok { IfOk result (λ status. (is_ok made.entry ≡ true)
+        × IfOk made.entry (λ text. PrintsOrReports (string_bytes text)
+        (output_of W.contents W.has_failed W.holds_back output.old output.new)
+        (output_of E.contents E.has_failed E.holds_back errors.old errors.new) status)) }
+    ensures err { IfErr result (λ failure. (made.entry ≡ Err failure)
+        × (output.new ≡ output.old) × (errors.new ≡ errors.old)) }
+{
+    match made {
+        Ok(text) => Ok(print_or_report(Ok(text), output, errors)),
+        Err(failure) => Err(failure),
+    }
+}
+
+/// What a command did, or why its file of this path could not be opened.
+fn opened<'a>(path: &'a str, done: Result<Status, OpenFailed>) -> Result<Status, Failure<'a>>
+    ensures ok { IfOk result (λ status. done ≡ Ok status) }
+    ensures err { IfErr result (λ failure. (cause : OpenFailed) × (done ≡ Err cause)
+        × (failure.path.now ≡ path.now) × (failure.fault ≡ CommandFault.NotOpened cause)) }
+{
+    match done {
+        Ok(status) => Ok(status),
+        Err(cause) => Err(Failure {
+            path,
+            fault: CommandFault::NotOpened(cause),
+        }),
+    }
+}
+
+/// Opens the files that are read, and calls the command. Where it failed, nothing was told yet, and
+/// nothing was printed.
+fn execute<'a, F, D: Folder, R: Source, W: Sink, E: Sink, T: Sink + Drop>(
     rt: &F,
     limits: Limits,
     folder: &mut D,
-    command: CommandWords,
+    command: CommandWords<'a>,
     input: &mut R,
     output: &mut W,
     errors: &mut E,
     terminal: Option<T>,
-) -> Result<Status, OpenFailed>
+) -> Result<Status, Failure<'a>>
 where
     F: Threads + Wait + AllocGlobal,
     ensures ok { IfOk result (Runs limits (command_model command.entry) (MayFail D.File.has_failed)
@@ -119,8 +157,9 @@ where
         (input_of R.remaining R.has_failed input.old input.new)
         (output_of W.contents W.has_failed W.holds_back output.old output.new)
         (output_of E.contents E.has_failed E.holds_back errors.old errors.new)) }
-    ensures err { OnErr result (CannotOpen (files_of (command_model command.entry))
-        (D.known folder.old) (D.known folder.new)
+    ensures err { IfErr result (λ failure. Fails limits (command_model command.entry)
+        (MayFail D.File.has_failed) (folders_of D.known folder.old folder.new)
+        failure.path.now failure.fault
         × (output.new ≡ output.old) × (errors.new ≡ errors.old)) }
 {
     let alloc = rt.alloc();
@@ -129,10 +168,12 @@ where
             alloc, limits, folder, options, input, output, errors, terminal,
         ),
         CommandWords::Replay { readers, schedule } => {
-            replay_in_folder(alloc, limits, folder, readers, schedule, output, errors)
+            let made = replay_in_folder(alloc, limits, folder, readers, schedule);
+            printed(made, output, errors)
         }
         CommandWords::Desk { script, questions } => {
-            desk_in_folder(rt, limits, folder, script, questions, output, errors)
+            let made = desk_in_folder(rt, limits, folder, script, questions);
+            printed(made, output, errors)
         }
         CommandWords::Page { journal, page } => {
             page_in_folder(alloc, limits, folder, journal, page, output, errors)
@@ -140,20 +181,27 @@ where
         CommandWords::Audit {
             journal,
             transcript,
-        } => audit_in_folder(
-            alloc, limits, folder, journal, transcript, output, errors, terminal,
-        ),
-        CommandWords::Letters { journal, options } => letters_in_folder(
-            alloc, limits, folder, journal, options, input, output, errors, terminal,
-        ),
+        } => {
+            let made = audit_in_folder(alloc, limits, folder, journal, transcript, terminal);
+            printed(made, output, errors)
+        }
+        CommandWords::Letters { journal, options } => {
+            let done = letters_in_folder(
+                alloc, limits, folder, journal, options, input, output, errors, terminal,
+            );
+            opened(journal, done)
+        }
         CommandWords::Text { journal, code } => {
-            text_in_folder(alloc, limits, folder, journal, code, output, errors)
+            let done = text_in_folder(alloc, limits, folder, journal, code, output, errors);
+            opened(journal, done)
         }
         CommandWords::Plan { journal, text } => {
-            plan_in_folder(alloc, limits, folder, journal, text, output, errors)
+            let done = plan_in_folder(alloc, limits, folder, journal, text, output, errors);
+            opened(journal, done)
         }
         CommandWords::Publish { journal, text } => {
-            publish_in_folder(alloc, limits, folder, journal, text, output, errors)
+            let done = publish_in_folder(alloc, limits, folder, journal, text, output, errors);
+            opened(text, done)
         }
         CommandWords::Convert { calendar, date } => {
             Ok(convert_command(alloc, calendar, date, output, errors))

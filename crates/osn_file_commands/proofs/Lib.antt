@@ -1,3 +1,3 @@
 pub mod AuditLemmas
-pub mod DeskLemmas
+pub mod FailLemmas
 pub mod LineLemmas

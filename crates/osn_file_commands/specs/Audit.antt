@@ -1,17 +1,16 @@
--- What the command of an audit prints, and why it prints nothing.
-use Rattle.std.specs.Prelude.{◌⊎◌, ℕ, List, ◌++◌, codes}
+-- The text of an audit, and why there is none.
+use Rattle.std.specs.Prelude.{◌≡◌, ◌⊎◌, ℕ, List, ◌++◌, codes}
 use Rattle.std.specs.Fmt.{decimal}
 use Rattle.osn_register.specs.declared.limits.Limits.{Limits}
 use Rattle.osn_core.specs.Sequential.{ObjectState}
-use Rattle.osn_lines.specs.Streams.{Input, Output}
+use Rattle.osn_lines.specs.Streams.{Input}
 use Rattle.osn_files.specs.declared.fault.FileFault.{FileFault}
 use Rattle.osn_files.specs.declared.fault.Role.TheVariants.{Transcript}
 use Rattle.osn_audit.specs.Audit.{agreed_lines}
 use Rattle.osn_report.specs.Files.{Makes, IsFileFault}
 use Rattle.osn_report.specs.Journal.{MakesObject, MakesNoObject}
-use Rattle.osn_report.specs.Printing.{PrintsOrReports, PrintsNone}
-use Rattle.osn_report.specs.declared.fault.CommandFault.TheVariants.{File}
-use Rattle.osn_report.specs.declared.status.Status.{Status}
+use Rattle.osn_report.specs.declared.fault.CommandFault.{CommandFault}
+use Rattle.osn_report.specs.declared.fault.CommandFault.TheVariants.{File, NoMemory}
 
 -- the line on this many replies
 abbrev pub audit_line : ℕ → List ℕ
@@ -31,9 +30,13 @@ IsNotAudited limits journal transcript fault =
     ⊎ ((s : ObjectState) × MakesObject limits journal.bytes s
     × IsFileFault Transcript (agreed_lines s) transcript fault)
 
--- how the command ends, by what it printed and told
-abbrev pub PrintsAudit : Limits → Input → Input → Output → Output → Status → Type 0
-PrintsAudit limits journal transcript o e status =
-    ((fault : FileFault) × IsNotAudited limits journal transcript fault
-    × PrintsNone (File fault) o e status)
-    ⊎ ((n : ℕ) × Agree limits journal transcript n × PrintsOrReports (audit_line n) o e status)
+-- the text of the command says how many replies agree
+abbrev pub Audits : Limits → Input → Input → List ℕ → Type 0
+Audits limits journal transcript text =
+    (n : ℕ) × Agree limits journal transcript n × (text ≡ audit_line n)
+
+-- why there is none: nothing is said of the two files, or there was no memory for the text
+abbrev pub AuditFails : Limits → Input → Input → CommandFault → Type 0
+AuditFails limits journal transcript fault =
+    ((why : FileFault) × IsNotAudited limits journal transcript why × (fault ≡ File why))
+    ⊎ (fault ≡ NoMemory)

@@ -1,4 +1,3 @@
 pub mod Audit
-pub mod DeskFault
 pub mod Replay
 pub mod Transcript

@@ -1,4 +1,4 @@
--- What the command of a desk prints, and why it prints nothing.
+-- The text of a desk, and why there is none.
 use Rattle.std.specs.Prelude.{◌≡◌, ◌⊎◌, ℕ, ◌+◌, List, [], ◌∷◌, ◌++◌, length, map, Vec}
 use Rattle.std.specs.declared.alloc.Global.{Global}
 use Rattle.osn_days.specs.Profile.{newest_rules}
@@ -7,7 +7,7 @@ use Rattle.osn_register.specs.declared.query.Query.{Query}
 use Rattle.osn_core.specs.declared.command.Command.{Command}
 use Rattle.osn_core.specs.declared.step.Reply.{Reply}
 use Rattle.osn_core.specs.Script.{editions_of}
-use Rattle.osn_lines.specs.Streams.{Input, Output}
+use Rattle.osn_lines.specs.Streams.{Input}
 use Rattle.osn_live.specs.Desk.{AreAll}
 use Rattle.osn_live.specs.Faults.{IsBadCount, IsDeskFault}
 use Rattle.osn_live.specs.declared.faults.DeskFault.{DeskFault}
@@ -16,11 +16,9 @@ use Rattle.osn_files.specs.Script.{script}
 use Rattle.osn_files.specs.declared.fault.FileFault.{FileFault}
 use Rattle.osn_files.specs.declared.fault.Role.TheVariants.{Script, Questions}
 use Rattle.osn_reply.specs.Transcript.{transcript_line}
-use Rattle.osn_file_commands.specs.DeskFault.{TellsDesk}
 use Rattle.osn_report.specs.Files.{Makes, IsFileFault}
-use Rattle.osn_report.specs.Printing.{PrintsOrReports, PrintsNone}
-use Rattle.osn_report.specs.declared.fault.CommandFault.TheVariants.{File}
-use Rattle.osn_report.specs.declared.status.Status.{Status}
+use Rattle.osn_report.specs.declared.fault.CommandFault.{CommandFault}
+use Rattle.osn_report.specs.declared.fault.CommandFault.TheVariants.{Desk, File, NoMemory}
 
 -- the lines of one reader, a question each with its reply
 abbrev pub reader_lines : ℕ → List Query → List Reply → List ℕ
@@ -48,21 +46,30 @@ MakeDesk editor readers commands lists =
     Makes script editor.bytes commands
     × Makes questions readers.bytes (map (λ qs. qs.items) lists)
 
--- of a desk: the lines of its replies were printed; or it told nothing, by a fault of the desk
-abbrev pub PrintsDesk : Limits → List Command → List (Vec Query Global) → Output → Output → Status
-    → Type 0
-PrintsDesk limits commands lists o e status =
-    ((IsBadCount (length lists) → ⊥) × (all : List (Vec Reply Global))
+-- the text of a desk has the lines of its replies
+abbrev pub DeskTells : Limits → List Command → List (Vec Query Global) → List ℕ → Type 0
+DeskTells limits commands lists text =
+    (IsBadCount (length lists) → ⊥) × (all : List (Vec Reply Global))
     × AreAll newest_rules limits (editions_of newest_rules limits commands) lists all
-    × PrintsOrReports (transcript_from 1 lists all) o e status)
-    ⊎ ((fault : DeskFault)
-    × IsDeskFault (length lists) (length (editions_of newest_rules limits commands)) fault
-    × (o.new ≡ o.old) × TellsDesk e fault status)
+    × (text ≡ transcript_from 1 lists all)
 
--- how the command ends, by what it printed and told: the files make no desk; or they make one, and
--- that was done
-abbrev pub PrintsTranscript : Limits → Input → Input → Output → Output → Status → Type 0
-PrintsTranscript limits editor readers o e status =
-    ((fault : FileFault) × MakeNoDesk editor readers fault × PrintsNone (File fault) o e status)
+-- why there is none: a fault of the desk, or there was no memory for the text
+abbrev pub DeskFails : Limits → List Command → List (Vec Query Global) → CommandFault → Type 0
+DeskFails limits commands lists fault =
+    ((why : DeskFault)
+    × IsDeskFault (length lists) (length (editions_of newest_rules limits commands)) why
+    × (fault ≡ Desk why))
+    ⊎ (fault ≡ NoMemory)
+
+-- the text of the command is that of the desk which the files make
+abbrev pub Transcribes : Limits → Input → Input → List ℕ → Type 0
+Transcribes limits editor readers text =
+    (commands : List Command) × (lists : List (Vec Query Global))
+    × MakeDesk editor readers commands lists × DeskTells limits commands lists text
+
+-- why there is none: the files make no desk; or they make one, and it has no text
+abbrev pub TranscribesNot : Limits → Input → Input → CommandFault → Type 0
+TranscribesNot limits editor readers fault =
+    ((why : FileFault) × MakeNoDesk editor readers why × (fault ≡ File why))
     ⊎ ((commands : List Command) × (lists : List (Vec Query Global))
-    × MakeDesk editor readers commands lists × PrintsDesk limits commands lists o e status)
+    × MakeDesk editor readers commands lists × DeskFails limits commands lists fault)

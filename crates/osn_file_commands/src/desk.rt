@@ -1,17 +1,16 @@
 //! The command `desk`.
-ghost use Rattle.std.specs.Prelude.{IfOk, IfErr};
-ghost use Rattle.osn_lines.specs.Streams.{input_of, output_of};
-ghost use Rattle.osn_file_commands.specs.Transcript.{MakeDesk, MakeNoDesk, PrintsDesk};
-ghost use Rattle.osn_file_commands.specs.Transcript.{PrintsTranscript};
+ghost use Rattle.std.specs.Prelude.{IfErr, IfOk, string_bytes};
+ghost use Rattle.osn_lines.specs.Streams.{input_of};
+ghost use Rattle.osn_file_commands.specs.Transcript.{DeskFails, DeskTells, MakeDesk, MakeNoDesk};
+ghost use Rattle.osn_file_commands.specs.Transcript.{Transcribes, TranscribesNot};
 
-use crate::desk_fault::report_desk;
 use crate::transcript::transcript;
 use osn_core::Command;
 use osn_files::{FileFault, read_questions, read_script};
-use osn_lines::{Sink, Source};
+use osn_lines::Source;
 use osn_live::{OpenGate, run_desk};
 use osn_register::{Limits, Query};
-use osn_report::{CommandFault, Status, print_or_report, report};
+use osn_report::CommandFault;
 use std::alloc::Global;
 use std::sync::Wait;
 use std::thread::Threads;
@@ -34,50 +33,48 @@ fn desk_files<J: Source, K: Source>(
     Ok((commands, lists))
 }
 
-/// Prints what a desk tells the readers, while its editor works through commands.
-fn print_desk<R: Threads + Wait + AllocGlobal, W: Sink, E: Sink>(
+/// What a desk tells the readers, while its editor works through commands.
+fn desk_text<R: Threads + Wait + AllocGlobal>(
     rt: &R,
     limits: Limits,
     commands: &[Command],
     lists: &[Vec<Query>],
-    output: &mut W,
-    errors: &mut E,
-) -> Status
-    ensures { PrintsDesk limits commands.now lists.now
-        (output_of W.contents W.has_failed W.holds_back output.old output.new)
-        (output_of E.contents E.has_failed E.holds_back errors.old errors.new) result }
+) -> Result<String, CommandFault>
+    ensures ok { IfOk result
+        (λ text. DeskTells limits commands.now lists.now (string_bytes text)) }
+    ensures err { IfErr result (DeskFails limits commands.now lists.now) }
 {
     let alloc = rt.alloc();
     match run_desk(rt, alloc, limits, &OpenGate, commands, lists) {
-        Ok(told) => print_or_report(transcript(alloc, lists, &told), output, errors),
-        Err(fault) => report_desk(alloc, errors, fault),
+        Ok(told) => Ok(transcript(alloc, lists, &told)?),
+        Err(fault) => Err(CommandFault::Desk(fault)),
     }
 }
 
 /// The command `desk`: an editor works through the commands of a script, under these limits, while
-/// readers ask the questions of a question file, each in its own thread. Then what each reader
-/// asked is printed with the reply to it, a line for each, by reader and then by place. A command
-/// of the editor that is refused is passed over. The script is read whole before the questions, and
+/// readers ask the questions of a question file, each in its own thread. The text is what each
+/// reader asked with the reply to it, a line for each, by reader and then by place. A command of
+/// the editor that is refused is passed over. The script is read whole before the questions, and
 /// both before a thread is started.
 ///
-/// Where a line is refused, or there is no question, standard error is told in a line why, and the
-/// status says it.
-pub fn desk_command<R: Threads + Wait + AllocGlobal, J: Source, K: Source, W: Sink, E: Sink>(
+/// # Errors
+///
+/// The first line that is refused, that there is no question, or why a file could not be read.
+pub fn desk_command<R: Threads + Wait + AllocGlobal, J: Source, K: Source>(
     rt: &R,
     limits: Limits,
     script: &mut J,
     questions: &mut K,
-    output: &mut W,
-    errors: &mut E,
-) -> Status
-    ensures { PrintsTranscript limits
+) -> Result<String, CommandFault>
+    ensures ok { IfOk result (λ text. Transcribes limits
         (input_of J.remaining J.has_failed script.old script.new)
-        (input_of K.remaining K.has_failed questions.old questions.new)
-        (output_of W.contents W.has_failed W.holds_back output.old output.new)
-        (output_of E.contents E.has_failed E.holds_back errors.old errors.new) result }
+        (input_of K.remaining K.has_failed questions.old questions.new) (string_bytes text)) }
+    ensures err { IfErr result (TranscribesNot limits
+        (input_of J.remaining J.has_failed script.old script.new)
+        (input_of K.remaining K.has_failed questions.old questions.new)) }
 {
     match desk_files(rt.alloc(), script, questions) {
-        Ok((commands, lists)) => print_desk(rt, limits, &commands, &lists, output, errors),
-        Err(fault) => report(rt.alloc(), errors, CommandFault::File(fault)),
+        Ok((commands, lists)) => desk_text(rt, limits, &commands, &lists),
+        Err(fault) => Err(CommandFault::File(fault)),
     }
 }

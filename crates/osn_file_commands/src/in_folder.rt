@@ -1,19 +1,19 @@
 //! The commands over the files of a folder, which are opened by their paths first.
-ghost use Rattle.std.specs.Prelude.{◌≡◌, ◌∷◌, [], IfOk, OnErr};
-ghost use Rattle.osn_folder.specs.Folder.{CannotOpen, MayFail};
-ghost use Rattle.osn_lines.specs.Streams.{output_of};
-ghost use Rattle.osn_file_commands.specs.Audit.{PrintsAudit};
-ghost use Rattle.osn_file_commands.specs.Replay.{PrintsReplay};
-ghost use Rattle.osn_file_commands.specs.Transcript.{PrintsTranscript};
+ghost use Rattle.std.specs.Prelude.{◌≡◌, IfErr, IfOk, string_bytes};
+ghost use Rattle.osn_folder.specs.Folder.{MayFail};
+ghost use Rattle.osn_file_commands.specs.Audit.{Audits, AuditFails};
+ghost use Rattle.osn_file_commands.specs.Replay.{Replays, ReplayFails};
+ghost use Rattle.osn_file_commands.specs.Transcript.{Transcribes, TranscribesNot};
+ghost use Rattle.osn_report.specs.Failure as spec;
 ghost use Rattle.osn_report.specs.Folders.{ReadsOne, ReadsTwo, folders_of};
 
 use crate::audit::audit_command;
 use crate::desk::desk_command;
 use crate::replay::replay_command;
-use osn_folder::{Folder, OpenFailed, open_both, open_file};
-use osn_lines::Sink;
+use osn_folder::{Folder, open_both, open_named};
+use osn_lines::{Sink, Source};
 use osn_register::Limits;
-use osn_report::{ProgressSource, ReadProgress, Status};
+use osn_report::{Failure, ProgressSource, ReadProgress, failure_of_two};
 use std::alloc::Global;
 use std::sync::Wait;
 use std::thread::Threads;
@@ -22,54 +22,55 @@ use std::thread::Threads;
 ///
 /// # Errors
 ///
-/// Why the schedule could not be opened. Nothing was written then.
-pub fn replay_in_folder<D: Folder, W: Sink, E: Sink>(
+/// Why the schedule could not be opened, and those of `replay_command`, with its path.
+pub fn replay_in_folder<'a, D: Folder>(
     alloc: Global,
     limits: Limits,
     folder: &mut D,
     readers: u32,
-    schedule: &str,
-    output: &mut W,
-    errors: &mut E,
-) -> Result<Status, OpenFailed>
-    ensures ok { IfOk result (λ status. ReadsOne schedule.now (MayFail D.File.has_failed)
+    schedule: &'a str,
+) -> Result<String, Failure<'a>>
+    ensures ok { IfOk result (λ text. ReadsOne schedule.now (MayFail D.File.has_failed)
         (folders_of D.known folder.old folder.new)
-        (λ file. PrintsReplay limits readers file
-        (output_of W.contents W.has_failed W.holds_back output.old output.new)
-        (output_of E.contents E.has_failed E.holds_back errors.old errors.new) status)) }
-    ensures err { OnErr result (CannotOpen (schedule.now ∷ [])
-        (D.known folder.old) (D.known folder.new)
-        × (output.new ≡ output.old) × (errors.new ≡ errors.old)) }
+        (λ file. Replays limits readers file (string_bytes text))) }
+    ensures err { IfErr result (λ failure. spec.FailsOnOne schedule.now (MayFail D.File.has_failed)
+        (folders_of D.known folder.old folder.new) (ReplayFails readers)
+        failure.path.now failure.fault) }
 {
-    let mut file = open_file(folder, schedule)?;
-    Ok(replay_command(alloc, limits, readers, &mut file, output, errors))
+    let mut file = open_named(folder, schedule)?;
+    match replay_command(alloc, limits, readers, &mut file) {
+        Ok(text) => Ok(text),
+        Err(fault) => Err(Failure {
+            path: schedule,
+            fault,
+        }),
+    }
 }
 
 /// Opens a script and then questions, and does what `desk_command` does.
 ///
 /// # Errors
 ///
-/// Why a file could not be opened. Nothing was written then.
-pub fn desk_in_folder<F: Threads + Wait + AllocGlobal, D: Folder, W: Sink, E: Sink>(
+/// Why a file could not be opened, and those of `desk_command`, with the path of the file.
+pub fn desk_in_folder<'a, F: Threads + Wait + AllocGlobal, D: Folder>(
     rt: &F,
     limits: Limits,
     folder: &mut D,
-    script: &str,
-    questions: &str,
-    output: &mut W,
-    errors: &mut E,
-) -> Result<Status, OpenFailed>
-    ensures ok { IfOk result (λ status. ReadsTwo script.now questions.now
+    script: &'a str,
+    questions: &'a str,
+) -> Result<String, Failure<'a>>
+    ensures ok { IfOk result (λ text. ReadsTwo script.now questions.now
         (MayFail D.File.has_failed) (folders_of D.known folder.old folder.new)
-        (λ file other. PrintsTranscript limits file other
-        (output_of W.contents W.has_failed W.holds_back output.old output.new)
-        (output_of E.contents E.has_failed E.holds_back errors.old errors.new) status)) }
-    ensures err { OnErr result (CannotOpen (script.now ∷ questions.now ∷ [])
-        (D.known folder.old) (D.known folder.new)
-        × (output.new ≡ output.old) × (errors.new ≡ errors.old)) }
+        (λ file other. Transcribes limits file other (string_bytes text))) }
+    ensures err { IfErr result (λ failure. spec.FailsOnTwo script.now questions.now
+        (MayFail D.File.has_failed) (folders_of D.known folder.old folder.new)
+        (TranscribesNot limits) failure.path.now failure.fault) }
 {
-    let (mut script, mut questions) = open_both(folder, script, questions)?;
-    Ok(desk_command(rt, limits, &mut script, &mut questions, output, errors))
+    let (mut editor, mut readers) = open_both(folder, script, questions)?;
+    match desk_command(rt, limits, &mut editor, &mut readers) {
+        Ok(text) => Ok(text),
+        Err(fault) => Err(failure_of_two(fault, script, questions, readers.failed())),
+    }
 }
 
 /// Opens a journal and then a transcript, and does what `audit_command` does. A terminal, where
@@ -77,28 +78,27 @@ pub fn desk_in_folder<F: Threads + Wait + AllocGlobal, D: Folder, W: Sink, E: Si
 ///
 /// # Errors
 ///
-/// Why a file could not be opened. Nothing was written then.
-pub fn audit_in_folder<D: Folder, W: Sink, E: Sink, T: Sink + Drop>(
+/// Why a file could not be opened, and those of `audit_command`, with the path of the file.
+pub fn audit_in_folder<'a, D: Folder, T: Sink + Drop>(
     alloc: Global,
     limits: Limits,
     folder: &mut D,
-    journal: &str,
-    transcript: &str,
-    output: &mut W,
-    errors: &mut E,
+    journal: &'a str,
+    transcript: &'a str,
     terminal: Option<T>,
-) -> Result<Status, OpenFailed>
-    ensures ok { IfOk result (λ status. ReadsTwo journal.now transcript.now
+) -> Result<String, Failure<'a>>
+    ensures ok { IfOk result (λ text. ReadsTwo journal.now transcript.now
         (MayFail D.File.has_failed) (folders_of D.known folder.old folder.new)
-        (λ file other. PrintsAudit limits file other
-        (output_of W.contents W.has_failed W.holds_back output.old output.new)
-        (output_of E.contents E.has_failed E.holds_back errors.old errors.new) status)) }
-    ensures err { OnErr result (CannotOpen (journal.now ∷ transcript.now ∷ [])
-        (D.known folder.old) (D.known folder.new)
-        × (output.new ≡ output.old) × (errors.new ≡ errors.old)) }
+        (λ file other. Audits limits file other (string_bytes text))) }
+    ensures err { IfErr result (λ failure. spec.FailsOnTwo journal.now transcript.now
+        (MayFail D.File.has_failed) (folders_of D.known folder.old folder.new)
+        (AuditFails limits) failure.path.now failure.fault) }
 {
-    let (mut journal, told) = open_both(folder, journal, transcript)?;
+    let (mut edits, told) = open_both(folder, journal, transcript)?;
     let progress = ReadProgress::new(alloc, "transcript", terminal);
-    let mut transcript = ProgressSource::new(told, progress);
-    Ok(audit_command(alloc, limits, &mut journal, &mut transcript, output, errors))
+    let mut told = ProgressSource::new(told, progress);
+    match audit_command(alloc, limits, &mut edits, &mut told) {
+        Ok(text) => Ok(text),
+        Err(fault) => Err(failure_of_two(fault, journal, transcript, told.failed())),
+    }
 }

@@ -1,11 +1,10 @@
 //! The commands over files of lines: `audit`, `replay` and `desk`. What the crate promises to those
-//! above: a command writes what its definition says of what it reads, and ends with the status of
-//! what happened. It tells standard error in one line why it ended early.
+//! above: a command makes the text that its definition says of what it reads, or answers why it
+//! makes none, and at which file.
 #![tactic(auto)]
 
 mod audit;
 mod desk;
-mod desk_fault;
 mod in_folder;
 mod replay;
 mod transcript;

@@ -1,16 +1,16 @@
 //! The command `replay`.
-ghost use Rattle.std.specs.Prelude.{◌≡◌, IfOk, string_bytes};
+ghost use Rattle.std.specs.Prelude.{◌≡◌, IfErr, IfOk, string_bytes};
 ghost use Rattle.std.specs.List.{flat_map};
-ghost use Rattle.osn_lines.specs.Streams.{input_of, output_of};
+ghost use Rattle.osn_lines.specs.Streams.{input_of};
 ghost use Rattle.osn_reply.specs.OutText.{out_line};
-ghost use Rattle.osn_file_commands.specs.Replay.{PrintsReplayOf, PrintsReplay};
+ghost use Rattle.osn_file_commands.specs.Replay.{Replays, ReplayFails, StepsFail, StepsGive};
 
 use osn_core::{Out, Step, replay};
 use osn_files::read_schedule;
-use osn_lines::{Sink, Source};
+use osn_lines::Source;
 use osn_register::Limits;
 use osn_reply::out_text;
-use osn_report::{CommandFault, Status, print_or_report, report};
+use osn_report::CommandFault;
 use std::alloc::{AllocError, Global};
 
 /// The lines of what steps gave, one for each.
@@ -25,46 +25,43 @@ fn out_lines(alloc: Global, outs: &[Out]) -> Result<String, AllocError>
     Ok(text)
 }
 
-/// Prints what steps give from the first state on.
-fn print_steps<W: Sink, E: Sink>(
+/// What steps give from the first state on.
+fn steps_text(
     alloc: Global,
     limits: Limits,
     readers: u32,
     steps: &[Step],
-    output: &mut W,
-    errors: &mut E,
-) -> Status
-    ensures { PrintsReplayOf limits readers steps.now
-        (output_of W.contents W.has_failed W.holds_back output.old output.new)
-        (output_of E.contents E.has_failed E.holds_back errors.old errors.new) result }
+) -> Result<String, CommandFault>
+    ensures ok { IfOk result (λ text. StepsGive limits readers steps.now (string_bytes text)) }
+    ensures err { IfErr result (StepsFail readers) }
 {
     match replay(alloc, limits, readers, steps) {
-        Ok(outs) => print_or_report(out_lines(alloc, &outs), output, errors),
-        Err(refusal) => report(alloc, errors, CommandFault::Refused(refusal)),
+        Ok(outs) => Ok(out_lines(alloc, &outs)?),
+        Err(refusal) => Err(CommandFault::Refused(refusal)),
     }
 }
 
 /// The command `replay`: takes the steps of a schedule, of one editor and this many readers, from
-/// the first state on under these limits. It prints a line for what each of them gives. The
-/// schedule is read whole and all steps are taken before anything is printed.
+/// the first state on under these limits. The text is a line for what each of them gives. The
+/// schedule is read whole before a step is taken.
 ///
-/// Where a line is refused, or the readers are not 1 to 64, standard error is told in a line why,
-/// and the status says it.
-pub fn replay_command<J: Source, W: Sink, E: Sink>(
+/// # Errors
+///
+/// The first line that is refused, that the readers are not 1 to 64, or why the file could not be
+/// read.
+pub fn replay_command<J: Source>(
     alloc: Global,
     limits: Limits,
     readers: u32,
     schedule: &mut J,
-    output: &mut W,
-    errors: &mut E,
-) -> Status
-    ensures { PrintsReplay limits readers
-        (input_of J.remaining J.has_failed schedule.old schedule.new)
-        (output_of W.contents W.has_failed W.holds_back output.old output.new)
-        (output_of E.contents E.has_failed E.holds_back errors.old errors.new) result }
+) -> Result<String, CommandFault>
+    ensures ok { IfOk result (λ text. Replays limits readers
+        (input_of J.remaining J.has_failed schedule.old schedule.new) (string_bytes text)) }
+    ensures err { IfErr result (ReplayFails readers
+        (input_of J.remaining J.has_failed schedule.old schedule.new)) }
 {
     match read_schedule(alloc, readers, schedule) {
-        Ok(steps) => print_steps(alloc, limits, readers, &steps, output, errors),
-        Err(fault) => report(alloc, errors, CommandFault::File(fault)),
+        Ok(steps) => steps_text(alloc, limits, readers, &steps),
+        Err(fault) => Err(CommandFault::File(fault)),
     }
 }

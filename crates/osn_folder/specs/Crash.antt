@@ -87,7 +87,7 @@ IsSafelySavedAt place text k n =
 -- and its name is not synced
 abbrev pub IsSafelyLeft : List ℕ → List ℕ → SaveFault → Known → Known → Type 0
 IsSafelyLeft place text saves.NoMemory k n = LeavesSafe place k n
-IsSafelyLeft place text saves.WriteFault k n = LeavesSafe place k n
+IsSafelyLeft place text (saves.WriteFault cause) k n = LeavesSafe place k n
 IsSafelyLeft place text saves.NotSynced k n =
     (n.may_leave place ≡ k.may_leave place ++ Some text ∷ [])
     × (n.might_have_left place ≡ k.might_have_left place ++ Some text ∷ [])
@@ -140,7 +140,8 @@ pub record SavesBesideAt (place backup text : List ℕ) (k n : Known) : Type 0 w
 abbrev pub GivesUp : List ℕ → SaveFault → Known → Known → Type 0
 GivesUp backup saves.NotSynced k n = n ≡ k
 GivesUp backup saves.NoMemory k n = Becomes backup None k n × LeavesOthersSafe backup k n
-GivesUp backup saves.WriteFault k n = Becomes backup None k n × LeavesOthersSafe backup k n
+GivesUp backup (saves.WriteFault cause) k n =
+    Becomes backup None k n × LeavesOthersSafe backup k n
 GivesUp backup (saves.Changed unfinished) k n =
     Becomes backup None k n × LeavesOthersSafe backup k n
 

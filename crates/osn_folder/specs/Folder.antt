@@ -5,18 +5,20 @@ use Rattle.std.specs.Prelude.{string_bytes}
 use Rattle.std.specs.List.{list_all}
 use Rattle.osn_folder.specs.declared.fault.KeepFault.{KeepFault}
 use Rattle.osn_folder.specs.declared.fault.KeepFault.TheVariants.{Held, NotOpened}
+use Rattle.osn_folder.specs.declared.fault.OpenFailed.{OpenFailed}
 use Rattle.osn_folder.specs.declared.fault.MoveFault.{MoveFault}
 use Rattle.osn_folder.specs.declared.fault.MoveFault.TheVariants as moves
 use Rattle.osn_folder.specs.declared.fault.SaveFault.{SaveFault}
 use Rattle.osn_folder.specs.declared.fault.SaveFault.TheVariants as saves
 
 -- what no call changes of paths: where a path leads, through links, and whether something is there
--- that is no file, as a pipe. Also whether another run of the program keeps the file of it, or
--- saves to it. And whether anyone else puts another file there, or takes it away, while this run is
--- at work
+-- that is no file, as a pipe. Also why nothing is opened there where no file is, and whether another
+-- run of the program keeps the file of it, or saves to it. And whether anyone else puts another file
+-- there, or takes it away, while this run is at work
 pub record Paths : Type 0 where
   pub place : List ℕ → List ℕ
   pub is_stream : List ℕ → Bool
+  pub cause : List ℕ → OpenFailed
   pub is_held : List ℕ → Bool
   pub is_changed : List ℕ → Bool
 
@@ -67,6 +69,11 @@ abbrev pub HasNoFile : Option Known → List ℕ → Type 0
 HasNoFile None path = ⊤
 HasNoFile (Some k) path = k.at path ≡ None
 
+-- this is why nothing is opened at a path
+abbrev pub IsCauseAt : Option Known → List ℕ → OpenFailed → Type 0
+IsCauseAt None path cause = ⊤
+IsCauseAt (Some k) path cause = cause ≡ k.paths.cause path
+
 -- nothing was changed but that these paths were opened, in order
 abbrev pub Opens : List (List ℕ) → Known → Known → Type 0
 Opens paths k n =
@@ -86,6 +93,25 @@ Misses paths k n =
 -- a file of one of these paths could not be opened
 abbrev pub CannotOpen : List (List ℕ) → Option Known → Option Known → Type 0
 CannotOpen paths old new = (paths ≢ []) × Changes (Misses paths) old new
+
+-- a path is one of these
+abbrev pub IsOneOf : List (List ℕ) → List ℕ → Type 0
+IsOneOf [] path = ⊥
+IsOneOf (first ∷ paths) path = (path ≡ first) ⊎ IsOneOf paths path
+
+-- the first of these paths that has no file
+abbrev pub first_missed : (List ℕ → Option (List ℕ)) → List (List ℕ) → Option (List ℕ)
+first_missed at [] = None
+first_missed at (path ∷ paths) = if is_some (at path) then first_missed at paths else Some path
+
+abbrev pub IsFirstMissed : List (List ℕ) → List ℕ → Option Known → Type 0
+IsFirstMissed paths path None = IsOneOf paths path
+IsFirstMissed paths path (Some k) = first_missed k.at paths ≡ Some path
+
+-- the file of this path, the first of these that has none, could not be opened, for this reason
+abbrev pub IsUnopened : List (List ℕ) → List ℕ → OpenFailed → Option Known → Option Known → Type 0
+IsUnopened paths path cause old new =
+    CannotOpen paths old new × IsFirstMissed paths path old × IsCauseAt old path cause
 
 -- a path that may be given
 abbrev pub path_if : Option (List ℕ) → List (List ℕ)
@@ -135,7 +161,7 @@ IsKeptAt (Some k) path contents = contents ≡ Some (held_at k path)
 -- the file of this path is not kept: another run has it, the system failed, or no file is there
 abbrev pub CannotKeep : List ℕ → KeepFault → Known → Known → Type 0
 CannotKeep path Held k n = Stays k n × (k.paths.is_held path ≡ true)
-CannotKeep path NotOpened k n = Fails k n ⊎ (Stays k n × (k.paths.is_stream path ≡ true))
+CannotKeep path (NotOpened cause) k n = Fails k n ⊎ (Stays k n × (k.paths.is_stream path ≡ true))
 
 -- the file of this path holds this from now on, where that is known, and nothing else was changed
 abbrev pub Leaves : List ℕ → Option (List ℕ) → Known → Known → Type 0
@@ -153,7 +179,7 @@ Locks path k n =
 -- it is not locked: another run has it, or the system failed
 abbrev pub CannotLock : List ℕ → KeepFault → Known → Known → Type 0
 CannotLock path Held k n = Stays k n × (k.paths.is_held path ≡ true)
-CannotLock path NotOpened k n = Fails k n
+CannotLock path (NotOpened cause) k n = Fails k n
 
 -- a path leads to this place
 abbrev pub IsPlaceOf : List ℕ → List ℕ → Known → Known → Type 0
@@ -162,7 +188,7 @@ IsPlaceOf path place k n = Stays k n × (place ≡ k.paths.place path)
 -- nothing was changed, since memory ran out or the system failed
 abbrev pub LeavesAll : SaveFault → Known → Known → Type 0
 LeavesAll saves.NoMemory k n = Stays k n
-LeavesAll saves.WriteFault k n = Fails k n
+LeavesAll (saves.WriteFault cause) k n = Fails k n
 LeavesAll saves.NotSynced k n = ⊥
 LeavesAll (saves.Changed unfinished) k n = ⊥
 
@@ -219,7 +245,7 @@ SavesAt place loaded text k n =
 -- the text was not saved at this place, for this reason
 abbrev pub CannotSaveAt : List ℕ → Option (List ℕ) → List ℕ → SaveFault → Known → Known → Type 0
 CannotSaveAt place loaded text saves.NoMemory k n = Stays k n
-CannotSaveAt place loaded text saves.WriteFault k n =
+CannotSaveAt place loaded text (saves.WriteFault cause) k n =
     KeepsOthers place k n × (n.has_failed ≡ true)
     × (k.paths.is_stream place ≡ false → n.at place ≡ k.at place)
 CannotSaveAt place loaded text saves.NotSynced k n =

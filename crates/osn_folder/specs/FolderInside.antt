@@ -30,7 +30,7 @@ ReplacesAt place loaded text k n =
 abbrev pub CannotReplaceAt : List ℕ → Option (List ℕ) → List ℕ → SaveFault → Known → Known
     → Type 0
 CannotReplaceAt place loaded text saves.NoMemory k n = Stays k n
-CannotReplaceAt place loaded text saves.WriteFault k n =
+CannotReplaceAt place loaded text (saves.WriteFault cause) k n =
     KeepsOthers place k n × (n.has_failed ≡ true) × (n.at place ≡ k.at place)
 CannotReplaceAt place loaded text saves.NotSynced k n =
     KeepsOthers place k n × (n.at place ≡ Some text) × (n.has_failed ≡ true)

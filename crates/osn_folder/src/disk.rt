@@ -1,6 +1,7 @@
 //! The files of the disk.
 ghost use Rattle.std.specs.Prelude.{None};
 
+use crate::cause::{change_cause, open_cause};
 use crate::disk_backup::back_up;
 use crate::disk_file::{DiskFile, keep_file};
 use crate::disk_lock::{DiskLock, holds_bytes, lock_file, move_locked};
@@ -42,7 +43,7 @@ impl<'a, R: Files<File = File> + AllocGlobal> Folder for Disk<'a, R> {
     fn open(&mut self, path: &str) -> Result<Plain<File>, OpenFailed> {
         let file = match fs::open(self.files, path) {
             Ok(file) => file,
-            Err(error) => return Err(open_fault(&error)),
+            Err(error) => return Err(open_cause(&error)),
         };
         if file.metadata().is_ok_and(|found| found.is_dir()) {
             return Err(OpenFailed::IsDirectory);
@@ -124,20 +125,11 @@ impl<'a, R: Files<File = File> + AllocGlobal> Folder for Disk<'a, R> {
     }
 }
 
-/// Why a file could not be opened.
-fn open_fault(error: &io::Error) -> OpenFailed {
-    match error.kind() {
-        ErrorKind::NotFound => OpenFailed::NotFound,
-        ErrorKind::PermissionDenied => OpenFailed::PermissionDenied,
-        _ => OpenFailed::Other,
-    }
-}
-
 /// Why it is not known where a path leads.
 fn place_fault(error: &io::Error) -> SaveFault {
     match error.kind() {
         ErrorKind::OutOfMemory => SaveFault::NoMemory,
-        _ => SaveFault::WriteFault,
+        _ => SaveFault::WriteFault(change_cause(error)),
     }
 }
 

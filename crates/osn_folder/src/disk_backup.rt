@@ -1,7 +1,8 @@
 //! How a file of the disk is left at a second path, beside the place that another file takes.
 
+use crate::cause::change_cause;
 use crate::disk_names::{MOST_NAMES, sync_name};
-use crate::fault::SaveFault;
+use crate::fault::{ChangeCause, SaveFault};
 use std::alloc::Global;
 use std::fs::{File, OpenOptions};
 use std::io::ErrorKind;
@@ -24,10 +25,10 @@ pub(crate) fn back_up<R: Files<File = File> + AllocGlobal>(
                 return Ok(path);
             }
             Err(error) if error.kind() == ErrorKind::AlreadyExists => {}
-            Err(_) => return Err(SaveFault::WriteFault),
+            Err(error) => return Err(SaveFault::WriteFault(change_cause(&error))),
         }
     }
-    Err(SaveFault::WriteFault)
+    Err(SaveFault::WriteFault(ChangeCause::Other))
 }
 
 /// Gives a file a second name, at which nothing is. A file system that has no second names gets a
@@ -48,9 +49,9 @@ fn copy_new(files: &impl Files<File = File>, place: &str, path: &str) -> io::Res
         .open(files, path)?;
     match fs::copy(files, place, path) {
         Ok(_) => Ok(()),
-        Err(_) => {
+        Err(error) => {
             let _ = fs::remove_file(files, path);
-            Err(io::Error::from(ErrorKind::Other))
+            Err(error)
         }
     }
 }
@@ -60,9 +61,9 @@ fn copy_new(files: &impl Files<File = File>, place: &str, path: &str) -> io::Res
 fn sync_made<R: Files<File = File> + AllocGlobal>(files: &R, path: &str) -> Result<(), SaveFault> {
     match sync_file(files, path) {
         Ok(()) => Ok(()),
-        Err(_) => {
+        Err(error) => {
             let _ = fs::remove_file(files, path);
-            Err(SaveFault::WriteFault)
+            Err(SaveFault::WriteFault(change_cause(&error)))
         }
     }
 }

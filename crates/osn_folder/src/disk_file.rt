@@ -2,9 +2,10 @@
 ghost use Rattle.std.specs.Prelude.{◌≡◌, None, IfOk, IfSome, false};
 ghost use Rattle.osn_lines.specs.Plain.{failed_of};
 
+use crate::cause::{cause_of_kind, change_cause, make_cause, open_cause};
 use crate::disk_lock::{is_at, lock};
 use crate::disk_names::{has_nothing, sync_name};
-use crate::fault::{ChangeFailed, KeepFault, KeptFileFault};
+use crate::fault::{ChangeFailed, KeepFault, KeptFileFault, OpenFailed};
 use crate::kept_file::KeptFile;
 use osn_lines::Plain;
 use std::fs::{File, OpenOptions};
@@ -41,7 +42,7 @@ impl<R: Files> DiskFile<'_, R> {
         match self.file.metadata() {
             Ok(found) if found.len() == self.length => Ok(()),
             Ok(_) => Err(KeptFileFault::Replaced),
-            Err(_) => Err(KeptFileFault::ChangeFailed),
+            Err(error) => Err(KeptFileFault::ChangeFailed(change_cause(&error))),
         }
     }
 
@@ -50,7 +51,7 @@ impl<R: Files> DiskFile<'_, R> {
         match is_at(self.files, self.path.as_str(), &self.file) {
             Ok(true) => Ok(()),
             Ok(false) => Err(KeptFileFault::Replaced),
-            Err(_) => Err(KeptFileFault::ChangeFailed),
+            Err(error) => Err(KeptFileFault::ChangeFailed(change_cause(&error))),
         }
     }
 
@@ -142,7 +143,7 @@ impl<R: Files> KeptFile for DiskFile<'_, R> {
 fn made(change: io::Result<()>) -> Result<(), KeptFileFault> {
     match change {
         Ok(()) => Ok(()),
-        Err(_) => Err(KeptFileFault::ChangeFailed),
+        Err(error) => Err(KeptFileFault::ChangeFailed(change_cause(&error))),
     }
 }
 
@@ -161,12 +162,14 @@ pub(crate) fn keep_file<'a, R: Files<File = File> + AllocGlobal>(
 /// Whether nothing is at a path. What is there has to be a file, which a link that leads nowhere is
 /// not.
 fn has_no_file(files: &impl Files, path: &str) -> Result<bool, KeepFault> {
-    if fs::metadata(files, path).is_ok_and(|found| found.is_file()) {
-        return Ok(false);
-    }
-    match has_nothing(files, path) {
-        Ok(true) => Ok(true),
-        _ => Err(KeepFault::NotOpened),
+    match fs::metadata(files, path) {
+        Ok(found) if found.is_file() => Ok(false),
+        Ok(found) => Err(KeepFault::NotOpened(cause_of_kind(&found))),
+        Err(_) => match has_nothing(files, path) {
+            Ok(true) => Ok(true),
+            Ok(false) => Err(KeepFault::NotOpened(OpenFailed::NotFound)),
+            Err(error) => Err(KeepFault::NotOpened(open_cause(&error))),
+        },
     }
 }
 
@@ -178,18 +181,19 @@ fn open_locked<'a, R: Files<File = File> + AllocGlobal>(
 ) -> Result<(DiskFile<'a, R>, Plain<File>), KeepFault>
     ensures { IfOk result (λ kept. (kept.0.fault ≡ None) × (failed_of kept.1 ≡ false)) }
 {
-    let Ok(file) = OpenOptions::new()
+    let opened = OpenOptions::new()
         .read(true)
         .append(true)
         .create(true)
-        .open(files, path)
-    else {
-        return Err(KeepFault::NotOpened);
+        .open(files, path);
+    let file = match opened {
+        Ok(file) => file,
+        Err(error) => return Err(KeepFault::NotOpened(make_cause(&error))),
     };
     match settle(files, path, &file) {
         Ok(settled) => Ok(kept_file(files, file, settled)),
         Err(fault) => {
-            if is_new && fault == KeepFault::NotOpened {
+            if is_new && matches!(fault, KeepFault::NotOpened(_)) {
                 remove_made(files, path, &file);
             }
             Err(fault)
@@ -219,7 +223,8 @@ fn settle<R: Files<File = File> + AllocGlobal>(
     lock(file)?;
     match settle_locked(files, path, file) {
         Ok(Some(settled)) => Ok(settled),
-        Ok(None) | Err(_) => Err(KeepFault::NotOpened),
+        Ok(None) => Err(KeepFault::NotOpened(OpenFailed::Other)),
+        Err(error) => Err(KeepFault::NotOpened(open_cause(&error))),
     }
 }
 

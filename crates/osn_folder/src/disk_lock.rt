@@ -1,7 +1,8 @@
 //! The locks of files of the disk, and what is done under one to save a text.
 
+use crate::cause::open_cause;
 use crate::disk_names::{has_nothing, is_same};
-use crate::fault::{ChangeFailed, KeepFault, MoveFault};
+use crate::fault::{ChangeFailed, KeepFault, MoveFault, OpenFailed};
 use std::fs::{File, OpenOptions, TryLockError};
 use std::io::ErrorKind;
 use std::os::unix::fs::FileExt;
@@ -23,7 +24,7 @@ pub(crate) fn lock(file: &File) -> Result<(), KeepFault> {
     match file.try_lock() {
         Ok(()) => Ok(()),
         Err(TryLockError::WouldBlock) => Err(KeepFault::Held),
-        Err(TryLockError::Error(_)) => Err(KeepFault::NotOpened),
+        Err(TryLockError::Error(error)) => Err(KeepFault::NotOpened(open_cause(&error))),
     }
 }
 
@@ -37,21 +38,23 @@ pub(crate) fn lock_file<R: Files<File = File>>(
         Ok(_) => Ok(DiskLock { file: None }),
         Err(_) => match has_nothing(files, path) {
             Ok(true) => Ok(DiskLock { file: None }),
-            _ => Err(KeepFault::NotOpened),
+            Ok(false) => Err(KeepFault::NotOpened(OpenFailed::NotFound)),
+            Err(error) => Err(KeepFault::NotOpened(open_cause(&error))),
         },
     }
 }
 
 /// Locks a file that is there, if it is still at its path then.
 fn lock_found<R: Files<File = File>>(files: &R, path: &str) -> Result<DiskLock, KeepFault> {
-    let Ok(file) = open_to_lock(files, path) else {
-        return Err(KeepFault::NotOpened);
+    let file = match open_to_lock(files, path) {
+        Ok(file) => file,
+        Err(error) => return Err(KeepFault::NotOpened(open_cause(&error))),
     };
     lock(&file)?;
     match is_at(files, path, &file) {
         Ok(true) => Ok(DiskLock { file: Some(file) }),
         Ok(false) => Err(KeepFault::Held),
-        Err(_) => Err(KeepFault::NotOpened),
+        Err(error) => Err(KeepFault::NotOpened(open_cause(&error))),
     }
 }
 

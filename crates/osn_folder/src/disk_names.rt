@@ -1,6 +1,7 @@
 //! Which file of the disk is at a path.
 
-use crate::fault::SaveFault;
+use crate::cause::change_cause;
+use crate::fault::{ChangeCause, SaveFault};
 use std::alloc::{AllocError, Global};
 use std::fs::{File, Metadata, OpenOptions};
 use std::io::{ErrorKind, Write};
@@ -67,10 +68,10 @@ pub(crate) fn write_new<R: Files<File = File>>(
                 return Ok(path);
             }
             Err(error) if error.kind() == ErrorKind::AlreadyExists => {}
-            Err(_) => return Err(SaveFault::WriteFault),
+            Err(error) => return Err(SaveFault::WriteFault(change_cause(&error))),
         }
     }
-    Err(SaveFault::WriteFault)
+    Err(SaveFault::WriteFault(ChangeCause::Other))
 }
 
 /// Writes a text to a file that was made, which is taken away again where that fails.
@@ -83,9 +84,9 @@ fn write_made(
 ) -> Result<(), SaveFault> {
     match write_synced(files, file, place, text) {
         Ok(()) => Ok(()),
-        Err(_) => {
+        Err(error) => {
             let _ = fs::remove_file(files, path);
-            Err(SaveFault::WriteFault)
+            Err(SaveFault::WriteFault(change_cause(&error)))
         }
     }
 }

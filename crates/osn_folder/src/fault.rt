@@ -6,15 +6,39 @@ ghost use Rattle.osn_folder.specs.declared.fault.SaveFault.{SaveFault};
 
 use std::alloc::AllocError;
 
-/// Why a file could not be opened.
+/// Why a file could not be opened, as the system says it.
 #[derive(Clone, Copy, Debug, PartialEq, Eq)]
 pub enum OpenFailed {
     /// Nothing is at its path.
     NotFound,
+    /// The folder of its path is not there, where the file would be made.
+    NoFolder,
     /// The system doesn't permit the program to read it.
     PermissionDenied,
     /// It is a directory.
     IsDirectory,
+    /// Any other cause.
+    Other,
+}
+
+/// A file that could not be opened, and why.
+#[derive(Clone, Copy, Debug, PartialEq, Eq)]
+pub struct Unopened<'a> {
+    /// Its path.
+    pub path: &'a str,
+    /// Why it could not be opened.
+    pub cause: OpenFailed,
+}
+
+/// Why a file could not be made or changed, as the system says it.
+#[derive(Clone, Copy, Debug, PartialEq, Eq)]
+pub enum ChangeCause {
+    /// The folder of its path is not there.
+    NoFolder,
+    /// The system doesn't permit the program to write there.
+    PermissionDenied,
+    /// No space is left on the device, or of what the user may take of it.
+    NoSpace,
     /// Any other cause.
     Other,
 }
@@ -29,14 +53,14 @@ pub enum KeepFault {
     /// Another open of the file keeps it, or saves to it.
     Held,
     /// It can't be opened, made or locked, or is no file, as a folder or a pipe.
-    NotOpened,
+    NotOpened(OpenFailed),
 }
 
 /// Why a file that is kept was not changed, or is not sure to be on the disk.
 #[derive(Clone, Copy, Debug, PartialEq, Eq)]
 pub enum KeptFileFault {
     /// A write, a cut or a sync failed.
-    ChangeFailed,
+    ChangeFailed(ChangeCause),
     /// Its path names another file now, or none, or someone else has cut it or added to it.
     Replaced,
 }
@@ -47,7 +71,7 @@ pub enum FollowFault {
     /// Memory ran out.
     NoMemory,
     /// It can't be opened or read, or is no file, as a folder or a pipe.
-    NotRead,
+    NotRead(OpenFailed),
     /// It has fewer bytes than the lines have that were read of it.
     Shorter,
     /// Its path names another file now, or none.
@@ -70,7 +94,7 @@ pub enum SaveFault {
     NoMemory,
     /// The path leads nowhere that is known, or a write or a move failed. A file at the place is as
     /// it was.
-    WriteFault,
+    WriteFault(ChangeCause),
     /// The text stands at the place, but a crash of the system may still undo that.
     NotSynced,
     /// What is at the place is not what was there at first, and is left as it is. The text stands
@@ -87,10 +111,12 @@ impl From<ChangeFailed> for MoveFault {
 }
 
 impl From<ChangeFailed> for SaveFault {
-    ghost from_gives = { λ _ given. given ≡ SaveFault.WriteFault };
+    ghost use Rattle.osn_folder.specs.declared.fault.ChangeCause.{ChangeCause};
+
+    ghost from_gives = { λ _ given. given ≡ SaveFault.WriteFault ChangeCause.Other };
 
     fn from(_error: ChangeFailed) -> SaveFault {
-        SaveFault::WriteFault
+        SaveFault::WriteFault(ChangeCause::Other)
     }
 }
 

@@ -3,6 +3,7 @@
 ghost use Rattle.std.specs.Prelude.{◌≡◌, ◌∷◌, [], ℕ, List, Option, Some, None, IfOk, IfErr};
 ghost use Rattle.std.specs.Prelude.{IfSome, OnOk, OnErr, false, string_bytes};
 ghost use Rattle.osn_folder.specs.Folder.{Known, Changes, Stays, Fails, IsFileOf, HasNoFile, Opens};
+ghost use Rattle.osn_folder.specs.Folder.{IsCauseAt};
 ghost use Rattle.osn_folder.specs.Folder.{KeepsOthers, Becomes, IsKeptAt, Keeps, CannotKeep};
 ghost use Rattle.osn_folder.specs.Folder.{Leaves};
 ghost use Rattle.osn_folder.specs.Folder.{Locks, CannotLock, IsPlaceOf, LeavesAll, WritesBeside};
@@ -45,6 +46,7 @@ pub trait Folder {
         ensures file { IfOk result
             (λ file. IsFileOf (known self.old) path.now (Self.File.remaining file)) }
         ensures none { OnErr result (HasNoFile (known self.old) path.now) }
+        ensures cause { IfErr result (IsCauseAt (known self.old) path.now) }
         ensures crash { Changes LeavesAllSafe (known self.old) (known self.new) };
 
     /// Opens a file to be kept. It is made where no file is there, and locked, so that no other run

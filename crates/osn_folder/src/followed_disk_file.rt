@@ -2,6 +2,7 @@
 ghost use Rattle.std.specs.Prelude.{◌<◌, IfOk, length};
 ghost use Rattle.osn_folder.specs.FollowedFile.{IsOfWholeLines};
 
+use crate::cause::{cause_of_kind, open_cause};
 use crate::fault::FollowFault;
 use crate::followed_file::FollowedFile;
 use osn_lines::ended_length;
@@ -40,7 +41,7 @@ fn read_fault(error: &io::Error) -> FollowFault {
     match error.kind() {
         ErrorKind::NotFound => FollowFault::Replaced,
         ErrorKind::OutOfMemory => FollowFault::NoMemory,
-        _ => FollowFault::NotRead,
+        _ => FollowFault::NotRead(open_cause(error)),
     }
 }
 
@@ -97,7 +98,7 @@ impl<'a, R: Files<File = File>> FollowedDiskFile<'a, R> {
     /// Checks that what is at the path is the file that was found first, and has grown if anything.
     fn check(&mut self, found: &Metadata) -> Result<(), FollowFault> {
         if !found.is_file() {
-            return Err(FollowFault::NotRead);
+            return Err(FollowFault::NotRead(cause_of_kind(found)));
         }
         match &self.current {
             Some(file) if file.device != found.dev() || file.inode != found.ino() => {

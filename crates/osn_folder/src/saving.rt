@@ -11,7 +11,7 @@ ghost use Rattle.osn_folder.specs.FolderInside.{ReplacesAt, CannotReplaceAt, Hol
 ghost use Rattle.osn_folder.specs.FolderInside.{MovesLoaded, CannotMoveLoaded};
 ghost use Rattle.osn_folder.specs.declared.fault.SaveFault.{SaveFault};
 
-use crate::fault::{ChangeFailed, MoveFault, SaveFault};
+use crate::fault::{ChangeCause, ChangeFailed, MoveFault, SaveFault};
 use crate::folder::Folder;
 use std::alloc::Global;
 
@@ -108,7 +108,7 @@ fn save_as_file<D: Folder>(
         Err(MoveFault::Changed) => Err(SaveFault::Changed(beside)),
         Err(MoveFault::Failed) => {
             folder.remove(beside.as_str());
-            Err(SaveFault::WriteFault)
+            Err(SaveFault::WriteFault(ChangeCause::Other))
         }
     }
 }

@@ -46,7 +46,7 @@ fn give_up<D: Folder>(folder: &mut D, backup: &str, fault: &SaveFault)
 {
     match fault {
         SaveFault::NotSynced => {}
-        SaveFault::NoMemory | SaveFault::WriteFault | SaveFault::Changed(_) => {
+        SaveFault::NoMemory | SaveFault::WriteFault(_) | SaveFault::Changed(_) => {
             folder.remove(backup);
         }
     }

@@ -1,5 +1,5 @@
 -- The page that a command prints, or why it prints none.
-use Rattle.std.specs.Prelude.{◌≡◌, ◌⊎◌, ◌++◌, ℕ, pos, List, length, codes, Option, None, Some}
+use Rattle.std.specs.Prelude.{◌≡◌, ◌⊎◌, ◌++◌, ℕ, pos, List, [], ◌∷◌, length, codes, Option, None, Some}
 use Rattle.std.specs.Prelude.{Bool, true, false, ◌&&◌, if◌then◌else◌, MatchResult}
 use Rattle.std.specs.Option.{MatchOption}
 use Rattle.std.specs.Result.{is_err}
@@ -16,7 +16,9 @@ use Rattle.osn_register.specs.declared.refusal.Refusal.TheVariants.{BadCode, Unk
 use Rattle.osn_core.specs.Sequential.{ObjectState, lands_of}
 use Rattle.osn_lines.specs.Streams.{Input, Output}
 use Rattle.osn_files.specs.declared.fault.FileFault.{FileFault}
-use Rattle.osn_invocation.specs.Invocation.{PageWordsModel}
+use Rattle.osn_folder.specs.Folder.{IsUnopened}
+use Rattle.osn_folder.specs.declared.fault.OpenFailed.{OpenFailed}
+use Rattle.osn_invocation.specs.Invocation.{PageWordsModel, almanac_words}
 use Rattle.osn_pages.specs.DateLines.{has_no_day}
 use Rattle.osn_written.specs.SetsMeant.{set_meant}
 use Rattle.osn_pages.specs.Page.{page_text}
@@ -33,9 +35,11 @@ use Rattle.osn_report.specs.Fault.{numbered_line}
 use Rattle.osn_report.specs.Folders.{Folders, ReadsOne}
 use Rattle.osn_report.specs.Journal.{MakesObject, MakesNoObject}
 use Rattle.osn_shown.specs.Shown.{shown}
-use Rattle.osn_report.specs.Printing.{PrintsIfMade, PrintsNone, PrintsOrReports}
+use Rattle.osn_report.specs.Printing.{PrintsIfMade, PrintsOrReports}
 use Rattle.osn_report.specs.Messages.{EndsBy, TellsIfMade, TellsMisuse}
-use Rattle.osn_report.specs.declared.fault.CommandFault.TheVariants.{File, NoMemory}
+use Rattle.osn_report.specs.declared.fault.CommandFault.{CommandFault}
+use Rattle.osn_report.specs.declared.fault.CommandFault.TheVariants.{File, NoMemory, NotOpened}
+use Rattle.osn_report.specs.declared.fault.CommandFault.TheVariants.{ReadFault}
 use Rattle.osn_report.specs.declared.status.Status.{Status}
 use Rattle.osn_report.specs.declared.status.Status.TheVariants as statuses
 
@@ -146,13 +150,12 @@ PrintsPageOf s path code date topic o e status =
     (lacks_strict_day (published s) code date topic) o e status)
     (λ refusal. IsRefused path code topic refusal o e status)
 
--- of a journal: it is refused; or it makes an object, and that was done
+-- of a journal: it makes an object, and that was done
 abbrev pub PrintsTopic : Limits → List ℕ → Input → List ℕ → List ℕ → Topic → Output → Output
     → Status → Type 0
 PrintsTopic limits path journal code date topic o e status =
-    ((fault : FileFault) × MakesNoObject limits journal fault × PrintsNone (File fault) o e status)
-    ⊎ ((s : ObjectState) × MakesObject limits journal.bytes s
-    × PrintsPageOf s path code date topic o e status)
+    (s : ObjectState) × MakesObject limits journal.bytes s
+    × PrintsPageOf s path code date topic o e status
 
 -- of words: that, once the journal was opened; or a word is not what its place asks for, which
 -- standard error was told, and no file was opened
@@ -174,3 +177,19 @@ abbrev pub RunsPage : Limits → List ℕ → PageWordsModel → (Bool → Type 
     → Output → Status → Type 0
 RunsPage limits path words CanFail d o e status =
     LacksMemory words d o e status ⊎ RunsWords limits path words CanFail d o e status
+
+-- ---- why it ended early
+
+-- the fault of a page whose journal could not be opened: an almanac says that it is a read fault
+abbrev pub unopened : PageWordsModel → OpenFailed → CommandFault
+unopened (almanac_words code year) cause = ReadFault cause
+unopened words cause = NotOpened cause
+
+-- the journal could not be opened; or it was, and makes no object
+abbrev pub PageFails : Limits → List ℕ → PageWordsModel → (Bool → Type 0) → Folders → List ℕ
+    → CommandFault → Type 0
+PageFails limits journal words CanFail d path fault =
+    ((cause : OpenFailed) × (fault ≡ unopened words cause)
+    × IsUnopened (journal ∷ []) path cause d.before d.after)
+    ⊎ ((path ≡ journal) × ReadsOne journal CanFail d (λ file. (why : FileFault)
+    × (fault ≡ File why) × MakesNoObject limits file why))

@@ -1,20 +1,31 @@
 //! The command of a page over the files of a folder: the words are read before the journal is
 //! opened by its path.
-ghost use Rattle.std.specs.Prelude.{◌≡◌, ◌∷◌, [], IfOk, OnErr};
-ghost use Rattle.osn_folder.specs.Folder.{CannotOpen, MayFail};
+ghost use Rattle.std.specs.Prelude.{◌≡◌, IfErr, IfOk};
+ghost use Rattle.osn_folder.specs.Folder.{MayFail};
 ghost use Rattle.osn_invocation.specs.Invocation.{page_words};
 ghost use Rattle.osn_lines.specs.Streams.{output_of};
-ghost use Rattle.osn_page_commands.specs.Page.{RunsPage};
+ghost use Rattle.osn_page_commands.specs.Page as spec;
 ghost use Rattle.osn_report.specs.Folders.{folders_of};
 
-use crate::page::print_topic;
+use crate::page::print_page;
 use crate::page_words::{code_of, date_text_of, topic_of_words, wrong_word};
-use osn_folder::{Folder, OpenFailed, open_file};
+use osn_files::load_journal;
+use osn_folder::{Folder, OpenFailed, open_named};
 use osn_invocation::PageWords;
 use osn_lines::Sink;
 use osn_register::Limits;
-use osn_report::{Status, tell_misuse, tell_no_memory};
+use osn_report::{CommandFault, Failure, Status, tell_misuse, tell_no_memory};
 use std::alloc::Global;
+
+/// The fault of a page whose journal could not be opened for this reason.
+fn unopened(words: PageWords<'_>, cause: OpenFailed) -> CommandFault
+    ensures { result ≡ spec.unopened (page_words words.entry) cause }
+{
+    match words {
+        PageWords::Almanac { .. } => CommandFault::ReadFault(cause),
+        _ => CommandFault::NotOpened(cause),
+    }
+}
 
 /// The commands `almanac`, `read`, `day`, `month` and `territory`: opens the journal of a path, and
 /// prints the page that the words ask for, on what it published under these limits. The journal is
@@ -26,37 +37,49 @@ use std::alloc::Global;
 ///
 /// # Errors
 ///
-/// Why the journal could not be opened. Nothing was written then.
-pub fn page_in_folder<D: Folder, W: Sink, E: Sink>(
+/// Why the journal could not be opened, or makes no object. Nothing was written then.
+pub fn page_in_folder<'a, D: Folder, W: Sink, E: Sink>(
     alloc: Global,
     limits: Limits,
     folder: &mut D,
-    journal: &str,
+    journal: &'a str,
     words: PageWords<'_>,
     output: &mut W,
     errors: &mut E,
-) -> Result<Status, OpenFailed>
-    ensures ok { IfOk result (RunsPage limits journal.now (page_words words.entry)
+) -> Result<Status, Failure<'a>>
+    ensures ok { IfOk result (spec.RunsPage limits journal.now (page_words words.entry)
         (MayFail D.File.has_failed) (folders_of D.known folder.old folder.new)
         (output_of W.contents W.has_failed W.holds_back output.old output.new)
         (output_of E.contents E.has_failed E.holds_back errors.old errors.new)) }
-    ensures err { OnErr result (CannotOpen (journal.now ∷ [])
-        (D.known folder.old) (D.known folder.new)
+    ensures err { IfErr result (λ failure. spec.PageFails limits journal.now
+        (page_words words.entry) (MayFail D.File.has_failed)
+        (folders_of D.known folder.old folder.new) failure.path.now failure.fault
         × (output.new ≡ output.old) × (errors.new ≡ errors.old)) }
 {
-    match topic_of_words(alloc, words) {
-        Ok(Ok(topic)) => {
-            let code = code_of(words);
-            let date = date_text_of(words);
-            let mut file = open_file(folder, journal)?;
-            Ok(print_topic(
-                alloc, limits, journal, &mut file, code, date, &topic, output, errors,
-            ))
-        }
+    let topic = match topic_of_words(alloc, words) {
+        Ok(Ok(topic)) => topic,
         Ok(Err(misuse)) => {
             let word = wrong_word(words, misuse);
-            Ok(tell_misuse(alloc, errors, misuse, word))
+            return Ok(tell_misuse(alloc, errors, misuse, word));
         }
-        Err(_) => Ok(tell_no_memory(errors)),
+        Err(_) => return Ok(tell_no_memory(errors)),
+    };
+    let mut file = match open_named(folder, journal) {
+        Ok(file) => file,
+        Err(why) => {
+            return Err(Failure {
+                path: why.path,
+                fault: unopened(words, why.cause),
+            });
+        }
+    };
+    let code = code_of(words);
+    let date = date_text_of(words);
+    match load_journal(alloc, limits, &mut file) {
+        Ok(object) => Ok(print_page(alloc, &object, journal, code, date, &topic, output, errors)),
+        Err(fault) => Err(Failure {
+            path: journal,
+            fault: CommandFault::File(fault),
+        }),
     }
 }

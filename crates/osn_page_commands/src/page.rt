@@ -1,6 +1,6 @@
 //! The commands that print a page on what a journal published.
 ghost use Rattle.std.specs.Prelude.{◌≡◌, IfOk, IfErr, OnOk, None, string_bytes};
-ghost use Rattle.osn_lines.specs.Streams.{input_of, output_of};
+ghost use Rattle.osn_lines.specs.Streams.{output_of};
 ghost use Rattle.osn_register.specs.Plain.{code_refusal};
 ghost use Rattle.osn_register.specs.Refusal.{IsRefusalOrNoMemory};
 ghost use Rattle.osn_page_commands.specs.Page as spec;
@@ -8,15 +8,12 @@ ghost use Rattle.osn_page_commands.specs.Page as spec;
 use crate::page_words::Topic;
 use osn_almanac::almanac_text;
 use osn_core::Object;
-use osn_files::load_journal;
-use osn_lines::{Sink, Source};
+use osn_lines::Sink;
 use osn_pages::{
     Page, Published, has_no_day, page_text, set_has_no_day, set_page_text, territories_page,
 };
 use osn_register::{Limits, Refusal, Register};
-use osn_report::{
-    CommandFault, Status, print, print_or_report, refused, report, tell_line, tell_no_memory,
-};
+use osn_report::{Status, print, print_or_report, refused, tell_line, tell_no_memory};
 use osn_shown::Shown;
 use std::alloc::{AllocError, Global};
 
@@ -201,7 +198,7 @@ fn print_text_of<W: Sink, E: Sink>(
 }
 
 /// Prints the page that was asked for, on what an object has published.
-fn print_page<W: Sink, E: Sink>(
+pub(crate) fn print_page<W: Sink, E: Sink>(
     alloc: Global,
     object: &Object,
     path: &str,
@@ -224,28 +221,5 @@ fn print_page<W: Sink, E: Sink>(
             let line = refusal_line(alloc, path, code, topic, refusal);
             tell_line(errors, Status::Refused, line)
         }
-    }
-}
-
-/// Prints the page that was asked for, on what a journal published.
-pub(crate) fn print_topic<J: Source, W: Sink, E: Sink>(
-    alloc: Global,
-    limits: Limits,
-    path: &str,
-    journal: &mut J,
-    code: &str,
-    date: &str,
-    topic: &Topic,
-    output: &mut W,
-    errors: &mut E,
-) -> Status
-    ensures { spec.PrintsTopic limits path.now
-        (input_of J.remaining J.has_failed journal.old journal.new) code.now date.now topic.now
-        (output_of W.contents W.has_failed W.holds_back output.old output.new)
-        (output_of E.contents E.has_failed E.holds_back errors.old errors.new) result }
-{
-    match load_journal(alloc, limits, journal) {
-        Ok(object) => print_page(alloc, &object, path, code, date, topic, output, errors),
-        Err(fault) => report(alloc, errors, CommandFault::File(fault)),
     }
 }

@@ -1,12 +1,19 @@
 -- The message about a fault is what its contract says.
-use Rattle.std.proofs.Common.{◌≡◌, ℕ, List, refl, sym, subst, ◌∙◌, inl, inr}
+use Rattle.std.proofs.Common.{◌≡◌, ℕ, List, ◌++◌, Option, Some, None, codes, refl, sym, subst}
+use Rattle.std.proofs.Common.{◌∙◌, inl, inr}
+use Rattle.osn_folder.specs.declared.fault.OpenFailed.{OpenFailed}
 use Rattle.osn_lines.specs.Streams.{Output}
+use Rattle.osn_live.specs.Faults.{desk_fault_number, desk_fault_name}
+use Rattle.osn_live.specs.declared.faults.DeskFault.{DeskFault}
+use Rattle.osn_live.specs.declared.faults.DeskFault.TheVariants as desk_faults
 use Rattle.osn_register.specs.declared.refusal.Refusal.{Refusal}
 use Rattle.osn_register.specs.declared.refusal.Refusal.TheVariants as refusals
-use Rattle.osn_report.specs.Fault.{fault_status, fault_line, hinted_line}
-use Rattle.osn_report.specs.Messages.{EndsBy, Tells, TellsIfMade, WritesLine}
+use Rattle.osn_report.specs.Fault.{fault_status, fault_line, hinted_line, refusal_end}
+use Rattle.osn_report.specs.Messages.{EndsBy, Tells, TellsAt, TellsExplained, TellsIfMade}
+use Rattle.osn_report.specs.Messages.{TellsMore, TellsNothing, WritesLine}
 use Rattle.osn_report.specs.declared.fault.CommandFault.{CommandFault}
 use Rattle.osn_report.specs.declared.fault.CommandFault.TheVariants.{NoMemory, Refused}
+use Rattle.osn_report.specs.declared.fault.CommandFault.TheVariants.{Desk, NotOpened}
 use Rattle.osn_report.specs.declared.status.Status.{Status}
 use Rattle.osn_report.specs.declared.status.Status.TheVariants as statuses
 
@@ -37,3 +44,27 @@ pub other_line : (refusal : Refusal) → (refusal ≡ refusals.NoMemory → ⊥)
     → hinted_line refusal ≡ fault_line (Refused refusal)
 other_line refusals.NoMemory other = absurd (other refl)
 other_line refusal other = refl
+
+-- so is any fault of a desk
+pub other_desk : (fault : DeskFault) → (fault ≡ desk_faults.NoMemory → ⊥)
+    → fault_status (Desk fault) ≡ statuses.Refused
+other_desk desk_faults.NoMemory other = absurd (other refl)
+other_desk fault other = refl
+
+pub desk_told : (fault : DeskFault) (n : ℕ) (s : List ℕ) → (fault ≡ desk_faults.NoMemory → ⊥)
+    → n ≡ desk_fault_number fault → s ≡ desk_fault_name fault
+    → codes "oldstyle: " ++ refusal_end n s ≡ fault_line (Desk fault)
+desk_told desk_faults.NoMemory n s other e k = absurd (other refl)
+desk_told fault n s other e k = rw (e, k) refl
+
+-- any fault but that of a file that could not be opened was told so
+pub told_explained : (path : List ℕ) (e : Output) (fault : CommandFault) (status : Status)
+    → ((cause : OpenFailed) → fault ≡ NotOpened cause → ⊥) → TellsExplained path e fault status
+    → TellsAt path e fault status
+told_explained path e (NotOpened cause) status other h = absurd (other cause refl)
+told_explained path e fault status other h = h
+
+-- a text that was not made was not told
+pub told_none : (e : Output) (wanted : Option (List ℕ)) → TellsNothing e → TellsMore e wanted
+told_none e None h = h
+told_none e (Some text) h = inr h

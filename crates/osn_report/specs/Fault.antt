@@ -20,6 +20,9 @@ use Rattle.osn_files.specs.declared.fault.Role.TheVariants.{Journal, Script, Que
 use Rattle.osn_files.specs.declared.fault.Role.TheVariants.{Transcript}
 use Rattle.osn_format.specs.Version.{version_number}
 use Rattle.osn_format.specs.declared.version.Version.{Version}
+use Rattle.osn_live.specs.Faults.{desk_fault_number, desk_fault_name}
+use Rattle.osn_live.specs.declared.faults.DeskFault.{DeskFault}
+use Rattle.osn_live.specs.declared.faults.DeskFault.TheVariants as desk_faults
 use Rattle.osn_lines.specs.declared.whole.ReadAllFault.{ReadAllFault}
 use Rattle.osn_lines.specs.declared.whole.ReadAllFault.TheVariants as read_faults
 use Rattle.osn_service.specs.declared.fault.ServeFault.{ServeFault}
@@ -52,9 +55,13 @@ abbrev pub refusal_status : Refusal → Status
 refusal_status refusals.NoMemory = NoMemory
 refusal_status refusal = Refused
 
+abbrev pub desk_status : DeskFault → Status
+desk_status desk_faults.NoMemory = NoMemory
+desk_status fault = Refused
+
 abbrev pub followed_status : FollowFault → Status
 followed_status follow_faults.NoMemory = NoMemory
-followed_status follow_faults.NotRead = ReadFault
+followed_status (follow_faults.NotRead cause) = ReadFault
 followed_status follow_faults.Shorter = Refused
 followed_status follow_faults.Replaced = Refused
 
@@ -63,6 +70,7 @@ abbrev pub fault_status : CommandFault → Status
 fault_status (faults.File why) = file_status why
 fault_status (faults.Service why) = service_status why
 fault_status (faults.Refused refusal) = refusal_status refusal
+fault_status (faults.Desk why) = desk_status why
 fault_status faults.KeptWithOther = Misused
 fault_status faults.UpgradeWithoutKeep = Misused
 fault_status (faults.Keep why) = ReadFault
@@ -71,8 +79,10 @@ fault_status faults.FollowedWithOther = Misused
 fault_status (faults.FollowedFile why) = followed_status why
 fault_status (faults.OlderVersion version) = Refused
 fault_status (faults.RefusedLine line) = Refused
-fault_status faults.NotOpened = ReadFault
+fault_status (faults.NotOpened cause) = ReadFault
+fault_status (faults.ReadFault cause) = ReadFault
 fault_status faults.WriteFault = WriteFault
+fault_status (faults.NotSaved cause) = WriteFault
 fault_status faults.NoMemory = NoMemory
 
 -- ---- the line
@@ -138,18 +148,27 @@ abbrev pub refusal_line : Refusal → List ℕ
 refusal_line refusals.NoMemory = memory_line
 refusal_line refusal = hinted_line refusal
 
+-- the line on a fault of a desk by its number and name
+abbrev pub numbered_desk : DeskFault → List ℕ
+numbered_desk fault =
+    codes "oldstyle: " ++ refusal_end (desk_fault_number fault) (desk_fault_name fault)
+
+abbrev pub desk_line : DeskFault → List ℕ
+desk_line desk_faults.NoMemory = memory_line
+desk_line fault = numbered_desk fault
+
 abbrev pub keep_line : KeepFault → List ℕ
 keep_line Held = codes "oldstyle: another run of the program keeps that journal\n"
-keep_line NotOpened = read_line
+keep_line (NotOpened cause) = read_line
 
 abbrev pub kept_file_line : KeptFileFault → List ℕ
-kept_file_line ChangeFailed = write_line
+kept_file_line (ChangeFailed cause) = write_line
 kept_file_line Replaced = codes "oldstyle: another program moved, replaced or changed the journal: "
     ++ codes "no more is kept in it\n"
 
 abbrev pub followed_line : FollowFault → List ℕ
 followed_line follow_faults.NoMemory = memory_line
-followed_line follow_faults.NotRead = read_line
+followed_line (follow_faults.NotRead cause) = read_line
 followed_line follow_faults.Shorter = codes "oldstyle: the journal that is followed got shorter: "
     ++ codes "no further line is answered\n"
 followed_line follow_faults.Replaced =
@@ -161,6 +180,7 @@ abbrev pub fault_line : CommandFault → List ℕ
 fault_line (faults.File why) = file_line why
 fault_line (faults.Service why) = service_line why
 fault_line (faults.Refused refusal) = refusal_line refusal
+fault_line (faults.Desk why) = desk_line why
 fault_line faults.KeptWithOther = codes "oldstyle: --keep goes with neither --journal nor --save\n"
 fault_line faults.UpgradeWithoutKeep = codes "oldstyle: --upgrade goes with --keep alone\n"
 fault_line (faults.Keep why) = keep_line why
@@ -170,6 +190,8 @@ fault_line faults.FollowedWithOther =
 fault_line (faults.FollowedFile why) = followed_line why
 fault_line (faults.OlderVersion version) = older_line version
 fault_line (faults.RefusedLine line) = refused_line line
-fault_line faults.NotOpened = read_line
+fault_line (faults.NotOpened cause) = read_line
+fault_line (faults.ReadFault cause) = read_line
 fault_line faults.WriteFault = write_line
+fault_line (faults.NotSaved cause) = write_line
 fault_line faults.NoMemory = memory_line

@@ -8,5 +8,7 @@ pub mod Output
 pub mod Files
 pub mod Journal
 pub mod Folders
+pub mod Failure
 pub mod ProgressSource
 pub mod Unopened
+pub mod Explained

@@ -1,5 +1,5 @@
 -- The messages to standard error, and the status that goes with each.
-use Rattle.std.specs.Prelude.{◌≡◌, ◌≢◌, ◌⊎◌, ℕ, List, Option, Some, None, codes}
+use Rattle.std.specs.Prelude.{◌≡◌, ◌≢◌, ◌⊎◌, ℕ, Bool, List, Option, Some, None, codes}
 use Rattle.std.specs.declared.io.ErrorKind.{ErrorKind}
 use Rattle.std.specs.declared.io.ErrorKind.TheVariants.{OutOfMemory}
 use Rattle.std.specs.Io.KnownBytes.{Appends}
@@ -8,10 +8,13 @@ use Rattle.osn_lines.specs.Streams.{Output}
 use Rattle.osn_report.specs.Fault.{fault_status, fault_line}
 use Rattle.osn_report.specs.Misuse.{misuse_line}
 use Rattle.osn_report.specs.declared.fault.CommandFault.{CommandFault}
-use Rattle.osn_report.specs.declared.fault.CommandFault.TheVariants.{NoMemory}
+use Rattle.osn_report.specs.declared.fault.CommandFault.TheVariants.{NoMemory, NotOpened}
+use Rattle.osn_report.specs.Explained.{explained}
+use Rattle.osn_report.specs.Unopened.{unopened_line}
 use Rattle.osn_report.specs.declared.misuse.Misuse.{Misuse}
 use Rattle.osn_report.specs.declared.status.Status.{Status}
 use Rattle.osn_report.specs.declared.status.Status.TheVariants.{Done, Refused, Misused}
+use Rattle.osn_report.specs.declared.status.Status.TheVariants as statuses
 
 -- the line was written whole, or the sink failed or took it in too many writes
 abbrev pub WritesLine : Output → List ℕ → Type 0
@@ -38,6 +41,49 @@ Tells e fault status =
 -- standard error was told nothing
 abbrev pub TellsNothing : Output → Type 0
 TellsNothing e = (e.new ≡ e.old) × (e.unwritten ≡ e.unwritten_before)
+
+-- ---- what was told in two parts
+
+-- the first of two parts of what was told, and the second
+abbrev pub first_output : Output → Option (List ℕ) → Bool → Bool → Output
+first_output e between failed held = record {
+  old = e.old;
+  new = between;
+  unwritten_before = e.unwritten_before;
+  unwritten = failed;
+  holds_back = held;
+}
+
+abbrev pub later_output : Output → Option (List ℕ) → Bool → Output
+later_output e between failed = record {
+  old = between;
+  new = e.new;
+  unwritten_before = failed;
+  unwritten = e.unwritten;
+  holds_back = e.holds_back;
+}
+
+-- a text was told, if there is one and there was memory for it
+abbrev pub TellsMore : Output → Option (List ℕ) → Type 0
+TellsMore e None = TellsNothing e
+TellsMore e (Some text) = WritesLine e text ⊎ TellsNothing e
+
+-- Standard error was told this fault of the file of a path, and then what explains it.
+pub record TellsExplained (path : List ℕ) (e : Output) (fault : CommandFault) (status : Status)
+    : Type 0 where
+  pub between : Option (List ℕ)
+  pub failed : Bool
+  pub held_back : Bool
+  pub tells : Tells (first_output e between failed held_back) fault status
+  pub explains : TellsMore (later_output e between failed) (explained path fault)
+
+-- that, or of a file that could not be opened its path and why, in one line
+abbrev pub TellsAt : List ℕ → Output → CommandFault → Status → Type 0
+TellsAt path e (NotOpened cause) status =
+    TellsIfMade e statuses.ReadFault (unopened_line path cause) status
+TellsAt path e fault status = TellsExplained path e fault status
+
+-- ---- how a command ended
 
 -- a command ended by this fault, which was told, or did all that it was to do, and told nothing
 abbrev pub Ends : Output → Option CommandFault → Status → Type 0

@@ -3,7 +3,7 @@ use Rattle.std.specs.Prelude.{◌≡◌, ◌⊎◌, ℕ, List, None, take}
 use Rattle.std.specs.Io.KnownBytes.{Appends}
 use Rattle.osn_lines.specs.Faults.{WriteFails}
 use Rattle.osn_lines.specs.Streams.{Output}
-use Rattle.osn_report.specs.Messages.{Ends, EndsBy, Tells, TellsNothing}
+use Rattle.osn_report.specs.Messages.{Ends, EndsBy, Tells, TellsAt, TellsNothing}
 use Rattle.osn_report.specs.declared.fault.CommandFault.{CommandFault}
 use Rattle.osn_report.specs.declared.fault.CommandFault.TheVariants.{WriteFault, NoMemory}
 use Rattle.osn_report.specs.declared.status.Status.{Status}
@@ -42,3 +42,7 @@ PrintsOrReports text o e status =
 -- nothing was written, and standard error was told why
 abbrev pub PrintsNone : CommandFault → Output → Output → Status → Type 0
 PrintsNone fault o e status = (o.new ≡ o.old) × Tells e fault status
+
+-- nothing was written, and standard error was told why, by the path of the file
+abbrev pub PrintsNoneAt : List ℕ → CommandFault → Output → Output → Status → Type 0
+PrintsNoneAt path fault o e status = (o.new ≡ o.old) × TellsAt path e fault status

@@ -2,11 +2,12 @@
 use Rattle.std.specs.Prelude.{ℕ, List, ◌++◌, codes}
 use Rattle.osn_folder.specs.declared.fault.OpenFailed.{OpenFailed}
 use Rattle.osn_folder.specs.declared.fault.OpenFailed.TheVariants.{NotFound, PermissionDenied}
-use Rattle.osn_folder.specs.declared.fault.OpenFailed.TheVariants.{IsDirectory, Other}
+use Rattle.osn_folder.specs.declared.fault.OpenFailed.TheVariants.{NoFolder, IsDirectory, Other}
 use Rattle.osn_shown.specs.Shown.{shown}
 
 abbrev pub cause_text : OpenFailed → List ℕ
 cause_text NotFound = codes "no such file"
+cause_text NoFolder = codes "no such folder"
 cause_text PermissionDenied = codes "permission denied"
 cause_text IsDirectory = codes "is a directory"
 cause_text Other = codes "read fault"

@@ -4,9 +4,10 @@ ghost use Rattle.osn_report.specs.Fault.{by_read};
 ghost use Rattle.osn_report.specs.declared.fault.CommandFault.{CommandFault};
 
 use osn_files::FileFault;
-use osn_folder::{FollowFault, KeepFault, KeptFileFault};
+use osn_folder::{ChangeCause, FollowFault, KeepFault, KeptFileFault, OpenFailed};
 use osn_format::Version;
 use osn_lines::ReadAllFault;
+use osn_live::DeskFault;
 use osn_register::Refusal;
 use osn_service::ServeFault;
 use std::alloc::AllocError;
@@ -20,6 +21,8 @@ pub enum CommandFault {
     Service(ServeFault),
     /// What the words ask for is refused.
     Refused(Refusal),
+    /// A desk answered nothing.
+    Desk(DeskFault),
     /// A journal is to be kept, and another one to begin with or to be saved.
     KeptWithOther,
     /// A journal is to be saved anew as one that is kept, and none is to be kept.
@@ -37,10 +40,14 @@ pub enum CommandFault {
     /// The line of this number was refused, and was to be the last to be answered. Lines are
     /// counted from 1.
     RefusedLine(u64),
-    /// A file that is named nowhere could not be opened.
-    NotOpened,
-    /// A text could not be written.
+    /// A file could not be opened, which the line says with its path.
+    NotOpened(OpenFailed),
+    /// A file could not be opened, which the line says as a read fault.
+    ReadFault(OpenFailed),
+    /// A text could not be written to standard output.
     WriteFault,
+    /// A journal could not be saved.
+    NotSaved(ChangeCause),
     /// Memory ran out.
     NoMemory,
 }

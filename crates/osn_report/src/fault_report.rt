@@ -14,6 +14,7 @@ use osn_files::{FileFault, LineFault, Role};
 use osn_folder::{FollowFault, KeepFault, KeptFileFault};
 use osn_format::Version;
 use osn_lines::{Sink, write_all};
+use osn_live::DeskFault;
 use osn_register::Refusal;
 use osn_service::ServeFault;
 use std::alloc::{AllocError, Global};
@@ -193,13 +194,26 @@ fn report_refusal<E: Sink>(alloc: Global, errors: &mut E, refusal: Refusal) -> S
     }
 }
 
+fn report_desk<E: Sink>(alloc: Global, errors: &mut E, fault: DeskFault) -> Status
+    ensures { Tells (output_of E.contents E.has_failed E.holds_back errors.old errors.new)
+        (CommandFault.Desk fault) result }
+{
+    match fault {
+        DeskFault::NoMemory => tell_no_memory(errors),
+        _ => {
+            let line = refused(alloc, fault.number(), fault.name());
+            tell_line(errors, Status::Refused, line)
+        }
+    }
+}
+
 fn report_keep<E: Sink>(errors: &mut E, fault: KeepFault) -> Status
     ensures { EndsBy (output_of E.contents E.has_failed E.holds_back errors.old errors.new)
         (CommandFault.Keep fault) result }
 {
     match fault {
         KeepFault::Held => tell(errors, Status::ReadFault, KEPT_ELSEWHERE),
-        KeepFault::NotOpened => tell(errors, Status::ReadFault, READ_FAULT),
+        KeepFault::NotOpened(_) => tell(errors, Status::ReadFault, READ_FAULT),
     }
 }
 
@@ -208,7 +222,7 @@ fn report_kept_file<E: Sink>(errors: &mut E, fault: KeptFileFault) -> Status
         (CommandFault.KeptFile fault) result }
 {
     match fault {
-        KeptFileFault::ChangeFailed => tell(errors, Status::WriteFault, WRITE_FAULT),
+        KeptFileFault::ChangeFailed(_) => tell(errors, Status::WriteFault, WRITE_FAULT),
         KeptFileFault::Replaced => tell(errors, Status::WriteFault, KEPT_REPLACED),
     }
 }
@@ -219,7 +233,7 @@ fn report_followed_file<E: Sink>(errors: &mut E, fault: FollowFault) -> Status
 {
     match fault {
         FollowFault::NoMemory => tell_no_memory(errors),
-        FollowFault::NotRead => tell(errors, Status::ReadFault, READ_FAULT),
+        FollowFault::NotRead(_) => tell(errors, Status::ReadFault, READ_FAULT),
         FollowFault::Shorter => tell(errors, Status::Refused, FOLLOWED_SHORTER),
         FollowFault::Replaced => tell(errors, Status::Refused, FOLLOWED_REPLACED),
     }
@@ -234,6 +248,7 @@ pub fn report<E: Sink>(alloc: Global, errors: &mut E, fault: CommandFault) -> St
         CommandFault::File(fault) => report_file(alloc, errors, fault),
         CommandFault::Service(fault) => report_service(errors, fault),
         CommandFault::Refused(refusal) => report_refusal(alloc, errors, refusal),
+        CommandFault::Desk(fault) => report_desk(alloc, errors, fault),
         CommandFault::KeptWithOther => tell(errors, Status::Misused, KEPT_WITH_OTHER),
         CommandFault::UpgradeWithoutKeep => tell(errors, Status::Misused, UPGRADE_WITHOUT_KEEP),
         CommandFault::Keep(fault) => report_keep(errors, fault),
@@ -246,8 +261,10 @@ pub fn report<E: Sink>(alloc: Global, errors: &mut E, fault: CommandFault) -> St
         CommandFault::RefusedLine(line) => {
             tell_line(errors, Status::Refused, refused_at(alloc, line))
         }
-        CommandFault::NotOpened => tell(errors, Status::ReadFault, READ_FAULT),
+        CommandFault::NotOpened(_) => tell(errors, Status::ReadFault, READ_FAULT),
+        CommandFault::ReadFault(_) => tell(errors, Status::ReadFault, READ_FAULT),
         CommandFault::WriteFault => tell_write_fault(errors),
+        CommandFault::NotSaved(_) => tell_write_fault(errors),
         CommandFault::NoMemory => tell_no_memory(errors),
     }
 }

@@ -3,6 +3,8 @@
 //! told by that line. A refusal, whose line takes memory, may be told as want of memory.
 #![tactic(auto)]
 
+mod explained;
+mod failure;
 mod fault;
 mod fault_report;
 mod hint;
@@ -13,6 +15,8 @@ mod progress;
 mod status;
 mod unopened;
 
+pub use explained::report_at;
+pub use failure::{Failure, failure_of_two};
 pub use fault::CommandFault;
 pub use fault_report::{refused, report, tell_line, tell_no_memory, write_line};
 pub use hint::limit_hint;

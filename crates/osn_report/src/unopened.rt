@@ -12,11 +12,12 @@ use osn_shown::Shown;
 use std::alloc::{AllocError, Global};
 
 /// Why a file could not be opened.
-fn cause_text(cause: OpenFailed) -> &'static str
+pub(crate) fn cause_text(cause: OpenFailed) -> &'static str
     ensures { result.now ≡ spec.cause_text cause }
 {
     match cause {
         OpenFailed::NotFound => "no such file",
+        OpenFailed::NoFolder => "no such folder",
         OpenFailed::PermissionDenied => "permission denied",
         OpenFailed::IsDirectory => "is a directory",
         OpenFailed::Other => "read fault",

@@ -1,13 +1,14 @@
 -- The service of a journal that is followed, by its options.
 use Rattle.std.proofs.Common.{◌≡◌, ◌||◌, ℕ, Bool, true, false, List, Option, Some, None}
 use Rattle.std.proofs.Common.{Result}
-use Rattle.std.proofs.Common.{OnErr, is_some, option_map, refl, sym, subst}
+use Rattle.std.proofs.Common.{IfErr, is_some, option_map, refl, sym, subst}
 use Rattle.osn_register.specs.declared.limits.Limits.{Limits}
-use Rattle.osn_folder.specs.Folder.{Known, CannotOpen}
 use Rattle.osn_invocation.specs.Invocation.{ServiceModel}
 use Rattle.osn_lines.specs.Streams.{Input, Output}
 use Rattle.osn_report.specs.Folders.{Folders}
 use Rattle.osn_report.specs.Printing.{PrintsNone}
+use Rattle.osn_report.specs.Failure.{IsNotRead}
+use Rattle.osn_report.specs.declared.fault.CommandFault.{CommandFault}
 use Rattle.osn_report.specs.declared.fault.CommandFault.TheVariants.{FollowedWithOther}
 use Rattle.osn_report.specs.declared.status.Status.{Status}
 use Rattle.osn_serve_commands.specs.InFolder.{EndsFollowing, RunsByFiles, opened_by}
@@ -22,13 +23,16 @@ followed_by limits journal save keep given found service CanFail d i o e status 
     subst (λ k. RunsByFiles limits journal save keep k service CanFail d i o e status) (sym is) h
 
 -- where none is followed, the files that are opened are those of the other options
-pub unfollowed_by : {T E : Type 0} (result : Result T E) (journal keep given : Option (List ℕ))
-    (before after : Option Known) (P Q : Type 0) → given ≡ None
-    → OnErr result (CannotOpen (opened_by journal keep None) before after × P × Q)
-    → OnErr result (CannotOpen (opened_by journal keep given) before after × P × Q)
-unfollowed_by result journal keep given before after P Q is h =
-    subst (λ k. OnErr result (CannotOpen (opened_by journal keep k) before after × P × Q)) (sym is)
-    h
+pub unfollowed_by : {T F : Type 0} (result : Result T F) (path : F → List ℕ)
+    (fault : F → CommandFault) (journal keep given : Option (List ℕ)) (d : Folders) (P Q : Type 0)
+    → given ≡ None
+    → IfErr result (λ failure. IsNotRead (opened_by journal keep None) d (path failure)
+    (fault failure) × P × Q)
+    → IfErr result (λ failure. IsNotRead (opened_by journal keep given) d (path failure)
+    (fault failure) × P × Q)
+unfollowed_by result path fault journal keep given d P Q is h =
+    subst (λ k. IfErr result (λ failure. IsNotRead (opened_by journal keep k) d (path failure)
+    (fault failure) × P × Q)) (sym is) h
 
 -- a journal that is followed goes with no other
 module _ {P : Type 0} (now : P → List ℕ) (limits : Limits) where
@@ -46,7 +50,7 @@ module _ {P : Type 0} (now : P → List ℕ) (limits : Limits) where
   pub followed_alone : (journal save keep : Option P) (path : List ℕ) (service : ServiceModel)
       (CanFail : Bool → Type 0) (d : Folders) (i : Input) (o e : Output) (status : Status)
       → ((is_some journal || is_some save) || is_some keep) ≡ false
-      → EndsFollowing limits service d o e status
+      → EndsFollowing limits path service d o e status
       → RunsByFiles limits (option_map now journal) (option_map now save) (option_map now keep)
       (Some path) service CanFail d i o e status
   followed_alone None None None path service CanFail d i o e status given h = h

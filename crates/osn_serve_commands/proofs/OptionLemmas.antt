@@ -1,12 +1,14 @@
 -- The service by its options, over the files of a folder.
 use Rattle.std.proofs.Common.{◌≡◌, ◌||◌, ℕ, Bool, true, false, List, Option, Some, None, Result}
-use Rattle.std.proofs.Common.{OnErr, is_some, option_map, sym, subst}
+use Rattle.std.proofs.Common.{IfErr, is_some, option_map, sym, subst}
 use Rattle.osn_register.specs.declared.limits.Limits.{Limits}
-use Rattle.osn_folder.specs.Folder.{Known, CannotOpen, path_if}
+use Rattle.osn_folder.specs.Folder.{path_if}
 use Rattle.osn_invocation.specs.Invocation.{ServiceModel}
 use Rattle.osn_lines.specs.Streams.{Input, Output}
 use Rattle.osn_report.specs.Folders.{Folders}
 use Rattle.osn_report.specs.Printing.{PrintsNone}
+use Rattle.osn_report.specs.Failure.{IsNotRead}
+use Rattle.osn_report.specs.declared.fault.CommandFault.{CommandFault}
 use Rattle.osn_report.specs.declared.fault.CommandFault.TheVariants.{KeptWithOther}
 use Rattle.osn_report.specs.declared.fault.CommandFault.TheVariants.{UpgradeWithoutKeep}
 use Rattle.osn_report.specs.declared.status.Status.{Status}
@@ -23,14 +25,16 @@ pub served_by : (limits : Limits) (journal save given found : Option (List ℕ))
 served_by limits journal save given found service CanFail d i o e status is h =
     subst (λ k. RunsEditing limits journal save k service CanFail d i o e status) (sym is) h
 
--- where none is kept, the journal is the file that could not be opened
-pub unserved_by : {T E : Type 0} (result : Result T E) (journal given : Option (List ℕ))
-    (before after : Option Known) (P Q : Type 0) → given ≡ None
-    → OnErr result (CannotOpen (path_if journal) before after × P × Q)
-    → OnErr result (CannotOpen (opened_by journal given None) before after × P × Q)
-unserved_by {T} {E} result journal given before after P Q is h =
-    subst (λ k. OnErr result (CannotOpen (opened_by journal k None) before after × P × Q)) (sym is)
-    h
+-- where none is kept, the files that are opened are those of the journal
+pub unserved_by : {T F : Type 0} (result : Result T F) (path : F → List ℕ)
+    (fault : F → CommandFault) (journal given : Option (List ℕ)) (d : Folders) (P Q : Type 0)
+    → given ≡ None
+    → IfErr result (λ failure. IsNotRead (path_if journal) d (path failure) (fault failure) × P × Q)
+    → IfErr result (λ failure. IsNotRead (opened_by journal given None) d (path failure)
+    (fault failure) × P × Q)
+unserved_by result path fault journal given d P Q is h =
+    subst (λ k. IfErr result (λ failure. IsNotRead (opened_by journal k None) d (path failure)
+    (fault failure) × P × Q)) (sym is) h
 
 -- a journal that is kept goes with no other
 module _ {P : Type 0} (now : P → List ℕ) (limits : Limits) where

@@ -2,14 +2,16 @@
 -- did and the journal that was saved.
 use Rattle.std.proofs.Common.{◌≡◌, ◌⊎◌, ℕ, Bool, true, false, List, [], ◌∷◌, Option, Some, None}
 use Rattle.std.proofs.Common.{Result, Ok, Err, IfSome, is_some, option_map, ap, refl, sym, subst}
-use Rattle.std.proofs.Common.{inl, inr, ◌∙◌, if◌then◌else◌, bytes_eq}
+use Rattle.std.proofs.Common.{inl, inr, ◌∙◌, if◌then◌else◌, bytes_eq, unwrap_or}
 use Rattle.std.specs.Option.{option_map_or}
 use Rattle.std.proofs.lemmas.Option.{same_Some}
 use Rattle.osn_core.specs.Sequential.{ObjectState}
 use Rattle.osn_register.specs.declared.limits.Limits.{Limits}
 use Rattle.osn_files.specs.JournalText.{journal_text}
 use Rattle.osn_folder.specs.Crash.{LeavesAllSafe}
-use Rattle.osn_folder.specs.Folder.{Known, Changes, CannotOpen, IsFileIf}
+use Rattle.osn_folder.specs.Folder.{Known, Changes, IsFileIf, IsOneOf, IsUnopened, first_missed}
+use Rattle.osn_folder.specs.declared.fault.OpenFailed.{OpenFailed}
+use Rattle.osn_report.specs.Failure.{IsNotRead}
 use Rattle.osn_folder.specs.Folder.{IsFileOf, MayFail, Opens, path_if}
 use Rattle.osn_lines.specs.Streams.{Input, Output, output_of}
 use Rattle.osn_lines.specs.Whole.{WhyNotRead}
@@ -22,11 +24,11 @@ use Rattle.osn_service.specs.declared.rules.ServeRules.{ServeRules}
 use Rattle.osn_service.specs.declared.service.Served.{Served}
 use Rattle.osn_report.specs.Fault.{by_read}
 use Rattle.osn_report.specs.Folders.{Folders}
-use Rattle.osn_report.specs.Printing.{PrintsNone}
-use Rattle.osn_report.specs.Messages.{Ends, EndsBy, Tells, TellsNothing}
+use Rattle.osn_report.specs.Printing.{PrintsNoneAt}
+use Rattle.osn_report.specs.Messages.{Ends, EndsBy, Tells, TellsAt, TellsNothing}
 use Rattle.osn_report.specs.declared.fault.CommandFault.{CommandFault}
 use Rattle.osn_report.specs.declared.fault.CommandFault.TheVariants.{File, NoMemory, RefusedLine}
-use Rattle.osn_report.specs.declared.fault.CommandFault.TheVariants.{Service}
+use Rattle.osn_report.specs.declared.fault.CommandFault.TheVariants.{ReadFault, Service}
 use Rattle.osn_report.specs.declared.status.Status.{Status}
 use Rattle.osn_serve_commands.specs.InFolder.{CanFailIf, EndsSaving, EndsServing, IsNotReadWhole}
 use Rattle.osn_serve_commands.specs.InFolder.{RunsService, SavesOverFound, replaced_path}
@@ -148,25 +150,27 @@ module _ {E D J P : Type 0} (contents : E → Option (List ℕ)) (has_failed hol
       )
 
   -- the service ended so, and what it left was saved
-  pub served_and_saved : (limits : Limits) (rules : ServeRules) (begun : Option Input)
+  pub served_and_saved : (limits : Limits) (path : List ℕ) (rules : ServeRules)
+      (begun : Option Input)
       (saves : Bool) (i : Input) (o : Output) (save : Option P) (journal : Option J)
       (editions : ℕ)
       → saves ≡ is_some save
-      → Serves limits rules begun saves i o before (option_map bytes journal) editions was
+      → Serves limits path rules begun saves i o before (option_map bytes journal) editions was
       → Unsaved journal → SavesBoth save journal
-      → EndsServing limits (option_map now save) rules begun loaded beside (known opened)
+      → EndsServing limits path (option_map now save) rules begun loaded beside (known opened)
       (known after) i o in_all is
-  served_and_saved limits rules begun saves i o save journal editions by (inl none) unsaved saved =
+  served_and_saved limits path rules begun saves i o save journal editions by (inl none) unsaved
+      saved =
       let same = unsaved (none_left bytes journal none.2) in
       inl (
         none.0,
         none.1,
         ap known same.2,
-        as_before contents has_failed holds_back old mid new was is (λ e status. PrintsNone (File
-            none.0) o e status) same.0 same.1 none.4,
+        as_before contents has_failed holds_back old mid new was is (λ e status. PrintsNoneAt
+            path (File none.0) o e status) same.0 same.1 none.4,
       )
-  served_and_saved limits rules begun saves i o save journal editions by (inr (s, begins, lines))
-      unsaved saved =
+  served_and_saved limits path rules begun saves i o save journal editions by
+      (inr (s, begins, lines)) unsaved saved =
       inr (record {
         first = s;
         last = lines.object;
@@ -187,15 +191,39 @@ module _ {E D J P : Type 0} (contents : E → Option (List ℕ)) (has_failed hol
       })
 
 -- a file that could not be opened once another was locked
-pub locked_first : (save : Option (List ℕ)) (paths : List (List ℕ))
-    (before locked after : Option Known) → LocksIf save before locked
-    → CannotOpen paths locked after → CannotOpen paths before after
-locked_first None paths before locked after same h =
-    subst (λ k. CannotOpen paths k after) same h
-locked_first (Some path) paths None locked after lock h = (h.0, tt)
-locked_first (Some path) paths (Some k) None after lock h = absurd lock
-locked_first (Some path) paths (Some k) (Some m) after lock h =
-    subst (λ n. CannotOpen paths (Some n) after) lock.0 h
+one_of : (at : List ℕ → Option (List ℕ)) (paths : List (List ℕ)) (path : List ℕ)
+    → first_missed at paths ≡ Some path → IsOneOf paths path
+one_of at [] path is = absurd (cc)
+one_of at (first ∷ paths) path is = by (is_some (at first)) is (one_of at paths path)
+  where
+    by : (there : Bool) → (if there then first_missed at paths else Some first) ≡ Some path
+        → (first_missed at paths ≡ Some path → IsOneOf paths path) → IsOneOf (first ∷ paths) path
+    by true h rest = inr (rest h)
+    by false h rest = inl (sym (same_Some _ _ h))
+
+missed_first : (save : Option (List ℕ)) (paths : List (List ℕ)) (path : List ℕ)
+    (cause : OpenFailed) (old locked new : Option Known) → LocksIf save old locked
+    → IsUnopened paths path cause locked new → IsUnopened paths path cause old new
+missed_first None paths path cause old locked new same h =
+    subst (λ k. IsUnopened paths path cause k new) same h
+missed_first (Some save) paths path cause None None new lock h = h
+missed_first (Some save) paths path cause None (Some m) new lock h =
+    ((h.0.0, tt), one_of m.at paths path h.1, tt)
+missed_first (Some save) paths path cause (Some k) None new lock h = absurd lock
+missed_first (Some save) paths path cause (Some k) (Some m) new lock h =
+    subst (λ n. IsUnopened paths path cause (Some n) new) lock.0 h
+
+pub not_opened : (save : Option (List ℕ)) (paths : List (List ℕ)) (path named : List ℕ)
+    (fault : CommandFault) (cause : OpenFailed) (old locked new : Option Known)
+    → LocksIf save old locked → (path ≡ named) × (fault ≡ ReadFault cause)
+    → IsUnopened paths named cause locked new
+    → IsNotRead paths (record { before = old; after = new }) path fault
+not_opened save paths path named fault cause old locked new lock is h = (
+  cause,
+  is.1,
+  missed_first save paths path cause old locked new lock
+      (subst (λ p. IsUnopened paths p cause locked new) (sym is.0) h),
+)
 
 -- ---- over the files of a folder
 
@@ -230,6 +258,18 @@ replaces_journal None save path h = absurd (cc)
 replaces_journal (Some journal) None path h = absurd (cc)
 replaces_journal (Some journal) (Some save) path h = ap Some (of_journal journal save path h)
 
+-- the journal that is to be replaced could not be opened once it was locked
+pub replaced_unopened : (journal save lock : Option (List ℕ)) (replaced path named : List ℕ)
+    (fault : CommandFault) (cause : OpenFailed) (old locked new : Option Known)
+    → replaced_path journal save ≡ Some replaced → LocksIf lock old locked
+    → (path ≡ named) × (fault ≡ ReadFault cause)
+    → IsUnopened (replaced ∷ []) named cause locked new
+    → IsNotRead (path_if journal) (record { before = old; after = new }) path fault
+replaced_unopened journal save lock replaced path named fault cause old locked new by held is h =
+    subst (λ j. IsNotRead (path_if j) (record { before = old; after = new }) path fault)
+    (sym (replaces_journal journal save replaced by))
+    (not_opened lock (replaced ∷ []) path named fault cause old locked new held is h)
+
 -- bytes that are known have to stand still
 stands_as : (bytes : Option (List ℕ)) (held : List ℕ) → bytes ≡ Some held
     → IfSome bytes (λ given. Some held ≡ Some given)
@@ -249,18 +289,25 @@ read_whole (Some k) path held (Some given) begun is read same = (
 
 module _ (limits : Limits) (journal save found : Option (List ℕ)) (given rules : ServeRules)
     (CanFail : Bool → Type 0) (d : Folders) (i : Input) (o e : Output) (status : Status)
-    (opened : Option Known) (named : found ≡ save) (by : given ≡ rules) where
+    (opened : Option Known) (path : List ℕ) (at : path ≡ unwrap_or journal [])
+    (named : found ≡ save) (by : given ≡ rules) where
   -- what was done with the path and the rules that were found
-  as_asked : (Served : Option (List ℕ) → ServeRules → Type 0) → Served found given
-      → Served save rules
-  as_asked Served h = subst (λ s. Served s rules) named (subst (λ r. Served found r) by h)
+  as_asked : (Served : List ℕ → Option (List ℕ) → ServeRules → Type 0) → Served path found given
+      → Served (unwrap_or journal []) save rules
+  as_asked Served h =
+      subst (λ p. Served p save rules) at
+      (subst (λ s. Served path s rules) named (subst (λ r. Served path found r) by h))
+
+  told_at : (fault : CommandFault) → TellsAt path e fault status
+      → TellsAt (unwrap_or journal []) e fault status
+  told_at fault h = subst (λ p. TellsAt p e fault status) at h
 
   -- the service was run, and no file is replaced
   pub service_ran : (begun : Option Input) → replaced_path journal save ≡ None
       → IsFileIf d.before journal (option_map (λ journal. journal.bytes) begun)
       → CanFailIf CanFail begun → Changes (Opens (path_if journal)) d.before opened
       → Changes LeavesAllSafe d.before opened
-      → SavesOverFound limits found given begun opened d.after i o e status
+      → SavesOverFound limits path found given begun opened d.after i o e status
       → RunsService limits journal save rules CanFail d i o e status
   service_ran begun none file fails opens crash h = record {
     begun = begun;
@@ -270,33 +317,35 @@ module _ (limits : Limits) (journal save found : Option (List ℕ)) (given rules
     opens = opens;
     crash = crash;
     ended = rw none (as_asked
-        (λ s r. SavesOverFound limits s r begun opened d.after i o e status) h);
+        (λ p s r. SavesOverFound limits p s r begun opened d.after i o e status) h);
   }
 
   -- it was run, and the file that it began with is replaced
-  pub replacing_ran : (path : List ℕ) (file : Input) → replaced_path journal save ≡ Some path
-      → IsFileOf d.before path file.bytes → CanFail file.unread → CanFail false
-      → Changes (Opens (path ∷ [])) d.before opened → Changes LeavesAllSafe d.before opened
-      → ReplacesRead limits found given file opened d.after i o e status
+  pub replacing_ran : (replaced : List ℕ) (file : Input)
+      → replaced_path journal save ≡ Some replaced → IsFileOf d.before replaced file.bytes
+      → CanFail file.unread → CanFail false
+      → Changes (Opens (replaced ∷ [])) d.before opened → Changes LeavesAllSafe d.before opened
+      → ReplacesRead limits path found given file opened d.after i o e status
       → RunsService limits journal save rules CanFail d i o e status
-  replacing_ran path file is given_file fails sound opens crash (inl none) =
-      let journal_is = replaces_journal journal save path is in record {
+  replacing_ran replaced file is given_file fails sound opens crash (inl none) =
+      let journal_is = replaces_journal journal save replaced is in record {
         begun = Some file;
         opened = opened;
         file = rw journal_is (file.bytes, refl, given_file);
         fails = fails;
         opens = rw journal_is opens;
         crash = crash;
-        ended = rw is (inl none);
+        ended = rw is (inl (none.0, none.1, none.2, (none.3.0, told_at none.0 none.3.1)));
       }
-  replacing_ran path file is given_file fails sound opens crash (inr (held, begun, whole, h)) =
-      let journal_is = replaces_journal journal save path is in record {
+  replacing_ran replaced file is given_file fails sound opens crash
+      (inr (held, begun, whole, h)) =
+      let journal_is = replaces_journal journal save replaced is in record {
         begun = Some begun;
         opened = opened;
         file = rw journal_is (
           begun.bytes,
           refl,
-          read_whole d.before path held file.bytes begun.bytes given_file whole.read whole.bytes,
+          read_whole d.before replaced held file.bytes begun.bytes given_file whole.read whole.bytes,
         );
         fails = subst CanFail (sym whole.sound) sound;
         opens = rw journal_is opens;
@@ -305,7 +354,7 @@ module _ (limits : Limits) (journal save found : Option (List ℕ)) (given rules
           Some held,
           stands_as begun.bytes held whole.bytes,
           as_asked
-              (λ s r. EndsServing limits s r (Some begun) (Some held) false opened d.after i o e
+              (λ p s r. EndsServing limits p s r (Some begun) (Some held) false opened d.after i o e
               status) h,
         ));
       }

@@ -40,3 +40,15 @@ module _ {F : Type 0} (result : Result Served (Interrupted (ServiceFault F))) (e
           → EndsServed (Err (record { lines = end.lines; cause = cause })) e status Done Rest Lost
       until (Serve why) same by = (rest, subst (λ f. Tells e f status) by h)
       until (NotKept why) same by = by h
+
+  -- not all were, by a fault that was told in one way, or by a loss that was told in another
+  pub ended_early : (end : Interrupted (ServiceFault F)) → result ≡ Err end
+      → MatchServiceFault end.cause (λ why. Tells e (Service why) status) Lost → Rest
+      → EndsServed result e status Done Rest Lost
+  ended_early end is told rest = rw is (early end.cause refl told)
+    where
+      early : (cause : ServiceFault F) → end.cause ≡ cause
+          → MatchServiceFault cause (λ why. Tells e (Service why) status) Lost
+          → EndsServed (Err (record { lines = end.lines; cause = cause })) e status Done Rest Lost
+      early (Serve why) same h = (rest, h)
+      early (NotKept why) same h = h

@@ -8,7 +8,8 @@ use Rattle.osn_files.specs.declared.fault.FileFault.{FileFault}
 use Rattle.osn_files.specs.declared.fault.FileFault.TheVariants as file_faults
 use Rattle.osn_files.specs.declared.fault.Role.TheVariants as roles
 use Rattle.osn_folder.specs.Crash.{LeavesAllSafe}
-use Rattle.osn_folder.specs.Folder.{Known, Changes, HasNoFile, IsFileOf, Opens}
+use Rattle.osn_folder.specs.Folder.{Known, Changes, HasNoFile, IsCauseAt, IsFileOf, Opens}
+use Rattle.osn_folder.specs.declared.fault.OpenFailed.TheVariants.{NotFound}
 use Rattle.osn_lines.specs.Lines.{lines}
 use Rattle.osn_lines.specs.Streams.{Input, Output}
 use Rattle.osn_lines.specs.declared.whole.ReadAllFault.{ReadAllFault}
@@ -43,10 +44,10 @@ stream_found (Some k) path found so is = inl (refl, sym is ∙ so)
 -- nothing is there
 pub nothing_found : (before after : Option Known) (path : List ℕ)
     → Changes (Opens (path ∷ [])) before after → HasNoFile before path
-    → Changes (FindsNoFile path) before after
-nothing_found None after path opens none = tt
-nothing_found (Some k) None path opens none = opens
-nothing_found (Some k) (Some n) path opens none = inr (opens, none)
+    → IsCauseAt before path NotFound → Changes (FindsNoFile path) before after
+nothing_found None after path opens none why = tt
+nothing_found (Some k) None path opens none why = opens
+nothing_found (Some k) (Some n) path opens none why = inr (opens, none, why)
 
 module _ (limits : Limits) (path held : List ℕ) (before after : Option Known)
     (opens : Changes (Opens (path ∷ [])) before after)
@@ -91,22 +92,22 @@ not_read limits path before after why NotRead is opens = opens
 not_read limits path before after why NoMemory is opens = opens
 
 -- the service was run, and its journal saved over what was found
-pub saved_over : (limits : Limits) (path : List ℕ) (rules : ServeRules) (begun : Option Input)
+pub saved_over : (limits : Limits) (named path : List ℕ) (rules : ServeRules) (begun : Option Input)
     (opened looked after : Option Known) (i : Input) (o e : Output) (status : Status)
     (found : SaveTarget) (bytes : Option (List ℕ)) (beside : Bool)
     → IsTarget limits path opened looked found → Changes LeavesAllSafe opened looked
     → bytes ≡ bytes_of found → beside ≡ is_left_beside found
-    → EndsServing limits (Some path) rules begun bytes beside looked after i o e status
-    → SavesOverFound limits (Some path) rules begun opened after i o e status
-saved_over limits path rules begun opened looked after i o e status found bytes beside target safe
-    is so h =
+    → EndsServing limits named (Some path) rules begun bytes beside looked after i o e status
+    → SavesOverFound limits named (Some path) rules begun opened after i o e status
+saved_over limits named path rules begun opened looked after i o e status found bytes beside
+    target safe is so h =
     inr (
       found,
       looked,
       target,
       safe,
-      subst (λ (b : Option (List ℕ)). EndsServing limits (Some path) rules begun b
+      subst (λ (b : Option (List ℕ)). EndsServing limits named (Some path) rules begun b
           (is_left_beside found) looked after i o e status) is
-          (subst (λ (b : Bool). EndsServing limits (Some path) rules begun bytes b looked after i o
+          (subst (λ (b : Bool). EndsServing limits named (Some path) rules begun bytes b looked after i o
           e status) so h),
     )

@@ -7,7 +7,7 @@ use Rattle.osn_register.specs.declared.limits.Limits.{Limits}
 use Rattle.osn_folder.specs.Folder.{Known, Changes, IsKeptAt, Keeps, Leaves}
 use Rattle.osn_lines.specs.Streams.{Input, Output}
 use Rattle.osn_report.specs.Folders.{Folders}
-use Rattle.osn_report.specs.Messages.{Tells}
+use Rattle.osn_report.specs.Messages.{TellsAt}
 use Rattle.osn_report.specs.declared.fault.CommandFault.{CommandFault}
 use Rattle.osn_report.specs.declared.status.Status.{Status}
 use Rattle.osn_serve_commands.specs.Keep.{TellsCut, TellsText, cut_text, unfinished_line}
@@ -112,6 +112,6 @@ module _ (limits : Limits) (path : List ℕ) (CanFail : Bool → Type 0) (d : Fo
   -- it makes no object, or memory ran out
   pub upgrade_unread : (fault : CommandFault) (status : Status)
       → IsUnreadKept limits given.bytes given.unread fault → d.after ≡ looked
-      → Tells e fault status → CannotUpgrade limits path CanFail d e status
+      → TellsAt path e fault status → CannotUpgrade limits path CanFail d e status
   upgrade_unread fault status unread same h =
       inr (looked, given, looks, inl (fault, same, unread, h))

@@ -1,5 +1,5 @@
 -- What the service has done that follows a journal.
-use Rattle.std.specs.Prelude.{List, None, Option, Result, Ok, Err}
+use Rattle.std.specs.Prelude.{ℕ, List, None, Option, Result, Ok, Err}
 use Rattle.osn_register.specs.declared.limits.Limits.{Limits}
 use Rattle.osn_lines.specs.Streams.{Output}
 use Rattle.osn_lines.specs.declared.fault.Interrupted.{Interrupted}
@@ -11,7 +11,7 @@ use Rattle.osn_follower.specs.Follows.{Follows}
 use Rattle.osn_follower.specs.Outcomes.{following}
 use Rattle.osn_follower.specs.declared.fault.FollowerFault.{FollowerFault}
 use Rattle.osn_follower.specs.declared.fault.FollowerFault.TheVariants as follower
-use Rattle.osn_report.specs.Messages.{Ends, Tells}
+use Rattle.osn_report.specs.Messages.{Ends, Tells, TellsAt}
 use Rattle.osn_report.specs.declared.fault.CommandFault.{CommandFault}
 use Rattle.osn_report.specs.declared.fault.CommandFault.TheVariants.{File, FollowedFile, Service}
 use Rattle.osn_report.specs.declared.fault.CommandFault.TheVariants.{RefusedLine}
@@ -23,18 +23,19 @@ fault_of (follower.Serve why) = Service why
 fault_of (follower.Journal why) = File why
 fault_of (follower.File why) = FollowedFile why
 
--- what standard error was told where following ended so
-abbrev pub TellsFollowed : Result Served (Interrupted FollowerFault) → Output → Status → Type 0
-TellsFollowed (Ok served) e status =
+-- what standard error was told where following the file of this path ended so
+abbrev pub TellsFollowed : List ℕ → Result Served (Interrupted FollowerFault) → Output → Status
+    → Type 0
+TellsFollowed path (Ok served) e status =
     MatchServed served.refused (λ n. Ends e None status) (λ n. Tells e (RefusedLine n) status)
     served.lines
-TellsFollowed (Err end) e status = Tells e (fault_of end.cause) status
+TellsFollowed path (Err end) e status = TellsAt path e (fault_of end.cause) status
 
 -- The journal was followed, and each line of the input answered from it, or it ended early, which
 -- standard error was told.
-pub record EndsFollowed (limits : Limits) (service : ServiceModel)
+pub record EndsFollowed (limits : Limits) (path : List ℕ) (service : ServiceModel)
     (before after : Option (List Arrival)) (o e : Output) (status : Status) : Type 0 where
   pub result : Result Served (Interrupted FollowerFault)
   pub follows : Follows (following service.readers service.stop_at_refusal) limits before after o
       result
-  pub tells : TellsFollowed result e status
+  pub tells : TellsFollowed path result e status

@@ -1,7 +1,7 @@
 -- What the service has done over the files of a folder. They are the one that a journal is loaded
 -- from, the one that it is saved to, and the one that it is kept in.
 use Rattle.std.specs.Prelude.{◌≡◌, ◌⊎◌, Bool, List, [], ℕ, Option, Some, None, IfSome, option_map}
-use Rattle.std.specs.Prelude.{Result, true, false, if◌then◌else◌}
+use Rattle.std.specs.Prelude.{Result, true, false, if◌then◌else◌, unwrap_or}
 use Rattle.std.specs.Str.{bytes_eq}
 use Rattle.std.specs.declared.convert.Infallible.{Infallible}
 use Rattle.osn_core.specs.Sequential.{ObjectState}
@@ -25,7 +25,7 @@ use Rattle.osn_service.specs.declared.rules.ServeRules.{ServeRules}
 use Rattle.osn_service.specs.declared.service.Served.{Served}
 use Rattle.osn_report.specs.Folders.{Folders}
 use Rattle.osn_report.specs.Journal.{Begins, BeginsNot}
-use Rattle.osn_report.specs.Printing.{PrintsNone}
+use Rattle.osn_report.specs.Printing.{PrintsNone, PrintsNoneAt}
 use Rattle.osn_report.specs.Messages.{Ends, EndsBy}
 use Rattle.osn_report.specs.declared.fault.CommandFault.{CommandFault}
 use Rattle.osn_report.specs.declared.fault.CommandFault.TheVariants.{File, Keep, KeptWithOther}
@@ -91,13 +91,14 @@ pub record ServesAndSaves (limits : Limits) (save : Option (List ℕ)) (rules : 
 abbrev pub CanFailIf : (Bool → Type 0) → Option Input → Type 0
 CanFailIf CanFail begun = IfSome begun (λ journal. CanFail journal.unread)
 
--- how a run of the service ended. It had no object to begin with, and wrote nothing; or it answered
--- the lines, and its journal was saved
-abbrev pub EndsServing : Limits → Option (List ℕ) → ServeRules → Option Input → Option (List ℕ)
-    → Bool → Option Known → Option Known → Input → Output → Output → Status → Type 0
-EndsServing limits save rules begun loaded beside opened after i o e status =
+-- how a run of the service ended, whose journal has this path. It had no object to begin with, and
+-- wrote nothing; or it answered the lines, and its journal was saved
+abbrev pub EndsServing : Limits → List ℕ → Option (List ℕ) → ServeRules → Option Input
+    → Option (List ℕ) → Bool → Option Known → Option Known → Input → Output → Output → Status
+    → Type 0
+EndsServing limits path save rules begun loaded beside opened after i o e status =
     ((fault : FileFault) × BeginsNot limits begun fault × (after ≡ opened)
-    × PrintsNone (File fault) o e status)
+    × PrintsNoneAt path (File fault) o e status)
     ⊎ ServesAndSaves limits save rules begun loaded beside opened after i o e status
 
 -- the bytes that a file has to hold still that a journal is saved over, by what was found there
@@ -127,14 +128,14 @@ RefusesTarget limits (Some path) before after o e status =
     × TellsTarget path e fault status
 
 -- the service was run, and its journal saved over what was found at its path; or that was refused
-abbrev pub SavesOverFound : Limits → Option (List ℕ) → ServeRules → Option Input → Option Known
-    → Option Known → Input → Output → Output → Status → Type 0
-SavesOverFound limits save rules begun opened after i o e status =
+abbrev pub SavesOverFound : Limits → List ℕ → Option (List ℕ) → ServeRules → Option Input
+    → Option Known → Option Known → Input → Output → Output → Status → Type 0
+SavesOverFound limits path save rules begun opened after i o e status =
     RefusesTarget limits save opened after o e status
     ⊎ ((found : SaveTarget) × (looked : Option Known)
     × FindsTarget limits save opened looked found × Changes LeavesAllSafe opened looked
-    × EndsServing limits save rules begun (bytes_of found) (is_left_beside found) looked after i o e
-    status)
+    × EndsServing limits path save rules begun (bytes_of found) (is_left_beside found) looked after
+    i o e status)
 
 -- a journal was to be read whole, and a read of it failed, or there was no memory for it
 abbrev pub IsNotReadWhole : Input → CommandFault → Type 0
@@ -144,22 +145,22 @@ IsNotReadWhole journal fault =
 
 -- a journal that is to be replaced is read whole first: it could not be, and nothing was done; or the
 -- service was run, and its journal saved where that stood still
-abbrev pub SavesOverLoaded : Limits → Option (List ℕ) → ServeRules → Option Input → Option Known
-    → Option Known → Input → Output → Output → Status → Type 0
-SavesOverLoaded limits save rules begun opened after i o e status =
+abbrev pub SavesOverLoaded : Limits → List ℕ → Option (List ℕ) → ServeRules → Option Input
+    → Option Known → Option Known → Input → Output → Output → Status → Type 0
+SavesOverLoaded limits path save rules begun opened after i o e status =
     ((fault : CommandFault) × IfSome begun (λ journal. IsNotReadWhole journal fault)
-    × (after ≡ opened) × PrintsNone fault o e status)
+    × (after ≡ opened) × PrintsNoneAt path fault o e status)
     ⊎ ((loaded : Option (List ℕ)) × IsToStand begun loaded
-    × EndsServing limits save rules begun loaded false opened after i o e status)
+    × EndsServing limits path save rules begun loaded false opened after i o e status)
 
 -- the service was run, and its journal saved: over the file that it was loaded from, or over what was
 -- found at another path
-abbrev pub ServesOver : Option (List ℕ) → Limits → Option (List ℕ) → ServeRules → Option Input
-    → Option Known → Option Known → Input → Output → Output → Status → Type 0
-ServesOver (Some path) limits save rules begun opened after i o e status =
-    SavesOverLoaded limits save rules begun opened after i o e status
-ServesOver None limits save rules begun opened after i o e status =
-    SavesOverFound limits save rules begun opened after i o e status
+abbrev pub ServesOver : Option (List ℕ) → Limits → List ℕ → Option (List ℕ) → ServeRules
+    → Option Input → Option Known → Option Known → Input → Output → Output → Status → Type 0
+ServesOver (Some replaced) limits path save rules begun opened after i o e status =
+    SavesOverLoaded limits path save rules begun opened after i o e status
+ServesOver None limits path save rules begun opened after i o e status =
+    SavesOverFound limits path save rules begun opened after i o e status
 
 -- The service was run, from what the journal holds, and the journal that it left was saved.
 pub record RunsService (limits : Limits) (journal save : Option (List ℕ)) (rules : ServeRules)
@@ -171,8 +172,8 @@ pub record RunsService (limits : Limits) (journal save : Option (List ℕ)) (rul
     pub fails : CanFailIf CanFail begun
     pub opens : Changes (Opens (path_if journal)) d.before opened
     pub crash : Changes LeavesAllSafe d.before opened
-    pub ended : ServesOver (replaced_path journal save) limits save rules begun opened d.after i o e
-        status
+    pub ended : ServesOver (replaced_path journal save) limits (unwrap_or journal []) save rules
+        begun opened d.after i o e status
 
 -- the file that the journal is to be saved to could not be locked; or it was, and the service was
 -- run
@@ -180,7 +181,7 @@ abbrev pub EndsService : Limits → Option (List ℕ) → Option (List ℕ) → 
     → Folders → Input → Output → Output → Status → Type 0
 EndsService limits journal save rules CanFail d i o e status =
     ((fault : KeepFault) × CannotLockIf save fault d.before d.after
-    × PrintsNone (Keep fault) o e status)
+    × PrintsNoneAt (unwrap_or save []) (Keep fault) o e status)
     ⊎ ((locked : Option Known) × LocksIf save d.before locked
     × RunsService limits journal save rules CanFail
     (record { before = locked; after = d.after }) i o e status)
@@ -193,11 +194,11 @@ abbrev pub EndsKeeping : Limits → List ℕ → ServeRules → (Bool → Type 0
     → Output → Status → Type 0
 EndsKeeping limits path rules CanFail d i o e status =
     ((fault : KeepFault) × Changes (CannotKeep path fault) d.before d.after
-    × PrintsNone (Keep fault) o e status)
+    × PrintsNoneAt path (Keep fault) o e status)
     ⊎ ((held : Option Known) × Changes (Keeps path) d.before held
     × (begun : FileState) × IsKeptAt d.before path begun.contents × (begun.fault ≡ None)
     × (given : Input) × (given.bytes ≡ begun.contents) × CanFail given.unread
-    × (file : FileState) × EndsKept limits rules begun file given i o e status
+    × (file : FileState) × EndsKept limits path rules begun file given i o e status
     × Changes (Leaves path file.contents) held d.after)
 
 -- The file of this path was saved anew first, where its version has no sources, and then it was
@@ -241,12 +242,13 @@ RunsEditing limits None (Some save) (Some path) service CanFail d i o e status =
 
 -- the file of this path was followed, and nothing in the folder was changed; or there was no memory
 -- to do so
-abbrev pub EndsFollowing : Limits → ServiceModel → Folders → Output → Output → Status → Type 0
-EndsFollowing limits service d o e status =
+abbrev pub EndsFollowing : Limits → List ℕ → ServiceModel → Folders → Output → Output → Status
+    → Type 0
+EndsFollowing limits path service d o e status =
     Changes Stays d.before d.after
     × (PrintsNone NoMemory o e status
     ⊎ ((before : Option (List Arrival)) × (after : Option (List Arrival))
-    × EndsFollowed limits service before after o e status))
+    × EndsFollowed limits path service before after o e status))
 
 -- the paths of the files that are opened to be read
 abbrev pub opened_by : Option (List ℕ) → Option (List ℕ) → Option (List ℕ) → List (List ℕ)
@@ -262,7 +264,7 @@ abbrev pub RunsByFiles : Limits → Option (List ℕ) → Option (List ℕ) → 
 RunsByFiles limits journal save kept None service CanFail d i o e status =
     RunsEditing limits journal save kept service CanFail d i o e status
 RunsByFiles limits None None None (Some path) service CanFail d i o e status =
-    EndsFollowing limits service d o e status
+    EndsFollowing limits path service d o e status
 RunsByFiles limits (Some journal) save kept (Some path) service CanFail d i o e status =
     (d.after ≡ d.before) × PrintsNone FollowedWithOther o e status
 RunsByFiles limits None (Some save) kept (Some path) service CanFail d i o e status =

@@ -30,7 +30,8 @@ use Rattle.osn_service.specs.declared.fault.ServiceFault.{ServiceFault}
 use Rattle.osn_service.specs.declared.rules.ServeRules.{ServeRules}
 use Rattle.osn_service.specs.declared.service.Served.{Served}
 use Rattle.osn_journal.specs.KeptJournal.{FileState, KeepsFile}
-use Rattle.osn_report.specs.Messages.{WritesLine, Ends, Tells}
+use Rattle.osn_report.specs.Messages.{WritesLine, Ends, TellsAt}
+pub use Rattle.osn_report.specs.Messages.{first_output, later_output}
 use Rattle.osn_report.specs.declared.fault.CommandFault.{CommandFault}
 use Rattle.osn_report.specs.declared.fault.CommandFault.TheVariants.{File, KeptFile, OlderVersion}
 use Rattle.osn_report.specs.declared.fault.CommandFault.TheVariants.{NoMemory}
@@ -184,39 +185,20 @@ Begins limits held before cut version s ready =
 abbrev pub for_version : Version → ServeRules → ServeRules
 for_version version rules = record rules { takes_sources = has_sources version }
 
--- what standard error was told while the service began, and what after that
-abbrev pub first_output : Output → Option (List ℕ) → Bool → Bool → Output
-first_output e between failed held = record {
-  old = e.old;
-  new = between;
-  unwritten_before = e.unwritten_before;
-  unwritten = failed;
-  holds_back = held;
-}
-
-abbrev pub later_output : Output → Option (List ℕ) → Bool → Output
-later_output e between failed = record {
-  old = between;
-  new = e.new;
-  unwritten_before = failed;
-  unwritten = e.unwritten;
-  holds_back = e.holds_back;
-}
-
 -- The service began, answered the lines of the input and kept the file.
-pub record KeepsLines (rules : ServeRules) (s : ObjectState) (ready file : FileState) (i : Input)
-    (o e : Output) (status : Status) : Type 0 where
+pub record KeepsLines (path : List ℕ) (rules : ServeRules) (s : ObjectState)
+    (ready file : FileState) (i : Input) (o e : Output) (status : Status) : Type 0 where
   pub object : ObjectState
   pub result : Result Served (Interrupted (ServiceFault KeptFileFault))
   pub serves : ServesStore rules s object i o result
   pub keeps : KeepsFile rules s object i.bytes ready file result
   pub ended : EndsServed result e status (Ends e None status) ⊤
-      (λ why. Tells e (KeptFile why) status)
+      (λ why. TellsAt path e (KeptFile why) status)
 
--- How a run of the service ended that keeps a file, which was `old` and is `file` then, and which a
--- source gave.
-pub record EndsKept (limits : Limits) (rules : ServeRules) (old file : FileState) (given i : Input)
-    (o e : Output) (status : Status) : Type 0 where
+-- How a run of the service ended that keeps the file of this path, which was `old` and is `file`
+-- then, and which a source gave.
+pub record EndsKept (limits : Limits) (path : List ℕ) (rules : ServeRules) (old file : FileState)
+    (given i : Input) (o e : Output) (status : Status) : Type 0 where
   -- which line was cut off was told first, if one was
   pub cut : Option ℕ
   pub between : Option (List ℕ)
@@ -225,10 +207,10 @@ pub record EndsKept (limits : Limits) (rules : ServeRules) (old file : FileState
   pub tells : TellsCut (first_output e between failed held_back) cut
   -- the service did not begin, and nothing was written; or it began
   pub ended : ((fault : CommandFault) × (o.new ≡ o.old)
-      × Tells (later_output e between failed) fault status
+      × TellsAt path (later_output e between failed) fault status
       × IfHeld old given.bytes
       (λ held. DoesNotBegin limits held given.unread cut file fault))
       ⊎ ((version : Version) × (s : ObjectState) × (ready : FileState)
       × IfHeld old given.bytes (λ held. Begins limits held old.fault cut version s ready)
-      × KeepsLines (for_version version rules) s ready file i o (later_output e between failed)
-      status)
+      × KeepsLines path (for_version version rules) s ready file i o
+      (later_output e between failed) status)

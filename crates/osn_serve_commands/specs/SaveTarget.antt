@@ -2,6 +2,7 @@
 use Rattle.std.specs.Prelude.{◌≡◌, ◌⊎◌, ⊤, ℕ, true, List, [], ◌∷◌, ◌++◌, codes, Option, None, IfSome}
 use Rattle.osn_core.specs.Sequential.{ObjectState}
 use Rattle.osn_folder.specs.Folder.{Known, Changes, HasNoFile, IsFileOf, Opens, Stays}
+use Rattle.osn_folder.specs.declared.fault.OpenFailed.TheVariants.{NotFound}
 use Rattle.osn_lines.specs.declared.whole.ReadAllFault.{ReadAllFault}
 use Rattle.osn_lines.specs.declared.whole.ReadAllFault.TheVariants as read_faults
 use Rattle.osn_lines.specs.Lines.{lines}
@@ -60,7 +61,8 @@ ReadsWhole path held before after =
 -- no file is there: nothing, or what is no file
 abbrev pub FindsNoFile : List ℕ → Known → Known → Type 0
 FindsNoFile path k n =
-    (Stays k n × (k.paths.is_stream path ≡ true)) ⊎ (Opens (path ∷ []) k n × (k.at path ≡ None))
+    (Stays k n × (k.paths.is_stream path ≡ true))
+    ⊎ (Opens (path ∷ []) k n × (k.at path ≡ None) × (NotFound ≡ k.paths.cause path))
 
 abbrev pub IsTarget : Limits → List ℕ → Option Known → Option Known → SaveTarget → Type 0
 IsTarget limits path before after NoFile = Changes (FindsNoFile path) before after

@@ -9,8 +9,8 @@ use Rattle.osn_folder.specs.declared.fault.KeepFault.{KeepFault}
 use Rattle.osn_folder.specs.declared.fault.SaveFault.{SaveFault}
 use Rattle.osn_folder.specs.declared.fault.SaveFault.TheVariants as faults
 use Rattle.osn_lines.specs.Streams.{Output}
-use Rattle.osn_report.specs.Messages.{Ends, EndsBy, Tells, TellsIfMade, TellsLine}
-use Rattle.osn_report.specs.declared.fault.CommandFault.TheVariants.{WriteFault, NoMemory}
+use Rattle.osn_report.specs.Messages.{Ends, EndsBy, TellsAt, TellsIfMade, TellsLine}
+use Rattle.osn_report.specs.declared.fault.CommandFault.TheVariants.{NoMemory, NotSaved}
 use Rattle.osn_report.specs.declared.status.Status.{Status}
 use Rattle.osn_shown.specs.Shown.{shown}
 use Rattle.osn_report.specs.declared.status.Status.TheVariants as statuses
@@ -35,12 +35,13 @@ changed_line unfinished =
 abbrev pub not_synced_line : List ℕ
 not_synced_line = codes "oldstyle: the journal is saved, and the disk may not have it yet\n"
 
--- standard error was told why the journal is not saved for sure
-abbrev pub TellsUnsaved : Output → SaveFault → Status → Type 0
-TellsUnsaved e faults.NoMemory status = EndsBy e NoMemory status
-TellsUnsaved e faults.WriteFault status = Tells e WriteFault status
-TellsUnsaved e faults.NotSynced status = TellsLine e statuses.WriteFault not_synced_line status
-TellsUnsaved e (faults.Changed unfinished) status =
+-- standard error was told why the journal is not saved for sure in the file of this path
+abbrev pub TellsUnsaved : List ℕ → Output → SaveFault → Status → Type 0
+TellsUnsaved path e faults.NoMemory status = EndsBy e NoMemory status
+TellsUnsaved path e (faults.WriteFault cause) status = TellsAt path e (NotSaved cause) status
+TellsUnsaved path e faults.NotSynced status =
+    TellsLine e statuses.WriteFault not_synced_line status
+TellsUnsaved path e (faults.Changed unfinished) status =
     TellsIfMade e statuses.WriteFault (changed_line (string_bytes unfinished)) status
 
 -- ---- how a journal was saved
@@ -75,4 +76,4 @@ abbrev pub FinishesSave : Bool → Option (List ℕ) → List ℕ → List ℕ �
 FinishesSave beside loaded path text before after e status =
     SavesAs beside loaded path text before after e status
     ⊎ ((fault : SaveFault) × CannotSaveAs beside loaded path text fault before after
-    × TellsUnsaved e fault status)
+    × TellsUnsaved path e fault status)

@@ -4,7 +4,7 @@ use Rattle.osn_folder.specs.Folder.{Known}
 use Rattle.osn_lines.specs.Streams.{Input, Output}
 use Rattle.osn_register.specs.declared.limits.Limits.{Limits}
 use Rattle.osn_service.specs.declared.rules.ServeRules.{ServeRules}
-use Rattle.osn_report.specs.Printing.{PrintsNone}
+use Rattle.osn_report.specs.Printing.{PrintsNoneAt}
 use Rattle.osn_report.specs.declared.fault.CommandFault.{CommandFault}
 use Rattle.osn_report.specs.declared.status.Status.{Status}
 use Rattle.osn_serve_commands.specs.InFolder.{EndsServing, IsNotReadWhole}
@@ -17,10 +17,10 @@ pub record IsReadWhole (journal begun : Input) (held : List ℕ) : Type 0 where
 
 -- the journal could not be read whole, and nothing was done. Or it was, and the service was run,
 -- and the file that it replaces has to hold it still
-abbrev pub ReplacesRead : Limits → Option (List ℕ) → ServeRules → Input → Option Known
+abbrev pub ReplacesRead : Limits → List ℕ → Option (List ℕ) → ServeRules → Input → Option Known
     → Option Known → Input → Output → Output → Status → Type 0
-ReplacesRead limits save rules journal opened after i o e status =
+ReplacesRead limits path save rules journal opened after i o e status =
     ((fault : CommandFault) × IsNotReadWhole journal fault × (after ≡ opened)
-    × PrintsNone fault o e status)
+    × PrintsNoneAt path fault o e status)
     ⊎ ((held : List ℕ) × (begun : Input) × IsReadWhole journal begun held
-    × EndsServing limits save rules (Some begun) (Some held) false opened after i o e status)
+    × EndsServing limits path save rules (Some begun) (Some held) false opened after i o e status)

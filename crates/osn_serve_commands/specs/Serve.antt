@@ -16,7 +16,7 @@ use Rattle.osn_service.specs.declared.fault.ServiceFault.{ServiceFault}
 use Rattle.osn_service.specs.declared.rules.ServeRules.{ServeRules}
 use Rattle.osn_service.specs.declared.service.Served.{Served}
 use Rattle.osn_report.specs.Journal.{Begins, BeginsNot}
-use Rattle.osn_report.specs.Printing.{PrintsNone}
+use Rattle.osn_report.specs.Printing.{PrintsNoneAt}
 use Rattle.osn_report.specs.Messages.{Ends, EndsBy, Tells}
 use Rattle.osn_report.specs.declared.fault.CommandFault.TheVariants.{File, Service, RefusedLine}
 use Rattle.osn_report.specs.declared.fault.CommandFault.TheVariants.{NoMemory}
@@ -70,12 +70,12 @@ pub record ServesLines (rules : ServeRules) (s : ObjectState) (saves : Bool) (i 
   -- this many editions were published
   pub published : editions ≡ length object.batches - length s.batches
 
--- what the service did that was to begin with this journal, if any. There was no object, and it
+-- what the service did that was to begin with this journal of this path, if any. There was no object, and it
 -- wrote nothing; or there was one, and it answered the lines
-abbrev pub Serves : Limits → ServeRules → Option Input → Bool → Input → Output → Output
+abbrev pub Serves : Limits → List ℕ → ServeRules → Option Input → Bool → Input → Output → Output
     → Option (List ℕ) → ℕ → Status → Type 0
-Serves limits rules begun saves i o e journal editions status =
+Serves limits path rules begun saves i o e journal editions status =
     ((fault : FileFault) × BeginsNot limits begun fault × (journal ≡ None) × (editions ≡ 0)
-    × PrintsNone (File fault) o e status)
+    × PrintsNoneAt path (File fault) o e status)
     ⊎ ((s : ObjectState) × Begins limits begun s
     × ServesLines rules s saves i o e journal editions status)

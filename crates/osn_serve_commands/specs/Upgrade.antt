@@ -13,7 +13,7 @@ use Rattle.osn_folder.specs.Folder.{CannotLock}
 use Rattle.osn_folder.specs.declared.fault.KeepFault.{KeepFault}
 use Rattle.osn_folder.specs.declared.fault.SaveFault.{SaveFault}
 use Rattle.osn_report.specs.Folders.{Folders}
-use Rattle.osn_report.specs.Messages.{Tells}
+use Rattle.osn_report.specs.Messages.{TellsAt}
 use Rattle.osn_report.specs.declared.fault.CommandFault.{CommandFault}
 use Rattle.osn_report.specs.declared.fault.CommandFault.TheVariants.{Keep}
 use Rattle.osn_report.specs.declared.status.Status.{Status}
@@ -35,10 +35,10 @@ abbrev pub CannotSaveAnew : List ℕ → List ℕ → List ℕ → Option Known 
     → Output → Status → Type 0
 CannotSaveAnew path loaded text before after e status =
     ((fault : KeepFault) × Changes (CannotLock path fault) before after
-    × Tells e (Keep fault) status)
+    × TellsAt path e (Keep fault) status)
     ⊎ ((locked : Option Known) × Changes (Locks path) before locked
     × (fault : SaveFault) × CannotSaveSafely path (Some loaded) text fault locked after
-    × TellsUnsaved e fault status)
+    × TellsUnsaved path e fault status)
 
 -- ---- a journal that is to be kept
 
@@ -84,7 +84,7 @@ abbrev pub CannotSaveOlder : Limits → List ℕ → Input → Option Known → 
 CannotSaveOlder limits path given before after e status =
     ((fault : CommandFault) × (after ≡ before)
     × IfSome given.bytes (λ held. HoldsNoObject limits held given.unread fault)
-    × Tells e fault status)
+    × TellsAt path e fault status)
     ⊎ ((bytes : List ℕ) × (version : Version) × (s : ObjectState)
     × IsReadAs limits given bytes version s × (has_sources version ≡ false)
     × CannotSaveAnew path bytes (journal_text_of newest_version s) before after e status)
@@ -94,6 +94,6 @@ CannotSaveOlder limits path given before after e status =
 abbrev pub CannotUpgrade : Limits → List ℕ → (Bool → Type 0) → Folders → Output → Status → Type 0
 CannotUpgrade limits path CanFail d e status =
     ((fault : KeepFault) × Changes (CannotKeep path fault) d.before d.after
-    × Tells e (Keep fault) status)
+    × TellsAt path e (Keep fault) status)
     ⊎ ((looked : Option Known) × (given : Input) × IsLookedAt path CanFail d.before looked given
     × CannotSaveOlder limits path given looked d.after e status)

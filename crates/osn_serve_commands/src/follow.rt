@@ -12,7 +12,7 @@ use osn_follower::{Arrivals, FollowerFault, follow};
 use osn_invocation::ServeOptions;
 use osn_lines::Sink;
 use osn_register::Limits;
-use osn_report::{CommandFault, Status, report};
+use osn_report::{CommandFault, Status, report, report_at};
 use std::alloc::Global;
 
 /// The fault of the command where following ended early.
@@ -26,18 +26,19 @@ fn fault_of(cause: FollowerFault) -> CommandFault
     }
 }
 
-/// The command `serve` with a journal that another run keeps. Answers the request lines as
-/// `follow` does; where that ends early, standard error is told in a line why, and the status says
+/// The command `serve` with a journal of this path that another run keeps. Answers the request
+/// lines as `follow` does; where that ends early, standard error is told why, and the status says
 /// it.
 pub fn follow_command<A: Arrivals, W: Sink, E: Sink>(
     alloc: Global,
     limits: Limits,
+    path: &str,
     options: ServeOptions,
     arrivals: &mut A,
     output: &mut W,
     errors: &mut E,
 ) -> Status
-    ensures { EndsFollowed limits (service_model options.entry) (A.arrived arrivals.old)
+    ensures { EndsFollowed limits path.now (service_model options.entry) (A.arrived arrivals.old)
         (A.arrived arrivals.new)
         (output_of W.contents W.has_failed W.holds_back output.old output.new)
         (output_of E.contents E.has_failed E.holds_back errors.old errors.new) result }
@@ -55,6 +56,6 @@ pub fn follow_command<A: Arrivals, W: Sink, E: Sink>(
             report(alloc, errors, CommandFault::RefusedLine(served.lines))
         }
         Ok(_) => Status::Done,
-        Err(end) => report(alloc, errors, fault_of(end.cause)),
+        Err(end) => report_at(alloc, errors, path, fault_of(end.cause)),
     }
 }

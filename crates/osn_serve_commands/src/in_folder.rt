@@ -1,9 +1,10 @@
 //! The command `serve` over the files of a folder, by its options: with a journal that is kept, or
 //! without.
-ghost use Rattle.std.specs.Prelude.{◌≡◌, ◌||◌, IfOk, OnErr, Some, None, is_some, option_map, true};
-ghost use Rattle.osn_folder.specs.Folder.{CannotOpen, MayFail};
+ghost use Rattle.std.specs.Prelude.{◌≡◌, ◌||◌, IfErr, IfOk, Some, None, is_some, option_map, true};
+ghost use Rattle.osn_folder.specs.Folder.{MayFail};
 ghost use Rattle.osn_invocation.specs.Invocation.{service_model};
 ghost use Rattle.osn_lines.specs.Streams.{input_of, output_of};
+ghost use Rattle.osn_report.specs.Failure.{IsNotRead};
 ghost use Rattle.osn_report.specs.Folders.{folders_of};
 ghost use Rattle.osn_serve_commands.specs.InFolder.{EndsFollowing, EndsKeeping, KeepsAsAsked};
 ghost use Rattle.osn_serve_commands.specs.InFolder.{RunsByFiles, RunsEditing, RunsServing};
@@ -13,12 +14,12 @@ use crate::follow::follow_command;
 use crate::keep::keep_command;
 use crate::saving::{rules_of, serve};
 use crate::upgrade::upgrade_file;
-use osn_folder::{Folder, OpenFailed};
+use osn_folder::Folder;
 use osn_follower::Feed;
 use osn_invocation::ServeOptions;
 use osn_lines::{Sink, Source};
 use osn_register::Limits;
-use osn_report::{CommandFault, Status, report};
+use osn_report::{CommandFault, Failure, Status, report, report_at};
 use osn_service::ServeRules;
 use std::alloc::Global;
 
@@ -36,16 +37,16 @@ fn is_given(one: Option<&str>, other: Option<&str>) -> bool
 /// # Errors
 ///
 /// Why the journal could not be opened. Nothing was read or written then.
-pub fn serve_in_folder<D: Folder, R: Source, W: Sink, E: Sink, T: Sink + Drop>(
+pub fn serve_in_folder<'a, D: Folder, R: Source, W: Sink, E: Sink, T: Sink + Drop>(
     alloc: Global,
     limits: Limits,
     folder: &mut D,
-    options: ServeOptions,
+    options: ServeOptions<'a>,
     input: &mut R,
     output: &mut W,
     errors: &mut E,
     terminal: Option<T>,
-) -> Result<Status, OpenFailed>
+) -> Result<Status, Failure<'a>>
     ensures ok { IfOk result (RunsServing limits
         (option_map (λ path. path.now) options.entry.journal)
         (option_map (λ path. path.now) options.entry.save)
@@ -56,11 +57,11 @@ pub fn serve_in_folder<D: Folder, R: Source, W: Sink, E: Sink, T: Sink + Drop>(
         (input_of R.remaining R.has_failed input.old input.new)
         (output_of W.contents W.has_failed W.holds_back output.old output.new)
         (output_of E.contents E.has_failed E.holds_back errors.old errors.new)) }
-    ensures err { OnErr result (CannotOpen (opened_by
+    ensures err { IfErr result (λ failure. IsNotRead (opened_by
         (option_map (λ path. path.now) options.entry.journal)
         (option_map (λ path. path.now) options.entry.keep)
         (option_map (λ path. path.now) options.entry.follow))
-        (D.known folder.old) (D.known folder.new)
+        (folders_of D.known folder.old folder.new) failure.path.now failure.fault
         × (output.new ≡ output.old) × (errors.new ≡ errors.old)) }
 {
     if lacks_keep(options) {
@@ -83,16 +84,16 @@ fn lacks_keep(options: ServeOptions) -> bool
 }
 
 /// The same, by the files that the options name.
-fn serve_by_files<D: Folder, R: Source, W: Sink, E: Sink, T: Sink + Drop>(
+fn serve_by_files<'a, D: Folder, R: Source, W: Sink, E: Sink, T: Sink + Drop>(
     alloc: Global,
     limits: Limits,
     folder: &mut D,
-    options: ServeOptions,
+    options: ServeOptions<'a>,
     input: &mut R,
     output: &mut W,
     errors: &mut E,
     terminal: Option<T>,
-) -> Result<Status, OpenFailed>
+) -> Result<Status, Failure<'a>>
     ensures ok { IfOk result (RunsByFiles limits
         (option_map (λ path. path.now) options.entry.journal)
         (option_map (λ path. path.now) options.entry.save)
@@ -103,11 +104,11 @@ fn serve_by_files<D: Folder, R: Source, W: Sink, E: Sink, T: Sink + Drop>(
         (input_of R.remaining R.has_failed input.old input.new)
         (output_of W.contents W.has_failed W.holds_back output.old output.new)
         (output_of E.contents E.has_failed E.holds_back errors.old errors.new)) }
-    ensures err { OnErr result (CannotOpen (opened_by
+    ensures err { IfErr result (λ failure. IsNotRead (opened_by
         (option_map (λ path. path.now) options.entry.journal)
         (option_map (λ path. path.now) options.entry.keep)
         (option_map (λ path. path.now) options.entry.follow))
-        (D.known folder.old) (D.known folder.new)
+        (folders_of D.known folder.old folder.new) failure.path.now failure.fault
         × (output.new ≡ output.old) × (errors.new ≡ errors.old)) }
 {
     match options.follow {
@@ -164,7 +165,7 @@ fn follow_file<D: Folder, R: Source, W: Sink, E: Sink>(
     output: &mut W,
     errors: &mut E,
 ) -> Status
-    ensures { EndsFollowing limits (service_model options.entry)
+    ensures { EndsFollowing limits path.now (service_model options.entry)
         (folders_of D.known folder.old folder.new)
         (output_of W.contents W.has_failed W.holds_back output.old output.new)
         (output_of E.contents E.has_failed E.holds_back errors.old errors.new) result }
@@ -172,23 +173,23 @@ fn follow_file<D: Folder, R: Source, W: Sink, E: Sink>(
     match folder.follow(alloc, path) {
         Ok(file) => {
             let mut arrivals = Feed::new(input, file);
-            follow_command(alloc, limits, options, &mut arrivals, output, errors)
+            follow_command(alloc, limits, path, options, &mut arrivals, output, errors)
         }
         Err(_) => report(alloc, errors, CommandFault::NoMemory),
     }
 }
 
 /// The same, where no journal is followed.
-fn serve_edits<D: Folder, R: Source, W: Sink, E: Sink, T: Sink + Drop>(
+fn serve_edits<'a, D: Folder, R: Source, W: Sink, E: Sink, T: Sink + Drop>(
     alloc: Global,
     limits: Limits,
     folder: &mut D,
-    options: ServeOptions,
+    options: ServeOptions<'a>,
     input: &mut R,
     output: &mut W,
     errors: &mut E,
     terminal: Option<T>,
-) -> Result<Status, OpenFailed>
+) -> Result<Status, Failure<'a>>
     ensures ok { IfOk result (RunsEditing limits
         (option_map (λ path. path.now) options.entry.journal)
         (option_map (λ path. path.now) options.entry.save)
@@ -198,10 +199,10 @@ fn serve_edits<D: Folder, R: Source, W: Sink, E: Sink, T: Sink + Drop>(
         (input_of R.remaining R.has_failed input.old input.new)
         (output_of W.contents W.has_failed W.holds_back output.old output.new)
         (output_of E.contents E.has_failed E.holds_back errors.old errors.new)) }
-    ensures err { OnErr result (CannotOpen (opened_by
+    ensures err { IfErr result (λ failure. IsNotRead (opened_by
         (option_map (λ path. path.now) options.entry.journal)
         (option_map (λ path. path.now) options.entry.keep) None)
-        (D.known folder.old) (D.known folder.new)
+        (folders_of D.known folder.old folder.new) failure.path.now failure.fault
         × (output.new ≡ output.old) × (errors.new ≡ errors.old)) }
 {
     match options.keep {
@@ -318,6 +319,7 @@ fn keep<D: Folder, R: Source, W: Sink, E: Sink>(
             let status = keep_command(
                 alloc,
                 limits,
+                path,
                 &mut kept,
                 &mut journal,
                 rules,
@@ -328,6 +330,6 @@ fn keep<D: Folder, R: Source, W: Sink, E: Sink>(
             folder.release(path, kept);
             status
         }
-        Err(fault) => report(alloc, errors, CommandFault::Keep(fault)),
+        Err(fault) => report_at(alloc, errors, path, CommandFault::Keep(fault)),
     }
 }

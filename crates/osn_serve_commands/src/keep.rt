@@ -5,7 +5,7 @@ ghost use Rattle.std.specs.Prelude.{string_bytes, option_map, take};
 ghost use Rattle.osn_files.specs.WholePart.{IsWholePart, whole_bytes};
 ghost use Rattle.osn_journal.specs.KeptJournal.{file_of};
 ghost use Rattle.osn_lines.specs.Streams.{input_of, output_of};
-ghost use Rattle.osn_report.specs.Messages.{WritesLine};
+ghost use Rattle.osn_report.specs.Messages.{Tells, TellsAt, WritesLine};
 ghost use Rattle.osn_report.specs.declared.fault.CommandFault.{CommandFault};
 ghost use Rattle.osn_serve_commands.specs.Keep.{cut_line, for_version, missing_head};
 ghost use Rattle.osn_serve_commands.specs.Keep.{missing_text, TellsCut, IsChangeFault};
@@ -22,7 +22,7 @@ use osn_format::Version;
 use osn_journal::serve_kept;
 use osn_lines::{Sink, Source};
 use osn_register::Limits;
-use osn_report::{CommandFault, Status, report, write_line};
+use osn_report::{CommandFault, Status, report, report_at, write_line};
 use osn_service::{ServeRules, ServiceFault};
 use std::alloc::{AllocError, Global};
 
@@ -170,20 +170,32 @@ fn begin<K: KeptFile, J: Source, E: Sink>(
     Ok((held.object, held.version))
 }
 
-/// The fault of a service that keeps a file.
-fn fault_of(cause: ServiceFault<KeptFileFault>) -> CommandFault
-    ensures { MatchServiceFault cause (λ fault. result ≡ CommandFault.Service fault)
-        (λ why. result ≡ CommandFault.KeptFile why) }
+/// Tells standard error why a service ended early that keeps the file of this path.
+fn report_end<E: Sink>(
+    alloc: Global,
+    errors: &mut E,
+    path: &str,
+    cause: ServiceFault<KeptFileFault>,
+) -> Status
+    ensures { MatchServiceFault cause
+        (λ fault. Tells (output_of E.contents E.has_failed E.holds_back errors.old errors.new)
+        (CommandFault.Service fault) result)
+        (λ why. TellsAt path.now
+        (output_of E.contents E.has_failed E.holds_back errors.old errors.new)
+        (CommandFault.KeptFile why) result) }
 {
     match cause {
-        ServiceFault::Serve(fault) => CommandFault::Service(fault),
-        ServiceFault::NotKept(why) => CommandFault::KeptFile(why),
+        ServiceFault::Serve(fault) => report(alloc, errors, CommandFault::Service(fault)),
+        ServiceFault::NotKept(why) => {
+            report_at(alloc, errors, path, CommandFault::KeptFile(why))
+        }
     }
 }
 
 /// Answers the lines from the object, and keeps the file.
 fn keep_lines<K: KeptFile, R: Source, W: Sink, E: Sink>(
     alloc: Global,
+    path: &str,
     object: &mut Object,
     rules: ServeRules,
     keeper: &mut K,
@@ -191,7 +203,7 @@ fn keep_lines<K: KeptFile, R: Source, W: Sink, E: Sink>(
     output: &mut W,
     errors: &mut E,
 ) -> Status
-    ensures { KeepsLines rules object.old
+    ensures { KeepsLines path.now rules object.old
         (file_of K.contents K.synced K.fault keeper.old)
         (file_of K.contents K.synced K.fault keeper.new)
         (input_of R.remaining R.has_failed input.old input.new)
@@ -205,7 +217,7 @@ fn keep_lines<K: KeptFile, R: Source, W: Sink, E: Sink>(
             }
             report(alloc, errors, CommandFault::RefusedLine(served.lines))
         }
-        Err(end) => report(alloc, errors, fault_of(end.cause)),
+        Err(end) => report_end(alloc, errors, path, end.cause),
     }
 }
 
@@ -219,7 +231,7 @@ fn for_version(rules: ServeRules, version: Version) -> ServeRules
     }
 }
 
-/// The command `serve` with a journal that is kept: answers the request lines of the input, by
+/// The command `serve` with a journal of this path that is kept: answers the request lines of the input, by
 /// these rules. The object is the one that the kept file holds, or an empty one under these limits
 /// where no line of it counts. Each change is in the file before its reply is written. All lines
 /// are answered, or those up to the first refused one where the rules say so, which is a fault
@@ -235,6 +247,7 @@ fn for_version(rules: ServeRules, version: Version) -> ServeRules
 pub fn keep_command<K: KeptFile, J: Source, R: Source, W: Sink, E: Sink>(
     alloc: Global,
     limits: Limits,
+    path: &str,
     keeper: &mut K,
     journal: &mut J,
     rules: ServeRules,
@@ -242,7 +255,7 @@ pub fn keep_command<K: KeptFile, J: Source, R: Source, W: Sink, E: Sink>(
     output: &mut W,
     errors: &mut E,
 ) -> Status
-    ensures { EndsKept limits rules (file_of K.contents K.synced K.fault keeper.old)
+    ensures { EndsKept limits path.now rules (file_of K.contents K.synced K.fault keeper.old)
         (file_of K.contents K.synced K.fault keeper.new)
         (input_of J.remaining J.has_failed journal.old journal.new)
         (input_of R.remaining R.has_failed input.old input.new)
@@ -252,8 +265,17 @@ pub fn keep_command<K: KeptFile, J: Source, R: Source, W: Sink, E: Sink>(
     match begin(alloc, limits, keeper, journal, errors) {
         Ok((mut object, version)) => {
             let rules = for_version(rules, version);
-            keep_lines(alloc, &mut object, rules, keeper, input, output, errors)
+            keep_lines(
+                alloc,
+                path,
+                &mut object,
+                rules,
+                keeper,
+                input,
+                output,
+                errors,
+            )
         }
-        Err(fault) => report(alloc, errors, fault),
+        Err(fault) => report_at(alloc, errors, path, fault),
     }
 }

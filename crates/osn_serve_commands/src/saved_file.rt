@@ -8,7 +8,7 @@ ghost use Rattle.osn_serve_commands.specs.Saving.{TellsUnsaved, beside_line, cha
 use crate::serve::ServeResult;
 use osn_folder::{Folder, KeepFault, SaveFault, save_beside, save_file};
 use osn_lines::Sink;
-use osn_report::{CommandFault, Status, report, tell_line, tell_no_memory, write_line};
+use osn_report::{CommandFault, Status, report_at, tell_line, tell_no_memory, write_line};
 use osn_shown::Shown;
 use std::alloc::{AllocError, Global};
 
@@ -62,14 +62,22 @@ fn beside_line(alloc: Global, path: &str, backup: &str) -> Result<String, AllocE
     )
 }
 
-/// Tells standard error why the journal is not saved for sure. Answers the status.
-pub(crate) fn report_unsaved<E: Sink>(alloc: Global, errors: &mut E, fault: SaveFault) -> Status
-    ensures { TellsUnsaved
+/// Tells standard error why the journal is not saved for sure in the file of this path. Answers the
+/// status.
+pub(crate) fn report_unsaved<E: Sink>(
+    alloc: Global,
+    errors: &mut E,
+    path: &str,
+    fault: SaveFault,
+) -> Status
+    ensures { TellsUnsaved path.now
         (output_of E.contents E.has_failed E.holds_back errors.old errors.new) fault result }
 {
     match fault {
         SaveFault::NoMemory => tell_no_memory(errors),
-        SaveFault::WriteFault => report(alloc, errors, CommandFault::WriteFault),
+        SaveFault::WriteFault(cause) => {
+            report_at(alloc, errors, path, CommandFault::NotSaved(cause))
+        }
         SaveFault::NotSynced => {
             write_line(
                 errors,
@@ -100,7 +108,7 @@ fn save_over<D: Folder, E: Sink>(
 {
     match save_file(folder, alloc, file.lock, file.path, loaded, text) {
         Ok(()) => Status::Done,
-        Err(fault) => report_unsaved(alloc, errors, fault),
+        Err(fault) => report_unsaved(alloc, errors, file.path, fault),
     }
 }
 
@@ -122,7 +130,7 @@ fn save_and_note<D: Folder, E: Sink>(
             let line = beside_line(alloc, file.path, backup.as_str());
             tell_line(errors, Status::Done, line)
         }
-        Err(fault) => report_unsaved(alloc, errors, fault),
+        Err(fault) => report_unsaved(alloc, errors, file.path, fault),
     }
 }
 

@@ -1,9 +1,10 @@
 //! The command `serve` over the files of a folder, where no journal is kept: the file that the
 //! journal is saved to is locked first.
-ghost use Rattle.std.specs.Prelude.{◌≡◌, Some, IfOk, OnErr, option_map};
-ghost use Rattle.osn_folder.specs.Folder.{CannotOpen, MayFail, path_if};
+ghost use Rattle.std.specs.Prelude.{◌≡◌, [], Some, IfErr, IfOk, option_map, unwrap_or};
+ghost use Rattle.osn_folder.specs.Folder.{MayFail, path_if};
 ghost use Rattle.osn_invocation.specs.Invocation.{service_model};
 ghost use Rattle.osn_lines.specs.Streams.{input_of, output_of};
+ghost use Rattle.osn_report.specs.Failure.{IsNotRead};
 ghost use Rattle.osn_report.specs.Folders.{folders_of};
 ghost use Rattle.osn_serve_commands.specs.InFolder as spec;
 ghost use Rattle.osn_serve_commands.specs.SavingInside.{ReplacesRead};
@@ -12,11 +13,11 @@ ghost use Rattle.osn_serve_commands.specs.Serve.{input_if};
 use crate::saved_file::{LockedFile, finish, lock_if};
 use crate::serve::serve_command;
 use crate::target::{bytes_of, is_left_beside, save_target, tell_target};
-use osn_folder::{Folder, OpenFailed, open_file, open_if};
+use osn_folder::{Folder, open_if, open_named};
 use osn_invocation::ServeOptions;
 use osn_lines::{Bytes, Sink, Source, read_all, write_all};
 use osn_register::Limits;
-use osn_report::{CommandFault, Status, report};
+use osn_report::{CommandFault, Failure, Status, report_at};
 use osn_service::ServeRules;
 use std::alloc::{AllocError, Global};
 
@@ -60,6 +61,7 @@ fn serve_opened<D: Folder, J: Source, R: Source, W: Sink, E: Sink, T: Sink + Dro
     alloc: Global,
     limits: Limits,
     folder: &mut D,
+    path: &str,
     journal: &mut Option<J>,
     loaded: Option<&[u8]>,
     beside: bool,
@@ -70,7 +72,7 @@ fn serve_opened<D: Folder, J: Source, R: Source, W: Sink, E: Sink, T: Sink + Dro
     errors: &mut E,
     terminal: Option<T>,
 ) -> Status
-    ensures { spec.EndsServing limits (option_map (λ file. file.path.now) locked.entry) rules
+    ensures { spec.EndsServing limits path.now (option_map (λ file. file.path.now) locked.entry) rules
         (input_if J.remaining J.has_failed journal.old journal.new)
         (option_map (λ bytes. bytes.now) loaded.entry) beside
         (D.known folder.old) (D.known folder.new)
@@ -79,7 +81,9 @@ fn serve_opened<D: Folder, J: Source, R: Source, W: Sink, E: Sink, T: Sink + Dro
         (output_of E.contents E.has_failed E.holds_back errors.old errors.new) result }
 {
     let saves = locked.is_some();
-    let served = serve_command(alloc, limits, journal, rules, saves, input, output, errors);
+    let served = serve_command(
+        alloc, limits, path, journal, rules, saves, input, output, errors,
+    );
     tell_unsaved(alloc, terminal, saves, served.editions);
     finish(alloc, folder, served, locked, loaded, beside, errors)
 }
@@ -90,6 +94,7 @@ fn serve_replacing<D: Folder, J: Source, R: Source, W: Sink, E: Sink, T: Sink + 
     alloc: Global,
     limits: Limits,
     folder: &mut D,
+    path: &str,
     journal: &mut J,
     locked: Option<LockedFile<'_, D::Lock>>,
     rules: ServeRules,
@@ -98,7 +103,7 @@ fn serve_replacing<D: Folder, J: Source, R: Source, W: Sink, E: Sink, T: Sink + 
     errors: &mut E,
     terminal: Option<T>,
 ) -> Status
-    ensures { ReplacesRead limits (option_map (λ file. file.path.now) locked.entry) rules
+    ensures { ReplacesRead limits path.now (option_map (λ file. file.path.now) locked.entry) rules
         (input_of J.remaining J.has_failed journal.old journal.new)
         (D.known folder.old) (D.known folder.new)
         (input_of R.remaining R.has_failed input.old input.new)
@@ -107,12 +112,13 @@ fn serve_replacing<D: Folder, J: Source, R: Source, W: Sink, E: Sink, T: Sink + 
 {
     let held = match read_all(alloc, journal) {
         Ok(held) => held,
-        Err(fault) => return report(alloc, errors, CommandFault::from(fault)),
+        Err(fault) => return report_at(alloc, errors, path, CommandFault::from(fault)),
     };
     serve_opened(
         alloc,
         limits,
         folder,
+        path,
         &mut Some(Bytes::new(&held)),
         Some(&held),
         false,
@@ -132,6 +138,7 @@ fn serve_over<D: Folder, J: Source, R: Source, W: Sink, E: Sink, T: Sink + Drop>
     alloc: Global,
     limits: Limits,
     folder: &mut D,
+    path: &str,
     journal: &mut Option<J>,
     file: LockedFile<'_, D::Lock>,
     rules: ServeRules,
@@ -140,7 +147,7 @@ fn serve_over<D: Folder, J: Source, R: Source, W: Sink, E: Sink, T: Sink + Drop>
     errors: &mut E,
     terminal: Option<T>,
 ) -> Status
-    ensures { spec.SavesOverFound limits (Some file.entry.path.now) rules
+    ensures { spec.SavesOverFound limits path.now (Some file.entry.path.now) rules
         (input_if J.remaining J.has_failed journal.old journal.new)
         (D.known folder.old) (D.known folder.new)
         (input_of R.remaining R.has_failed input.old input.new)
@@ -155,6 +162,7 @@ fn serve_over<D: Folder, J: Source, R: Source, W: Sink, E: Sink, T: Sink + Drop>
         alloc,
         limits,
         folder,
+        path,
         journal,
         bytes_of(found),
         is_left_beside(found),
@@ -172,6 +180,7 @@ fn serve_beside<D: Folder, J: Source, R: Source, W: Sink, E: Sink, T: Sink + Dro
     alloc: Global,
     limits: Limits,
     folder: &mut D,
+    path: &str,
     journal: &mut Option<J>,
     locked: Option<LockedFile<'_, D::Lock>>,
     rules: ServeRules,
@@ -180,7 +189,7 @@ fn serve_beside<D: Folder, J: Source, R: Source, W: Sink, E: Sink, T: Sink + Dro
     errors: &mut E,
     terminal: Option<T>,
 ) -> Status
-    ensures { spec.SavesOverFound limits (option_map (λ file. file.path.now) locked.entry) rules
+    ensures { spec.SavesOverFound limits path.now (option_map (λ file. file.path.now) locked.entry) rules
         (input_if J.remaining J.has_failed journal.old journal.new)
         (D.known folder.old) (D.known folder.new)
         (input_of R.remaining R.has_failed input.old input.new)
@@ -189,10 +198,10 @@ fn serve_beside<D: Folder, J: Source, R: Source, W: Sink, E: Sink, T: Sink + Dro
 {
     match locked {
         Some(file) => serve_over(
-            alloc, limits, folder, journal, file, rules, input, output, errors, terminal,
+            alloc, limits, folder, path, journal, file, rules, input, output, errors, terminal,
         ),
         None => serve_opened(
-            alloc, limits, folder, journal, None, false, None, rules, input, output, errors,
+            alloc, limits, folder, path, journal, None, false, None, rules, input, output, errors,
             terminal,
         ),
     }
@@ -210,18 +219,28 @@ fn replaced_path<'a>(journal: Option<&'a str>, save: Option<&str>) -> Option<&'a
     }
 }
 
+/// A path that may be given, and an empty one where none is.
+fn path_or_none<'a>(path: Option<&'a str>) -> &'a str
+    ensures { result.now ≡ unwrap_or (option_map (λ path. path.now) path.entry) [] }
+{
+    match path {
+        Some(path) => path,
+        None => "",
+    }
+}
+
 /// Opens the journal, if any, answers the request lines, and saves the journal that is left. The
 /// file that this replaces is locked from before the journal is opened until it is replaced.
-pub(crate) fn serve<D: Folder, R: Source, W: Sink, E: Sink, T: Sink + Drop>(
+pub(crate) fn serve<'a, D: Folder, R: Source, W: Sink, E: Sink, T: Sink + Drop>(
     alloc: Global,
     limits: Limits,
     folder: &mut D,
-    options: ServeOptions,
+    options: ServeOptions<'a>,
     input: &mut R,
     output: &mut W,
     errors: &mut E,
     terminal: Option<T>,
-) -> Result<Status, OpenFailed>
+) -> Result<Status, Failure<'a>>
     ensures ok { IfOk result (spec.EndsService limits
         (option_map (λ path. path.now) options.entry.journal)
         (option_map (λ path. path.now) options.entry.save)
@@ -230,22 +249,35 @@ pub(crate) fn serve<D: Folder, R: Source, W: Sink, E: Sink, T: Sink + Drop>(
         (input_of R.remaining R.has_failed input.old input.new)
         (output_of W.contents W.has_failed W.holds_back output.old output.new)
         (output_of E.contents E.has_failed E.holds_back errors.old errors.new)) }
-    ensures err { OnErr result
-        (CannotOpen (path_if (option_map (λ path. path.now) options.entry.journal))
-        (D.known folder.old) (D.known folder.new)
+    ensures err { IfErr result (λ failure. IsNotRead
+        (path_if (option_map (λ path. path.now) options.entry.journal))
+        (folders_of D.known folder.old folder.new) failure.path.now failure.fault
         × (output.new ≡ output.old) × (errors.new ≡ errors.old)) }
 {
     let ServeOptions { journal, save, .. } = options;
     let rules = rules_of(options);
     let locked = match lock_if(folder, save) {
         Ok(locked) => locked,
-        Err(fault) => return Ok(report(alloc, errors, CommandFault::Keep(fault))),
+        Err(fault) => {
+            let path = path_or_none(save);
+            return Ok(report_at(alloc, errors, path, CommandFault::Keep(fault)));
+        }
     };
     match replaced_path(journal, save) {
         Some(path) => {
-            let mut file = open_file(folder, path)?;
+            let mut file = open_named(folder, path)?;
             Ok(serve_replacing(
-                alloc, limits, folder, &mut file, locked, rules, input, output, errors, terminal,
+                alloc,
+                limits,
+                folder,
+                path_or_none(journal),
+                &mut file,
+                locked,
+                rules,
+                input,
+                output,
+                errors,
+                terminal,
             ))
         }
         None => {
@@ -254,6 +286,7 @@ pub(crate) fn serve<D: Folder, R: Source, W: Sink, E: Sink, T: Sink + Drop>(
                 alloc,
                 limits,
                 folder,
+                path_or_none(journal),
                 &mut source,
                 locked,
                 rules,

@@ -10,7 +10,7 @@ use osn_core::Object;
 use osn_files::{FileFault, journal_text, load_journal};
 use osn_lines::{Sink, Source};
 use osn_register::Limits;
-use osn_report::{CommandFault, Status, report, tell_no_memory};
+use osn_report::{CommandFault, Status, report, report_at, tell_no_memory};
 use osn_service::{ServeRules, ServiceFault, serve_store};
 use std::alloc::Global;
 use std::convert::Infallible;
@@ -130,7 +130,7 @@ fn serve_lines<R: Source, W: Sink, E: Sink>(
 }
 
 /// The command `serve`: answers the request lines of the input, by these rules, from the object of
-/// the journal or from an empty one, under these limits. The journal is read whole before a line
+/// the journal of this path or from an empty one, under these limits. The journal is read whole before a line
 /// is. Where the journal is to be saved and all lines were answered, its text is answered too.
 ///
 /// All lines are answered, or those up to the first refused one where the rules say so. That is a
@@ -140,6 +140,7 @@ fn serve_lines<R: Source, W: Sink, E: Sink>(
 pub fn serve_command<J: Source, R: Source, W: Sink, E: Sink>(
     alloc: Global,
     limits: Limits,
+    path: &str,
     journal: &mut Option<J>,
     rules: ServeRules,
     saves: bool,
@@ -147,7 +148,7 @@ pub fn serve_command<J: Source, R: Source, W: Sink, E: Sink>(
     output: &mut W,
     errors: &mut E,
 ) -> ServeResult
-    ensures { Serves limits rules (input_if J.remaining J.has_failed journal.old journal.new) saves
+    ensures { Serves limits path.now rules (input_if J.remaining J.has_failed journal.old journal.new) saves
         (input_of R.remaining R.has_failed input.old input.new)
         (output_of W.contents W.has_failed W.holds_back output.old output.new)
         (output_of E.contents E.has_failed E.holds_back errors.old errors.new)
@@ -155,6 +156,9 @@ pub fn serve_command<J: Source, R: Source, W: Sink, E: Sink>(
 {
     match initial_object(alloc, limits, journal) {
         Ok(mut object) => serve_lines(alloc, &mut object, rules, saves, input, output, errors),
-        Err(fault) => ServeResult::ended(report(alloc, errors, CommandFault::File(fault)), 0),
+        Err(fault) => {
+            let fault = CommandFault::File(fault);
+            ServeResult::ended(report_at(alloc, errors, path, fault), 0)
+        }
     }
 }

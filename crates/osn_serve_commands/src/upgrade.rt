@@ -20,7 +20,7 @@ use osn_folder::{Folder, save_file};
 use osn_format::Version;
 use osn_lines::{Sink, Source};
 use osn_register::Limits;
-use osn_report::{CommandFault, Status, report, write_line};
+use osn_report::{CommandFault, Status, report_at, write_line};
 use std::alloc::{AllocError, Global};
 
 /// Puts a text in place of the file of a path, which is locked for that, whole or not at all. The
@@ -46,11 +46,11 @@ pub fn save_anew<D: Folder, E: Sink>(
 {
     let lock = match folder.lock_to_save(path) {
         Ok(lock) => lock,
-        Err(fault) => return Err(report(alloc, errors, CommandFault::Keep(fault))),
+        Err(fault) => return Err(report_at(alloc, errors, path, CommandFault::Keep(fault))),
     };
     match save_file(folder, alloc, lock, path, Some(loaded), text) {
         Ok(()) => Ok(()),
-        Err(fault) => Err(report_unsaved(alloc, errors, fault)),
+        Err(fault) => Err(report_unsaved(alloc, errors, path, fault)),
     }
 }
 
@@ -170,7 +170,7 @@ pub fn upgrade_file<D: Folder, E: Sink>(
 {
     let (kept, mut journal) = match folder.keep(path) {
         Ok(found) => found,
-        Err(fault) => return Err(report(alloc, errors, CommandFault::Keep(fault))),
+        Err(fault) => return Err(report_at(alloc, errors, path, CommandFault::Keep(fault))),
     };
     let found = older_journal(alloc, limits, &mut journal);
     // What reads the file has its lock too.
@@ -179,6 +179,6 @@ pub fn upgrade_file<D: Folder, E: Sink>(
     match found {
         Ok(None) => Ok(()),
         Ok(Some(older)) => save_older(alloc, folder, path, &older, errors),
-        Err(fault) => Err(report(alloc, errors, fault)),
+        Err(fault) => Err(report_at(alloc, errors, path, fault)),
     }
 }

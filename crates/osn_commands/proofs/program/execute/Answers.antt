@@ -1,6 +1,10 @@
-use Rattle.std.proofs.Common.{refl}
-use Rattle.std.proofs.lemmas.Result.{IfOk-weaker}
-use Rattle.osn_commands.proofs.RunLemmas.{ran}
+use Rattle.std.proofs.Common.{refl, string_bytes}
+use Rattle.std.proofs.lemmas.Result.{IfErr-weaker, IfOk-weaker}
+use Rattle.osn_file_commands.specs.Audit.{Audits}
+use Rattle.osn_file_commands.specs.Replay.{Replays}
+use Rattle.osn_file_commands.specs.Transcript.{Transcribes}
+use Rattle.osn_commands.proofs.RunLemmas.{failed, if_done, if_failed, not_done, one_printed, ran}
+use Rattle.osn_commands.proofs.RunLemmas.{two_printed}
 use Rattle.osn_commands.proofs.program.execute.Goals as goal
 
 pub returns-in-Serve-clause-ok : goal.returns-in-Serve-clause-ok
@@ -9,17 +13,45 @@ returns-in-Serve-clause-ok g c =
     (λ status h. ran c.args.limits c.args.command _ _ _ _ _ _ _ status c.in-Serve.is h)
     c.serve_in_folder.ensures.ok
 
+pub returns-in-Serve-clause-err : goal.returns-in-Serve-clause-err
+returns-in-Serve-clause-err g c =
+    IfErr-weaker c.serve_in_folder.result _ _
+    (λ failure h. (failed c.args.limits c.args.command _ _ _ _ _ c.in-Serve.is h.0, h.1))
+    c.serve_in_folder.ensures.err
+
 pub returns-in-Replay-clause-ok : goal.returns-in-Replay-clause-ok
 returns-in-Replay-clause-ok g c =
-    IfOk-weaker c.replay_in_folder.result _ _
-    (λ status h. ran c.args.limits c.args.command _ _ _ _ _ _ _ status c.in-Replay.is h)
-    c.replay_in_folder.ensures.ok
+    IfOk-weaker c.printed.result _ _
+    (λ status h. ran c.args.limits c.args.command _ _ _ _ _ _ _ status c.in-Replay.is
+    (one_printed string_bytes _ _ _ _ status c.replay_in_folder-made.result c.in-Replay.schedule.now (Replays c.args.limits c.in-Replay.readers)
+    c.replay_in_folder-made.ensures.ok h.0 h.1))
+    c.printed.ensures.ok
+
+pub returns-in-Replay-clause-err : goal.returns-in-Replay-clause-err
+returns-in-Replay-clause-err g c =
+    IfErr-weaker c.printed.result _ _
+    (λ failure h. (
+      failed c.args.limits c.args.command _ _ _ _ _ c.in-Replay.is
+          (if_failed c.replay_in_folder-made.result failure _ h.0 c.replay_in_folder-made.ensures.err),
+      h.1,
+    )) c.printed.ensures.err
 
 pub returns-in-Desk-clause-ok : goal.returns-in-Desk-clause-ok
 returns-in-Desk-clause-ok g c =
-    IfOk-weaker c.desk_in_folder.result _ _
-    (λ status h. ran c.args.limits c.args.command _ _ _ _ _ _ _ status c.in-Desk.is h)
-    c.desk_in_folder.ensures.ok
+    IfOk-weaker c.printed-in-Desk.result _ _
+    (λ status h. ran c.args.limits c.args.command _ _ _ _ _ _ _ status c.in-Desk.is
+    (two_printed string_bytes _ _ _ _ status c.desk_in_folder-made.result c.in-Desk.script.now c.in-Desk.questions.now (Transcribes c.args.limits)
+    c.desk_in_folder-made.ensures.ok h.0 h.1))
+    c.printed-in-Desk.ensures.ok
+
+pub returns-in-Desk-clause-err : goal.returns-in-Desk-clause-err
+returns-in-Desk-clause-err g c =
+    IfErr-weaker c.printed-in-Desk.result _ _
+    (λ failure h. (
+      failed c.args.limits c.args.command _ _ _ _ _ c.in-Desk.is
+          (if_failed c.desk_in_folder-made.result failure _ h.0 c.desk_in_folder-made.ensures.err),
+      h.1,
+    )) c.printed-in-Desk.ensures.err
 
 pub returns-in-Page-clause-ok : goal.returns-in-Page-clause-ok
 returns-in-Page-clause-ok g c =
@@ -27,11 +59,92 @@ returns-in-Page-clause-ok g c =
     (λ status h. ran c.args.limits c.args.command _ _ _ _ _ _ _ status c.in-Page.is h)
     c.page_in_folder.ensures.ok
 
+pub returns-in-Page-clause-err : goal.returns-in-Page-clause-err
+returns-in-Page-clause-err g c =
+    IfErr-weaker c.page_in_folder.result _ _
+    (λ failure h. (failed c.args.limits c.args.command _ _ _ _ _ c.in-Page.is h.0, h.1))
+    c.page_in_folder.ensures.err
+
 pub returns-in-Audit-clause-ok : goal.returns-in-Audit-clause-ok
 returns-in-Audit-clause-ok g c =
-    IfOk-weaker c.audit_in_folder.result _ _
-    (λ status h. ran c.args.limits c.args.command _ _ _ _ _ _ _ status c.in-Audit.is h)
-    c.audit_in_folder.ensures.ok
+    IfOk-weaker c.printed-in-Audit.result _ _
+    (λ status h. ran c.args.limits c.args.command _ _ _ _ _ _ _ status c.in-Audit.is
+    (two_printed string_bytes _ _ _ _ status c.audit_in_folder-made.result c.in-Audit.journal.now c.in-Audit.transcript.now (Audits c.args.limits)
+    c.audit_in_folder-made.ensures.ok h.0 h.1))
+    c.printed-in-Audit.ensures.ok
+
+pub returns-in-Audit-clause-err : goal.returns-in-Audit-clause-err
+returns-in-Audit-clause-err g c =
+    IfErr-weaker c.printed-in-Audit.result _ _
+    (λ failure h. (
+      failed c.args.limits c.args.command _ _ _ _ _ c.in-Audit.is
+          (if_failed c.audit_in_folder-made.result failure _ h.0 c.audit_in_folder-made.ensures.err),
+      h.1,
+    )) c.printed-in-Audit.ensures.err
+
+pub returns-in-Letters-clause-ok : goal.returns-in-Letters-clause-ok
+returns-in-Letters-clause-ok g c =
+    IfOk-weaker c.opened.result _ _
+    (λ status h. ran c.args.limits c.args.command _ _ _ _ _ _ _ status c.in-Letters.is
+    (if_done c.letters_in_folder-done.result status _ h c.letters_in_folder-done.ensures.ok))
+    c.opened.ensures.ok
+
+pub returns-in-Letters-clause-err : goal.returns-in-Letters-clause-err
+returns-in-Letters-clause-err g c =
+    IfErr-weaker c.opened.result _ _
+    (λ failure h.
+    let why = not_done c.letters_in_folder-done.result h.0 _ h.1 c.letters_in_folder-done.ensures.err in (
+      failed c.args.limits c.args.command _ _ _ _ _ c.in-Letters.is (h.2, (h.0, h.3), why.0),
+      why.1,
+    )) c.opened.ensures.err
+
+pub returns-in-Text-clause-ok : goal.returns-in-Text-clause-ok
+returns-in-Text-clause-ok g c =
+    IfOk-weaker c.opened-in-Text.result _ _
+    (λ status h. ran c.args.limits c.args.command _ _ _ _ _ _ _ status c.in-Text.is
+    (if_done c.text_in_folder-done.result status _ h c.text_in_folder-done.ensures.ok))
+    c.opened-in-Text.ensures.ok
+
+pub returns-in-Text-clause-err : goal.returns-in-Text-clause-err
+returns-in-Text-clause-err g c =
+    IfErr-weaker c.opened-in-Text.result _ _
+    (λ failure h.
+    let why = not_done c.text_in_folder-done.result h.0 _ h.1 c.text_in_folder-done.ensures.err in (
+      failed c.args.limits c.args.command _ _ _ _ _ c.in-Text.is (h.2, (h.0, h.3), why.0),
+      why.1,
+    )) c.opened-in-Text.ensures.err
+
+pub returns-in-Plan-clause-ok : goal.returns-in-Plan-clause-ok
+returns-in-Plan-clause-ok g c =
+    IfOk-weaker c.opened-in-Plan.result _ _
+    (λ status h. ran c.args.limits c.args.command _ _ _ _ _ _ _ status c.in-Plan.is
+    (if_done c.plan_in_folder-done.result status _ h c.plan_in_folder-done.ensures.ok))
+    c.opened-in-Plan.ensures.ok
+
+pub returns-in-Plan-clause-err : goal.returns-in-Plan-clause-err
+returns-in-Plan-clause-err g c =
+    IfErr-weaker c.opened-in-Plan.result _ _
+    (λ failure h.
+    let why = not_done c.plan_in_folder-done.result h.0 _ h.1 c.plan_in_folder-done.ensures.err in (
+      failed c.args.limits c.args.command _ _ _ _ _ c.in-Plan.is (h.2, (h.0, h.3), why.0),
+      why.1,
+    )) c.opened-in-Plan.ensures.err
+
+pub returns-in-Publish-clause-ok : goal.returns-in-Publish-clause-ok
+returns-in-Publish-clause-ok g c =
+    IfOk-weaker c.opened-in-Publish.result _ _
+    (λ status h. ran c.args.limits c.args.command _ _ _ _ _ _ _ status c.in-Publish.is
+    (if_done c.publish_in_folder-done.result status _ h c.publish_in_folder-done.ensures.ok))
+    c.opened-in-Publish.ensures.ok
+
+pub returns-in-Publish-clause-err : goal.returns-in-Publish-clause-err
+returns-in-Publish-clause-err g c =
+    IfErr-weaker c.opened-in-Publish.result _ _
+    (λ failure h.
+    let why = not_done c.publish_in_folder-done.result h.0 _ h.1 c.publish_in_folder-done.ensures.err in (
+      failed c.args.limits c.args.command _ _ _ _ _ c.in-Publish.is (h.2, (h.0, h.3), why.0),
+      why.1,
+    )) c.opened-in-Publish.ensures.err
 
 pub returns-in-Convert-clause-ok : goal.returns-in-Convert-clause-ok
 returns-in-Convert-clause-ok g c =
@@ -42,27 +155,3 @@ pub returns-in-Completions-clause-ok : goal.returns-in-Completions-clause-ok
 returns-in-Completions-clause-ok g c =
     ran c.args.limits c.args.command _ _ _ _ _ _ _ c.completions_command.result c.in-Completions.is
     (refl, c.completions_command.ensures)
-
-pub returns-in-Letters-clause-ok : goal.returns-in-Letters-clause-ok
-returns-in-Letters-clause-ok g c =
-    IfOk-weaker c.letters_in_folder.result _ _
-    (λ status h. ran c.args.limits c.args.command _ _ _ _ _ _ _ status c.in-Letters.is h)
-    c.letters_in_folder.ensures.ok
-
-pub returns-in-Text-clause-ok : goal.returns-in-Text-clause-ok
-returns-in-Text-clause-ok g c =
-    IfOk-weaker c.text_in_folder.result _ _
-    (λ status h. ran c.args.limits c.args.command _ _ _ _ _ _ _ status c.in-Text.is h)
-    c.text_in_folder.ensures.ok
-
-pub returns-in-Plan-clause-ok : goal.returns-in-Plan-clause-ok
-returns-in-Plan-clause-ok g c =
-    IfOk-weaker c.plan_in_folder.result _ _
-    (λ status h. ran c.args.limits c.args.command _ _ _ _ _ _ _ status c.in-Plan.is h)
-    c.plan_in_folder.ensures.ok
-
-pub returns-in-Publish-clause-ok : goal.returns-in-Publish-clause-ok
-returns-in-Publish-clause-ok g c =
-    IfOk-weaker c.publish_in_folder.result _ _
-    (λ status h. ran c.args.limits c.args.command _ _ _ _ _ _ _ status c.in-Publish.is h)
-    c.publish_in_folder.ensures.ok

@@ -1,26 +1,56 @@
+use Rattle.std.proofs.Common.{inl, inr, refl, sym, ◌∙◌}
 use Rattle.osn_folder.specs.Folder.{MayFail}
 use Rattle.osn_invocation.specs.Invocation.{page_words}
 use Rattle.osn_lines.specs.Streams.{input_of, output_of}
 use Rattle.osn_page_commands.proofs.PageLemmas.{page_printed}
 use Rattle.osn_page_commands.proofs.in_folder.page_in_folder.Goals as goal
+use Rattle.osn_report.proofs.FileLemmas.{file_fault}
 use Rattle.osn_report.specs.Folders.{folders_of}
 
-pub returns-in_ok-file-in-Ok-Ok-clause-ok : goal.returns-in_ok-file-in-Ok-Ok-clause-ok
-returns-in_ok-file-in-Ok-Ok-clause-ok g c =
-    let found = c.in_ok-file-in-Ok-Ok in
-    let new = c.print_topic.new in
+pub returns-in-Err-open_named-clause-err : goal.returns-in-Err-open_named-clause-err
+returns-in-Err-open_named-clause-err g c =
+    let found = c.in-Err-open_named in
+    (inl (found.why.cause, c.unopened.ensures, found.ensures.err), refl, refl)
+
+pub returns-in-Ok-load_journal-clause-ok : goal.returns-in-Ok-load_journal-clause-ok
+returns-in-Ok-load_journal-clause-ok g c =
+    let new = c.print_page.new in
+    let file = g.D.File.Source in
+    let left = c.load_journal.new.source in
     page_printed c.args.limits c.args.journal.now (page_words c.args.words)
-    (MayFail g.D.File.Source.has_failed)
-    (folders_of g.D.Folder.known c.args.folder.now c.open_file.new.folder)
+    (MayFail file.has_failed)
+    (folders_of g.D.Folder.known c.args.folder.now c.open_named.new.folder)
     c.in-Ok-Ok.topic c.code_of-code.result.now c.date_text_of-date.result.now
     (output_of g.W.Sink.contents g.W.Sink.has_failed g.W.Sink.holds_back c.args.output.now
     new.output)
     (output_of g.E.Sink.contents g.E.Sink.has_failed g.E.Sink.holds_back c.args.errors.now
     new.errors)
-    c.print_topic.result (cc (c.in-Ok-Ok.ensures.value, c.in-Ok-Ok.field-0-is))
+    c.print_page.result (sym c.in-Ok-Ok.ensures.value ∙ c.in-Ok-Ok.field-0-is)
     c.code_of-code.ensures c.date_text_of-date.ensures (
-      found.ensures.ok,
-      input_of g.D.File.Source.remaining g.D.File.Source.has_failed found.file new.journal,
-      (found.ensures.file, (λ e. (new.journal, e))),
-      c.print_topic.ensures,
+      c.in-Ok.ensures.ok,
+      input_of file.remaining file.has_failed c.in-Ok.file left,
+      (c.in-Ok.ensures.file, (λ e. (left, e))),
+      (
+        c.in-Ok-load_journal.object,
+        c.in-Ok-load_journal.ensures.file.made,
+        c.print_page.ensures,
+      ),
+    )
+
+pub returns-clause-err : goal.returns-clause-err
+returns-clause-err g c =
+    let file = g.D.File.Source in
+    let left = c.load_journal.new.source in
+    let fault = c.in-Err-load_journal.fault in (
+      inr (
+        refl,
+        (
+          c.in-Ok.ensures.ok,
+          input_of file.remaining file.has_failed c.in-Ok.file left,
+          (c.in-Ok.ensures.file, (λ e. (left, e))),
+          (fault, refl, file_fault fault c.in-Err-load_journal.ensures.file),
+        ),
+      ),
+      refl,
+      refl,
     )

@@ -25,6 +25,13 @@ returns-in-Refused g c =
     tells_same told c.args.fault (faults.Refused c.in-Refused.refusal) _ c.in-Refused.is
     c.report_refusal.ensures
 
+pub returns-in-Desk : goal.returns-in-Desk
+returns-in-Desk g c =
+    let told = output_of g.E.Sink.contents g.E.Sink.has_failed g.E.Sink.holds_back
+    c.args.errors.now c.report_desk.new.errors in
+    tells_same told c.args.fault (faults.Desk c.in-Desk.fault) _ c.in-Desk.is
+    c.report_desk.ensures
+
 pub returns-in-KeptWithOther : goal.returns-in-KeptWithOther
 returns-in-KeptWithOther g c =
     let told = output_of g.E.Sink.contents g.E.Sink.has_failed g.E.Sink.holds_back
@@ -88,14 +95,28 @@ pub returns-in-NotOpened : goal.returns-in-NotOpened
 returns-in-NotOpened g c =
     let told = output_of g.E.Sink.contents g.E.Sink.has_failed g.E.Sink.holds_back
     c.args.errors.now c.tell-in-NotOpened.new.errors in
-    tells_by told c.args.fault faults.NotOpened _ c.in-NotOpened.is
+    tells_by told c.args.fault (faults.NotOpened c.in-NotOpened.field-0) _ c.in-NotOpened.is
     (c.tell-in-NotOpened.ensures.status, c.tell-in-NotOpened.ensures.line)
+
+pub returns-in-ReadFault : goal.returns-in-ReadFault
+returns-in-ReadFault g c =
+    let told = output_of g.E.Sink.contents g.E.Sink.has_failed g.E.Sink.holds_back
+    c.args.errors.now c.tell-in-ReadFault.new.errors in
+    tells_by told c.args.fault (faults.ReadFault c.in-ReadFault.field-0) _ c.in-ReadFault.is
+    (c.tell-in-ReadFault.ensures.status, c.tell-in-ReadFault.ensures.line)
 
 pub returns-in-WriteFault : goal.returns-in-WriteFault
 returns-in-WriteFault g c =
     let told = output_of g.E.Sink.contents g.E.Sink.has_failed g.E.Sink.holds_back
     c.args.errors.now c.tell_write_fault.new.errors in
     tells_by told c.args.fault faults.WriteFault _ c.in-WriteFault.is c.tell_write_fault.ensures
+
+pub returns-in-NotSaved : goal.returns-in-NotSaved
+returns-in-NotSaved g c =
+    let told = output_of g.E.Sink.contents g.E.Sink.has_failed g.E.Sink.holds_back
+    c.args.errors.now c.tell_write_fault-in-NotSaved.new.errors in
+    tells_by told c.args.fault (faults.NotSaved c.in-NotSaved.field-0) _ c.in-NotSaved.is
+    c.tell_write_fault-in-NotSaved.ensures
 
 pub returns-in-NoMemory : goal.returns-in-NoMemory
 returns-in-NoMemory g c =

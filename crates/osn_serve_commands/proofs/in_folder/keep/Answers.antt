@@ -24,4 +24,4 @@ returns-in-Ok g c =
 
 pub returns-in-Err : goal.returns-in-Err
 returns-in-Err g c =
-    inl (c.in-Err.fault, c.in-Err.ensures.err, (refl, c.report.ensures))
+    inl (c.in-Err.fault, c.in-Err.ensures.err, (refl, c.report_at.ensures))

@@ -12,8 +12,9 @@ returns-in-None-clause-ok g c =
 
 pub returns-in-None-clause-err : goal.returns-in-None-clause-err
 returns-in-None-clause-err g c =
-    unfollowed_by c.serve_edits.result (option_map (λ path. path.now) c.args.options.journal)
-    (option_map (λ path. path.now) c.args.options.keep) _ _ _ _ _
+    unfollowed_by c.serve_edits.result (λ failure. failure.path.now) (λ failure. failure.fault)
+    (option_map (λ path. path.now) c.args.options.journal)
+    (option_map (λ path. path.now) c.args.options.keep) _ _ _ _
     (ap (option_map (λ path. path.now)) c.in-None.is)
     c.serve_edits.ensures.err
 

@@ -12,7 +12,8 @@ returns-in-None-clause-ok g c =
 
 pub returns-in-None-clause-err : goal.returns-in-None-clause-err
 returns-in-None-clause-err g c =
-    unserved_by c.serve.result (option_map (λ path. path.now) c.args.options.journal) _ _ _ _ _
+    unserved_by c.serve.result (λ failure. failure.path.now) (λ failure. failure.fault)
+    (option_map (λ path. path.now) c.args.options.journal) _ _ _ _
     (ap (option_map (λ path. path.now)) c.in-None.is)
     c.serve.ensures.err
 

@@ -32,5 +32,5 @@ returns-in-Err g c =
       failed = g.E.Sink.has_failed errors;
       held_back = g.E.Sink.holds_back errors;
       tells = h.1;
-      ended = inl (c.in-Err.fault, refl, c.report.ensures, h.2);
+      ended = inl (c.in-Err.fault, refl, c.report_at.ensures, h.2);
     }

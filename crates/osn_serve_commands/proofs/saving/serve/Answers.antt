@@ -1,9 +1,11 @@
-use Rattle.std.proofs.Common.{inr, ap, sym, subst, option_map, ◌∙◌}
+use Rattle.std.proofs.Common.{inr, ap, refl, sym, subst, option_map, ◌∙◌}
 use Rattle.osn_folder.specs.Folder.{MayFail}
 use Rattle.osn_lines.specs.Streams.{input_of}
 use Rattle.osn_serve_commands.specs.Saving.{LocksIf}
 use Rattle.osn_serve_commands.specs.Serve.{input_if}
-use Rattle.osn_serve_commands.proofs.SaveLemmas.{given_if, may_fail_if, replacing_ran, service_ran}
+use Rattle.osn_serve_commands.proofs.ResultLemmas.{if_err_made}
+use Rattle.osn_serve_commands.proofs.SaveLemmas.{given_if, may_fail_if, not_opened, replaced_unopened}
+use Rattle.osn_serve_commands.proofs.SaveLemmas.{replacing_ran, service_ran}
 use Rattle.osn_serve_commands.proofs.saving.serve.Goals as goal
 
 pub returns-in_ok-file-in-Some-clause-ok : goal.returns-in_ok-file-in-Some-clause-ok
@@ -15,7 +17,7 @@ returns-in_ok-file-in-Some-clause-ok g c =
       subst (λ path. LocksIf path (g.D.Folder.known c.args.folder.now)
           (g.D.Folder.known c.lock_if.new.folder)) c.in-Ok.ensures.path c.in-Ok.ensures.ok,
       replacing_ran c.args.limits _ _ _ _ _ (MayFail g.D.File.Source.has_failed) _ _ _ _ _ _
-          c.in-Ok.ensures.path c.rules_of-rules.ensures c.in-Some.path.now
+          _ c.path_or_none.ensures c.in-Ok.ensures.path c.rules_of-rules.ensures c.in-Some.path.now
           (input_of g.D.File.Source.remaining g.D.File.Source.has_failed found.file left)
           (sym c.replaced_path.ensures ∙ ap (option_map (λ path. path.now)) c.in-Some.is)
           found.ensures.file (λ yes. (left, yes)) (λ yes. absurd (cc)) found.ensures.ok
@@ -32,10 +34,34 @@ returns-in_ok-source-in-None-clause-ok g c =
       subst (λ path. LocksIf path (g.D.Folder.known c.args.folder.now)
           (g.D.Folder.known c.lock_if.new.folder)) c.in-Ok.ensures.path c.in-Ok.ensures.ok,
       service_ran c.args.limits _ _ _ _ _ (MayFail file.has_failed) _ _ _ _ _ _
-          c.in-Ok.ensures.path c.rules_of-rules.ensures
+          _ c.path_or_none-in-None.ensures c.in-Ok.ensures.path c.rules_of-rules.ensures
           (input_if file.remaining file.has_failed found.source left)
           (sym c.replaced_path.ensures ∙ ap (option_map (λ path. path.now)) c.in-None.is)
           (given_if file.remaining file.has_failed _ _ found.source left found.ensures.file)
           (may_fail_if file.remaining file.has_failed found.source left) found.ensures.ok
           found.ensures.crash c.serve_beside.ensures,
     )
+
+pub returns-in_err-file-in-Some-clause-err : goal.returns-in_err-file-in-Some-clause-err
+returns-in_err-file-in-Some-clause-err g c =
+    let why = c.in_err-file-in-Some.field-0.0 in
+    if_err_made c.from_residual.result c.from_residual.ensures.1
+    (λ e is. (
+      replaced_unopened _ _ _ c.in-Some.path.now e.path.now why.path.now e.fault why.cause _ _ _
+          (sym c.replaced_path.ensures ∙ ap (option_map (λ path. path.now)) c.in-Some.is)
+          c.in-Ok.ensures.ok is c.in_err-file-in-Some.ensures.err,
+      refl,
+      refl,
+    ))
+
+pub returns-in_err-source-in-None-clause-err : goal.returns-in_err-source-in-None-clause-err
+returns-in_err-source-in-None-clause-err g c =
+    let why = c.in_err-source-in-None.field-0.0 in
+    if_err_made c.from_residual-in_err-source-in-None.result
+    c.from_residual-in_err-source-in-None.ensures.1
+    (λ e is. (
+      not_opened _ _ e.path.now why.path.now e.fault why.cause _ _ _ c.in-Ok.ensures.ok is
+          c.in_err-source-in-None.ensures.err,
+      refl,
+      refl,
+    ))

@@ -13,7 +13,7 @@ returns-in-Err g c =
           c.read_all.new.source)
           c.from.ensures c.in-Err.ensures.reason,
       refl,
-      (refl, c.report.ensures),
+      (refl, c.report_at.ensures),
     )
 
 pub returns : goal.returns

@@ -82,8 +82,8 @@ returns-in-Err-found-clause-err g c =
     upgrade_unread c.args.limits c.args.path.now (MayFail file.has_failed)
     (folders_of folder c.args.folder.now c.release.new.self)
     (output_of g.E.Sink.contents g.E.Sink.has_failed g.E.Sink.holds_back c.args.errors.now
-    c.report-in-Err-found.new.errors) (folder c.release.new.self) given
+    c.report_at-in-Err-found.new.errors) (folder c.release.new.self) given
     (looked_at c.args.path.now (MayFail file.has_failed) _ (folder c.keep.new.self) _ _ given
     c.in-Ok.ensures.ok c.in-Ok.ensures.contents c.in-Ok.ensures.source (λ yes. (left, yes))
-    c.release.ensures) c.in-Err-found.fault c.report-in-Err-found.result
-    c.in-Err-found.ensures.err refl c.report-in-Err-found.ensures
+    c.release.ensures) c.in-Err-found.fault c.report_at-in-Err-found.result
+    c.in-Err-found.ensures.err refl c.report_at-in-Err-found.ensures
