@@ -133,9 +133,15 @@ pub(crate) fn read_cases<'a>(alloc: Global, text: &'a str) -> Result<CaseFile<'a
     for line in text.lines() {
         reading.take(line)?;
     }
-    match reading.end {
-        Some(end) => Err(CaseFault::NoEnd(reading.line, end)),
-        None if reading.file.cases.is_empty() => Err(CaseFault::NoCase(reading.line)),
-        None => Ok(reading.file),
+    let Reading {
+        file,
+        end,
+        line,
+        ..
+    } = reading;
+    match end {
+        Some(end) => Err(CaseFault::NoEnd(line, end)),
+        None if file.cases.is_empty() => Err(CaseFault::NoCase(line)),
+        None => Ok(file),
     }
 }
