@@ -51,7 +51,7 @@ files_of (completing shell) = []
 files_of (reading_letters journal asked) = journal ∷ []
 files_of (writing_text journal code) = journal ∷ []
 files_of (planning journal text) = journal ∷ []
-files_of (publishing journal text) = text ∷ []
+files_of (publishing journal text onto_newest) = text ∷ []
 
 -- the command that is asked for was run under these limits, with the files that the arguments name.
 -- This is what it wrote to standard output, what standard error was told, and its status. The facts
@@ -80,8 +80,8 @@ Runs limits (writing_text journal code) CanFail CanStay d i o e status =
     ReadsOne journal CanFail d (λ file. PrintsText limits journal file code o e status)
 Runs limits (planning journal text) CanFail CanStay d i o e status =
     PlansInFolder limits journal text CanFail d o e status
-Runs limits (publishing journal text) CanFail CanStay d i o e status =
-    PublishesInFolder limits journal text CanFail CanStay d o e status
+Runs limits (publishing journal text onto_newest) CanFail CanStay d i o e status =
+    PublishesInFolder limits journal text onto_newest CanFail CanStay d o e status
 
 -- ---- a run
 

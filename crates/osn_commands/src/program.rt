@@ -152,9 +152,20 @@ where
         CommandWords::Plan { journal, text } => {
             plan_in_folder(alloc, limits, folder, journal, text, output, errors)
         }
-        CommandWords::Publish { journal, text } => {
-            publish_in_folder(alloc, limits, folder, journal, text, output, errors)
-        }
+        CommandWords::Publish {
+            journal,
+            text,
+            onto_newest,
+        } => publish_in_folder(
+            alloc,
+            limits,
+            folder,
+            journal,
+            text,
+            onto_newest,
+            output,
+            errors,
+        ),
         CommandWords::Convert { calendar, date } => {
             Ok(convert_command(alloc, calendar, date, output, errors))
         }
