@@ -101,8 +101,10 @@ def try_files(trial, folder):
     for what, given, wanted in (
             ("a folder as a text", {"text": folder}, f"oldstyle: {folder}: read fault\n"),
             ("no text", {"text": none}, f"oldstyle: {none}: no such file\n"),
-            ("a folder as a journal", {"journal": folder}, "oldstyle: read fault\n"),
-            ("a journal in no folder", {"journal": inside}, "oldstyle: read fault\n")):
+            ("a folder as a journal", {"journal": folder},
+             f"oldstyle: {folder}: it is no file, but a folder or a pipe\n"),
+            ("a journal in no folder", {"journal": inside},
+             f"oldstyle: {inside}: there is no folder {none}: make it first\n")):
         trial.begin()
         trial.hold_whole(what, trial.publish(**given), (3, wanted), False)
     hold("a folder was made", not os.path.exists(none))

@@ -31,12 +31,16 @@ from lib.text_journals import ANEW, try_all_journals
 from lib.text_pages import (absent_lines, edit_lines, fault_words, plan_end, publish_begin,
                             publish_end, register_lines, texts_of)
 
+# The line of the edition that a text was made of.
+EDITION = re.compile(r"^edition = \d+\n\n?")
+
 # ---- texts there and back
 
 
 def hold_text(what, text, lands):
-    """The text has the lines of these territories, however names and sources are quoted."""
-    lines, wanted = text.split("\n")[:-1], list(register_lines(lands))
+    """The text has its edition and the lines of these territories, however names and sources are quoted."""
+    begin = [f"edition = {int(bool(lands))}"] + [""] * bool(lands)
+    lines, wanted = text.split("\n")[:-1], begin + list(register_lines(lands))
     texts = [line for line in lines if line.startswith(("name = ", "source = "))]
     found = [said for line in texts for said in tomllib.loads(line).values()]
     lines = [re.sub("^(name|source) = .*", r"\1 = ", line) for line in lines]
@@ -79,7 +83,7 @@ def there_and_back(files, draws, number):
     said = files.write("text", text)
     hold(f"{what}: its text plans an edit",
          files.printed(what, "plan", first, said) == "nothing to change\n")
-    files.printed(what, "publish", second, said)
+    files.printed(what, "publish", second, files.write("bare", EDITION.sub("", text)))
     again = files.printed(what, "text", second)
     hold(f"{what}: another text", again == text or list(lands) != sorted(lands))
     hold_text(what, again, dict(sorted(lands.items())))
@@ -127,7 +131,7 @@ def change(files, draws, number):
          sorted(new[:-1]) == fewest and new[-1:] == [PUBLISH] * bool(fewest))
     lines = [line for edit in edits for line in edit_lines(lands, wanted, edit)] + absent
     hold(f"{what}: plan prints {planned}", planned == lines + [plan_end(len(edits), editions)])
-    hold(f"{what}: publish prints {told}", told == publish_begin(len(edits), editions) + lines
+    hold(f"{what}: publish prints {told}", told == publish_begin(len(edits), editions, journal) + lines
          + [publish_end(len(edits), editions)])
     hold(f"{what}: another register", shown(service.published) == shown(after(lands, wanted)))
     again = files.printed(what, "publish", journal, text).split("\n")[:-1]

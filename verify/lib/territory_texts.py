@@ -52,6 +52,7 @@ def day_of(calendar, year, month, day):
 def edits_of(text):
     """The edits that a text says, each with the path of its table."""
     tables = tomllib.loads(text)
+    tables.pop("edition", None)
     return [edit for code in sorted(tables, key=str.encode)
             for edit in territory_edits(code, tables[code])]
 

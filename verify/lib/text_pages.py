@@ -193,8 +193,8 @@ def plan_end(count, editions):
     return f"{edits} edition {editions + 1}"
 
 
-def publish_begin(count, editions):
-    return ["this is a new journal"] * (count > 0 and editions == 0)
+def publish_begin(count, editions, journal):
+    return [f"note: {journal} is a new journal"] * (count > 0 and editions == 0)
 
 
 def publish_end(count, editions):

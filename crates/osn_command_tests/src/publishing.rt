@@ -20,7 +20,7 @@ const HELD: [RunRow; 1] = [(
     (
         3,
         "",
-        "oldstyle: another run of the program keeps that journal\n",
+        "oldstyle: rome.journal: another run of the program keeps that journal\n",
     ),
 )];
 

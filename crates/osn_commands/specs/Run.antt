@@ -69,8 +69,8 @@ Runs limits (writing_text journal code) CanFail CanStay d i o e status =
     ReadsOne journal CanFail d (λ file. PrintsText limits journal file code o e status)
 Runs limits (planning journal text) CanFail CanStay d i o e status =
     PlansInFolder limits journal text CanFail d o e status
-Runs limits (publishing journal text) CanFail CanStay d i o e status =
-    PublishesInFolder limits journal text CanFail CanStay d o e status
+Runs limits (publishing journal text onto_newest) CanFail CanStay d i o e status =
+    PublishesInFolder limits journal text onto_newest CanFail CanStay d o e status
 
 -- ---- why a command ended early
 
@@ -99,7 +99,8 @@ Fails limits (completing shell) CanFail d path fault = ⊥
 Fails limits (reading_letters journal asked) CanFail d path fault = IsUnopened journal d path fault
 Fails limits (writing_text journal code) CanFail d path fault = IsUnopened journal d path fault
 Fails limits (planning journal text) CanFail d path fault = IsUnopened journal d path fault
-Fails limits (publishing journal text) CanFail d path fault = IsUnopened text d path fault
+Fails limits (publishing journal text onto_newest) CanFail d path fault =
+    IsUnopened text d path fault
 
 -- ---- a run
 

@@ -199,8 +199,21 @@ where
             let done = plan_in_folder(alloc, limits, folder, journal, text, output, errors);
             opened(journal, done)
         }
-        CommandWords::Publish { journal, text } => {
-            let done = publish_in_folder(alloc, limits, folder, journal, text, output, errors);
+        CommandWords::Publish {
+            journal,
+            text,
+            onto_newest,
+        } => {
+            let done = publish_in_folder(
+                alloc,
+                limits,
+                folder,
+                journal,
+                text,
+                onto_newest,
+                output,
+                errors,
+            );
             opened(text, done)
         }
         CommandWords::Convert { calendar, date } => {

@@ -10,6 +10,7 @@ use Rattle.osn_serve_commands.specs.Keep.{HoldsObject, cut_text, unfinished_line
 use Rattle.osn_serve_commands.specs.KeepInside.{AreReadOf, IsHeldIn}
 use Rattle.osn_text_commands.specs.Publish.{IsOlderEdition}
 use Rattle.osn_text_commands.specs.PublishInside.{IsOlderPlan, IsPartOf}
+use Rattle.osn_text_commands.specs.Since.{RequestModel}
 
 -- what counts of the bytes that were read counts of what was given
 pub part_read : (given : Option (List ℕ)) (bytes : List ℕ) (part : WholePart)
@@ -18,14 +19,14 @@ part_read None bytes part read whole = tt
 part_read (Some held) bytes part read whole = subst (IsWholePart part) read whole
 
 -- the journal that held these bytes is the one that was given
-pub edition_of_older : (limits : Limits) (wanted : RegisterModel) (given : Option (List ℕ))
+pub edition_of_older : (limits : Limits) (asked : RequestModel) (wanted : RegisterModel) (given : Option (List ℕ))
     (held bytes journal text : List ℕ) (cut : Option (List ℕ)) (part : WholePart)
     (version : Version) (s : ObjectState) → AreReadOf given held
     → IsHeldIn limits held part version s
-    → IsOlderPlan held part version s wanted bytes journal text cut
-    → IsOlderEdition limits wanted given bytes journal text cut
-edition_of_older limits wanted given held bytes journal text cut part version s read holds
-    (pending, edits, plans, older) =
+    → IsOlderPlan asked held part version s wanted bytes journal text cut
+    → IsOlderEdition limits asked wanted given bytes journal text cut
+edition_of_older limits asked wanted given held bytes journal text cut part version s read holds
+    (pending, had, (edits, plans, free, older)) =
     let same = sym older.same in record {
       read = subst (AreReadOf given) same read;
       version = version;
@@ -33,7 +34,9 @@ edition_of_older limits wanted given held bytes journal text cut part version s 
       holds = subst (λ l. HoldsObject limits l version s) same holds.1;
       pending = pending;
       edits = edits;
+      had = had;
       plans = plans;
+      free = free;
       needs = older.needs;
       lawful = older.lawful;
       sources = older.sources;

@@ -5,4 +5,5 @@ pub mod NoteLemmas
 pub mod FolderLemmas
 pub mod PlanLemmas
 pub mod PublishLemmas
+pub mod SinceLemmas
 pub mod TextLemmas

@@ -35,12 +35,12 @@ some_refused refused other f (inr is) = inl (rw is refl)
 module _ (s : ObjectState) (found : Note) where
   -- by whether there are edits, for a journal that is not there
   pub missing_none : (edits : List Edit) → (length edits == 0) ≡ true
-      → IsNoteOf notes.Absent found → IsNoteOf (missing_note s edits) found
+      → IsNoteOf notes.New found → IsNoteOf (missing_note s edits) found
   missing_none [] none h = h
   missing_none (e ∷ es) none h = absurd (omega (arith, eqb-true (length (e ∷ es)) 0 none))
 
   pub missing_some : (edits : List Edit) → (length edits == 0) ≡ false
-      → IsNoteOf (refusal_or (edition_refusal s edits) notes.Missing) found
+      → IsNoteOf (refusal_or (edition_refusal s edits) notes.New) found
       → IsNoteOf (missing_note s edits) found
   missing_some [] some h = absurd (cc)
   missing_some (e ∷ es) some h = h

@@ -1,15 +1,22 @@
 -- A plan from the register of an object is one from what the object has published, and a journal
 -- that may be there is as the plan's contract says.
-use Rattle.std.proofs.Common.{◌≡◌, ℕ, Bool, List, Option, Some, None, is_some, option_map, refl}
-use Rattle.std.proofs.Common.{subst}
+use Rattle.std.proofs.Common.{◌≡◌, ℕ, Bool, List, length, Option, Some, None, is_some, option_map}
+use Rattle.std.proofs.Common.{refl, subst}
 use Rattle.osn_core.specs.Sequential.{ObjectState}
 use Rattle.osn_folder.specs.Folder.{Known}
 use Rattle.osn_plan.specs.Plan.{IsPlan}
-use Rattle.osn_register.specs.Plain.{LandModel}
+use Rattle.osn_lines.specs.Streams.{Output}
+use Rattle.osn_register.specs.Plain.{LandModel, RegisterModel}
 use Rattle.osn_register.specs.declared.edit.Edit.{Edit}
 use Rattle.osn_register.specs.declared.limits.Limits.{Limits}
+use Rattle.osn_report.specs.Messages.{TellsIfMade, TellsNothing}
+use Rattle.osn_report.specs.declared.status.Status.{Status}
+use Rattle.osn_report.specs.declared.status.Status.TheVariants as statuses
 use Rattle.osn_serve_commands.specs.Serve.{input_if}
-use Rattle.osn_text_commands.specs.InFolder.{IsOpened}
+use Rattle.osn_text_commands.specs.InFolder.{IsOpened, TellsHindranceAfter}
+use Rattle.osn_text_commands.specs.Note.{TellsNote}
+use Rattle.osn_text_commands.specs.Plan.{PrintsPlanTo, PrintsUnlessLater, behind_or}
+use Rattle.osn_text_commands.specs.Since.{behind_lines, later_lines}
 use Rattle.osn_text_commands.specs.Text.{published}
 
 pub same_plan : (s : ObjectState) (limits : Limits) (lands wanted : List LandModel)
@@ -42,3 +49,17 @@ module _ {S : Type 0} (remaining : S → Option (List ℕ)) (has_failed : S → 
           (input_if remaining has_failed old new)) before after
       by None h = h
       by (Some source) h = h
+
+-- ---- what is told
+
+-- after a plan that was not printed nothing more is
+pub hindrance_untold : (printed : Status) (path : List ℕ) (there : Bool) (known : Option Known)
+    (e : Output) → (printed ≡ statuses.Done → ⊥) → TellsNothing e
+    → TellsHindranceAfter printed path there known known e printed
+hindrance_untold statuses.Done path there known e other nothing = absurd (other refl)
+hindrance_untold statuses.Refused path there known e other nothing = (refl, refl, nothing)
+hindrance_untold statuses.Misused path there known e other nothing = (refl, refl, nothing)
+hindrance_untold statuses.ReadFault path there known e other nothing = (refl, refl, nothing)
+hindrance_untold statuses.WriteFault path there known e other nothing = (refl, refl, nothing)
+hindrance_untold statuses.Unwritten path there known e other nothing = (refl, refl, nothing)
+hindrance_untold statuses.NoMemory path there known e other nothing = (refl, refl, nothing)

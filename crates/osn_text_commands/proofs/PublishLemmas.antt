@@ -1,6 +1,6 @@
 -- A publish did what its contract says, by whether there are edits and whether some are pending.
 use Rattle.std.proofs.Common.{◌≡◌, ◌==◌, ℕ, Bool, true, false, List, [], ◌∷◌, length}
-use Rattle.std.proofs.Common.{Option, None, inl, inr, refl, subst, arith}
+use Rattle.std.proofs.Common.{Option, Some, None, inl, inr, refl, subst, arith}
 use Rattle.std.proofs.Common.{eqb-true}
 use Rattle.std.specs.List.{All}
 use Rattle.osn_core.specs.Sequential.{HasLawfulSource, ObjectState}
@@ -14,24 +14,25 @@ use Rattle.osn_register.specs.declared.edit.Edit.{Edit}
 use Rattle.osn_register.specs.declared.limits.Limits.{Limits}
 use Rattle.osn_register.specs.declared.refusal.Refusal.{Refusal}
 use Rattle.osn_report.specs.Printing.{PrintsIfMade}
-use Rattle.osn_report.specs.Messages.{TellsIfMade}
-use Rattle.osn_report.specs.declared.fault.CommandFault.TheVariants.{OlderVersion, Refused}
+use Rattle.osn_report.specs.declared.fault.CommandFault.TheVariants.{Refused}
 use Rattle.osn_report.specs.declared.status.Status.{Status}
-use Rattle.osn_report.specs.declared.status.Status.TheVariants as statuses
 use Rattle.osn_serve_commands.specs.Keep.{is_kept}
-use Rattle.osn_text_commands.specs.Edition.{IsNoMemoryOr, edition_refusal}
-use Rattle.osn_text_commands.specs.PlanWords.{pending_line}
+use Rattle.osn_text_commands.specs.Edition.{IsNoMemoryOr, edition_refusal, needs_sources}
+use Rattle.osn_text_commands.specs.PlanWords.{not_kept_line, pending_line}
 use Rattle.osn_text_commands.specs.Publish.{AppendsEdits, AppendsIfKept, PublishesEdits}
-use Rattle.osn_text_commands.specs.Publish.{PublishesPlan, PublishesUnlessPending}
-use Rattle.osn_text_commands.specs.Publish.{Refuses, WritesEdition, published_text, standing_text}
+use Rattle.osn_text_commands.specs.Publish.{PublishesPlan, PublishesUnlessBehind}
+use Rattle.osn_text_commands.specs.Publish.{PublishesUnlessLater, PublishesUnlessPending}
+use Rattle.osn_text_commands.specs.Publish.{Refuses, RefusesBy, WritesEdition, published_text}
+use Rattle.osn_text_commands.specs.Publish.{standing_text}
+use Rattle.osn_text_commands.specs.Since.{RequestModel, behind_lines, later_lines, later_than}
 use Rattle.osn_text_commands.specs.Text.{published}
 
-module _ (Stays : Type 0) (s : ObjectState) (wanted : RegisterModel) (old file : FileState)
-    (given : Option (List ℕ)) (o e : Output) (status : Status) where
+module _ (Stays : Type 0) (journal : List ℕ) (s : ObjectState) (wanted : RegisterModel)
+    (old file : FileState) (given : Option (List ℕ)) (o e : Output) (status : Status) where
   -- there are no edits
   pub nothing_published : (edits : List Edit) → (length edits == 0) ≡ true → file ≡ old
       → PrintsIfMade (standing_text s wanted) o e status
-      → AppendsEdits Stays s wanted old file given edits o e status
+      → AppendsEdits Stays journal s wanted old file given edits o e status
   nothing_published [] none same h = (same, h)
   nothing_published (edit ∷ edits) none same h =
       absurd (omega (arith, eqb-true (length (edit ∷ edits)) 0 none))
@@ -39,15 +40,15 @@ module _ (Stays : Type 0) (s : ObjectState) (wanted : RegisterModel) (old file :
   -- the edits were to be written
   pub edition_written : (edits : List Edit) → (length edits == 0) ≡ false
       → edition_refusal s edits ≡ None → All HasLawfulSource edits
-      → WritesEdition Stays old file given edits (published_text s wanted edits) o e status
-      → AppendsEdits Stays s wanted old file given edits o e status
+      → WritesEdition Stays old file given edits (published_text journal s wanted edits) o e status
+      → AppendsEdits Stays journal s wanted old file given edits o e status
   edition_written [] some lawful sources h = absurd (cc)
   edition_written (edit ∷ edits) some lawful sources h = inr (rw lawful (sources, h))
 
   -- they are refused, or memory ran out
   pub edition_refused : (edits : List Edit) (f : Refusal) → (length edits == 0) ≡ false
       → IsNoMemoryOr (edition_refusal s edits) f → Refuses (Refused f) old file o e status
-      → AppendsEdits Stays s wanted old file given edits o e status
+      → AppendsEdits Stays journal s wanted old file given edits o e status
   edition_refused [] f some why h = absurd (cc)
   edition_refused (edit ∷ edits) f some (inl none) h =
       inl (subst (λ f. Refuses (Refused f) old file o e status) none h)
@@ -56,42 +57,44 @@ module _ (Stays : Type 0) (s : ObjectState) (wanted : RegisterModel) (old file :
   module _ (version : Version) where
     -- a journal of the version is kept, or not
     pub kept_appended : (kept : Bool) → kept ≡ true → (edits : List Edit)
-        → AppendsEdits Stays s wanted old file given edits o e status
-        → AppendsIfKept kept Stays version s wanted old file given edits o e status
+        → AppendsEdits Stays journal s wanted old file given edits o e status
+        → AppendsIfKept kept Stays journal version s wanted old file given edits o e status
     kept_appended kept is edits h = rw is h
 
     pub older_refused : (kept : Bool) → kept ≡ false → (edits : List Edit)
-        → Refuses (OlderVersion version) old file o e status
-        → AppendsIfKept kept Stays version s wanted old file given edits o e status
+        → RefusesBy (not_kept_line journal version) old file o e status
+        → AppendsIfKept kept Stays journal version s wanted old file given edits o e status
     older_refused kept is edits h = rw is h
 
     -- the edits need sources that it lacks, and one is refused; or they need none
     pub anew_refused : (needs : Bool) → needs ≡ true → (edits : List Edit) (f : Refusal)
         → IsNoMemoryOr (edition_refusal s edits) f → Refuses (Refused f) old file o e status
-        → PublishesEdits needs Stays version s wanted old file given edits o e status
+        → PublishesEdits needs Stays journal version s wanted old file given edits o e status
     anew_refused needs is edits f why h = rw is (f, why, h)
 
     pub none_needed : (needs : Bool) → needs ≡ false → (edits : List Edit)
-        → AppendsIfKept (is_kept version) Stays version s wanted old file given edits o e status
-        → PublishesEdits needs Stays version s wanted old file given edits o e status
+        → AppendsIfKept (is_kept version) Stays journal version s wanted old file given edits o e status
+        → PublishesEdits needs Stays journal version s wanted old file given edits o e status
     none_needed needs is edits h = rw is h
 
-    module _ (path : List ℕ) where
-      -- nothing is pending
-      pub nothing_pending : (pending : List Edit) → (length pending == 0) ≡ true
-          → PublishesPlan Stays version s path wanted old file given o e status
-          → PublishesUnlessPending Stays version s pending path wanted old file given o e status
-      nothing_pending [] none h = h
-      nothing_pending (edit ∷ edits) none h =
-          absurd (omega (arith, eqb-true (length (edit ∷ edits)) 0 none))
+module _ (Stays : Type 0) (asked : RequestModel) (version : Version) (s : ObjectState)
+    (wanted : RegisterModel) (old file : FileState) (given : Option (List ℕ)) (o e : Output)
+    (status : Status) where
+  -- nothing is pending
+  pub nothing_pending : (pending : List Edit) → (length pending == 0) ≡ true
+      → PublishesUnlessLater (later_than asked.edition (length s.batches)) Stays version s asked
+      wanted old file given o e status
+      → PublishesUnlessPending Stays version s pending asked wanted old file given o e status
+  nothing_pending [] none h = h
+  nothing_pending (edit ∷ edits) none h =
+      absurd (omega (arith, eqb-true (length (edit ∷ edits)) 0 none))
 
-      -- some edits are
-      pub pending_told : (pending : List Edit) → (length pending == 0) ≡ false → file ≡ old
-          → o.new ≡ o.old
-          → TellsIfMade e statuses.Refused (pending_line (length pending)) status
-          → PublishesUnlessPending Stays version s pending path wanted old file given o e status
-      pending_told [] some same none h = absurd (cc)
-      pending_told (edit ∷ edits) some same none h = (same, none, h)
+  -- some edits are
+  pub pending_told : (pending : List Edit) → (length pending == 0) ≡ false
+      → RefusesBy (pending_line (length pending)) old file o e status
+      → PublishesUnlessPending Stays version s pending asked wanted old file given o e status
+  pending_told [] some h = absurd (cc)
+  pending_told (edit ∷ edits) some h = h
 
 -- of no edits there is none
 pub none_pending : (pending : List Edit) → (length pending == 0) ≡ true → pending ≡ []

@@ -12,15 +12,15 @@ use Rattle.osn_report.specs.declared.status.Status.TheVariants as statuses
 use Rattle.osn_text_commands.specs.Text.{PrintsLand}
 use Rattle.osn_text_writer.specs.TerritoryText.{text_of_code}
 
-module _ (lands : List LandModel) (path code : List ℕ) (o e : Output) (status : Status) where
+module _ (edition : ℕ) (lands : List LandModel) (path code : List ℕ) (o e : Output) (status : Status) where
   -- a territory has the code
   pub land_printed : code_refusal lands code ≡ None
-      → PrintsIfMade (text_of_code newest_rules code lands) o e status
-      → PrintsLand lands path code o e status
+      → PrintsIfMade (text_of_code newest_rules edition code lands) o e status
+      → PrintsLand edition lands path code o e status
   land_printed none h = rw none h
 
   -- none has it
   pub land_refused : (refusal : Refusal) → code_refusal lands code ≡ Some refusal → o.new ≡ o.old
       → TellsIfMade e statuses.Refused (land_refusal_line path code refusal) status
-      → PrintsLand lands path code o e status
+      → PrintsLand edition lands path code o e status
   land_refused refusal some same h = rw some (same, h)

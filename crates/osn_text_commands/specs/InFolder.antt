@@ -1,15 +1,17 @@
 -- What the command `plan` has done over the files of a folder: the journal, and the text.
-use Rattle.std.specs.Prelude.{◌≡◌, ◌⊎◌, Bool, List, [], ◌∷◌, ℕ, Option, Some, None, option_map}
+use Rattle.std.specs.Prelude.{◌≡◌, ◌⊎◌, Bool, List, [], ◌∷◌, ℕ, Option, Some, None, is_some, option_map}
 use Rattle.osn_folder.specs.Folder.{CannotOpen, Changes, IsFileOf, Known, Opens}
 use Rattle.osn_folder.specs.declared.fault.OpenFailed.{OpenFailed}
 use Rattle.osn_lines.specs.Streams.{Input, Output}
 use Rattle.osn_register.specs.declared.limits.Limits.{Limits}
 use Rattle.osn_report.specs.Folders.{Folders, ReadsOne}
-use Rattle.osn_report.specs.Messages.{TellsIfMade}
+use Rattle.osn_report.specs.Messages.{TellsIfMade, TellsNothing}
 use Rattle.osn_report.specs.Unopened.{unopened_line}
 use Rattle.osn_report.specs.declared.status.Status.{Status}
 use Rattle.osn_report.specs.declared.status.Status.TheVariants as statuses
 use Rattle.osn_serve_commands.specs.InFolder.{CanFailIf}
+use Rattle.osn_serve_commands.specs.Keep.{first_output, later_output}
+use Rattle.osn_text_commands.specs.Keeping.{TellsHindrance}
 use Rattle.osn_text_commands.specs.Plan.{PrintsPlan}
 
 -- the file of this path was opened, and will give these bytes; or it could not be
@@ -33,12 +35,29 @@ PrintsPlanBy limits path journal text_path CanFail d o e status =
     ⊎ ReadsOne text_path CanFail d
     (λ text. PrintsPlan limits path journal text_path text o e status)
 
--- The journal was opened, if it is there, and then the text, and the plan was printed.
+-- after a plan that was printed it was told why the journal could not be kept, if that was found
+abbrev pub TellsHindranceAfter : Status → List ℕ → Bool → Option Known → Option Known → Output
+    → Status → Type 0
+TellsHindranceAfter statuses.Done path is_there before after e status =
+    TellsHindrance path is_there before after e status
+TellsHindranceAfter printed path is_there before after e status =
+    (status ≡ printed) × (after ≡ before) × TellsNothing e
+
+-- The journal was opened, if it is there, and then the text, and the plan was printed. Then it was
+-- told why the journal could not be kept, if that was found.
 pub record PlansInFolder (limits : Limits) (path text_path : List ℕ) (CanFail : Bool → Type 0)
     (d : Folders) (o e : Output) (status : Status) : Type 0 where
   pub journal : Option Input
   pub opened : Option Known
   pub opens : IsOpened path (option_map (λ journal. journal.bytes) journal) d.before opened
   pub fails : CanFailIf CanFail journal
+  pub planned : Option Known
+  pub between : Option (List ℕ)
+  pub failed : Bool
+  pub held_back : Bool
+  pub printed : Status
   pub prints : PrintsPlanBy limits path journal text_path CanFail
-      (record { before = opened; after = d.after }) o e status
+      (record { before = opened; after = planned }) o (first_output e between failed held_back)
+      printed
+  pub tells : TellsHindranceAfter printed path (is_some journal) planned d.after
+      (later_output e between failed) status

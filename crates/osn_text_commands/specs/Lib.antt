@@ -5,7 +5,9 @@ pub mod Note
 pub mod PlanFault
 pub mod Plan
 pub mod Edition
+pub mod Since
 pub mod Publish
 pub mod PublishInside
+pub mod Keeping
 pub mod InFolder
 pub mod PublishFolder

@@ -13,8 +13,8 @@ use Rattle.osn_report.specs.declared.status.Status.{Status}
 use Rattle.osn_report.specs.declared.status.Status.TheVariants as statuses
 use Rattle.osn_serve_commands.specs.Keep.{is_kept}
 use Rattle.osn_text_commands.specs.Edition.{edition_refusal, needs_sources}
-use Rattle.osn_text_commands.specs.PlanWords.{absent_line, anew_line, missing_line, not_kept_line}
-use Rattle.osn_text_commands.specs.PlanWords.{pending_line, refused_edits_line}
+use Rattle.osn_text_commands.specs.PlanWords.{anew_line, new_line, not_kept_line, pending_line}
+use Rattle.osn_text_commands.specs.PlanWords.{refused_edits_line}
 use Rattle.osn_text_commands.specs.declared.note.Note.{Note}
 use Rattle.osn_text_commands.specs.declared.note.Note.TheVariants as notes
 
@@ -27,8 +27,8 @@ refusal_or (Some refusal) other = notes.Refused refusal
 
 -- the note on edits for a journal that is not there
 abbrev pub missing_note : ObjectState → List Edit → Note
-missing_note s [] = notes.Absent
-missing_note s (e ∷ es) = refusal_or (edition_refusal s (e ∷ es)) notes.Missing
+missing_note s [] = notes.New
+missing_note s (e ∷ es) = refusal_or (edition_refusal s (e ∷ es)) notes.New
 
 -- the note on edits that a journal takes
 abbrev pub kept_note : ObjectState → List Edit → Note
@@ -66,8 +66,7 @@ IsNoteOf wanted found = (found ≡ wanted) ⊎ (found ≡ notes.Refused refusals
 abbrev pub note_line : List ℕ → Note → Option (List ℕ)
 note_line path notes.Nothing = None
 note_line path (notes.Pending edits) = Some (pending_line edits)
-note_line path notes.Missing = Some (missing_line path)
-note_line path notes.Absent = Some (absent_line path)
+note_line path notes.New = Some (new_line path)
 note_line path (notes.Refused refusal) = Some (refused_edits_line refusal)
 note_line path (notes.Anew version) = Some (anew_line version)
 note_line path (notes.NotKept version) = Some (not_kept_line path version)

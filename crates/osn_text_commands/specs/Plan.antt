@@ -13,7 +13,7 @@ use Rattle.osn_register.specs.declared.edit.Edit.{Edit}
 use Rattle.osn_register.specs.declared.limits.Limits.{Limits}
 use Rattle.osn_report.specs.Journal.{Begins, BeginsNot}
 use Rattle.osn_report.specs.Printing.{PrintsIfMade, PrintsNone}
-use Rattle.osn_report.specs.Messages.{TellsNothing}
+use Rattle.osn_report.specs.Messages.{TellsIfMade, TellsNothing}
 use Rattle.osn_report.specs.declared.fault.CommandFault.TheVariants.{File}
 use Rattle.osn_report.specs.declared.status.Status.{Status}
 use Rattle.osn_report.specs.declared.status.Status.TheVariants as statuses
@@ -25,8 +25,9 @@ use Rattle.osn_plan_page.specs.PlanPage.{plan_page}
 use Rattle.osn_text_commands.specs.Note.{TellsNote, note_line, note_of}
 use Rattle.osn_text_commands.specs.PlanFault.{TellsPlanFault}
 use Rattle.osn_text_commands.specs.PlanWords.{plan_end}
+use Rattle.osn_text_commands.specs.Since.{behind, behind_lines, later_lines, later_than}
 use Rattle.osn_text_commands.specs.Text.{published}
-use Rattle.osn_text_commands.specs.TextFile.{SaysRegister, IsTextFileFault, TellsTextFile}
+use Rattle.osn_text_commands.specs.TextFile.{Says, IsTextFileFault, TellsTextFile}
 use Rattle.osn_text_commands.specs.declared.text_file.TextFileFault.{TextFileFault}
 
 -- the lines of a plan, which would be the next edition of an object
@@ -52,7 +53,22 @@ pub record PrintsNoted (text : List ℕ) (note : Option (List ℕ)) (o e : Outpu
   pub prints : PrintsIfMade text o (first_output e between failed held_back) printed
   pub notes : TellsNoteAfter printed note (later_output e between failed) status
 
+-- that a text is behind an edition, or else another line
+abbrev pub behind_or : List ℕ → List ℕ → ObjectState → Option ℕ → Option (List ℕ)
+    → Option (List ℕ)
+behind_or journal text s None other = other
+behind_or journal text s (Some edition) other =
+    Some (behind_lines text journal edition (published s) s.batches)
+
 -- ---- how the command ends
+
+-- the line on the edits of a plan to a text of an edition, for the journal of this version that makes
+-- an object, and is there or not; the paths are those of the journal and of the text
+abbrev pub edits_line : List ℕ → List ℕ → Bool → Version → ObjectState → Option ℕ → List Edit
+    → Option (List ℕ)
+edits_line journal text is_there version s edition edits =
+    behind_or journal text s (behind edition s.batches edits)
+    (note_line journal (note_of is_there version s edits))
 
 -- there is no plan from the published register to the wanted one, which standard error was told
 -- with the path of the text
@@ -61,8 +77,8 @@ RefusesPlan s path wanted o e status =
     (fault : PlanFault) × IsFault s.limits wanted.lands (published s) fault × (o.new ≡ o.old)
     × TellsPlanFault path e fault status
 
--- the plan from what an object has published to the register that is wanted was printed, and then a
--- line on its edits told, if there is one; or there is none
+-- the plan from what an object has published to the register that is wanted was printed, and then
+-- lines on its edits told, if there are some; or there is none
 abbrev pub PrintsPlanTo : ObjectState → List ℕ → RegisterModel → (List Edit → Option (List ℕ))
     → Output → Output → Status → Type 0
 PrintsPlanTo s path wanted note o e status =
@@ -76,13 +92,23 @@ RefusesText limits path text o e status =
     (fault : TextFileFault) × IsTextFileFault limits text fault × (o.new ≡ o.old)
     × TellsTextFile path e fault status
 
--- the same of what the text of this path says, which may be nothing
-abbrev pub PrintsPlanOf : Limits → ObjectState → List ℕ → Input → (List Edit → Option (List ℕ))
-    → Output → Output → Status → Type 0
-PrintsPlanOf limits s path text note o e status =
+-- that, unless the text is of an edition that the journal lacks, which standard error was told
+abbrev pub PrintsUnlessLater : Option ℕ → ObjectState → List ℕ → List ℕ → RegisterModel
+    → (List Edit → Option (List ℕ)) → Output → Output → Status → Type 0
+PrintsUnlessLater None s journal path wanted note o e status =
+    PrintsPlanTo s path wanted note o e status
+PrintsUnlessLater (Some edition) s journal path wanted note o e status =
+    (o.new ≡ o.old)
+    × TellsIfMade e statuses.Refused (later_lines path journal edition (length s.batches)) status
+
+-- the same of what the text of this path says, which may be nothing, by the edition that it says
+abbrev pub PrintsPlanOf : Limits → ObjectState → List ℕ → List ℕ → Input
+    → (Option ℕ → List Edit → Option (List ℕ)) → Output → Output → Status → Type 0
+PrintsPlanOf limits s journal path text note o e status =
     RefusesText limits path text o e status
-    ⊎ ((wanted : RegisterModel) × SaysRegister limits text.bytes wanted
-    × PrintsPlanTo s path wanted note o e status)
+    ⊎ ((edition : Option ℕ) × (wanted : RegisterModel) × Says limits text.bytes edition wanted
+    × PrintsUnlessLater (later_than edition (length s.batches)) s journal path wanted
+    (note edition) o e status)
 
 -- a journal is of this version, by its head, if it is there
 abbrev pub IsOfVersionIf : Option Input → Version → Type 0
@@ -98,5 +124,5 @@ PrintsPlan limits path journal text_path text o e status =
     ((fault : FileFault) × BeginsNot limits journal fault × PrintsNone (File fault) o e status)
     ⊎ ((s : ObjectState) × Begins limits journal s
     × (version : Version) × IsOfVersionIf journal version
-    × PrintsPlanOf limits s text_path text
-    (λ edits. note_line path (note_of (is_some journal) version s edits)) o e status)
+    × PrintsPlanOf limits s path text_path text
+    (edits_line path text_path (is_some journal) version s) o e status)

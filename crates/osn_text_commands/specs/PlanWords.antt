@@ -18,9 +18,13 @@ plan_end edits next =
     else decimal edits
     ++ (codes " edits: publish makes them edition " ++ (decimal next ++ codes "\n")))
 
--- that a journal is new, if it has no edition
-abbrev pub new_journal_line : ℕ → List ℕ
-new_journal_line editions = if editions == 0 then codes "this is a new journal\n" else []
+-- that the journal of a path is new
+unfoldable pub new_line : List ℕ → List ℕ
+new_line path = codes "note: " ++ (shown path ++ codes " is a new journal\n")
+
+-- that it is, if it has no edition
+abbrev pub new_journal_line : List ℕ → ℕ → List ℕ
+new_journal_line path editions = if editions == 0 then new_line path else []
 
 -- the last line of edits that were published as the edition of this number
 abbrev pub published_line : ℕ → List ℕ
@@ -49,16 +53,6 @@ pending_text pending edits advice = codes "oldstyle: publish refuses a journal w
 -- the same with these words
 abbrev pub pending_line : ℕ → List ℕ
 pending_line pending = pending_text pending (edits_word pending) advice
-
--- the line on a journal of this path that is not there, where a publish makes it, and where it
--- would have nothing to change
-abbrev pub missing_line : List ℕ → List ℕ
-missing_line path =
-    codes "oldstyle: "
-    ++ (shown path ++ codes ": there is no such journal yet: publish makes it\n")
-
-abbrev pub absent_line : List ℕ → List ℕ
-absent_line path = codes "oldstyle: " ++ (shown path ++ codes ": there is no such journal yet\n")
 
 -- the line on edits that a publish refuses
 abbrev pub refused_edits_line : Refusal → List ℕ

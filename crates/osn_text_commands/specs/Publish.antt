@@ -22,7 +22,7 @@ use Rattle.osn_register.specs.declared.refusal.Refusal.TheVariants as refusals
 use Rattle.osn_report.specs.Printing.{FailsToPrint, PrintsIfMade, PrintsNone}
 use Rattle.osn_report.specs.Messages.{Ends, TellsIfMade, TellsLine}
 use Rattle.osn_report.specs.declared.fault.CommandFault.{CommandFault}
-use Rattle.osn_report.specs.declared.fault.CommandFault.TheVariants.{OlderVersion, Refused}
+use Rattle.osn_report.specs.declared.fault.CommandFault.TheVariants.{Refused}
 use Rattle.osn_report.specs.declared.status.Status.{Status}
 use Rattle.osn_report.specs.declared.status.Status.TheVariants as statuses
 use Rattle.osn_serve_commands.specs.Keep.{HoldsObject, HoldsNoObject, IfHeld, IsChangeFault}
@@ -31,21 +31,24 @@ use Rattle.osn_serve_commands.specs.Keep.{cut_text, is_kept, unfinished_line}
 use Rattle.osn_text_commands.specs.Edition.{IsNoMemoryOr, appended_text, edition_refusal}
 use Rattle.osn_text_commands.specs.Edition.{edition_text, needs_sources, with_batch}
 use Rattle.osn_text_commands.specs.Plan.{RefusesPlan}
-use Rattle.osn_text_commands.specs.PlanWords.{new_journal_line, pending_line, published_line}
-use Rattle.osn_text_commands.specs.PlanWords.{standing_line}
+use Rattle.osn_text_commands.specs.PlanWords.{new_journal_line, not_kept_line, pending_line}
+use Rattle.osn_text_commands.specs.PlanWords.{published_line, standing_line}
+use Rattle.osn_text_commands.specs.Since.{RequestModel, behind_lines, hindered, later_lines}
+use Rattle.osn_text_commands.specs.Since.{later_than}
 use Rattle.osn_text_commands.specs.Text.{published}
 
 -- ---- what is printed
 
--- that the journal is new, if it is, and the lines of a plan
-abbrev pub begun_text : ObjectState → RegisterModel → List Edit → List ℕ
-begun_text s wanted edits =
-    new_journal_line (length s.batches) ++ plan_page newest_rules (published s) wanted.lands edits
+-- that the journal of a path is new, if it is, and the lines of a plan
+abbrev pub begun_text : List ℕ → ObjectState → RegisterModel → List Edit → List ℕ
+begun_text path s wanted edits =
+    new_journal_line path (length s.batches)
+    ++ plan_page newest_rules (published s) wanted.lands edits
 
 -- these, and the line on the edition that was made
-abbrev pub published_text : ObjectState → RegisterModel → List Edit → List ℕ
-published_text s wanted edits =
-    begun_text s wanted edits ++ published_line (length s.batches + 1)
+abbrev pub published_text : List ℕ → ObjectState → RegisterModel → List Edit → List ℕ
+published_text path s wanted edits =
+    begun_text path s wanted edits ++ published_line (length s.batches + 1)
 
 -- the lines of a plan without edits, and that the last edition stands
 abbrev pub standing_text : ObjectState → RegisterModel → List ℕ
@@ -107,68 +110,94 @@ pub record WritesEdition (CanStay : Type 0) (old file : FileState) (given : Opti
 abbrev pub Refuses : CommandFault → FileState → FileState → Output → Output → Status → Type 0
 Refuses fault old file o e status = (file ≡ old) × PrintsNone fault o e status
 
+-- the same by this line, which takes memory
+abbrev pub RefusesBy : List ℕ → FileState → FileState → Output → Output → Status → Type 0
+RefusesBy line old file o e status =
+    (file ≡ old) × (o.new ≡ o.old) × TellsIfMade e statuses.Refused line status
+
 -- edits were appended as an edition, unless there are none, or one is refused, or memory ran out.
 -- Each source that one gives may be given
-abbrev pub AppendsEdits : Type 0 → ObjectState → RegisterModel → FileState → FileState
+abbrev pub AppendsEdits : Type 0 → List ℕ → ObjectState → RegisterModel → FileState → FileState
     → Option (List ℕ) → List Edit → Output → Output → Status → Type 0
-AppendsEdits CanStay s wanted old file given [] o e status =
+AppendsEdits CanStay path s wanted old file given [] o e status =
     (file ≡ old) × PrintsIfMade (standing_text s wanted) o e status
-AppendsEdits CanStay s wanted old file given (edit ∷ edits) o e status =
+AppendsEdits CanStay path s wanted old file given (edit ∷ edits) o e status =
     Refuses (Refused refusals.NoMemory) old file o e status
     ⊎ MatchOption (edition_refusal s (edit ∷ edits))
     (All HasLawfulSource (edit ∷ edits)
     × WritesEdition CanStay old file given (edit ∷ edits)
-    (published_text s wanted (edit ∷ edits)) o e status)
+    (published_text path s wanted (edit ∷ edits)) o e status)
     (λ refusal. Refuses (Refused refusal) old file o e status)
 
--- that, where a journal of this version is kept; or it is not, which standard error was told
-abbrev pub AppendsIfKept : Bool → Type 0 → Version → ObjectState → RegisterModel → FileState
-    → FileState → Option (List ℕ) → List Edit → Output → Output → Status → Type 0
-AppendsIfKept true CanStay version s wanted old file given edits o e status =
-    AppendsEdits CanStay s wanted old file given edits o e status
-AppendsIfKept false CanStay version s wanted old file given edits o e status =
-    Refuses (OlderVersion version) old file o e status
+-- that, where a journal of this version is kept; or it is not, which standard error was told with
+-- the path of the journal
+abbrev pub AppendsIfKept : Bool → Type 0 → List ℕ → Version → ObjectState → RegisterModel
+    → FileState → FileState → Option (List ℕ) → List Edit → Output → Output → Status → Type 0
+AppendsIfKept true CanStay path version s wanted old file given edits o e status =
+    AppendsEdits CanStay path s wanted old file given edits o e status
+AppendsIfKept false CanStay path version s wanted old file given edits o e status =
+    RefusesBy (not_kept_line path version) old file o e status
 
 -- where edits need sources that the version lacks, one of them is refused, or memory ran out; else
 -- that was done
-abbrev pub PublishesEdits : Bool → Type 0 → Version → ObjectState → RegisterModel → FileState
-    → FileState → Option (List ℕ) → List Edit → Output → Output → Status → Type 0
-PublishesEdits true CanStay version s wanted old file given edits o e status =
+abbrev pub PublishesEdits : Bool → Type 0 → List ℕ → Version → ObjectState → RegisterModel
+    → FileState → FileState → Option (List ℕ) → List Edit → Output → Output → Status → Type 0
+PublishesEdits true CanStay path version s wanted old file given edits o e status =
     (refusal : Refusal) × IsNoMemoryOr (edition_refusal s edits) refusal
     × Refuses (Refused refusal) old file o e status
-PublishesEdits false CanStay version s wanted old file given edits o e status =
-    AppendsIfKept (is_kept version) CanStay version s wanted old file given edits o e status
+PublishesEdits false CanStay path version s wanted old file given edits o e status =
+    AppendsIfKept (is_kept version) CanStay path version s wanted old file given edits o e status
+
+-- that, unless the text is behind an edition, which standard error was told
+abbrev pub PublishesUnlessBehind : Option ℕ → Type 0 → RequestModel → Version → ObjectState
+    → RegisterModel → FileState → FileState → Option (List ℕ) → List Edit → Output → Output
+    → Status → Type 0
+PublishesUnlessBehind None CanStay asked version s wanted old file given edits o e status =
+    PublishesEdits (needs_sources version edits) CanStay asked.journal version s wanted old file
+    given edits o e status
+PublishesUnlessBehind (Some edition) CanStay asked version s wanted old file given edits o e
+    status =
+    RefusesBy (behind_lines asked.text asked.journal edition (published s) s.batches) old file o e
+    status
 
 -- from what an object has published to the register that is wanted: there is no plan; or the edits
 -- of one were published
-abbrev pub PublishesPlan : Type 0 → Version → ObjectState → List ℕ → RegisterModel → FileState
-    → FileState → Option (List ℕ) → Output → Output → Status → Type 0
-PublishesPlan CanStay version s path wanted old file given o e status =
-    ((file ≡ old) × RefusesPlan s path wanted o e status)
+abbrev pub PublishesPlan : Type 0 → Version → ObjectState → RequestModel → RegisterModel
+    → FileState → FileState → Option (List ℕ) → Output → Output → Status → Type 0
+PublishesPlan CanStay version s asked wanted old file given o e status =
+    ((file ≡ old) × RefusesPlan s asked.text wanted o e status)
     ⊎ ((edits : List Edit) × IsPlan s.limits wanted.lands (published s) edits
-    × PublishesEdits (needs_sources version edits) CanStay version s wanted old file given edits o
-    e status)
+    × PublishesUnlessBehind (hindered asked s.batches edits) CanStay asked version s wanted old
+    file given edits o e status)
+
+-- that, unless the text is of an edition that the journal lacks, which standard error was told
+abbrev pub PublishesUnlessLater : Option ℕ → Type 0 → Version → ObjectState → RequestModel
+    → RegisterModel → FileState → FileState → Option (List ℕ) → Output → Output → Status → Type 0
+PublishesUnlessLater None CanStay version s asked wanted old file given o e status =
+    PublishesPlan CanStay version s asked wanted old file given o e status
+PublishesUnlessLater (Some edition) CanStay version s asked wanted old file given o e status =
+    RefusesBy (later_lines asked.text asked.journal edition (length s.batches)) old file o e status
 
 -- that, unless edits are pending, which standard error was told
-abbrev pub PublishesUnlessPending : Type 0 → Version → ObjectState → List Edit → List ℕ
+abbrev pub PublishesUnlessPending : Type 0 → Version → ObjectState → List Edit → RequestModel
     → RegisterModel → FileState → FileState → Option (List ℕ) → Output → Output → Status → Type 0
-PublishesUnlessPending CanStay version s [] path wanted old file given o e status =
-    PublishesPlan CanStay version s path wanted old file given o e status
-PublishesUnlessPending CanStay version s (edit ∷ edits) path wanted old file given o e status =
-    (file ≡ old) × (o.new ≡ o.old)
-    × TellsIfMade e statuses.Refused (pending_line (length (edit ∷ edits))) status
+PublishesUnlessPending CanStay version s [] asked wanted old file given o e status =
+    PublishesUnlessLater (later_than asked.edition (length s.batches)) CanStay version s asked
+    wanted old file given o e status
+PublishesUnlessPending CanStay version s (edit ∷ edits) asked wanted old file given o e status =
+    RefusesBy (pending_line (length (edit ∷ edits))) old file o e status
 
 -- How a publish ends over a file that was `old` and is `file` then, and which a source gave. It
 -- holds no object, and is as it was; or it holds one, in a journal of some version, and that was
 -- done.
-abbrev pub EndsPublish : Type 0 → Limits → List ℕ → RegisterModel → FileState → FileState → Input
-    → Output → Output → Status → Type 0
-EndsPublish CanStay limits path wanted old file given o e status =
+abbrev pub EndsPublish : Type 0 → Limits → RequestModel → RegisterModel → FileState → FileState
+    → Input → Output → Output → Status → Type 0
+EndsPublish CanStay limits asked wanted old file given o e status =
     ((fault : CommandFault) × Refuses fault old file o e status
     × IfHeld old given.bytes (λ held. HoldsNoObject limits held given.unread fault))
     ⊎ ((version : Version) × (s : ObjectState)
     × IfHeld old given.bytes (λ held. HoldsObject limits held version s)
-    × PublishesUnlessPending CanStay version s s.pending path wanted old file given.bytes o e
+    × PublishesUnlessPending CanStay version s s.pending asked wanted old file given.bytes o e
     status)
 
 -- ---- an edition that the file can't take
@@ -176,18 +205,20 @@ EndsPublish CanStay limits path wanted old file given o e status =
 -- A source gave these bytes, of a journal with nothing pending whose version has no sources, and
 -- edits of a plan need them. The journal that is to be saved anew has them as its next edition. And
 -- there are the text that is to be printed then, and the one on a last line that was not finished.
-pub record IsOlderEdition (limits : Limits) (wanted : RegisterModel) (given : Option (List ℕ))
-    (bytes journal text : List ℕ) (cut : Option (List ℕ)) : Type 0 where
+pub record IsOlderEdition (limits : Limits) (asked : RequestModel) (wanted : RegisterModel)
+    (given : Option (List ℕ)) (bytes journal text : List ℕ) (cut : Option (List ℕ)) : Type 0 where
   pub read : IfSome given (λ held. bytes ≡ held)
   pub version : Version
   pub object : ObjectState
   pub holds : HoldsObject limits bytes version object
   pub pending : object.pending ≡ []
   pub edits : List Edit
+  pub had : later_than asked.edition (length object.batches) ≡ None
   pub plans : IsPlan object.limits wanted.lands (published object) edits
+  pub free : hindered asked object.batches edits ≡ None
   pub needs : needs_sources version edits ≡ true
   pub lawful : edition_refusal object edits ≡ None
   pub sources : All HasLawfulSource edits
   pub anew : journal ≡ journal_text (with_batch object edits)
-  pub printed : text ≡ published_text object wanted edits
+  pub printed : text ≡ published_text asked.journal object wanted edits
   pub told : cut ≡ cut_text (unfinished_line bytes)

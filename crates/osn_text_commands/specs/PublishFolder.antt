@@ -1,21 +1,23 @@
 -- What the command `publish` has done over the files of a folder: the journal, and the text.
 use Rattle.std.specs.Prelude.{◌≡◌, ◌⊎◌, Bool, List, [], ◌∷◌, ℕ, Option, Some, None}
-use Rattle.osn_folder.specs.Folder.{CannotKeep, Changes, IsKeptAt, Keeps, Known}
+use Rattle.osn_folder.specs.Folder.{Changes, IsKeptAt, Keeps, Known}
 use Rattle.osn_folder.specs.Folder.{Leaves, Opens}
-use Rattle.osn_folder.specs.declared.fault.KeepFault.{KeepFault}
 use Rattle.osn_journal.specs.KeptJournal.{FileState}
 use Rattle.osn_lines.specs.Streams.{Input, Output}
 use Rattle.osn_register.specs.Plain.{RegisterModel}
 use Rattle.osn_register.specs.declared.limits.Limits.{Limits}
 use Rattle.osn_report.specs.Folders.{Folders, IsReadOf}
-use Rattle.osn_report.specs.Printing.{PrintsNone}
-use Rattle.osn_report.specs.declared.fault.CommandFault.TheVariants.{Keep}
+use Rattle.osn_report.specs.Messages.{TellsIfMade}
 use Rattle.osn_report.specs.declared.status.Status.{Status}
+use Rattle.osn_report.specs.declared.status.Status.TheVariants as statuses
 use Rattle.osn_serve_commands.specs.Keep.{TellsText, first_output, later_output}
 use Rattle.osn_serve_commands.specs.Upgrade.{CannotSaveAnew, SavesAnew}
+use Rattle.osn_text_commands.specs.Keeping.{CannotKeepBy, unkept_line}
 use Rattle.osn_text_commands.specs.Plan.{RefusesText}
 use Rattle.osn_text_commands.specs.Publish.{EndsPublish, IsOlderEdition, PrintsReport}
-use Rattle.osn_text_commands.specs.TextFile.{SaysRegister}
+use Rattle.osn_text_commands.specs.Since.{RequestModel}
+use Rattle.osn_text_commands.specs.declared.keeping.KeepCause.{KeepCause}
+use Rattle.osn_text_commands.specs.TextFile.{Says}
 
 -- ---- a journal that is saved with its edition
 
@@ -42,41 +44,47 @@ SavesEdition path loaded journal text cut d o e status =
 -- what was published in a file that was kept, of which a source gave this. The folder has then what
 -- that left in the file; or the file was given back as it was, and the journal saved anew in its
 -- place, where its version lacks the sources of an edit
-abbrev pub PublishesKept : Limits → List ℕ → List ℕ → RegisterModel → Type 0 → FileState → Input
+abbrev pub PublishesKept : Limits → RequestModel → RegisterModel → Type 0 → FileState → Input
     → Folders → Output → Output → Status → Type 0
-PublishesKept limits path text_path wanted CanStay begun given d o e status =
-    ((file : FileState) × EndsPublish CanStay limits text_path wanted begun file given o e status
-    × Changes (Leaves path file.contents) d.before d.after)
+PublishesKept limits asked wanted CanStay begun given d o e status =
+    ((file : FileState) × EndsPublish CanStay limits asked wanted begun file given o e status
+    × Changes (Leaves asked.journal file.contents) d.before d.after)
     ⊎ ((bytes : List ℕ) × (journal : List ℕ) × (text : List ℕ) × (cut : Option (List ℕ))
-    × IsOlderEdition limits wanted given.bytes bytes journal text cut
-    × (released : Option Known) × Changes (Leaves path begun.contents) d.before released
-    × SavesEdition path bytes journal text cut
+    × IsOlderEdition limits asked wanted given.bytes bytes journal text cut
+    × (released : Option Known) × Changes (Leaves asked.journal begun.contents) d.before released
+    × SavesEdition asked.journal bytes journal text cut
     (record { before = released; after = d.after }) o e status)
 
--- the file of the journal's path could not be kept; or it is, no change of it had failed before,
--- and what the text of the other path says was published there
-abbrev pub KeepsAndPublishes : Limits → List ℕ → List ℕ → RegisterModel → (Bool → Type 0) → Type 0
+-- the file of the journal could not be kept, which standard error was told; or it is, no change of
+-- it had failed before, and what the text says was published there
+abbrev pub KeepsAndPublishes : Limits → RequestModel → RegisterModel → (Bool → Type 0) → Type 0
     → Folders → Output → Output → Status → Type 0
-KeepsAndPublishes limits path text_path wanted CanFail CanStay d o e status =
-    ((fault : KeepFault) × Changes (CannotKeep path fault) d.before d.after
-    × PrintsNone (Keep fault) o e status)
-    ⊎ ((held : Option Known) × Changes (Keeps path) d.before held
-    × (begun : FileState) × IsKeptAt d.before path begun.contents × (begun.fault ≡ None)
+KeepsAndPublishes limits asked wanted CanFail CanStay d o e status =
+    ((cause : KeepCause) × CannotKeepBy asked.journal d.before d.after cause × (o.new ≡ o.old)
+    × TellsIfMade e statuses.ReadFault (unkept_line asked.journal cause) status)
+    ⊎ ((held : Option Known) × Changes (Keeps asked.journal) d.before held
+    × (begun : FileState) × IsKeptAt d.before asked.journal begun.contents × (begun.fault ≡ None)
     × (given : Input) × (given.bytes ≡ begun.contents) × CanFail given.unread
-    × PublishesKept limits path text_path wanted CanStay begun given
+    × PublishesKept limits asked wanted CanStay begun given
     (record { before = held; after = d.after }) o e status)
 
 -- ---- the command
 
 -- The text was opened. It says no register, and nothing else was done; or it says one, and that was
 -- done.
-pub record PublishesInFolder (limits : Limits) (path text_path : List ℕ) (CanFail : Bool → Type 0)
-    (CanStay : Type 0) (d : Folders) (o e : Output) (status : Status) : Type 0 where
+pub record PublishesInFolder (limits : Limits) (path text_path : List ℕ) (onto_newest : Bool)
+    (CanFail : Bool → Type 0) (CanStay : Type 0) (d : Folders) (o e : Output) (status : Status)
+    : Type 0 where
   pub opened : Option Known
   pub opens : Changes (Opens (text_path ∷ [])) d.before opened
   pub text : Input
   pub reads : IsReadOf d text_path CanFail text
   pub ended : ((d.after ≡ opened) × RefusesText limits text_path text o e status)
-      ⊎ ((wanted : RegisterModel) × SaysRegister limits text.bytes wanted
-      × KeepsAndPublishes limits path text_path wanted CanFail CanStay
+      ⊎ ((edition : Option ℕ) × (wanted : RegisterModel) × Says limits text.bytes edition wanted
+      × KeepsAndPublishes limits (record {
+        journal = path;
+        text = text_path;
+        edition = edition;
+        onto_newest = onto_newest;
+      }) wanted CanFail CanStay
       (record { before = opened; after = d.after }) o e status)

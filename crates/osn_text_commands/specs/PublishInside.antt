@@ -16,6 +16,7 @@ use Rattle.osn_serve_commands.specs.Keep.{cut_text, unfinished_line}
 use Rattle.osn_text_commands.specs.Edition.{appended_text, edition_refusal, needs_sources}
 use Rattle.osn_text_commands.specs.Edition.{with_batch}
 use Rattle.osn_text_commands.specs.Publish.{HoldsEdition, LosesEdition, published_text}
+use Rattle.osn_text_commands.specs.Since.{RequestModel, hindered, later_than}
 use Rattle.osn_text_commands.specs.Text.{published}
 
 -- of files of a kind one may not be cut back
@@ -55,8 +56,8 @@ abbrev pub IsCutOf : WholePart → Option (List ℕ) → Type 0
 IsCutOf part cut =
     (held : List ℕ) → IsWholePart part held → cut ≡ cut_text (unfinished_line held)
 
--- The journal that held these bytes is to be saved anew with these edits as its next edition.
-pub record IsOlderOf (held : List ℕ) (part : WholePart) (version : Version) (s : ObjectState)
+-- The journal of a path that held these bytes is to be saved anew with these edits as its next edition.
+pub record IsOlderOf (path held : List ℕ) (part : WholePart) (version : Version) (s : ObjectState)
     (wanted : RegisterModel) (edits : List Edit) (bytes journal text : List ℕ)
     (cut : Option (List ℕ)) : Type 0 where
   pub same : bytes ≡ held
@@ -64,12 +65,20 @@ pub record IsOlderOf (held : List ℕ) (part : WholePart) (version : Version) (s
   pub lawful : edition_refusal s edits ≡ None
   pub sources : All HasLawfulSource edits
   pub anew : journal ≡ journal_text (with_batch s edits)
-  pub printed : text ≡ published_text s wanted edits
+  pub printed : text ≡ published_text path s wanted edits
   pub told : IsCutOf part cut
 
--- the same with the edits of a plan
-abbrev pub IsOlderPlan : List ℕ → WholePart → Version → ObjectState → RegisterModel → List ℕ
-    → List ℕ → List ℕ → Option (List ℕ) → Type 0
-IsOlderPlan held part version s wanted bytes journal text cut =
-    (s.pending ≡ []) × (edits : List Edit) × IsPlan s.limits wanted.lands (published s) edits
-    × IsOlderOf held part version s wanted edits bytes journal text cut
+-- the same with the edits of a plan that no later edition hinders
+abbrev pub IsOlderFree : RequestModel → List ℕ → WholePart → Version → ObjectState
+    → RegisterModel → List ℕ → List ℕ → List ℕ → Option (List ℕ) → Type 0
+IsOlderFree asked held part version s wanted bytes journal text cut =
+    (edits : List Edit) × IsPlan s.limits wanted.lands (published s) edits
+    × (hindered asked s.batches edits ≡ None)
+    × IsOlderOf asked.journal held part version s wanted edits bytes journal text cut
+
+-- the same of a journal with nothing pending that has the edition of the text
+abbrev pub IsOlderPlan : RequestModel → List ℕ → WholePart → Version → ObjectState
+    → RegisterModel → List ℕ → List ℕ → List ℕ → Option (List ℕ) → Type 0
+IsOlderPlan asked held part version s wanted bytes journal text cut =
+    (s.pending ≡ []) × (later_than asked.edition (length s.batches) ≡ None)
+    × IsOlderFree asked held part version s wanted bytes journal text cut

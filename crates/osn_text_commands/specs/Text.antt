@@ -1,5 +1,5 @@
 -- The text that the command `text` prints of what a journal published, or why it prints none.
-use Rattle.std.specs.Prelude.{◌≡◌, ◌⊎◌, ℕ, List, Option, Some, None}
+use Rattle.std.specs.Prelude.{◌≡◌, ◌⊎◌, ℕ, List, length, Option, Some, None}
 use Rattle.std.specs.Option.{MatchOption}
 use Rattle.osn_days.specs.Profile.{newest_rules}
 use Rattle.osn_core.specs.Sequential.{ObjectState, lands_of}
@@ -20,25 +20,27 @@ use Rattle.osn_text_writer.specs.TerritoryText.{register_text, text_of_code}
 abbrev pub published : ObjectState → List LandModel
 published s = lands_of newest_rules s.limits s.batches
 
--- the text of the territory of a code was printed; or none of these has the code, which standard
+-- the text of the territory of a code, made of an edition, was printed; or none of these has the code, which standard
 -- error was told, with the path of the journal
-abbrev pub PrintsLand : List LandModel → List ℕ → List ℕ → Output → Output → Status → Type 0
-PrintsLand lands path code o e status = MatchOption (code_refusal lands code)
-    (PrintsIfMade (text_of_code newest_rules code lands) o e status)
+abbrev pub PrintsLand : ℕ → List LandModel → List ℕ → List ℕ → Output → Output → Status → Type 0
+PrintsLand edition lands path code o e status = MatchOption (code_refusal lands code)
+    (PrintsIfMade (text_of_code newest_rules edition code lands) o e status)
     (λ refusal. (o.new ≡ o.old)
     × TellsIfMade e statuses.Refused (land_refusal_line path code refusal) status)
 
 -- the text of all these territories was printed, or what one of a code asks for
-abbrev pub PrintsLands : List LandModel → List ℕ → Option (List ℕ) → Output → Output → Status
+abbrev pub PrintsLands : ℕ → List LandModel → List ℕ → Option (List ℕ) → Output → Output → Status
     → Type 0
-PrintsLands lands path None o e status =
-    PrintsIfMade (register_text newest_rules lands) o e status
-PrintsLands lands path (Some code) o e status = PrintsLand lands path code o e status
+PrintsLands edition lands path None o e status =
+    PrintsIfMade (register_text newest_rules edition lands) o e status
+PrintsLands edition lands path (Some code) o e status =
+    PrintsLand edition lands path code o e status
 
--- of a journal of this path: it is refused; or it makes an object, and that was done
+-- of a journal of this path: it is refused; or it makes an object, and that was done of its newest
+-- edition
 abbrev pub PrintsText : Limits → List ℕ → Input → Option (List ℕ) → Output → Output → Status
     → Type 0
 PrintsText limits path journal code o e status =
     ((fault : FileFault) × MakesNoObject limits journal fault × PrintsNone (File fault) o e status)
     ⊎ ((s : ObjectState) × MakesObject limits journal.bytes s
-    × PrintsLands (published s) path code o e status)
+    × PrintsLands (length s.batches) (published s) path code o e status)

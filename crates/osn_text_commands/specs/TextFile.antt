@@ -14,7 +14,7 @@ use Rattle.osn_report.specs.declared.fault.CommandFault.TheVariants as command_f
 use Rattle.osn_report.specs.declared.status.Status.{Status}
 use Rattle.osn_report.specs.declared.status.Status.TheVariants as statuses
 use Rattle.osn_shown.specs.Shown.{shown}
-use Rattle.osn_text_reader.specs.Text.{IsFaultOf, lands_of_text}
+use Rattle.osn_text_reader.specs.Text.{IsFaultOf, said_by}
 use Rattle.osn_text_reader.specs.Words.{text_fault_text}
 use Rattle.osn_text_reader.specs.declared.fault.TextFault.{TextFault}
 use Rattle.osn_text_reader.specs.declared.fault.TextFault.TheVariants as text_faults
@@ -26,22 +26,22 @@ abbrev pub by_read : ReadAllFault → TextFileFault
 by_read read_faults.NoMemory = faults.NoMemory
 by_read read_faults.ReadFault = faults.ReadFault
 
--- these bytes say this register under these limits
-abbrev pub BytesSayRegister : Limits → List ℕ → RegisterModel → Type 0
-BytesSayRegister limits bytes r =
-    (r.limits ≡ limits) × IsUtf8 bytes × (lands_of_text limits bytes ≡ Some (Ok r.lands))
+-- these bytes say this register under these limits, and of which edition it was made, if they do
+abbrev pub BytesSay : Limits → List ℕ → Option ℕ → RegisterModel → Type 0
+BytesSay limits bytes edition r =
+    (r.limits ≡ limits) × IsUtf8 bytes × (said_by limits bytes ≡ Some (Ok (edition, r.lands)))
 
--- they say none, for this reason
+-- they say no register, for this reason
 abbrev pub BytesSayNone : Limits → List ℕ → TextFileFault → Type 0
 BytesSayNone limits bytes faults.NoMemory = ⊤
 BytesSayNone limits bytes faults.ReadFault = ⊥
 BytesSayNone limits bytes faults.NotUtf8 = ¬ IsUtf8 bytes
 BytesSayNone limits bytes (faults.Text why) =
-    IsUtf8 bytes × IsFaultOf (lands_of_text limits bytes) why
+    IsUtf8 bytes × IsFaultOf (said_by limits bytes) why
 
--- a file of these bytes says this register
-abbrev pub SaysRegister : Limits → Option (List ℕ) → RegisterModel → Type 0
-SaysRegister limits bytes r = IfSome bytes (λ bytes. BytesSayRegister limits bytes r)
+-- a file of these bytes says this edition and this register
+abbrev pub Says : Limits → Option (List ℕ) → Option ℕ → RegisterModel → Type 0
+Says limits bytes edition r = IfSome bytes (λ bytes. BytesSay limits bytes edition r)
 
 -- a file says none, for this reason: a read of it failed, or its bytes say none
 abbrev pub IsTextFileFault : Limits → Input → TextFileFault → Type 0

@@ -59,18 +59,20 @@ fn edition_lines(alloc: Global, part: WholePart, edits: &[Edit]) -> Result<Vec<u
     with_publish(with_edits(missing, edits)?)
 }
 
-/// What is printed before the line on the edition that these edits make of an object.
+/// What is printed before the line on the edition that these edits make of an object, whose journal
+/// has this path.
 fn begun_text(
     alloc: Global,
+    path: &str,
     object: &Object,
     wanted: &Register,
     edits: &[Edit],
 ) -> Result<String, AllocError>
     ensures { IfOk result (λ text.
-        string_bytes text ≡ spec.begun_text object.now wanted.now edits.now) }
+        string_bytes text ≡ spec.begun_text path.now object.now wanted.now edits.now) }
 {
     let mut text = String::new(alloc);
-    push_new_journal(&mut text, object.batches().len())?;
+    push_new_journal(&mut text, path, object.batches().len())?;
     let page = plan_page(alloc, object.register(), wanted, edits)?;
     text.push_str(page.as_str())?;
     Ok(text)
@@ -85,14 +87,15 @@ pub(crate) struct Edition {
     pub(crate) text: String,
 }
 
-/// The edits as the next edition of an object, which then has it. It is for the file of which this
-/// part counts.
+/// The edits as the next edition of an object, which then has it. It is for the file of this path,
+/// of which this part counts.
 ///
 /// # Errors
 ///
 /// The first refusal that applies, or `NoMemory`.
 pub(crate) fn edition_of(
     alloc: Global,
+    path: &str,
     part: WholePart,
     object: &mut Object,
     wanted: &Register,
@@ -103,12 +106,12 @@ pub(crate) fn edition_of(
     ensures lines { IfOk result
         (λ edition. inside.AreLinesOf part edits.items edition.lines.items) }
     ensures text { IfOk result (λ edition.
-        string_bytes edition.text ≡ published_text object.old wanted.now edits.items) }
+        string_bytes edition.text ≡ published_text path.now object.old wanted.now edits.items) }
     ensures refused { IfErr result
         (IsNoMemoryOr (edition_refusal object.old edits.items)) }
 {
     let lines = edition_lines(alloc, part, &edits)?;
-    let mut text = begun_text(alloc, object, wanted, &edits)?;
+    let mut text = begun_text(alloc, path, object, wanted, &edits)?;
     let number = make_edition(object, edits)?;
     push_published(&mut text, number)?;
     Ok(Edition { lines, text })
@@ -124,13 +127,14 @@ pub struct WholeEdition {
 }
 
 /// The edits as the next edition of an object with nothing pending, which then has it, and the
-/// whole journal.
+/// whole journal of this path.
 ///
 /// # Errors
 ///
 /// The first refusal that applies, or `NoMemory`.
 pub(crate) fn whole_edition_of(
     alloc: Global,
+    path: &str,
     object: &mut Object,
     wanted: &Register,
     edits: Vec<Edit>,
@@ -141,11 +145,11 @@ pub(crate) fn whole_edition_of(
     ensures journal { IfOk result (λ edition.
         string_bytes edition.journal ≡ journal_text (with_batch object.old edits.items)) }
     ensures text { IfOk result (λ edition.
-        string_bytes edition.text ≡ published_text object.old wanted.now edits.items) }
+        string_bytes edition.text ≡ published_text path.now object.old wanted.now edits.items) }
     ensures refused { IfErr result
         (IsNoMemoryOr (edition_refusal object.old edits.items)) }
 {
-    let mut text = begun_text(alloc, object, wanted, &edits)?;
+    let mut text = begun_text(alloc, path, object, wanted, &edits)?;
     let next = make_edition(object, edits)?;
     push_published(&mut text, next)?;
     let journal = journal_text(alloc, object)?;

@@ -8,6 +8,7 @@ ghost use Rattle.osn_serve_commands.specs.Serve.{input_if};
 ghost use Rattle.osn_text_commands.specs.InFolder as spec;
 ghost use Rattle.osn_text_commands.specs.Text.{PrintsText};
 
+use crate::keeping::tell_hindrance;
 use crate::plan::plan_command;
 use crate::text::text_command;
 use osn_folder::{Folder, OpenFailed, open_file};
@@ -89,7 +90,8 @@ fn plan_by<D: Folder, W: Sink, E: Sink>(
 }
 
 /// Opens the journal of a path, if one is there, and then a text, and does what `plan_command`
-/// does. Where the text could not be opened, standard error is told why by its path.
+/// does. Where the text could not be opened, standard error is told why by its path. After a plan it
+/// is told why the journal could not be kept, as far as that is found out without making one.
 ///
 /// # Errors
 ///
@@ -113,7 +115,11 @@ pub fn plan_in_folder<D: Folder, W: Sink, E: Sink>(
     ensures cause { IfErr result (λ cause. cause ≢ OpenFailed.NotFound) }
 {
     let mut file = open_if_there(folder, journal)?;
-    Ok(plan_by(
+    let is_there = file.is_some();
+    match plan_by(
         alloc, limits, folder, journal, &mut file, text, output, errors,
-    ))
+    ) {
+        Status::Done => Ok(tell_hindrance(alloc, folder, journal, is_there, errors)),
+        failed => Ok(failed),
+    }
 }

@@ -6,14 +6,18 @@ ghost use Rattle.osn_lines.specs.Streams.{output_of};
 ghost use Rattle.osn_report.specs.Folders.{folders_of};
 ghost use Rattle.osn_text_commands.specs.PublishFolder as spec;
 ghost use Rattle.osn_text_commands.specs.PublishInside.{CanStay};
+ghost use Rattle.osn_text_commands.specs.Since.{request_of};
 
 use crate::edition::WholeEdition;
-use crate::publish::{print_report, publish_command};
-use crate::text_file::{read_register, tell_text_file};
+use crate::keeping::{cause_of, unkept_line};
+use crate::publish::publish_command;
+use crate::publish_edits::print_report;
+use crate::since::PublishRequest;
+use crate::text_file::{read_said, tell_text_file};
 use osn_folder::{Folder, OpenFailed, open_file};
 use osn_lines::Sink;
 use osn_register::{Limits, Register};
-use osn_report::{CommandFault, Status, report};
+use osn_report::{Status, tell_line};
 use osn_serve_commands::{save_anew, tell_cut};
 use std::alloc::Global;
 
@@ -45,34 +49,37 @@ fn save_edition<D: Folder, W: Sink, E: Sink>(
     }
 }
 
-/// Keeps the file of the journal's path, and does what `publish_command` does with what the text of
-/// the other path says. A journal that is to be saved anew is saved then.
+/// Keeps the file of the journal, and does what `publish_command` does with what the text says. A
+/// journal that is to be saved anew is saved then.
 fn keep_and_publish<D: Folder, W: Sink, E: Sink>(
     alloc: Global,
     limits: Limits,
     folder: &mut D,
-    path: &str,
-    text_path: &str,
+    asked: PublishRequest<'_>,
     wanted: &Register,
     output: &mut W,
     errors: &mut E,
 ) -> Status
-    ensures { spec.KeepsAndPublishes limits path.now text_path.now wanted.now
+    ensures { spec.KeepsAndPublishes limits (request_of asked.entry) wanted.now
         (MayFail D.File.has_failed) (CanStay D.Keeper.cut_back_may_fail)
         (folders_of D.known folder.old folder.new)
         (output_of W.contents W.has_failed W.holds_back output.old output.new)
         (output_of E.contents E.has_failed E.holds_back errors.old errors.new) result }
 {
+    let path = asked.journal;
     let (mut kept, mut journal) = match folder.keep(path) {
         Ok(found) => found,
-        Err(fault) => return report(alloc, errors, CommandFault::Keep(fault)),
+        Err(fault) => {
+            let cause = cause_of(folder, path, fault);
+            return tell_line(errors, Status::ReadFault, unkept_line(alloc, path, cause));
+        }
     };
     let published = publish_command(
         alloc,
         limits,
         &mut kept,
         &mut journal,
-        text_path,
+        asked,
         wanted,
         output,
         errors,
@@ -97,7 +104,7 @@ fn keep_and_publish<D: Folder, W: Sink, E: Sink>(
 
 /// Reads the text of a path, keeps the file of the journal's path, and does what `publish_command`
 /// does. Where the text says no register, the journal is not touched, and standard error is told
-/// why. Where another run keeps the journal, that is told at once.
+/// why. Where the journal can't be kept, as where another run keeps it, that is told at once.
 ///
 /// Where no file is at the journal's path, an empty one is made first, which stays where there is
 /// no edition. Where an edit gives a source, and the journal is empty or of a version that has
@@ -112,10 +119,11 @@ pub fn publish_in_folder<D: Folder, W: Sink, E: Sink>(
     folder: &mut D,
     journal: &str,
     text: &str,
+    onto_newest: bool,
     output: &mut W,
     errors: &mut E,
 ) -> Result<Status, OpenFailed>
-    ensures ok { IfOk result (spec.PublishesInFolder limits journal.now text.now
+    ensures ok { IfOk result (spec.PublishesInFolder limits journal.now text.now onto_newest
         (MayFail D.File.has_failed) (CanStay D.Keeper.cut_back_may_fail)
         (folders_of D.known folder.old folder.new)
         (output_of W.contents W.has_failed W.holds_back output.old output.new)
@@ -125,10 +133,17 @@ pub fn publish_in_folder<D: Folder, W: Sink, E: Sink>(
         × (output.new ≡ output.old) × (errors.new ≡ errors.old)) }
 {
     let mut file = open_file(folder, text)?;
-    match read_register(alloc, limits, &mut file) {
-        Ok(wanted) => Ok(keep_and_publish(
-            alloc, limits, folder, journal, text, &wanted, output, errors,
-        )),
+    match read_said(alloc, limits, &mut file) {
+        Ok(said) => {
+            let asked = PublishRequest {
+                journal,
+                text,
+                edition: said.edition,
+                onto_newest,
+            };
+            let wanted = &said.register;
+            Ok(keep_and_publish(alloc, limits, folder, asked, wanted, output, errors))
+        }
         Err(fault) => Ok(tell_text_file(alloc, errors, text, &fault)),
     }
 }

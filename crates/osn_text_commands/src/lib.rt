@@ -7,12 +7,15 @@
 
 mod edition;
 mod in_folder;
+mod keeping;
 mod kept_journal;
 mod note;
 mod plan;
 mod plan_fault;
 mod plan_words;
 mod publish;
+mod publish_edits;
+mod since;
 mod text;
 mod text_file;
 
@@ -20,5 +23,7 @@ pub use edition::WholeEdition;
 pub use in_folder::{plan_in_folder, text_in_folder};
 pub use kept_journal::publish_in_folder;
 pub use plan::plan_command;
-pub use publish::{OlderEdition, publish_command};
+pub use publish::publish_command;
+pub use publish_edits::OlderEdition;
+pub use since::PublishRequest;
 pub use text::text_command;

@@ -5,10 +5,8 @@ ghost use Rattle.osn_text_commands.specs.Note as spec;
 ghost use Rattle.osn_text_commands.specs.declared.note.Note.{Note};
 
 use crate::edition::make_edition;
-use crate::plan_words::{
-    absent_line, anew_line, missing_line, not_kept_line, pending_line, refused_edits_line,
-};
-use crate::publish::needs_sources;
+use crate::plan_words::{anew_line, new_line, not_kept_line, pending_line, refused_edits_line};
+use crate::publish_edits::needs_sources;
 use osn_core::Object;
 use osn_format::Version;
 use osn_lines::Sink;
@@ -24,10 +22,8 @@ pub(crate) enum Note {
     Nothing,
     /// This many edits are pending.
     Pending(usize),
-    /// The journal is not there, and a publish makes it.
-    Missing,
-    /// The journal is not there, and nothing is to change.
-    Absent,
+    /// The journal is not there.
+    New,
     /// A publish refuses the edits.
     Refused(Refusal),
     /// A publish saves the journal of this version anew.
@@ -52,9 +48,9 @@ fn missing_note(object: &mut Object, edits: Vec<Edit>) -> Note
     ensures { spec.IsNoteOf (spec.missing_note object.old edits.items) result }
 {
     if edits.is_empty() {
-        return Note::Absent;
+        return Note::New;
     }
-    refusal_or(object, edits, Note::Missing)
+    refusal_or(object, edits, Note::New)
 }
 
 /// The note on edits that a journal of this version takes.
@@ -121,8 +117,7 @@ pub(crate) fn tell_note<E: Sink>(alloc: Global, errors: &mut E, path: &str, note
     match note {
         Note::Nothing => Status::Done,
         Note::Pending(edits) => tell_line(errors, Status::Done, pending_line(alloc, edits)),
-        Note::Missing => tell_line(errors, Status::Done, missing_line(alloc, path)),
-        Note::Absent => tell_line(errors, Status::Done, absent_line(alloc, path)),
+        Note::New => tell_line(errors, Status::Done, new_line(alloc, path)),
         Note::Refused(refusal) => tell_refused(alloc, errors, refusal),
         Note::Anew(version) => tell_line(errors, Status::Done, anew_line(alloc, version)),
         Note::NotKept(version) => {

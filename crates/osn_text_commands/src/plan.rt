@@ -1,15 +1,17 @@
 //! The command `plan`: the edits that change what a journal published into what a text says.
-ghost use Rattle.std.specs.Prelude.{◌≡◌, IfErr, IfOk, string_bytes};
+ghost use Rattle.std.specs.Prelude.{◌≡◌, length, IfErr, IfOk, string_bytes};
 ghost use Rattle.osn_lines.specs.Streams.{input_of, output_of};
 ghost use Rattle.osn_report.specs.Journal.{Begins, BeginsNot};
 ghost use Rattle.osn_serve_commands.specs.Serve.{input_if};
-ghost use Rattle.osn_text_commands.specs.Note.{note_line, note_of};
+ghost use Rattle.osn_text_commands.specs.Note.{TellsNote};
 ghost use Rattle.osn_text_commands.specs.Plan as spec;
+ghost use Rattle.osn_text_commands.specs.Since.{later_than};
 
 use crate::note::{note_of, tell_note};
 use crate::plan_fault::tell_plan;
 use crate::plan_words::push_plan_end;
-use crate::text_file::{read_register, tell_text_file};
+use crate::since::{PublishRequest, behind, behind_lines, later_lines, later_than};
+use crate::text_file::{read_said, tell_text_file};
 use osn_core::Object;
 use osn_files::{FileFault, load_with_version};
 use osn_format::Version;
@@ -17,7 +19,7 @@ use osn_lines::{Sink, Source};
 use osn_plan::plan;
 use osn_plan_page::plan_page;
 use osn_register::{Edit, Limits, Register};
-use osn_report::{CommandFault, Status, print, report};
+use osn_report::{CommandFault, Status, print, report, tell_line};
 use std::alloc::{AllocError, Global};
 
 /// The lines of a plan, which would be the next edition of the object.
@@ -35,10 +37,37 @@ fn plan_text(
     Ok(text)
 }
 
-/// Prints a plan, and tells a note on the journal of this path where that was done.
+/// Tells standard error that the text of a plan is behind an edition, or else a note on its edits
+/// for the journal of this version. Answers the status.
+fn tell_edits<E: Sink>(
+    alloc: Global,
+    asked: PublishRequest<'_>,
+    is_there: bool,
+    version: Version,
+    object: &mut Object,
+    edits: Vec<Edit>,
+    errors: &mut E,
+) -> Status
+    ensures { TellsNote (spec.edits_line asked.entry.journal.now asked.entry.text.now is_there
+        version object.old asked.entry.edition edits.items)
+        (output_of E.contents E.has_failed E.holds_back errors.old errors.new) result }
+{
+    match behind(asked.edition, object.batches(), &edits) {
+        Some(edition) => {
+            let lines = behind_lines(alloc, asked, edition, object);
+            tell_line(errors, Status::Done, lines)
+        }
+        None => {
+            let note = note_of(is_there, version, object, edits);
+            tell_note(alloc, errors, asked.journal, note)
+        }
+    }
+}
+
+/// Prints a plan, and tells of its edits where that was done.
 fn print_edits<W: Sink, E: Sink>(
     alloc: Global,
-    path: &str,
+    asked: PublishRequest<'_>,
     is_there: bool,
     version: Version,
     object: &mut Object,
@@ -48,41 +77,70 @@ fn print_edits<W: Sink, E: Sink>(
     errors: &mut E,
 ) -> Status
     ensures { spec.PrintsNoted (spec.plan_text object.old wanted.now edits.items)
-        (note_line path.now (note_of is_there version object.old edits.items))
+        (spec.edits_line asked.entry.journal.now asked.entry.text.now is_there version object.old
+        asked.entry.edition edits.items)
         (output_of W.contents W.has_failed W.holds_back output.old output.new)
         (output_of E.contents E.has_failed E.holds_back errors.old errors.new) result }
 {
     match print(plan_text(alloc, object, wanted, &edits), output, errors) {
-        Status::Done => {
-            let note = note_of(is_there, version, object, edits);
-            tell_note(alloc, errors, path, note)
-        }
+        Status::Done => tell_edits(alloc, asked, is_there, version, object, edits, errors),
         failed => failed,
     }
 }
 
-/// Prints the plan from what an object has published to the register that the text of a path says.
+/// Prints the plan from what an object has published to the register that the text says.
 fn print_plan<W: Sink, E: Sink>(
     alloc: Global,
-    path: &str,
+    asked: PublishRequest<'_>,
     is_there: bool,
     version: Version,
     object: &mut Object,
-    text_path: &str,
     wanted: &Register,
     output: &mut W,
     errors: &mut E,
 ) -> Status
-    ensures { spec.PrintsPlanTo object.old text_path.now wanted.now
-        (λ edits. note_line path.now (note_of is_there version object.old edits))
+    ensures { spec.PrintsPlanTo object.old asked.entry.text.now wanted.now
+        (spec.edits_line asked.entry.journal.now asked.entry.text.now is_there version object.old
+        asked.entry.edition)
         (output_of W.contents W.has_failed W.holds_back output.old output.new)
         (output_of E.contents E.has_failed E.holds_back errors.old errors.new) result }
 {
     match plan(alloc, object.register(), wanted) {
         Ok(edits) => print_edits(
-            alloc, path, is_there, version, object, wanted, edits, output, errors,
+            alloc, asked, is_there, version, object, wanted, edits, output, errors,
         ),
-        Err(fault) => tell_plan(alloc, errors, text_path, &fault),
+        Err(fault) => tell_plan(alloc, errors, asked.text, &fault),
+    }
+}
+
+/// The same, unless the text is of an edition that the object lacks.
+fn print_unless_later<W: Sink, E: Sink>(
+    alloc: Global,
+    asked: PublishRequest<'_>,
+    is_there: bool,
+    version: Version,
+    object: &mut Object,
+    wanted: &Register,
+    output: &mut W,
+    errors: &mut E,
+) -> Status
+    ensures { spec.PrintsUnlessLater
+        (later_than asked.entry.edition (length object.old.batches))
+        object.old asked.entry.journal.now asked.entry.text.now wanted.now
+        (spec.edits_line asked.entry.journal.now asked.entry.text.now is_there version object.old
+        asked.entry.edition)
+        (output_of W.contents W.has_failed W.holds_back output.old output.new)
+        (output_of E.contents E.has_failed E.holds_back errors.old errors.new) result }
+{
+    let editions = object.batches().len();
+    match later_than(asked.edition, editions) {
+        Some(edition) => {
+            let lines = later_lines(alloc, asked.text, asked.journal, edition, editions);
+            tell_line(errors, Status::Refused, lines)
+        }
+        None => print_plan(
+            alloc, asked, is_there, version, object, wanted, output, errors,
+        ),
     }
 }
 
@@ -99,16 +157,25 @@ fn plan_text_file<T: Source, W: Sink, E: Sink>(
     output: &mut W,
     errors: &mut E,
 ) -> Status
-    ensures { spec.PrintsPlanOf limits object.old text_path.now
+    ensures { spec.PrintsPlanOf limits object.old path.now text_path.now
         (input_of T.remaining T.has_failed text.old text.new)
-        (λ edits. note_line path.now (note_of is_there version object.old edits))
+        (spec.edits_line path.now text_path.now is_there version object.old)
         (output_of W.contents W.has_failed W.holds_back output.old output.new)
         (output_of E.contents E.has_failed E.holds_back errors.old errors.new) result }
 {
-    match read_register(alloc, limits, text) {
-        Ok(wanted) => print_plan(
-            alloc, path, is_there, version, object, text_path, &wanted, output, errors,
-        ),
+    match read_said(alloc, limits, text) {
+        Ok(said) => {
+            let asked = PublishRequest {
+                journal: path,
+                text: text_path,
+                edition: said.edition,
+                onto_newest: false,
+            };
+            let wanted = &said.register;
+            print_unless_later(
+                alloc, asked, is_there, version, object, wanted, output, errors,
+            )
+        }
         Err(fault) => tell_text_file(alloc, errors, text_path, &fault),
     }
 }
@@ -137,8 +204,7 @@ fn planned_journal<J: Source>(
 /// the text of a path says, under these limits. Where there is no journal, it has published
 /// nothing. Both files are read whole before anything is printed, the journal first.
 ///
-/// After the plan standard error is told in a line what a publish of the edits would refuse, or do
-/// first. Where no plan is printed, standard error is told in a line why, and the status says it.
+/// After the plan standard error is told what a publish of the edits would refuse, or do first. Where no plan is printed, standard error is told in a line why, and the status says it.
 pub fn plan_command<J: Source, T: Source, W: Sink, E: Sink>(
     alloc: Global,
     limits: Limits,

@@ -21,13 +21,18 @@ pub(crate) fn push_plan_end(out: &mut String, edits: usize, next: usize) -> Resu
     }
 }
 
-/// Appends that a journal is new, if it has no edition.
-pub(crate) fn push_new_journal(out: &mut String, editions: usize) -> Result<(), AllocError>
+/// Appends that the journal of this path is new, if it has no edition.
+#[tactic(auto, unfolding(crate::specs::PlanWords::new_line))]
+pub(crate) fn push_new_journal(
+    out: &mut String,
+    path: &str,
+    editions: usize,
+) -> Result<(), AllocError>
     ensures { OnOk result
-        (string_bytes out.new ≡ string_bytes out.old ++ spec.new_journal_line editions) }
+        (string_bytes out.new ≡ string_bytes out.old ++ spec.new_journal_line path.now editions) }
 {
     match editions {
-        0 => out.push_str("this is a new journal\n"),
+        0 => writeln!(out, "note: {} is a new journal", Shown(path)),
         _ => Ok(()),
     }
 }
@@ -79,19 +84,12 @@ pub(crate) fn pending_line(alloc: Global, pending: usize) -> Result<String, Allo
     pending_text(alloc, pending, edits_word(pending), ADVICE)
 }
 
-/// The line on a journal of this path that is not there, which a publish makes.
-pub(crate) fn missing_line(alloc: Global, path: &str) -> Result<String, AllocError>
-    ensures { IfOk result (λ line. string_bytes line ≡ spec.missing_line path.now) }
+/// The line on a journal of this path that is not there.
+#[tactic(auto, unfolding(crate::specs::PlanWords::new_line))]
+pub(crate) fn new_line(alloc: Global, path: &str) -> Result<String, AllocError>
+    ensures { IfOk result (λ line. string_bytes line ≡ spec.new_line path.now) }
 {
-    let path = Shown(path);
-    format!(in alloc; "oldstyle: {path}: there is no such journal yet: publish makes it\n")
-}
-
-/// The line on a journal of this path that is not there, where nothing is to change.
-pub(crate) fn absent_line(alloc: Global, path: &str) -> Result<String, AllocError>
-    ensures { IfOk result (λ line. string_bytes line ≡ spec.absent_line path.now) }
-{
-    format!(in alloc; "oldstyle: {}: there is no such journal yet\n", Shown(path))
+    format!(in alloc; "note: {} is a new journal\n", Shown(path))
 }
 
 /// The line on edits that a publish refuses.

@@ -1,215 +1,36 @@
 //! The command `publish`: the edits of a plan, as one edition of a journal that is kept.
-ghost use Rattle.std.specs.Prelude.{◌≡◌, ◌^◌, ◌<◌, ℕ, List, [], Option, IfErr, IfOk, OnErr, OnOk};
-ghost use Rattle.std.specs.Prelude.{None, option_map, string_bytes};
-ghost use Rattle.std.specs.List.{All};
-ghost use Rattle.osn_core.specs.Sequential.{HasLawfulSource};
-ghost use Rattle.osn_files.specs.JournalText.{journal_text};
+ghost use Rattle.std.specs.Prelude.{◌≡◌, ◌^◌, ◌<◌, ℕ, List, [], Option, IfErr, IfOk, OnErr};
+ghost use Rattle.std.specs.Prelude.{None, length, option_map, string_bytes};
 ghost use Rattle.osn_journal.specs.KeptJournal.{file_of};
 ghost use Rattle.osn_lines.specs.Streams.{input_of, output_of};
-ghost use Rattle.osn_register.specs.declared.edit.Edit.{Edit};
-ghost use Rattle.osn_serve_commands.specs.Keep.{is_kept};
-ghost use Rattle.osn_text_commands.specs.Edition.{IsEachEditionLoaded, IsNoMemoryOr};
-ghost use Rattle.osn_text_commands.specs.Edition.{edition_refusal, needs_sources, with_batch};
+ghost use Rattle.osn_text_commands.specs.Edition.{IsEachEditionLoaded};
 ghost use Rattle.osn_text_commands.specs.Publish as spec;
 ghost use Rattle.osn_text_commands.specs.PublishInside as inside;
+ghost use Rattle.osn_text_commands.specs.Since.{hindered, later_than, request_of};
 
-use crate::edition::{Edition, WholeEdition, edition_of, whole_edition_of, write_edition};
 use crate::plan_fault::tell_plan;
-use crate::plan_words::{pending_line, push_standing};
-use osn_core::Object;
-use osn_files::{WholePart, give_source};
+use crate::plan_words::pending_line;
+use crate::publish_edits::{OlderEdition, publish_edits};
+use crate::since::{PublishRequest, behind_lines, hindered, later_lines, later_than};
 use osn_folder::KeptFile;
-use osn_format::Version;
-use osn_lines::{Sink, Source, write_all};
+use osn_lines::{Sink, Source};
 use osn_plan::plan;
-use osn_plan_page::plan_page;
-use osn_register::{Edit, Limits, Refusal, Register};
-use osn_report::{CommandFault, Status, print, report, tell_line, write_line};
-use osn_serve_commands::{HeldJournal, check_kept, cut_text_of, read_kept};
-use std::alloc::{AllocError, Global};
+use osn_register::{Edit, Limits, Register};
+use osn_report::{Status, report, tell_line};
+use osn_serve_commands::{HeldJournal, read_kept};
+use std::alloc::Global;
 
-/// The lines of a plan without edits, and that the last edition of the object stands.
-pub(crate) fn standing_text(
-    alloc: Global,
-    object: &Object,
-    wanted: &Register,
-) -> Result<String, AllocError>
-    ensures { IfOk result (λ text.
-        string_bytes text ≡ spec.standing_text object.now wanted.now) }
-{
-    let mut text = plan_page(alloc, object.register(), wanted, &[])?;
-    push_standing(&mut text, object.batches().len())?;
-    Ok(text)
-}
-
-/// Prints the text of an edition that is in the journal. Where the output failed, standard error is
-/// told so, and the publish is done all the same.
-pub(crate) fn print_report<W: Sink, E: Sink>(text: &str, output: &mut W, errors: &mut E) -> Status
-    ensures { spec.PrintsReport text.now
-        (output_of W.contents W.has_failed W.holds_back output.old output.new)
-        (output_of E.contents E.has_failed E.holds_back errors.old errors.new) result }
-{
-    match write_all(output, text.as_bytes()) {
-        Ok(()) => Status::Done,
-        Err(_) => {
-            write_line(
-                errors,
-                "oldstyle: the edition is in the journal, but its report could not be printed\n",
-            );
-            Status::Done
-        }
-    }
-}
-
-/// Writes an edition to the file, and prints its text.
-fn publish_edition<K: KeptFile, W: Sink, E: Sink>(
-    alloc: Global,
-    part: WholePart,
-    keeper: &mut K,
-    edition: &Edition,
-    output: &mut W,
-    errors: &mut E,
-) -> Status
-    requires { part.lines < 2 ^ 63 }
-    // Whatever a source gave of which the part counts, and whatever edits the lines are of.
-    ensures { (given : Option (List ℕ)) → inside.IsPartOf part given
-        → (edits : List Edit) → inside.AreLinesOf part edits edition.now.lines.items
-        → spec.WritesEdition (inside.CanStay K.cut_back_may_fail)
-        (file_of K.contents K.synced K.fault keeper.old)
-        (file_of K.contents K.synced K.fault keeper.new) given edits
-        (string_bytes edition.now.text)
-        (output_of W.contents W.has_failed W.holds_back output.old output.new)
-        (output_of E.contents E.has_failed E.holds_back errors.old errors.new) result }
-{
-    match write_edition(alloc, part, keeper, &edition.lines, errors) {
-        Ok(()) => print_report(edition.text.as_str(), output, errors),
-        Err(fault) => report(alloc, errors, fault),
-    }
-}
-
-/// Appends the edits of a plan as an edition, if there are any.
-fn append_edits<K: KeptFile, W: Sink, E: Sink>(
-    alloc: Global,
-    part: WholePart,
-    keeper: &mut K,
-    object: &mut Object,
-    wanted: &Register,
-    edits: Vec<Edit>,
-    output: &mut W,
-    errors: &mut E,
-) -> Status
-    requires { part.lines < 2 ^ 63 }
-    // Whatever a source gave of which the part counts.
-    ensures { (given : Option (List ℕ)) → inside.IsPartOf part given
-        → spec.AppendsEdits (inside.CanStay K.cut_back_may_fail) object.old wanted.now
-        (file_of K.contents K.synced K.fault keeper.old)
-        (file_of K.contents K.synced K.fault keeper.new) given edits.items
-        (output_of W.contents W.has_failed W.holds_back output.old output.new)
-        (output_of E.contents E.has_failed E.holds_back errors.old errors.new) result }
-{
-    if edits.is_empty() {
-        return print(standing_text(alloc, object, wanted), output, errors);
-    }
-    match edition_of(alloc, part, object, wanted, edits) {
-        Ok(edition) => publish_edition(alloc, part, keeper, &edition, output, errors),
-        Err(refusal) => report(alloc, errors, CommandFault::Refused(refusal)),
-    }
-}
-
-/// The same, where a journal of this version is kept.
-fn append_if_kept<K: KeptFile, W: Sink, E: Sink>(
-    alloc: Global,
-    version: Version,
-    part: WholePart,
-    keeper: &mut K,
-    object: &mut Object,
-    wanted: &Register,
-    edits: Vec<Edit>,
-    output: &mut W,
-    errors: &mut E,
-) -> Status
-    requires { part.lines < 2 ^ 63 }
-    // Whatever a source gave of which the part counts.
-    ensures { (given : Option (List ℕ)) → inside.IsPartOf part given
-        → spec.AppendsIfKept (is_kept version) (inside.CanStay K.cut_back_may_fail) version
-        object.old wanted.now
-        (file_of K.contents K.synced K.fault keeper.old)
-        (file_of K.contents K.synced K.fault keeper.new) given edits.items
-        (output_of W.contents W.has_failed W.holds_back output.old output.new)
-        (output_of E.contents E.has_failed E.holds_back errors.old errors.new) result }
-{
-    match check_kept(version) {
-        Ok(()) => append_edits(alloc, part, keeper, object, wanted, edits, output, errors),
-        Err(fault) => report(alloc, errors, fault),
-    }
-}
-
-/// A journal of a version that has no sources, and an edition that needs them.
-#[derive(Drop)]
-pub struct OlderEdition {
-    /// What the file of the journal holds.
-    pub bytes: Vec<u8>,
-    /// The edition, and the journal that is to be saved anew.
-    pub edition: WholeEdition,
-    /// The text on a last line that was not finished, if that is so.
-    pub cut: Option<String>,
-}
-
-/// Whether an edit gives a source, and a journal of this version has none.
-pub(crate) fn needs_sources(version: Version, edits: &[Edit]) -> bool
-    ensures { result ≡ needs_sources version edits.now }
-{
-    !version.has_sources() && give_source(edits)
-}
-
-/// The edits of a plan as the next edition of a journal that is to be saved anew.
-///
-/// # Errors
-///
-/// The first refusal that applies, or `NoMemory`.
-fn older_edition(
-    alloc: Global,
-    held: HeldJournal,
-    wanted: &Register,
-    edits: Vec<Edit>,
-) -> Result<OlderEdition, Refusal>
-    requires few { held.part.lines < 2 ^ 63 }
-    requires pending { held.object.pending ≡ [] }
-    ensures bytes { IfOk result (λ older. older.bytes.items ≡ held.bytes.items) }
-    ensures cut { IfOk result (λ older. inside.IsCutOf held.part
-        (option_map string_bytes older.cut)) }
-    ensures lawful { OnOk result (edition_refusal held.object edits.items ≡ None) }
-    ensures sources { OnOk result (All HasLawfulSource edits.items) }
-    ensures journal { IfOk result (λ older. string_bytes older.edition.journal
-        ≡ journal_text (with_batch held.object edits.items)) }
-    ensures text { IfOk result (λ older. string_bytes older.edition.text
-        ≡ spec.published_text held.object wanted.now edits.items) }
-    ensures refused { IfErr result (IsNoMemoryOr (edition_refusal held.object edits.items)) }
-{
-    let HeldJournal {
-        bytes,
-        part,
-        mut object,
-        ..
-    } = held;
-    let cut = cut_text_of(alloc, part)?;
-    let edition = whole_edition_of(alloc, &mut object, wanted, edits)?;
-    Ok(OlderEdition {
-        bytes,
-        edition,
-        cut,
-    })
-}
-
-/// Publishes the edits of a plan in a journal with nothing pending.
+/// Publishes the edits of a plan, unless they change again what editions after that of the text
+/// changed and that hinders the publish.
 ///
 /// # Errors
 ///
 /// The journal to be saved anew, where an edit gives a source that its version lacks.
-fn publish_edits<K: KeptFile, W: Sink, E: Sink>(
+fn publish_unless_behind<K: KeptFile, W: Sink, E: Sink>(
     alloc: Global,
     keeper: &mut K,
     held: HeldJournal,
+    asked: PublishRequest<'_>,
     wanted: &Register,
     edits: Vec<Edit>,
     output: &mut W,
@@ -220,44 +41,42 @@ fn publish_edits<K: KeptFile, W: Sink, E: Sink>(
     // Whatever a source gave of which the part counts.
     ensures ok { IfOk result (λ status. (given : Option (List ℕ))
         → inside.IsPartOf held.part given
-        → spec.PublishesEdits (needs_sources held.version edits.items)
-        (inside.CanStay K.cut_back_may_fail) held.version held.object wanted.now
+        → spec.PublishesUnlessBehind
+        (hindered (request_of asked.entry) held.object.batches edits.items)
+        (inside.CanStay K.cut_back_may_fail) (request_of asked.entry) held.version held.object
+        wanted.now
         (file_of K.contents K.synced K.fault keeper.old)
         (file_of K.contents K.synced K.fault keeper.new) given edits.items
         (output_of W.contents W.has_failed W.holds_back output.old output.new)
         (output_of E.contents E.has_failed E.holds_back errors.old errors.new) status) }
-    ensures older { IfErr result (λ older. inside.IsOlderOf held.bytes.items held.part held.version
+    ensures older { IfErr result (λ older.
+        (hindered (request_of asked.entry) held.object.batches edits.items ≡ None)
+        × inside.IsOlderOf asked.entry.journal.now held.bytes.items held.part held.version
         held.object wanted.now edits.items older.bytes.items (string_bytes older.edition.journal)
         (string_bytes older.edition.text) (option_map string_bytes older.cut)) }
     ensures quiet { OnErr result ((keeper.new ≡ keeper.old) × (output.new ≡ output.old)
         × (errors.new ≡ errors.old)) }
 {
-    if needs_sources(held.version, &edits) {
-        return match older_edition(alloc, held, wanted, edits) {
-            Ok(older) => Err(older),
-            Err(refusal) => Ok(report(alloc, errors, CommandFault::Refused(refusal))),
-        };
+    match hindered(asked, held.object.batches(), &edits) {
+        Some(edition) => {
+            let lines = behind_lines(alloc, asked, edition, &held.object);
+            Ok(tell_line(errors, Status::Refused, lines))
+        }
+        None => publish_edits(
+            alloc,
+            asked.journal,
+            keeper,
+            held,
+            wanted,
+            edits,
+            output,
+            errors,
+        ),
     }
-    let HeldJournal {
-        part,
-        version,
-        mut object,
-        ..
-    } = held;
-    Ok(append_if_kept(
-        alloc,
-        version,
-        part,
-        keeper,
-        &mut object,
-        wanted,
-        edits,
-        output,
-        errors,
-    ))
 }
 
-/// Publishes what changes the published register of a journal into the register that is wanted.
+/// Publishes what changes the published register of a journal with nothing pending into the
+/// register that is wanted.
 ///
 /// # Errors
 ///
@@ -266,7 +85,93 @@ fn publish_plan<K: KeptFile, W: Sink, E: Sink>(
     alloc: Global,
     keeper: &mut K,
     held: HeldJournal,
-    path: &str,
+    asked: PublishRequest<'_>,
+    wanted: &Register,
+    output: &mut W,
+    errors: &mut E,
+) -> Result<Status, OlderEdition>
+    requires few { held.part.lines < 2 ^ 63 }
+    requires pending { held.object.pending ≡ [] }
+    // Whatever a source gave of which the part counts.
+    ensures ok { IfOk result (λ status. (given : Option (List ℕ))
+        → inside.IsPartOf held.part given
+        → spec.PublishesPlan (inside.CanStay K.cut_back_may_fail) held.version held.object
+        (request_of asked.entry) wanted.now
+        (file_of K.contents K.synced K.fault keeper.old)
+        (file_of K.contents K.synced K.fault keeper.new) given
+        (output_of W.contents W.has_failed W.holds_back output.old output.new)
+        (output_of E.contents E.has_failed E.holds_back errors.old errors.new) status) }
+    ensures older { IfErr result (λ older. inside.IsOlderFree (request_of asked.entry)
+        held.bytes.items held.part held.version held.object wanted.now older.bytes.items
+        (string_bytes older.edition.journal)
+        (string_bytes older.edition.text) (option_map string_bytes older.cut)) }
+    ensures quiet { OnErr result ((keeper.new ≡ keeper.old) × (output.new ≡ output.old)
+        × (errors.new ≡ errors.old)) }
+{
+    match plan(alloc, held.object.register(), wanted) {
+        Ok(edits) => {
+            publish_unless_behind(alloc, keeper, held, asked, wanted, edits, output, errors)
+        }
+        Err(fault) => Ok(tell_plan(alloc, errors, asked.text, &fault)),
+    }
+}
+
+/// The same, unless the text is of an edition that the journal lacks.
+///
+/// # Errors
+///
+/// The journal to be saved anew, where an edit gives a source that its version lacks.
+fn publish_unless_later<K: KeptFile, W: Sink, E: Sink>(
+    alloc: Global,
+    keeper: &mut K,
+    held: HeldJournal,
+    asked: PublishRequest<'_>,
+    wanted: &Register,
+    output: &mut W,
+    errors: &mut E,
+) -> Result<Status, OlderEdition>
+    requires few { held.part.lines < 2 ^ 63 }
+    requires pending { held.object.pending ≡ [] }
+    // Whatever a source gave of which the part counts.
+    ensures ok { IfOk result (λ status. (given : Option (List ℕ))
+        → inside.IsPartOf held.part given
+        → spec.PublishesUnlessLater
+        (later_than asked.entry.edition (length held.object.batches))
+        (inside.CanStay K.cut_back_may_fail) held.version held.object (request_of asked.entry)
+        wanted.now
+        (file_of K.contents K.synced K.fault keeper.old)
+        (file_of K.contents K.synced K.fault keeper.new) given
+        (output_of W.contents W.has_failed W.holds_back output.old output.new)
+        (output_of E.contents E.has_failed E.holds_back errors.old errors.new) status) }
+    ensures older { IfErr result (λ older.
+        (later_than asked.entry.edition (length held.object.batches) ≡ None)
+        × inside.IsOlderFree (request_of asked.entry)
+        held.bytes.items held.part held.version held.object wanted.now older.bytes.items
+        (string_bytes older.edition.journal)
+        (string_bytes older.edition.text) (option_map string_bytes older.cut)) }
+    ensures quiet { OnErr result ((keeper.new ≡ keeper.old) × (output.new ≡ output.old)
+        × (errors.new ≡ errors.old)) }
+{
+    let editions = held.object.batches().len();
+    match later_than(asked.edition, editions) {
+        Some(edition) => {
+            let lines = later_lines(alloc, asked.text, asked.journal, edition, editions);
+            Ok(tell_line(errors, Status::Refused, lines))
+        }
+        None => publish_plan(alloc, keeper, held, asked, wanted, output, errors),
+    }
+}
+
+/// The same of a journal that may have pending edits.
+///
+/// # Errors
+///
+/// The journal to be saved anew, where an edit gives a source that its version lacks.
+fn publish_held<K: KeptFile, W: Sink, E: Sink>(
+    alloc: Global,
+    keeper: &mut K,
+    held: HeldJournal,
+    asked: PublishRequest<'_>,
     wanted: &Register,
     output: &mut W,
     errors: &mut E,
@@ -276,13 +181,14 @@ fn publish_plan<K: KeptFile, W: Sink, E: Sink>(
     ensures ok { IfOk result (λ status. (given : Option (List ℕ))
         → inside.IsPartOf held.part given
         → spec.PublishesUnlessPending (inside.CanStay K.cut_back_may_fail) held.version held.object
-        held.object.pending path.now wanted.now
+        held.object.pending (request_of asked.entry) wanted.now
         (file_of K.contents K.synced K.fault keeper.old)
         (file_of K.contents K.synced K.fault keeper.new) given
         (output_of W.contents W.has_failed W.holds_back output.old output.new)
         (output_of E.contents E.has_failed E.holds_back errors.old errors.new) status) }
-    ensures older { IfErr result (λ older. inside.IsOlderPlan held.bytes.items held.part
-        held.version held.object wanted.now older.bytes.items (string_bytes older.edition.journal)
+    ensures older { IfErr result (λ older. inside.IsOlderPlan (request_of asked.entry)
+        held.bytes.items held.part held.version held.object wanted.now older.bytes.items
+        (string_bytes older.edition.journal)
         (string_bytes older.edition.text) (option_map string_bytes older.cut)) }
     ensures quiet { OnErr result ((keeper.new ≡ keeper.old) × (output.new ≡ output.old)
         × (errors.new ≡ errors.old)) }
@@ -291,22 +197,21 @@ fn publish_plan<K: KeptFile, W: Sink, E: Sink>(
         let line = pending_line(alloc, held.object.pending().len());
         return Ok(tell_line(errors, Status::Refused, line));
     }
-    match plan(alloc, held.object.register(), wanted) {
-        Ok(edits) => publish_edits(alloc, keeper, held, wanted, edits, output, errors),
-        Err(fault) => Ok(tell_plan(alloc, errors, path, &fault)),
-    }
+    publish_unless_later(alloc, keeper, held, asked, wanted, output, errors)
 }
 
 /// The command `publish`: makes the edits that change what a journal published into a register that
-/// is wanted one edition of the journal, under these limits. The text of this path says the
-/// register. The source gives what the file of the journal holds.
+/// is wanted one edition of the journal, under these limits. The request names the paths of the
+/// journal and of the text that says the register, and the edition that the text was made of. The
+/// source gives what the file of the journal holds.
 ///
 /// What the edits do is printed once all their lines are in the file with that of their publish,
 /// and on the disk. They are appended at once. Where nothing is to change, the file is left as it
 /// is.
 ///
 /// Where the file holds no object, or one with pending edits, or an edit is refused, the file is
-/// left as it is. So is a journal of the first version. Where the file can't be changed, it is cut
+/// left as it is. So is a journal of the first version, and one whose editions after that of the
+/// text changed what the edits change, unless that is asked for. Where the file can't be changed, it is cut
 /// back to what it held. Standard error is told in a line why, and the status says it.
 ///
 /// # Errors
@@ -319,20 +224,20 @@ pub fn publish_command<K: KeptFile, J: Source, W: Sink, E: Sink>(
     limits: Limits,
     keeper: &mut K,
     journal: &mut J,
-    path: &str,
+    asked: PublishRequest<'_>,
     wanted: &Register,
     output: &mut W,
     errors: &mut E,
 ) -> Result<Status, OlderEdition>
     ensures ended { IfOk result (spec.EndsPublish (inside.CanStay K.cut_back_may_fail) limits
-        path.now wanted.now
+        (request_of asked.entry) wanted.now
         (file_of K.contents K.synced K.fault keeper.old)
         (file_of K.contents K.synced K.fault keeper.new)
         (input_of J.remaining J.has_failed journal.old journal.new)
         (output_of W.contents W.has_failed W.holds_back output.old output.new)
         (output_of E.contents E.has_failed E.holds_back errors.old errors.new)) }
-    ensures older { IfErr result (λ older. spec.IsOlderEdition limits wanted.now
-        (J.remaining journal.old) older.bytes.items (string_bytes older.edition.journal)
+    ensures older { IfErr result (λ older. spec.IsOlderEdition limits (request_of asked.entry)
+        wanted.now (J.remaining journal.old) older.bytes.items (string_bytes older.edition.journal)
         (string_bytes older.edition.text) (option_map string_bytes older.cut)) }
     ensures quiet { OnErr result ((keeper.new ≡ keeper.old) × (output.new ≡ output.old)
         × (errors.new ≡ errors.old)) }
@@ -340,7 +245,7 @@ pub fn publish_command<K: KeptFile, J: Source, W: Sink, E: Sink>(
     ensures loads { IsEachEditionLoaded }
 {
     match read_kept(alloc, limits, journal) {
-        Ok(held) => publish_plan(alloc, keeper, held, path, wanted, output, errors),
+        Ok(held) => publish_held(alloc, keeper, held, asked, wanted, output, errors),
         Err(fault) => Ok(report(alloc, errors, fault)),
     }
 }

@@ -1,5 +1,5 @@
 //! The command `text`: the territories that a journal published, as a text that an editor changes.
-ghost use Rattle.std.specs.Prelude.{◌≡◌, option_map};
+ghost use Rattle.std.specs.Prelude.{◌≡◌, length, option_map};
 ghost use Rattle.osn_lines.specs.Streams.{input_of, output_of};
 ghost use Rattle.osn_text_commands.specs.Text as spec;
 
@@ -12,21 +12,26 @@ use osn_report::{CommandFault, Status, print, report, tell_line};
 use osn_text_writer::{write_territory, write_text};
 use std::alloc::Global;
 
-/// Prints the text of the territory of a code.
+/// Prints the text of the territory of a code, which is made of this edition.
 fn print_land<W: Sink, E: Sink>(
     alloc: Global,
+    edition: usize,
     register: &Register,
     path: &str,
     code: &str,
     output: &mut W,
     errors: &mut E,
 ) -> Status
-    ensures { spec.PrintsLand register.now.lands path.now code.now
+    ensures { spec.PrintsLand edition register.now.lands path.now code.now
         (output_of W.contents W.has_failed W.holds_back output.old output.new)
         (output_of E.contents E.has_failed E.holds_back errors.old errors.new) result }
 {
     match register.land(code) {
-        Ok(_) => print(write_territory(alloc, register, code), output, errors),
+        Ok(_) => print(
+            write_territory(alloc, edition, register, code),
+            output,
+            errors,
+        ),
         Err(refusal) => {
             let line = land_refusal_line(alloc, path, code, refusal);
             tell_line(errors, Status::Refused, line)
@@ -43,21 +48,22 @@ fn print_lands<W: Sink, E: Sink>(
     output: &mut W,
     errors: &mut E,
 ) -> Status
-    ensures { spec.PrintsLands (spec.published object.now) path.now
+    ensures { spec.PrintsLands (length object.now.batches) (spec.published object.now) path.now
         (option_map (λ code. code.now) code.entry)
         (output_of W.contents W.has_failed W.holds_back output.old output.new)
         (output_of E.contents E.has_failed E.holds_back errors.old errors.new) result }
 {
+    let edition = object.batches().len();
     let register = object.register();
     match code {
-        None => print(write_text(alloc, register), output, errors),
-        Some(code) => print_land(alloc, register, path, code, output, errors),
+        None => print(write_text(alloc, edition, register), output, errors),
+        Some(code) => print_land(alloc, edition, register, path, code, output, errors),
     }
 }
 
 /// The command `text`: prints the territories that the journal of this path published under these
-/// limits, or the one of a code, as a text that says them. The journal is read whole before
-/// anything is printed.
+/// limits, or the one of a code, as a text that says them and the newest edition. The journal is
+/// read whole before anything is printed.
 ///
 /// Where no text is printed, standard error is told in a line why, and the status says it.
 pub fn text_command<J: Source, W: Sink, E: Sink>(

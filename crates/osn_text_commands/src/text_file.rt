@@ -6,10 +6,10 @@ ghost use Rattle.osn_text_reader.specs.Words.{text_fault_text};
 
 use osn_folder::OpenFailed;
 use osn_lines::{ReadAllFault, Sink, Source, read_all};
-use osn_register::{Limits, Register};
+use osn_register::Limits;
 use osn_report::{Status, tell_line, tell_no_memory, tell_unopened};
 use osn_shown::Shown;
-use osn_text_reader::{TextFault, parse_text};
+use osn_text_reader::{RegisterText, TextFault, parse_text};
 use std::alloc::{AllocError, Global};
 use std::str;
 
@@ -37,9 +37,10 @@ impl From<ReadAllFault> for TextFileFault {
     }
 }
 
-/// The register that these bytes say.
-fn register_in(alloc: Global, limits: Limits, bytes: &[u8]) -> Result<Register, TextFileFault>
-    ensures ok { IfOk result (spec.BytesSayRegister limits bytes.now) }
+/// What these bytes say.
+fn said_in(alloc: Global, limits: Limits, bytes: &[u8]) -> Result<RegisterText, TextFileFault>
+    ensures ok { IfOk result
+        (λ said. spec.BytesSay limits bytes.now said.edition said.register) }
     ensures err { IfErr result (spec.BytesSayNone limits bytes.now) }
 {
     match str::from_utf8(bytes) {
@@ -48,22 +49,23 @@ fn register_in(alloc: Global, limits: Limits, bytes: &[u8]) -> Result<Register, 
     }
 }
 
-/// The register that the text of a file says.
+/// What the text of a file says.
 ///
 /// # Errors
 ///
-/// Why it says none.
-pub(crate) fn read_register<T: Source>(
+/// Why it says no register.
+pub(crate) fn read_said<T: Source>(
     alloc: Global,
     limits: Limits,
     text: &mut T,
-) -> Result<Register, TextFileFault>
-    ensures ok { IfOk result (spec.SaysRegister limits (T.remaining text.old)) }
+) -> Result<RegisterText, TextFileFault>
+    ensures ok { IfOk result
+        (λ said. spec.Says limits (T.remaining text.old) said.edition said.register) }
     ensures err { IfErr result (spec.IsTextFileFault limits
         (input_of T.remaining T.has_failed text.old text.new)) }
 {
     let bytes = read_all(alloc, text)?;
-    register_in(alloc, limits, &bytes)
+    said_in(alloc, limits, &bytes)
 }
 
 /// The line on what is wrong with the text of this path.

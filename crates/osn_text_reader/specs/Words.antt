@@ -36,6 +36,8 @@ reason_text part (reasons.UnknownKey name) =
     codes "." ++ (shown name ++ (codes ": unknown key: " ++ keys_text part))
 reason_text part (reasons.Value key fault) =
     codes "." ++ (key_name key ++ (codes ": " ++ value_text key fault))
+reason_text part reasons.NotEdition =
+    codes ": write the number of the edition that the text was made of, as 3"
 reason_text part reasons.NotLater = codes ": not later than the change before it"
 reason_text part (reasons.Refused refusal) =
     codes ": " ++ (decimal (refusal_number refusal)

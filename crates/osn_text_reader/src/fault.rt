@@ -33,6 +33,8 @@ pub enum Reason {
     UnknownKey(Text),
     /// The value at a key is wrong.
     Value(Key, ValueFault),
+    /// It is the key of an edition, and its value is the number of none.
+    NotEdition,
     /// It is a change that isn't later than the change before it.
     NotLater,
     /// The register refuses its edit.
@@ -42,7 +44,7 @@ pub enum Reason {
 /// What is wrong with the text, and where: at a territory, a change or a listed Easter.
 #[derive(Debug, Drop)]
 pub struct KeyFault {
-    /// The code of the territory.
+    /// The code of the territory, or `edition`.
     pub code: Text,
     /// The table.
     pub part: Part,
@@ -141,6 +143,9 @@ impl<'a> fmt::Display for ReasonText<'a> {
             Reason::Value(key, fault) => {
                 let text = ValueText { key: *key, fault };
                 write!(f, ".{}: {text}", key.name())
+            }
+            Reason::NotEdition => {
+                f.write_str(": write the number of the edition that the text was made of, as 3")
             }
             Reason::NotLater => f.write_str(": not later than the change before it"),
             Reason::Refused(refusal) => {

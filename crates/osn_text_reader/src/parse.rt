@@ -1,9 +1,11 @@
 //! The register that a text of territories says.
-ghost use Rattle.std.specs.Prelude.{◌≡◌, [], Some, Ok, IfOk, IfErr, MatchResult, OnOk, OnErr};
-ghost use Rattle.toml.specs.View.{table_view};
+ghost use Rattle.std.specs.Prelude.{◌≡◌, [], Some, Ok, IfOk, IfErr, MatchResult, option_map};
+ghost use Rattle.std.specs.Prelude.{option_and_then};
+ghost use Rattle.toml.specs.Data.{as_integer, get_member};
+ghost use Rattle.toml.specs.View.{table_view, view};
 ghost use Rattle.osn_days.specs.Profile.{newest_rules};
 ghost use Rattle.osn_register.specs.Plain.{refusal};
-ghost use Rattle.osn_text_reader.specs.Inside.{Fails, Gives};
+ghost use Rattle.osn_text_reader.specs.Inside.{Fails, Gives, onto};
 ghost use Rattle.osn_text_reader.specs.Text as spec;
 
 use crate::fault::{Reason, TextFault};
@@ -13,7 +15,78 @@ use crate::territory_text::{Placed, push_territory};
 use crate::toml_fault::toml_fault;
 use osn_register::{Edit, Limits, Register, Text};
 use std::alloc::Global;
-use toml::Table;
+use toml::{Table, Value};
+
+/// The key of the edition that a text was made of.
+const EDITION: &str = "edition";
+
+/// What a text says.
+#[derive(Drop)]
+pub struct RegisterText {
+    /// The number of the edition that it was made of, if it names one. 0 is before the first.
+    pub edition: Option<u64>,
+    /// Its territories.
+    pub register: Register,
+}
+
+/// The number of an edition, if this number is one.
+fn edition_number(number: i64) -> Option<u64>
+    ensures { result ≡ spec.edition_number number }
+{
+    if number < 0 {
+        return None;
+    }
+    Some(number.unsigned_abs())
+}
+
+/// What stands at the key of the edition.
+fn edition_value(table: &Table) -> Option<&Value>
+    ensures { option_map (λ v. view v.now) result
+        ≡ get_member spec.edition_key (table_view table.now) }
+{
+    table.get(EDITION)
+}
+
+/// The number of an edition, if the value is one.
+fn edition_in(value: &Value) -> Option<u64>
+    ensures { result ≡ option_and_then spec.edition_number (as_integer (view value.now)) }
+{
+    edition_number(value.as_integer()?)
+}
+
+/// The edition that a text was made of, if it names one.
+fn edition_of(alloc: Global, table: &Table) -> Result<Option<u64>, TextFault>
+    ensures { Gives result (spec.text_edition (table_view table.now)) }
+{
+    let Some(value) = edition_value(table) else {
+        return Ok(None);
+    };
+    match edition_in(value) {
+        Some(edition) => Ok(Some(edition)),
+        None => {
+            let (code, part) = (EDITION, Part::Territory);
+            Err(Place { alloc, code, part }.fault(Reason::NotEdition))
+        }
+    }
+}
+
+/// Adds the edits of what stands at a key of a text, which are none at that of the edition.
+fn push_member(
+    edits: &mut Vec<Placed>,
+    alloc: Global,
+    code: &str,
+    value: &Value,
+) -> Result<(), TextFault>
+    ensures { MatchResult result
+        (λ _. onto edits.old.items (spec.member_edits code.now (view value.now))
+        ≡ Ok edits.new.items)
+        (λ e. Fails e (onto edits.old.items (spec.member_edits code.now (view value.now)))) }
+{
+    if code == EDITION {
+        return Ok(());
+    }
+    push_territory(edits, alloc, code, value)
+}
 
 /// The edits of a text's territories, in the order of their codes.
 fn edits_of(alloc: Global, table: &Table) -> Result<Vec<Placed>, TextFault>
@@ -23,7 +96,7 @@ fn edits_of(alloc: Global, table: &Table) -> Result<Vec<Placed>, TextFault>
 {
     let mut edits = Vec::new(alloc);
     for (code, value) in table.iter() {
-        push_territory(&mut edits, alloc, code.as_str(), value)?;
+        push_member(&mut edits, alloc, code.as_str(), value)?;
     }
     Ok(edits)
 }
@@ -61,22 +134,37 @@ fn register_of(alloc: Global, limits: Limits, edits: &[Placed]) -> Result<Regist
     Ok(register)
 }
 
-/// The register that a text of territories says, under limits.
+/// What the table of a text says, under limits.
+#[tactic(auto, unfolding(crate::specs::Text::text_says))]
+fn said_by(alloc: Global, limits: Limits, table: &Table) -> Result<RegisterText, TextFault>
+    ensures limits { IfOk result (λ said. said.register.limits ≡ limits) }
+    ensures said { MatchResult result
+        (λ said. spec.text_says limits (table_view table.now)
+        ≡ Ok (said.edition, said.register.lands))
+        (λ e. Fails e (spec.text_says limits (table_view table.now))) }
+{
+    let edition = edition_of(alloc, table)?;
+    let edits = edits_of(alloc, table)?;
+    let register = register_of(alloc, limits, &edits)?;
+    Ok(RegisterText { edition, register })
+}
+
+/// What a text of territories says, under limits.
 ///
 /// # Errors
 ///
-/// `Toml` for a text that is no TOML. `Key` for one that says no territories: what is wrong with
-/// the first table in order, and where none is wrong the first refusal of the register. `NoMemory`
-/// for want of memory.
-pub fn parse_text(alloc: Global, limits: Limits, text: &str) -> Result<Register, TextFault>
-    ensures ok { IfOk result (λ r. spec.lands_of_text limits text.now ≡ Some (Ok r.lands)) }
-    ensures limits { IfOk result (λ r. r.limits ≡ limits) }
-    ensures err { IfErr result (spec.IsFaultOf (spec.lands_of_text limits text.now)) }
+/// `Toml` for a text that is no TOML. `Key` for one that says no territories: its edition where
+/// that is none, else what is wrong with the first table in order, and where none is wrong the
+/// first refusal of the register. `NoMemory` for want of memory.
+pub fn parse_text(alloc: Global, limits: Limits, text: &str) -> Result<RegisterText, TextFault>
+    ensures ok { IfOk result (λ said. spec.said_by limits text.now
+        ≡ Some (Ok (said.edition, said.register.lands))) }
+    ensures limits { IfOk result (λ said. said.register.limits ≡ limits) }
+    ensures err { IfErr result (spec.IsFaultOf (spec.said_by limits text.now)) }
 {
     let table = match toml::table_from_str(alloc, text) {
         Ok(table) => table,
         Err(error) => return Err(toml_fault(alloc, text, &error)),
     };
-    let edits = edits_of(alloc, &table)?;
-    register_of(alloc, limits, &edits)
+    said_by(alloc, limits, &table)
 }

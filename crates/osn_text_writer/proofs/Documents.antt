@@ -1,16 +1,22 @@
--- The text of a register is read as the tables of its territories, in the order of their codes.
-use Rattle.std.proofs.Common.{◌≡◌, ℕ, suc, true, false, cond, ◌==◌, List, [], ◌∷◌, ◌++◌, length}
-use Rattle.std.proofs.Common.{Option, Some, None, option_and_then, map, codes, refl, ap, ◌∙◌, arith}
-use Rattle.std.proofs.Common.{Ordering, Less, Equal, Greater, nat_cmp}
+-- The text of a register is read as the tables of its territories, in the order of their codes, and
+-- its edition.
+use Rattle.std.proofs.Common.{◌≡◌, ℕ, ◌<◌, ◌^◌, suc, pos, true, false, cond, ◌==◌, ◌&&◌, nat_le}
+use Rattle.std.proofs.Common.{List, [], ◌∷◌, ◌++◌, length, Option, Some, None, option_and_then}
+use Rattle.std.proofs.Common.{map, codes, refl, sym, ap, ◌∙◌, arith}
+use Rattle.std.proofs.Common.{Ordering, Less, Equal, Greater, nat_cmp, is_eq}
+use Rattle.std.proofs.lemmas.Bool.{and_parts}
+use Rattle.std.proofs.lemmas.Bool.Decides.{nat_tests}
+use Rattle.std.specs.Cmp.{nat_cmp_is}
 use Rattle.std.specs.Cmp.Lexicographic.{slice_cmp}
+use Rattle.std.specs.List.{list_all}
 use Rattle.std.specs.Ordering.{match_ordering}
 use Rattle.std.specs.Str.{bytes_eq}
 use Rattle.toml_parser.specs.Lexical.{first}
 use Rattle.toml_parser.specs.Strings.{Key}
-use Rattle.toml.specs.Data.{string, table, Members, no_members, member}
-use Rattle.toml.specs.Tables.{Nodes, no_nodes, node, open_table, header, get_node, close}
+use Rattle.toml.specs.Data.{string, integer, table, Members, no_members, member, get_member}
+use Rattle.toml.specs.Tables.{Nodes, no_nodes, node, value, open_table, header, get_node, close}
 use Rattle.toml.specs.Tables.{Definition, key_value, std_table, array_table, Expression, Document}
-use Rattle.toml.specs.Tables.{along_header, define}
+use Rattle.toml.specs.Tables.{along_header, along_dots, at_key, define}
 use Rattle.toml.specs.Parse.{skip_bom, parse_document}
 use Rattle.toml.proofs.Fill.{run-append}
 use Rattle.toml.proofs.ReadLines.{run, AllPrinted, IsPrinted, line_turn, read_lines}
@@ -25,17 +31,20 @@ use Rattle.osn_register.proofs.LandFacts.{apart_first}
 use Rattle.osn_lands.specs.declared.period.Period.{Period}
 use Rattle.osn_lands.specs.declared.regime.Regime.{Regime}
 use Rattle.osn_lands.specs.Territory.{TerritoryModel, periods_of, regime_at}
+use Rattle.osn_register.specs.declared.limits.Limits.{Limits}
 use Rattle.osn_register.specs.Answer.{period_source, easter_source}
+use Rattle.osn_register.specs.Code.{has_length, is_capital, is_code, is_code_byte}
 use Rattle.osn_register.specs.Plain.{LandModel, land_of, AreDistinct}
 use Rattle.osn_register.specs.Sources.{SourcesModel}
+use Rattle.osn_text_reader.specs.Text.{edition_key}
 use Rattle.osn_text_writer.specs.TerritoryText.{register_text}
 use Rattle.osn_text_writer.proofs.Expressions as lines
 use Rattle.osn_text_writer.proofs.JoinedLines.{IsWritten}
 use Rattle.osn_text_writer.proofs.LandNodes.{land_nodes, land_end, run_land}
 use Rattle.osn_text_writer.proofs.SortedLands.{insert_land, insert_land_by, sorted_lands, AreNew}
-use Rattle.osn_text_writer.proofs.SortedLands.{AreNew-none, AreNew-insert_land}
+use Rattle.osn_text_writer.proofs.SortedLands.{AreNew-none, AreNew-insert_land, AreReadable}
 use Rattle.osn_text_writer.proofs.TableNodes.{with_table, run_below}
-use Rattle.osn_text_writer.proofs.WrittenLands.{IsCons, IsWritable, AreWritable, lands_written}
+use Rattle.osn_text_writer.proofs.WrittenLands.{IsCons, IsWritable, AreWritable, register_written}
 
 -- ---- the text is read line by line
 
@@ -194,58 +203,90 @@ parsed es text doc written printed ran =
 
 -- ---- the territories, in the order of their codes
 
+-- a code comes before the key of the edition, whose letters are small
+before_edition : (code : List ℕ) → is_code code ≡ true
+    → (slice_cmp nat_cmp code edition_key ≡ Less) × (slice_cmp nat_cmp edition_key code ≡ Greater)
+before_edition [] is = absurd (cc)
+before_edition (c ∷ cs) is =
+    let (size, bytes) =
+    and_parts (has_length 2 8 (c ∷ cs)) (is_capital c && list_all is_code_byte (c ∷ cs)) is in
+    let (capital, all) = and_parts (is_capital c) (list_all is_code_byte (c ∷ cs)) bytes in
+    let (low, high) = and_parts (nat_le 65 c) (nat_le c 90) capital in
+    let small : c < 101 = grind (arith, nat_tests) in
+    let less : Less ≡ nat_cmp c 101 = nat_cmp_is c 101 Less small in
+    let greater : Greater ≡ nat_cmp 101 c = nat_cmp_is 101 c Greater small in
+    (rw (← less) refl, rw (← greater) refl)
+
+-- and is another one
+pub no_edition_key : (code : List ℕ) → is_code code ≡ true → bytes_eq code edition_key ≡ false
+no_edition_key code is =
+    sym (is_eq-slice_cmp code edition_key) ∙ ap is_eq (before_edition code is).0
+
 abbrev pub table_of : LandModel → Nodes
 table_of l = land_nodes l.name l.territory (Some l.sources) (periods_of newest_rules l.territory)
 
-abbrev pub nodes_of : List LandModel → Nodes
-nodes_of [] = no_nodes
-nodes_of (l ∷ ls) = node l.code (open_table header (table_of l)) (nodes_of ls)
+-- the tables of territories, and the edition after them
+abbrev pub nodes_of : ℕ → List LandModel → Nodes
+nodes_of n [] = node edition_key (value (integer (pos n))) no_nodes
+nodes_of n (l ∷ ls) = node l.code (open_table header (table_of l)) (nodes_of n ls)
 
-abbrev pub members_of : List LandModel → Members
-members_of [] = no_members
-members_of (l ∷ ls) = member l.code (table (close (table_of l))) (members_of ls)
+abbrev pub members_of : ℕ → List LandModel → Members
+members_of n [] = member edition_key (integer (pos n)) no_members
+members_of n (l ∷ ls) = member l.code (table (close (table_of l))) (members_of n ls)
 
-close-nodes_of : (ls : List LandModel) → close (nodes_of ls) ≡ members_of ls
-close-nodes_of [] = refl
-close-nodes_of (l ∷ ls) = ap (member l.code (table (close (table_of l)))) (close-nodes_of ls)
+close-nodes_of : (n : ℕ) (ls : List LandModel) → close (nodes_of n ls) ≡ members_of n ls
+close-nodes_of n [] = refl
+close-nodes_of n (l ∷ ls) = ap (member l.code (table (close (table_of l)))) (close-nodes_of n ls)
 
-insert_by : (o : Ordering) (l m : LandModel) (ms : List LandModel)
-    → with_table l.code (table_of l) (nodes_of ms) ≡ nodes_of (insert_land l ms)
-    → match_ordering o (node l.code (open_table header (table_of l)) (nodes_of (m ∷ ms)))
-    (node m.code (open_table header (table_of l)) (nodes_of ms))
-    (node m.code (open_table header (table_of m)) (with_table l.code (table_of l) (nodes_of ms)))
-    ≡ nodes_of (insert_land_by o l m ms (insert_land l ms))
-insert_by Less l m ms more = refl
-insert_by Equal l m ms more = refl
-insert_by Greater l m ms more = ap (node m.code (open_table header (table_of m))) more
+-- the edition that the members say
+pub edition_found : (n : ℕ) (limits : Limits) (ls : List LandModel) → AreReadable limits ls
+    → get_member edition_key (members_of n ls) ≡ Some (integer (pos n))
+edition_found n limits [] can = refl
+edition_found n limits (l ∷ ls) can =
+    rw ((before_edition l.code can.0.code).1) (edition_found n limits ls can.1)
 
-insert-nodes_of : (l : LandModel) (ms : List LandModel)
-    → with_table l.code (table_of l) (nodes_of ms) ≡ nodes_of (insert_land l ms)
-insert-nodes_of l [] = refl
-insert-nodes_of l (m ∷ ms) =
-    insert_by (slice_cmp nat_cmp l.code m.code) l m ms (insert-nodes_of l ms)
+insert_by : (n : ℕ) (o : Ordering) (l m : LandModel) (ms : List LandModel)
+    → with_table l.code (table_of l) (nodes_of n ms) ≡ nodes_of n (insert_land l ms)
+    → match_ordering o (node l.code (open_table header (table_of l)) (nodes_of n (m ∷ ms)))
+    (node m.code (open_table header (table_of l)) (nodes_of n ms))
+    (node m.code (open_table header (table_of m)) (with_table l.code (table_of l) (nodes_of n ms)))
+    ≡ nodes_of n (insert_land_by o l m ms (insert_land l ms))
+insert_by n Less l m ms more = refl
+insert_by n Equal l m ms more = refl
+insert_by n Greater l m ms more = ap (node m.code (open_table header (table_of m))) more
 
-no_node : (code : List ℕ) (ls : List LandModel) → land_of code ls ≡ None
-    → get_node code (nodes_of ls) ≡ None
-no_node code [] none = refl
-no_node code (l ∷ ls) none =
+insert-nodes_of : (n : ℕ) (l : LandModel) (ms : List LandModel) → is_code l.code ≡ true
+    → with_table l.code (table_of l) (nodes_of n ms) ≡ nodes_of n (insert_land l ms)
+insert-nodes_of n l [] is = rw ((before_edition l.code is).0) refl
+insert-nodes_of n l (m ∷ ms) is =
+    insert_by n (slice_cmp nat_cmp l.code m.code) l m ms (insert-nodes_of n l ms is)
+
+no_node : (n : ℕ) (code : List ℕ) (ls : List LandModel) → is_code code ≡ true
+    → land_of code ls ≡ None → get_node code (nodes_of n ls) ≡ None
+no_node n code [] is none = rw ((before_edition code is).0) refl
+no_node n code (l ∷ ls) is none =
     let (other, more) = apart_first code l ls none in
-    rw (is_eq-slice_cmp code l.code, other) (no_node code ls more)
+    rw (is_eq-slice_cmp code l.code, other) (no_node n code ls is more)
 
 -- ---- what the lines define
 
-abbrev IsRun : List LandModel → List Expression → List LandModel → Type 0
-IsRun done es after =
-    (s : List (List ℕ)) → (t : List (List ℕ)) × (run (nodes_of done, s) es
-    ≡ Some (nodes_of after, t))
+abbrev IsRun : ℕ → List LandModel → List Expression → List LandModel → Type 0
+IsRun n done es after =
+    (s : List (List ℕ)) → (t : List (List ℕ)) × (run (nodes_of n done, s) es
+    ≡ Some (nodes_of n after, t))
 
-header_run : (l : LandModel) (done : List LandModel) (s : List (List ℕ))
-    → land_of l.code done ≡ None
-    → define (nodes_of done, s) (([], l.code), std_table)
-    ≡ Some (with_table l.code no_nodes (nodes_of done), l.code ∷ [])
+edition_run : (n : ℕ)
+    → define (no_nodes, []) (lines.edition n) ≡ Some (nodes_of n [], [])
+unfolding define along_header along_dots at_key
+edition_run n = refl
+
+header_run : (n : ℕ) (l : LandModel) (done : List LandModel) (s : List (List ℕ))
+    → is_code l.code ≡ true → land_of l.code done ≡ None
+    → define (nodes_of n done, s) (([], l.code), std_table)
+    ≡ Some (with_table l.code no_nodes (nodes_of n done), l.code ∷ [])
 unfolding define along_header
-header_run l done s none =
-    rw (at_key_new l.code std_table (nodes_of done) (no_node l.code done none)) refl
+header_run n l done s is none =
+    rw (at_key_new l.code std_table (nodes_of n done) (no_node n l.code done is none)) refl
 
 table_run : (l : LandModel) (ps : List Period) → IsCons ps
     → run (no_nodes, []) (lines.after_header l.name l.territory (Some l.sources) ps)
@@ -253,46 +294,51 @@ table_run : (l : LandModel) (ps : List Period) → IsCons ps
 table_run l [] some = absurd some
 table_run l (p ∷ ps) some = run_land l.name l.territory (Some l.sources) p ps
 
-territory_run : (l : LandModel) (done : List LandModel) → IsWritable l → land_of l.code done ≡ None
-    → IsRun done (lines.territory newest_rules l) (insert_land l done)
-territory_run l done can none s =
+territory_run : (n : ℕ) (l : LandModel) (done : List LandModel) → IsWritable l
+    → land_of l.code done ≡ None
+    → IsRun n done (lines.territory newest_rules l) (insert_land l done)
+territory_run n l done can none s =
     let ps = periods_of newest_rules l.territory in
     let table_lines = lines.after_header l.name l.territory (Some l.sources) ps in
     let after = map (lines.under l.code) table_lines in
     let in_table = run_below l.code table_lines no_nodes (table_of l)
-    (nodes_of done) [] (land_end l.territory ps) (table_run l ps can.some) in (
+    (nodes_of n done) [] (land_end l.territory ps) (table_run l ps can.some) in (
       l.code ∷ land_end l.territory ps,
-      ap (option_and_then (λ (d : Document). run d after)) (header_run l done s none)
+      ap (option_and_then (λ (d : Document). run d after)) (header_run n l done s can.code none)
           ∙ in_table
-          ∙ ap (λ (n : Nodes). Some (n, l.code ∷ land_end l.territory ps)) (insert-nodes_of l done),
+          ∙ ap (λ (made : Nodes). Some (made, l.code ∷ land_end l.territory ps))
+          (insert-nodes_of n l done can.code),
     )
 
-run_then : (done mid after : List LandModel) (es fs : List Expression) → IsRun done es mid
-    → IsRun mid fs after → IsRun done (es ++ fs) after
-run_then done mid after es fs first_part more s =
+run_then : (n : ℕ) (done mid after : List LandModel) (es fs : List Expression)
+    → IsRun n done es mid → IsRun n mid fs after → IsRun n done (es ++ fs) after
+run_then n done mid after es fs first_part more s =
     let (t, ran) = first_part s in
     let (u, rest) = more t in (
       u,
-      run-append (nodes_of done, s) es fs
+      run-append (nodes_of n done, s) es fs
           ∙ ap (option_and_then (λ (d : Document). run d fs)) ran ∙ rest,
     )
 
-all_run : (ls done : List LandModel) → AreWritable ls → AreNew ls done → AreDistinct ls
-    → IsRun done (lines.territories newest_rules ls) (sorted_lands done ls)
-all_run [] done can new distinct = λ s. (s, refl)
-all_run (l ∷ ls) done can new distinct =
-    run_then done (insert_land l done) (sorted_lands (insert_land l done) ls)
+all_run : (n : ℕ) (ls done : List LandModel) → AreWritable ls → AreNew ls done → AreDistinct ls
+    → IsRun n done (lines.territories newest_rules ls) (sorted_lands done ls)
+all_run n [] done can new distinct = λ s. (s, refl)
+all_run n (l ∷ ls) done can new distinct =
+    run_then n done (insert_land l done) (sorted_lands (insert_land l done) ls)
     (lines.territory newest_rules l)
-    (lines.territories newest_rules ls) (territory_run l done can.0 new.0)
-    (all_run ls (insert_land l done) can.1
+    (lines.territories newest_rules ls) (territory_run n l done can.0 new.0)
+    (all_run n ls (insert_land l done) can.1
     (AreNew-insert_land l ls done new.0 distinct.0 new.1) distinct.1)
 
--- a register's text is read as its territories
-pub register_parsed : (ls : List LandModel) → AreWritable ls → AreDistinct ls
-    → parse_document (register_text newest_rules ls) ≡ Some (members_of (sorted_lands [] ls))
-unfolding register_text
-register_parsed ls can distinct =
-    let (path, ran) = all_run ls [] can (AreNew-none ls) distinct [] in
-    parsed (lines.territories newest_rules ls) (register_text newest_rules ls)
-    (nodes_of (sorted_lands [] ls), path) (lands_written false ls can) (all_printed ls) ran
-    ∙ ap Some (close-nodes_of (sorted_lands [] ls))
+-- a register's text is read as its territories and its edition
+pub register_parsed : (n : ℕ) (ls : List LandModel) → n < 2 ^ 63 → AreWritable ls
+    → AreDistinct ls
+    → parse_document (register_text newest_rules n ls) ≡ Some (members_of n (sorted_lands [] ls))
+register_parsed n ls small can distinct =
+    let (path, ran) = all_run n ls [] can (AreNew-none ls) distinct [] in
+    parsed (lines.register newest_rules n ls) (register_text newest_rules n ls)
+    (nodes_of n (sorted_lands [] ls), path) (register_written n ls small can)
+    ((refl, omega arith, refl), all_printed ls)
+    (ap (option_and_then (λ (d : Document). run d (lines.territories newest_rules ls)))
+    (edition_run n) ∙ ran)
+    ∙ ap Some (close-nodes_of n (sorted_lands [] ls))

@@ -106,3 +106,11 @@ territory p l =
 abbrev pub territories : Profile → List LandModel → List Expression
 territories p [] = []
 territories p (l ∷ ls) = territory p l ++ territories p ls
+
+-- the edition that a text is made of
+abbrev pub edition : ℕ → Expression
+edition n = pair (codes "edition") (integer (pos n))
+
+-- and the territories after it
+abbrev pub register : Profile → ℕ → List LandModel → List Expression
+register p n ls = edition n ∷ territories p ls

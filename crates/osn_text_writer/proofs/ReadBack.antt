@@ -1,10 +1,10 @@
 -- The text of a register says the register's territories, with their sources.
-use Rattle.std.proofs.Common.{◌≡◌, ℕ, ◌≤◌, Bool, true, false, cond, List, [], ◌∷◌, length, map}
+use Rattle.std.proofs.Common.{◌≡◌, ℕ, ◌≤◌, ◌<◌, ◌^◌, pos, Bool, true, false, cond, List, [], ◌∷◌}
+use Rattle.std.proofs.Common.{length, map, nat_lt}
+use Rattle.std.proofs.lemmas.Bool.Decides.{nat_tests}
 use Rattle.std.proofs.Common.{Option, Some, None, option_map, Ok, refl, sym, ap, ◌∙◌, subst, arith}
-use Rattle.std.proofs.Common.{append-nil}
 use Rattle.std.proofs.lemmas.List.{length-map}
 use Rattle.std.proofs.lemmas.Option.{none-some, same_Some}
-use Rattle.std.specs.Option.{option_map_or}
 use Rattle.std.specs.Str.{bytes_eq}
 use Rattle.toml.specs.Data.{table}
 use Rattle.toml.specs.Tables.{close}
@@ -16,11 +16,11 @@ use Rattle.osn_register.specs.Answer.{period_source, easter_source}
 use Rattle.osn_register.specs.Plain.{LandModel, RegisterModel, land_of, AreDistinct, AreNamed}
 use Rattle.osn_register.specs.Plain.{AreSound, AreListed, HaveSources, IsWellFormed}
 use Rattle.osn_register.specs.SameLand.{AreSameLand}
-use Rattle.osn_text_reader.specs.Text.{text_edits}
+use Rattle.osn_text_reader.specs.Text.{edition_number, text_edition, text_edits, text_says}
 use Rattle.osn_text_reader.specs.TerritoryText.{territory_edits}
-use Rattle.osn_text_writer.specs.Says.{SaysLands, SaysLand, if_there}
-use Rattle.osn_text_writer.specs.TerritoryText.{register_text, lands_text, land_text, text_of_code}
-use Rattle.osn_text_writer.proofs.Documents.{members_of, register_parsed}
+use Rattle.osn_text_writer.specs.Says.{SaysLands, SaysLand, SaysRegister}
+use Rattle.osn_text_writer.specs.TerritoryText.{if_there, register_text, text_of_code}
+use Rattle.osn_text_writer.proofs.Documents.{edition_found, members_of, no_edition_key, register_parsed}
 use Rattle.osn_text_writer.proofs.FoundLands.{some_of}
 use Rattle.osn_text_writer.proofs.LandNodes.{land_nodes}
 use Rattle.osn_text_writer.proofs.MadeSources.{source_is, remade, remade_are_same}
@@ -76,15 +76,26 @@ read_by limits l (p ∷ ps) can begun listings =
     territory_read l.code l.name l.territory (Some l.sources) p ps sources.0 sources.1 begun.1
     listings
 
-all_read : (limits : Limits) (ls : List LandModel) → AreReadable limits ls
-    → text_edits (members_of ls) ≡ Ok (all_edits ls)
-all_read limits [] can = refl
-all_read limits (l ∷ ls) can =
+all_read : (n : ℕ) (limits : Limits) (ls : List LandModel) → AreReadable limits ls
+    → text_edits (members_of n ls) ≡ Ok (all_edits ls)
+all_read n limits [] can = refl
+all_read n limits (l ∷ ls) can =
     rw (
+      no_edition_key l.code can.0.code,
       read_by limits l (periods_of newest_rules l.territory) can.0 (period_facts limits l can.0)
           can.0.sound.listed,
-      all_read limits ls can.1,
+      all_read n limits ls can.1,
     )
+
+-- no number is below 0
+not_negative : (n : ℕ) → edition_number (pos n) ≡ Some n
+not_negative n =
+    let least : nat_lt n 0 ≡ false = grind (arith, nat_tests) in
+    rw least refl
+
+edition_read : (n : ℕ) (limits : Limits) (ls : List LandModel) → AreReadable limits ls
+    → text_edition (members_of n ls) ≡ Ok (Some n)
+edition_read n limits ls can = rw (edition_found n limits ls can, not_negative n) refl
 
 -- ---- the territories that the edits make
 
@@ -121,18 +132,22 @@ readable limits (l ∷ ls) named sound sources = (
 )
 
 -- the text of territories says them
-says : (limits : Limits) (ls : List LandModel) → AreReadable limits ls → AreDistinct ls
-    → length ls ≤ limits.lands → SaysLands limits (register_text newest_rules ls) ls
-says limits ls can distinct within =
+says : (n : ℕ) (limits : Limits) (ls : List LandModel) → n < 2 ^ 63 → AreReadable limits ls
+    → AreDistinct ls → length ls ≤ limits.lands
+    → SaysLands limits (register_text newest_rules n ls) n ls
+unfolding text_says
+says n limits ls small can distinct within =
     let sorted = sorted_lands [] ls in
     let can_all = AreReadable-all limits ls can in
-    let edits = all_read limits sorted can_all in
+    let edition = edition_read n limits sorted can_all in
+    let edits = all_read n limits sorted can_all in
     let made = all_made limits [] sorted can_all
     (AreDistinct-remade sorted (AreDistinct-all ls distinct))
     (omega (arith, length-map sorted remade, length-all ls distinct)) in
     record {
       territories = map remade sorted;
-      reads = rw (register_parsed ls (all_writable limits ls can) distinct, edits, made);
+      reads =
+          rw (register_parsed n ls small (all_writable limits ls can) distinct, edition, edits, made);
       same = λ code. subst (λ found. AreSameLand found (land_of code ls))
           (sym (land_of-remade code sorted
           ∙ ap (option_map remade) (land_of-all code ls distinct)))
@@ -142,9 +157,10 @@ says limits ls can distinct within =
 all_readable : (r : RegisterModel) → IsWellFormed newest_rules r → AreReadable r.limits r.lands
 all_readable r is = readable r.limits r.lands is.named is.territories is.sources
 
-pub register_says : (r : RegisterModel) → IsWellFormed newest_rules r
-    → SaysLands r.limits (register_text newest_rules r.lands) r.lands
-register_says r is = says r.limits r.lands (all_readable r is) is.distinct is.within
+pub register_says : (n : ℕ) (r : RegisterModel)
+    → SaysRegister r (register_text newest_rules n r.lands) n r.lands
+register_says n r small is =
+    says n r.limits r.lands small (all_readable r is) is.distinct is.within
 
 -- ---- one territory
 
@@ -164,19 +180,17 @@ found limits (m ∷ ms) code l can is =
     (λ more. found limits ms code l can.1 more) is
 
 -- what a code finds among readable territories is said
-said_by : (limits : Limits) (ls : List LandModel) (code : List ℕ) (o : Option LandModel)
-    → AreReadable limits ls → length ls ≤ limits.lands → land_of code ls ≡ o
-    → SaysLands limits (option_map_or (land_text newest_rules) o []) (if_there o)
-unfolding register_text lands_text
-said_by limits ls code None can within is = says limits [] tt tt (omega arith)
-said_by limits ls code (Some l) can within is =
+said_of : (n : ℕ) (limits : Limits) (ls : List LandModel) (code : List ℕ) (o : Option LandModel)
+    → n < 2 ^ 63 → AreReadable limits ls → length ls ≤ limits.lands → land_of code ls ≡ o
+    → SaysLands limits (register_text newest_rules n (if_there o)) n (if_there o)
+said_of n limits ls code None small can within is = says n limits [] small tt tt (omega arith)
+said_of n limits ls code (Some l) small can within is =
     let some = some_of ls code l is in
-    let all = says limits (l ∷ []) (found limits ls code l can is, tt) (refl, tt)
-    (omega (arith, some, within)) in
-    subst (λ text. SaysLands limits text (l ∷ [])) (append-nil (land_text newest_rules l)) all
+    says n limits (l ∷ []) small (found limits ls code l can is, tt) (refl, tt)
+    (omega (arith, some, within))
 
 -- the text of the territory of a code says it
-pub land_says : (code : List ℕ) (r : RegisterModel)
-    → SaysLand r (text_of_code newest_rules code r.lands) code
-land_says code r is =
-    said_by r.limits r.lands code (land_of code r.lands) (all_readable r is) is.within refl
+pub land_says : (n : ℕ) (code : List ℕ) (r : RegisterModel)
+    → SaysLand r (text_of_code newest_rules n code r.lands) n code
+land_says n code r small is =
+    said_of n r.limits r.lands code (land_of code r.lands) small (all_readable r is) is.within refl

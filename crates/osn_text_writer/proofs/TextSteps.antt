@@ -1,13 +1,11 @@
 -- What is written and what is left to write are the whole text, at each step of a loop.
-use Rattle.std.proofs.Common.{◌≡◌, ℕ, zero, suc, ◌+◌, ◌<◌, ◌≤◌, true, false, nat_lt, List, [], ◌∷◌}
+use Rattle.std.proofs.Common.{◌≡◌, ℕ, zero, suc, ◌+◌, ◌<◌, ◌≤◌, false, List, [], ◌∷◌, codes}
 use Rattle.std.proofs.Common.{◌++◌, length, drop, get_or, Option, Some, None, option_map, is_some}
 use Rattle.std.proofs.Common.{slice_get}
-use Rattle.std.proofs.Common.{refl, sym, ap, ◌∙◌, arith, append_assoc, append-nil}
+use Rattle.std.proofs.Common.{refl, sym, ap, ◌∙◌, append_assoc, append-nil}
 use Rattle.std.proofs.lemmas.Bool.{false≢true}
-use Rattle.std.proofs.lemmas.Bool.Decides.{nat_tests}
 use Rattle.std.proofs.lemmas.List.{drop_more, drop_all}
 use Rattle.std.proofs.lemmas.Option.{slice_get_within, get_or_from_slice_get, none-some, same_Some}
-use Rattle.std.specs.Option.{option_map_or}
 use Rattle.osn_days.specs.Profile.{newest_rules}
 use Rattle.osn_lands.specs.declared.period.Period.{Period}
 use Rattle.osn_lands.specs.declared.regime.Regime.{Regime}
@@ -16,7 +14,7 @@ use Rattle.osn_register.specs.Named.{listing_of, named_of}
 use Rattle.osn_register.specs.Plain.{LandModel, land_of, sources_of, AreDistinct}
 use Rattle.osn_register.specs.Sources.{SourcesModel}
 use Rattle.osn_text_writer.specs.TerritoryText.{change_text, changes_text, territory_text}
-use Rattle.osn_text_writer.specs.TerritoryText.{land_text, lands_text, text_of_code, blank_line}
+use Rattle.osn_text_writer.specs.TerritoryText.{if_there, land_text, lands_text}
 use Rattle.osn_text_writer.proofs.FoundLands.{code_of, land_of-at}
 
 -- one change more
@@ -58,31 +56,28 @@ listed_by ls i listing (Some l) at is =
 pub land_step : (ls : List LandModel) (i : ℕ) (code name : List ℕ) (t : TerritoryModel)
     (whole out new : List ℕ) → AreDistinct ls
     → Some (code, name, t) ≡ option_map listing_of (slice_get ls i)
-    → whole ≡ out ++ lands_text newest_rules (nat_lt 0 i) (drop i ls)
-    → new ≡ out ++ (blank_line (nat_lt 0 i)
-    ++ territory_text newest_rules code name t (sources_of code ls))
-    → whole ≡ new ++ lands_text newest_rules (nat_lt 0 (i + 1)) (drop (i + 1) ls)
+    → whole ≡ out ++ lands_text newest_rules (drop i ls)
+    → new ≡ out ++ (codes "\n" ++ territory_text newest_rules code name t (sources_of code ls))
+    → whole ≡ new ++ lands_text newest_rules (drop (i + 1) ls)
 unfolding lands_text
 land_step ls i code name t whole out new distinct is left made =
     let (l, at, same) = listed_by ls i (code, name, t) (slice_get ls i) refl is in
-    let follows = nat_lt 0 i in
+    let blank = codes "\n" in
     let text = land_text newest_rules l in
-    let rest = lands_text newest_rules true (drop (i + 1) ls) in
+    let rest = lands_text newest_rules (drop (i + 1) ls) in
     let within : i < length ls = slice_get_within ls i l at in
     let next : drop i ls ≡ l ∷ drop (i + 1) ls =
     drop_more ls i l within ∙ ap (λ m. m ∷ drop (i + 1) ls) (get_or_from_slice_get ls i l l at) in
-    let later : nat_lt 0 (i + 1) ≡ true = grind (arith, nat_tests) in
     let this : text ≡ territory_text newest_rules code name t (sources_of code ls) =
     ap (λ s. territory_text newest_rules l.code l.name l.territory s)
     (sym (ap (option_map (λ (m : LandModel). m.sources)) (land_of-at ls i l distinct at)))
     ∙ ap (λ (m : List ℕ × List ℕ × TerritoryModel).
     territory_text newest_rules m.0 m.1 m.2 (sources_of m.0 ls)) same in
-    left ∙ ap (λ ms. out ++ lands_text newest_rules follows ms) next
-    ∙ ap (λ t. out ++ t) (sym (append_assoc (blank_line follows) text rest))
-    ∙ sym (append_assoc out (blank_line follows ++ text) rest)
-    ∙ ap (λ t. (out ++ (blank_line follows ++ t)) ++ rest) this
+    left ∙ ap (λ ms. out ++ lands_text newest_rules ms) next
+    ∙ ap (λ t. out ++ t) (sym (append_assoc blank text rest))
+    ∙ sym (append_assoc out (blank ++ text) rest)
+    ∙ ap (λ t. (out ++ (blank ++ t)) ++ rest) this
     ∙ ap (λ t. t ++ rest) (sym made)
-    ∙ ap (λ b. new ++ lands_text newest_rules b (drop (i + 1) ls)) (sym later)
 
 past : (ls : List LandModel) (i : ℕ) → slice_get ls i ≡ None → drop i ls ≡ []
 past [] zero none = refl
@@ -96,11 +91,11 @@ no_listing (Some l) is = absurd (none-some (listing_of l) is)
 
 pub lands_end : (ls : List LandModel) (i : ℕ) (whole out : List ℕ)
     → None ≡ option_map listing_of (slice_get ls i)
-    → whole ≡ out ++ lands_text newest_rules (nat_lt 0 i) (drop i ls) → out ≡ whole
+    → whole ≡ out ++ lands_text newest_rules (drop i ls) → out ≡ whole
 unfolding lands_text
 lands_end ls i whole out none left =
     sym (left
-    ∙ ap (λ ms. out ++ lands_text newest_rules (nat_lt 0 i) ms)
+    ∙ ap (λ ms. out ++ lands_text newest_rules ms)
     (past ls i (no_listing (slice_get ls i) none))
     ∙ append-nil out)
 
@@ -109,28 +104,31 @@ lands_end ls i whole out none left =
 of_code_by : (code name : List ℕ) (t : TerritoryModel) (ls : List LandModel) (o : Option LandModel)
     → land_of code ls ≡ o
     → option_map {U = List ℕ × TerritoryModel} (λ l. (l.name, l.territory)) o ≡ Some (name, t)
-    → territory_text newest_rules code name t (option_map (λ l. l.sources) o)
-    ≡ option_map_or (land_text newest_rules) o []
+    → codes "\n" ++ territory_text newest_rules code name t (option_map (λ l. l.sources) o)
+    ≡ lands_text newest_rules (if_there o)
+unfolding lands_text
 of_code_by code name t ls None at is = absurd (none-some (name, t) is)
 of_code_by code name t ls (Some l) at is =
     let same = same_Some (l.name, l.territory) (name, t) is in
-    ap (λ c. territory_text newest_rules c name t (Some l.sources)) (code_of ls code l at)
+    ap (λ c. codes "\n" ++ territory_text newest_rules c name t (Some l.sources))
+    (code_of ls code l at)
     ∙ ap (λ (m : List ℕ × TerritoryModel).
-    territory_text newest_rules l.code m.0 m.1 (Some l.sources)) (sym same)
+    codes "\n" ++ territory_text newest_rules l.code m.0 m.1 (Some l.sources)) (sym same)
+    ∙ ap (λ t. codes "\n" ++ t) (sym (append-nil (land_text newest_rules l)))
 
 -- the text of what is found
 pub text_found : (code name : List ℕ) (t : TerritoryModel) (ls : List LandModel)
     → named_of code ls ≡ Some (name, t)
-    → territory_text newest_rules code name t (sources_of code ls)
-    ≡ text_of_code newest_rules code ls
+    → codes "\n" ++ territory_text newest_rules code name t (sources_of code ls)
+    ≡ lands_text newest_rules (if_there (land_of code ls))
 text_found code name t ls is = of_code_by code name t ls (land_of code ls) refl is
 
-none_by : (o : Option LandModel) → false ≡ is_some o
-    → option_map_or (land_text newest_rules) o [] ≡ []
+none_by : (o : Option LandModel) → false ≡ is_some o → lands_text newest_rules (if_there o) ≡ []
+unfolding lands_text
 none_by None is = refl
 none_by (Some l) is = absurd (false≢true is)
 
 -- and of none
 pub text_of_none : (code : List ℕ) (ls : List LandModel) → false ≡ is_some (land_of code ls)
-    → text_of_code newest_rules code ls ≡ []
+    → lands_text newest_rules (if_there (land_of code ls)) ≡ []
 text_of_none code ls none = none_by (land_of code ls) none

@@ -1,5 +1,5 @@
 -- The text of a territory has these lines.
-use Rattle.std.proofs.Common.{◌≡◌, ℕ, pos, Bool, true, false, List, [], ◌∷◌, ◌++◌, map, Option}
+use Rattle.std.proofs.Common.{◌≡◌, ℕ, ◌<◌, ◌^◌, pos, true, false, List, [], ◌∷◌, ◌++◌, map, Option}
 use Rattle.std.proofs.Common.{Some, codes, refl, ap, arith, append_assoc}
 use Rattle.std.specs.Fmt.{decimal}
 use Rattle.std.specs.Int.{w64}
@@ -22,7 +22,7 @@ use Rattle.osn_register.specs.Sources.{SourcesModel}
 use Rattle.osn_text_writer.specs.TerritoryText.{date_table, source_line, name_text, regime_text}
 use Rattle.osn_text_writer.specs.TerritoryText.{changes_text, periods_text, listing_text}
 use Rattle.osn_text_writer.specs.TerritoryText.{easter_text, territory_text, land_text}
-use Rattle.osn_text_writer.specs.TerritoryText.{blank_line, lands_text}
+use Rattle.osn_text_writer.specs.TerritoryText.{edition_line, lands_text, register_text}
 use Rattle.osn_text_writer.proofs.Expressions as lines
 use Rattle.osn_text_writer.proofs.JoinedLines.{IsWritten, one, written-append, written-then, along}
 use Rattle.osn_text_writer.proofs.PlainText.{key_text-code}
@@ -104,20 +104,12 @@ easters_written code t cited (e ∷ es) is listed =
 
 -- ---- a territory
 
-name_written : (started : Bool) (code name : List ℕ) → is_code code ≡ true
-    → IsWritten started ((([], code), std_table) ∷ lines.pair (codes "name") (string name) ∷ [])
-    (blank_line started ++ name_text code name)
+name_written : (code name : List ℕ) → is_code code ≡ true
+    → IsWritten true ((([], code), std_table) ∷ lines.pair (codes "name") (string name) ∷ [])
+    (codes "\n" ++ name_text code name)
 unfolding name_text
-name_written true code name is = (
+name_written code name is = (
   codes "\n[" ++ (code ++ codes "]\n"),
-  codes "name = " ++ (string_text name ++ codes "\n"),
-  simp append_assoc refl,
-  rw (key_text-code code is) refl,
-  one true (lines.pair (codes "name") (string name)) _
-      (string_text name, rw key_text-name refl, refl),
-)
-name_written false code name is = (
-  codes "[" ++ (code ++ codes "]\n"),
   codes "name = " ++ (string_text name ++ codes "\n"),
   simp append_assoc refl,
   rw (key_text-code code is) refl,
@@ -137,15 +129,15 @@ pub record IsWritable (l : LandModel) : Type 0 where
   pub listed : AreListed newest_rules l.territory.exceptions
 
 -- one by one
-territory_from : (started : Bool) (code name : List ℕ) (t : TerritoryModel)
+territory_from : (code name : List ℕ) (t : TerritoryModel)
     (cited : Option SourcesModel) (p : Period) (ps : List Period)
     → is_code code ≡ true → AreDays ps → AreListed newest_rules t.exceptions
-    → IsWritten started
+    → IsWritten true
     ((([], code), std_table) ∷ map (lines.under code) (lines.after_header name t cited (p ∷ ps)))
-    (blank_line started ++ (periods_text code name cited (p ∷ ps)
+    (codes "\n" ++ (periods_text code name cited (p ∷ ps)
     ++ flat_map (easter_text code t cited) t.exceptions))
 unfolding periods_text
-territory_from started code name t cited p ps is days listed =
+territory_from code name t cited p ps is days listed =
     let head : Expression = (([], code), std_table) in
     let named = lines.pair (codes "name") (string name) in
     let below = lines.under code in
@@ -153,7 +145,7 @@ territory_from started code name t cited p ps is days listed =
     let changed = lines.changes cited p.regime ps in
     let listings = lines.easters t cited t.exceptions in
     let after = lines.source_pair source ++ (changed ++ listings) in
-    let name_part = blank_line started ++ name_text code name in
+    let name_part = codes "\n" ++ name_text code name in
     let changed_text = changes_text code cited p.regime ps in
     let listed_text = flat_map (easter_text code t cited) t.exceptions in
     let after_text = source_line source ++ (changed_text ++ listed_text) in
@@ -172,49 +164,71 @@ territory_from started code name t cited p ps is days listed =
     (written-append (map below changed) (map below listings) _ _
     (all_changes_written code cited p.regime ps is days)
     (easters_written code t cited t.exceptions is listed))) in
-    let whole = written-then started head (named ∷ []) (lines.regime_pairs p.regime
+    let whole = written-then true head (named ∷ []) (lines.regime_pairs p.regime
     ++ map below after) name_part (regime_text p.regime ++ after_text)
-    (name_written started code name is)
+    (name_written code name is)
     (written-append (lines.regime_pairs p.regime) (map below after) (regime_text p.regime)
     after_text (regime_written p.regime) after_written) in
-    let same : blank_line started ++ ((name_text code name ++ (regime_text p.regime
+    let same : codes "\n" ++ ((name_text code name ++ (regime_text p.regime
     ++ (source_line source ++ changed_text))) ++ listed_text)
     ≡ name_part ++ (regime_text p.regime ++ after_text) =
     simp append_assoc refl in
     rw same whole
 
-territory_by : (started : Bool) (l : LandModel) (ps : List Period) → is_code l.code ≡ true
+territory_by : (l : LandModel) (ps : List Period) → is_code l.code ≡ true
     → AreDays ps → IsCons ps → AreListed newest_rules l.territory.exceptions
-    → IsWritten started
+    → IsWritten true
     ((([], l.code), std_table) ∷ map (lines.under l.code)
     (lines.after_header l.name l.territory (Some l.sources) ps))
-    (blank_line started
+    (codes "\n"
     ++ (periods_text l.code l.name (Some l.sources) ps
     ++ flat_map (easter_text l.code l.territory (Some l.sources)) l.territory.exceptions))
-territory_by started l [] is days some listed = absurd some
-territory_by started l (p ∷ ps) is days some listed =
-    territory_from started l.code l.name l.territory (Some l.sources) p ps is days.1 listed
+territory_by l [] is days some listed = absurd some
+territory_by l (p ∷ ps) is days some listed =
+    territory_from l.code l.name l.territory (Some l.sources) p ps is days.1 listed
 
-pub territory_written : (started : Bool) (l : LandModel) → IsWritable l
-    → IsWritten started (lines.territory newest_rules l)
-    (blank_line started ++ land_text newest_rules l)
+territory_written : (l : LandModel) → IsWritable l
+    → IsWritten true (lines.territory newest_rules l)
+    (codes "\n" ++ land_text newest_rules l)
 unfolding territory_text
-territory_written started l can =
-    territory_by started l (periods_of newest_rules l.territory) can.code can.periods can.some
+territory_written l can =
+    territory_by l (periods_of newest_rules l.territory) can.code can.periods can.some
     can.listed
 
 abbrev pub AreWritable : List LandModel → Type 0
 AreWritable [] = Unit {0}
 AreWritable (l ∷ ls) = IsWritable l × AreWritable ls
 
-pub lands_written : (started : Bool) (ls : List LandModel) → AreWritable ls
-    → IsWritten started (lines.territories newest_rules ls) (lands_text newest_rules started ls)
+lands_written : (ls : List LandModel) → AreWritable ls
+    → IsWritten true (lines.territories newest_rules ls) (lands_text newest_rules ls)
 unfolding lands_text
-lands_written started [] can = refl
-lands_written started (l ∷ ls) can =
+lands_written [] can = refl
+lands_written (l ∷ ls) can =
     let text = land_text newest_rules l in
     let after = map (lines.under l.code) (lines.after_header l.name l.territory (Some l.sources)
     (periods_of newest_rules l.territory)) in
-    rw (← append_assoc (blank_line started) text (lands_text newest_rules true ls))
-    (written-then started (([], l.code), std_table) after (lines.territories newest_rules ls) _ _
-    (territory_written started l can.0) (lands_written true ls can.1))
+    rw (← append_assoc (codes "\n") text (lands_text newest_rules ls))
+    (written-then true (([], l.code), std_table) after (lines.territories newest_rules ls) _ _
+    (territory_written l can.0) (lands_written ls can.1))
+
+-- ---- a register
+
+edition_fits : (n : ℕ) → n < 2 ^ 63 → FitsSigned w64 (pos n)
+edition_fits n small = omega (arith, ints)
+
+key_text-edition : key_text (codes "edition") ≡ codes "edition"
+unfolding key_text
+key_text-edition = refl
+
+edition_written : (n : ℕ) → n < 2 ^ 63
+    → IsWritten false (lines.edition n ∷ []) (edition_line n)
+unfolding edition_line
+edition_written n small =
+    one false (lines.edition n) _ (decimal n, rw key_text-edition refl, (refl, edition_fits n small))
+
+pub register_written : (n : ℕ) (ls : List LandModel) → n < 2 ^ 63 → AreWritable ls
+    → IsWritten false (lines.register newest_rules n ls) (register_text newest_rules n ls)
+unfolding register_text
+register_written n ls small can =
+    written-then false (lines.edition n) [] (lines.territories newest_rules ls) _ _
+    (edition_written n small) (lands_written ls can)

@@ -1,9 +1,8 @@
 -- The text of a territory in TOML, and that of a register: this project's profile.
-use Rattle.std.specs.Prelude.{ℕ, Bool, true, false, if◌then◌else◌, List, [], ◌∷◌, ◌++◌, codes}
+use Rattle.std.specs.Prelude.{ℕ, if◌then◌else◌, List, [], ◌∷◌, ◌++◌, codes}
 use Rattle.std.specs.Prelude.{Option, Some, None}
 use Rattle.std.specs.Fmt.{decimal}
 use Rattle.std.specs.List.{flat_map}
-use Rattle.std.specs.Option.{option_map_or}
 use Rattle.std.specs.Str.{bytes_eq}
 use Rattle.toml_writer.specs.Text.{string_text}
 use Rattle.osn_computus.specs.RuleWords.{rule_word}
@@ -114,26 +113,28 @@ territory_text p code name t sources =
     periods_text code name sources (periods_of p t)
     ++ flat_map (easter_text code t sources) t.exceptions
 
+abbrev pub if_there : Option LandModel → List LandModel
+if_there None = []
+if_there (Some l) = l ∷ []
+
 abbrev pub land_text : Profile → LandModel → List ℕ
 land_text p l = territory_text p l.code l.name l.territory (Some l.sources)
 
--- the territory of a code, and nothing where none has it
-abbrev pub text_of_code : Profile → List ℕ → List LandModel → List ℕ
-text_of_code p code lands = option_map_or (land_text p) (land_of code lands) []
-
 -- ---- a register
 
--- an empty line, where something stands before
-abbrev pub blank_line : Bool → List ℕ
-blank_line true = codes "\n"
-blank_line false = []
+-- the edition that it is made of: edition = 3
+unfoldable pub edition_line : ℕ → List ℕ
+edition_line edition = codes "edition = " ++ (decimal edition ++ codes "\n")
 
--- territories with an empty line between them, after others or not
-unfoldable pub lands_text : Profile → Bool → List LandModel → List ℕ
-lands_text p follows [] = []
-lands_text p follows (l ∷ ls) =
-    blank_line follows ++ (land_text p l ++ lands_text p true ls)
+-- territories, each after an empty line
+unfoldable pub lands_text : Profile → List LandModel → List ℕ
+lands_text p [] = []
+lands_text p (l ∷ ls) = codes "\n" ++ (land_text p l ++ lands_text p ls)
 
 -- the territories of a register, in the order in which they were added
-unfoldable pub register_text : Profile → List LandModel → List ℕ
-register_text p lands = lands_text p false lands
+unfoldable pub register_text : Profile → ℕ → List LandModel → List ℕ
+register_text p edition lands = edition_line edition ++ lands_text p lands
+
+-- the same of the territory of a code alone, and of none where none has it
+abbrev pub text_of_code : Profile → ℕ → List ℕ → List LandModel → List ℕ
+text_of_code p edition code lands = register_text p edition (if_there (land_of code lands))

@@ -1,57 +1,106 @@
 //! The text of a register.
-ghost use Rattle.std.specs.Prelude.{◌≡◌, ◌++◌, IfOk, OnOk, string_bytes};
+ghost use Rattle.std.specs.Prelude.{◌≡◌, ◌++◌, codes, IfOk, OnOk, string_bytes};
 ghost use Rattle.osn_days.specs.Profile.{newest_rules};
-ghost use Rattle.osn_register.specs.Plain.{sources_of};
-ghost use Rattle.osn_text_writer.specs.Says.{SaysLands};
+ghost use Rattle.osn_register.specs.Plain.{land_of, sources_of};
+ghost use Rattle.osn_text_writer.specs.Says.{SaysLand, SaysRegister};
 ghost use Rattle.osn_text_writer.specs.TerritoryText as spec;
 
 use crate::territory::push_territory;
 use osn_lands::Territory;
 use osn_register::Register;
 use std::alloc::{AllocError, Global};
+use std::fmt::Write;
 
 /// The room that the text gets at first: that of sixteen territories with two changes each, and no
 /// sources.
 const ROOM: usize = 4096;
 
-/// Appends a territory, after an empty line where it follows another one.
+/// Appends the line of the edition of which a text is made.
+#[tactic(auto, unfolding(crate::specs::TerritoryText::edition_line))]
+fn push_edition(out: &mut String, edition: usize) -> Result<(), AllocError>
+    ensures { OnOk result (string_bytes out.new
+        ≡ string_bytes out.old ++ spec.edition_line edition) }
+{
+    writeln!(out, "edition = {edition}")
+}
+
+/// Appends a territory, after an empty line.
 fn push_land(
     out: &mut String,
-    follows: bool,
     register: &Register,
     code: &str,
     name: &str,
     territory: &Territory,
 ) -> Result<(), AllocError>
-    ensures { OnOk result (string_bytes out.new ≡ string_bytes out.old ++ (spec.blank_line follows
+    ensures { OnOk result (string_bytes out.new ≡ string_bytes out.old ++ (codes "\n"
         ++ spec.territory_text newest_rules code.now name.now territory.now
         (sources_of code.now register.now.lands))) }
 {
-    if follows {
-        out.push_str("\n")?;
-    }
+    out.push_str("\n")?;
     push_territory(out, register, code, name, territory)
 }
 
-/// The text of a register, its territories in the order in which they were added. A change is dated
-/// by the calendar that it brings, a listed Easter by the one in force on its day.
+/// The text of a register that is made of this edition, its territories in the order in which they
+/// were added. A change is dated by the calendar that it brings, a listed Easter by the one in
+/// force on its day.
 ///
 /// # Errors
 ///
 /// Want of memory, and nothing else.
-pub fn write_text(alloc: Global, register: &Register) -> Result<String, AllocError>
+pub fn write_text(alloc: Global, edition: usize, register: &Register) -> Result<String, AllocError>
     ensures text { IfOk result (λ s. string_bytes s
-        ≡ spec.register_text newest_rules register.now.lands) }
-    // as a law: the text is read as the register's territories with their sources
+        ≡ spec.register_text newest_rules edition register.now.lands) }
+    // as a law: the text is read as the register's territories with their sources, of the edition
     ensures reads_back { IfOk result (λ s.
-        SaysLands register.now.limits (string_bytes s) register.now.lands) }
+        SaysRegister register.now (string_bytes s) edition register.now.lands) }
 {
     let mut text = String::with_capacity(alloc, ROOM)?;
+    push_edition(&mut text, edition)?;
     'lands: for place in 0..register.limits().lands as usize {
         let Some((code, name, territory)) = register.land_at(place) else {
             break;
         };
-        push_land(&mut text, place > 0, register, code, name, territory)?;
+        push_land(&mut text, register, code, name, territory)?;
     }
+    Ok(text)
+}
+
+/// The room that the text of a territory gets at first: one with two changes takes some 250 bytes.
+const LAND_ROOM: usize = 256;
+
+/// Appends the territory of a code, and nothing where none has it.
+fn push_of_code(out: &mut String, register: &Register, code: &str) -> Result<(), AllocError>
+    ensures { OnOk result (string_bytes out.new ≡ string_bytes out.old
+        ++ spec.lands_text newest_rules (spec.if_there (land_of code.now register.now.lands))) }
+{
+    match register.find_land(code) {
+        Some((name, territory)) => push_land(out, register, code, name, territory),
+        None => Ok(()),
+    }
+}
+
+/// The text of the territory that a register has of a code, which is made of this edition, and a
+/// text of no territory where it has none. A change is dated by the calendar that it brings, a
+/// listed Easter by the one in force on its day.
+///
+/// # Errors
+///
+/// Want of memory, and nothing else.
+#[tactic(auto, unfolding(crate::specs::TerritoryText::register_text))]
+pub fn write_territory(
+    alloc: Global,
+    edition: usize,
+    register: &Register,
+    code: &str,
+) -> Result<String, AllocError>
+    ensures text { IfOk result (λ s. string_bytes s
+        ≡ spec.text_of_code newest_rules edition code.now register.now.lands) }
+    // as a law: the text is read as that territory with its sources, of the edition
+    ensures reads_back { IfOk result (λ s.
+        SaysLand register.now (string_bytes s) edition code.now) }
+{
+    let mut text = String::with_capacity(alloc, LAND_ROOM)?;
+    push_edition(&mut text, edition)?;
+    push_of_code(&mut text, register, code)?;
     Ok(text)
 }

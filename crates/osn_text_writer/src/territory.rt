@@ -1,10 +1,9 @@
 //! The text of a territory.
-ghost use Rattle.std.specs.Prelude.{◌≡◌, ◌++◌, IfOk, OnOk, string_bytes};
+ghost use Rattle.std.specs.Prelude.{◌≡◌, ◌++◌, OnOk, string_bytes};
 ghost use Rattle.std.specs.List.{flat_map};
 ghost use Rattle.osn_days.specs.Profile.{newest_rules};
 ghost use Rattle.osn_lands.specs.Territory.{periods_of};
 ghost use Rattle.osn_register.specs.Plain.{sources_of};
-ghost use Rattle.osn_text_writer.specs.Says.{SaysLand};
 ghost use Rattle.osn_text_writer.specs.TerritoryText as spec;
 
 use crate::changes::push_changes;
@@ -15,11 +14,8 @@ use crate::word_line::push_word;
 use osn_days::{Day, Keyword, Year};
 use osn_lands::{Regime, Territory};
 use osn_register::Register;
-use std::alloc::{AllocError, Global};
+use std::alloc::AllocError;
 use std::fmt::Write;
-
-/// The room that a text gets at first: that of a territory with two changes takes some 250 bytes.
-const ROOM: usize = 256;
 
 /// Appends the header of a territory and its name.
 #[tactic(auto, unfolding(crate::specs::TerritoryText::name_text))]
@@ -136,32 +132,4 @@ pub(crate) fn push_territory(
 {
     push_periods(out, register, code, name, territory)?;
     push_easters(out, register, code, territory)
-}
-
-/// Appends the territory of a code, and nothing where none has it.
-fn push_of_code(out: &mut String, register: &Register, code: &str) -> Result<(), AllocError>
-    ensures { OnOk result (string_bytes out.new ≡ string_bytes out.old
-        ++ spec.text_of_code newest_rules code.now register.now.lands) }
-{
-    match register.find_land(code) {
-        Some((name, territory)) => push_territory(out, register, code, name, territory),
-        None => Ok(()),
-    }
-}
-
-/// The text of the territory that a register has of a code, and an empty text where it has none. A
-/// change is dated by the calendar that it brings, a listed Easter by the one in force on its day.
-///
-/// # Errors
-///
-/// Want of memory, and nothing else.
-pub fn write_territory(alloc: Global, register: &Register, code: &str) -> Result<String, AllocError>
-    ensures text { IfOk result (λ s. string_bytes s
-        ≡ spec.text_of_code newest_rules code.now register.now.lands) }
-    // as a law: the text is read as that territory with its sources
-    ensures reads_back { IfOk result (λ s. SaysLand register.now (string_bytes s) code.now) }
-{
-    let mut text = String::with_capacity(alloc, ROOM)?;
-    push_of_code(&mut text, register, code)?;
-    Ok(text)
 }

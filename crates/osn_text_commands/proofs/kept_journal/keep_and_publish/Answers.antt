@@ -3,6 +3,7 @@ use Rattle.osn_folder.specs.Folder.{Changes, Leaves}
 use Rattle.osn_journal.specs.KeptJournal.{file_of}
 use Rattle.osn_lines.specs.Streams.{input_of, output_of}
 use Rattle.osn_report.specs.Folders.{folders_of}
+use Rattle.osn_text_commands.specs.Keeping.{unkept_line}
 use Rattle.osn_text_commands.specs.PublishFolder.{SavesEdition}
 use Rattle.osn_text_commands.proofs.kept_journal.keep_and_publish.Goals as goal
 
@@ -41,7 +42,7 @@ returns-in-Err-published g c =
     let text = string_bytes older.edition.text in
     let anew = string_bytes older.edition.journal in
     let cut = option_map string_bytes older.cut in
-    let path = c.args.path.now in
+    let path = c.args.asked.journal.now in
     let done = folders_of folder c.release.new.self c.save_edition.new.folder in
     let w = g.W.Sink in
     let e = g.E.Sink in
@@ -83,4 +84,15 @@ returns-in-Err-published g c =
 
 pub returns-in-Err : goal.returns-in-Err
 returns-in-Err g c =
-    inl (c.in-Err.fault, c.in-Err.ensures.err, (refl, c.report.ensures))
+    let path = c.args.asked.journal.now in
+    inl (
+      c.cause_of-cause.result,
+      (
+        c.in-Err.fault,
+        g.D.Folder.known c.keep.new.self,
+        c.in-Err.ensures.err,
+        c.cause_of-cause.ensures,
+      ),
+      refl,
+      c.tell_line.ensures (unkept_line path c.cause_of-cause.result) c.unkept_line.ensures,
+    )

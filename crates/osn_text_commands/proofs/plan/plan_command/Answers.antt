@@ -1,8 +1,7 @@
 use Rattle.std.proofs.Common.{inr, subst, sym, ◌∙◌}
 use Rattle.osn_lines.specs.Streams.{input_of, output_of}
 use Rattle.osn_text_commands.proofs.PlanLemmas.{is_there}
-use Rattle.osn_text_commands.specs.Note.{note_line, note_of}
-use Rattle.osn_text_commands.specs.Plan.{PrintsPlanOf}
+use Rattle.osn_text_commands.specs.Plan.{PrintsPlanOf, edits_line}
 use Rattle.osn_text_commands.proofs.plan.plan_command.Goals as goal
 
 pub returns-in-Ok : goal.returns-in-Ok
@@ -18,10 +17,10 @@ returns-in-Ok g c =
       c.in-Ok.ensures.object,
       version,
       c.in-Ok.ensures.version,
-      subst (λ there. PrintsPlanOf c.args.limits s c.args.text_path.now
+      subst (λ there. PrintsPlanOf c.args.limits s c.args.path.now c.args.text_path.now
           (input_of g.T.Source.remaining g.T.Source.has_failed c.args.text.now
           c.plan_text_file.new.text)
-          (λ edits. note_line c.args.path.now (note_of there version s edits))
+          (edits_line c.args.path.now c.args.text_path.now there version s)
           (output_of g.W.Sink.contents g.W.Sink.has_failed g.W.Sink.holds_back c.args.output.now
           c.plan_text_file.new.output)
           (output_of g.E.Sink.contents g.E.Sink.has_failed g.E.Sink.holds_back c.args.errors.now

@@ -4,7 +4,6 @@ use Rattle.osn_report.specs.Printing.{PrintsIfMade}
 use Rattle.osn_report.specs.Messages.{TellsNothing}
 use Rattle.osn_report.specs.declared.status.Status.{Status}
 use Rattle.osn_report.specs.declared.status.Status.TheVariants as statuses
-use Rattle.osn_text_commands.specs.Note.{note_of}
 use Rattle.osn_text_commands.specs.Plan.{TellsNoteAfter, plan_text}
 use Rattle.osn_text_commands.proofs.plan.print_edits.Goals as goal
 
@@ -38,10 +37,7 @@ returns-in-Done g c =
           errors)) c.in-Done.is (c.print.ensures text
           (subst (λ es. IfOk c.plan_text.result (λ t. string_bytes t
           ≡ plan_text object wanted es)) c.deref.ensures.value c.plan_text.ensures));
-      notes =
-          c.tell_note.ensures
-          (note_of c.args.is_there c.args.version object c.args.edits.items)
-          c.note_of-note.ensures;
+      notes = c.tell_edits.ensures;
     }
 
 pub returns-in_default : goal.returns-in_default

@@ -10,19 +10,19 @@ pub returns-in-Ok : goal.returns-in-Ok
 returns-in-Ok g c =
     let lands = c.args.register.now.lands in
     let code = c.args.code.now in
-    land_printed lands c.args.path.now code
+    land_printed c.args.edition lands c.args.path.now code
     (output_of g.W.Sink.contents g.W.Sink.has_failed g.W.Sink.holds_back c.args.output.now
     c.print.new.output)
     (output_of g.E.Sink.contents g.E.Sink.has_failed g.E.Sink.holds_back c.args.errors.now
     c.print.new.errors)
     c.print.result c.in-Ok.ensures.test
-    (c.print.ensures (text_of_code newest_rules code lands) c.write_territory.ensures.text)
+    (c.print.ensures (text_of_code newest_rules c.args.edition code lands) c.write_territory.ensures.text)
 
 pub returns-in-Err : goal.returns-in-Err
 returns-in-Err g c =
     let path = c.args.path.now in
     let code = c.args.code.now in
-    land_refused c.args.register.now.lands path code
+    land_refused c.args.edition c.args.register.now.lands path code
     (output_of g.W.Sink.contents g.W.Sink.has_failed g.W.Sink.holds_back c.args.output.now
     c.args.output.now)
     (output_of g.E.Sink.contents g.E.Sink.has_failed g.E.Sink.holds_back c.args.errors.now

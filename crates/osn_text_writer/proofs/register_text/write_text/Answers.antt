@@ -1,8 +1,8 @@
-use Rattle.std.proofs.Common.{◌≡◌, ◌++◌, false, string_bytes, option_map, ap, sym, arith, subst}
+use Rattle.std.proofs.Common.{◌≡◌, ◌++◌, ◌∙◌, string_bytes, option_map, ap, sym, arith, subst}
 use Rattle.osn_days.specs.Profile.{newest_rules}
 use Rattle.osn_register.specs.Named.{listing_of}
-use Rattle.osn_text_writer.specs.Says.{SaysLands}
-use Rattle.osn_text_writer.specs.TerritoryText.{register_text, lands_text}
+use Rattle.osn_text_writer.specs.Says.{SaysRegister}
+use Rattle.osn_text_writer.specs.TerritoryText.{edition_line, register_text, lands_text}
 use Rattle.std.proofs.lemmas.Option.{slice_get_past}
 use Rattle.osn_text_writer.proofs.ReadBack.{register_says}
 use Rattle.osn_text_writer.proofs.TextSteps.{land_step, lands_end}
@@ -13,8 +13,10 @@ use Rattle.osn_text_writer.proofs.register_text.write_text.Goals.{then-lands-tes
 pub lands-init : goal.lands-init
 unfolding register_text
 lands-init c =
-    ap (λ t. t ++ lands_text newest_rules false c.args.register.now.lands)
-    (sym c.in_ok-text.ensures.bytes)
+    let n = c.args.edition in
+    ap (λ t. t ++ lands_text newest_rules c.args.register.now.lands)
+    (sym (c.in_ok-push_edition.ensures
+    ∙ ap (λ t. t ++ edition_line n) c.in_ok-text.ensures.bytes))
 
 pub lands-preserved : goal.lands-preserved
 lands-preserved c =
@@ -24,7 +26,7 @@ lands-preserved c =
     c.in_ok-push_land.ensures
 
 whole : (c : goal.Left-lands) → string_bytes c.lands.text
-    ≡ register_text newest_rules c.args.register.now.lands
+    ≡ register_text newest_rules c.args.edition c.args.register.now.lands
 whole c =
     let lands = c.args.register.now.lands in
     elim c.lands-test.branch [
@@ -49,5 +51,5 @@ returns-clause-text c = whole c
 pub returns-clause-reads_back : goal.returns-clause-reads_back
 returns-clause-reads_back c =
     let r = c.args.register.now in
-    subst (λ text. SaysLands r.limits text r.lands) (sym (whole c))
-    (register_says r c.limits-place-end.ensures.well_formed)
+    let n = c.args.edition in
+    subst (λ text. SaysRegister r text n r.lands) (sym (whole c)) (register_says n r)

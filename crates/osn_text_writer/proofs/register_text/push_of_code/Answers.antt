@@ -1,15 +1,15 @@
 use Rattle.std.proofs.Common.{◌≡◌, ◌++◌, string_bytes, sym, ap, subst, ◌∙◌, append-nil}
 use Rattle.std.specs.Result.{OnOk}
 use Rattle.osn_text_writer.proofs.TextSteps.{text_found, text_of_none}
-use Rattle.osn_text_writer.proofs.territory.push_of_code.Goals as goal
+use Rattle.osn_text_writer.proofs.register_text.push_of_code.Goals as goal
 
 pub returns-in-Some : goal.returns-in-Some
 returns-in-Some c =
-    subst (λ text. OnOk c.push_territory.result
-    (string_bytes c.push_territory.new.out ≡ string_bytes c.args.out.now ++ text))
+    subst (λ text. OnOk c.push_land.result
+    (string_bytes c.push_land.new.out ≡ string_bytes c.args.out.now ++ text))
     (text_found c.args.code.now c.in-Some.name.now c.in-Some.territory.now
     c.args.register.now.lands c.in-Some.ensures.value)
-    c.push_territory.ensures
+    c.push_land.ensures
 
 pub returns-in-None : goal.returns-in-None
 returns-in-None c =

@@ -2,7 +2,7 @@ use Rattle.std.proofs.Common.{◌≡◌, false, true, refl, subst, sym, ◌∙�
 use Rattle.osn_text_commands.proofs.PublishLemmas.{anew_refused, none_needed}
 use Rattle.osn_text_commands.specs.Edition.{needs_sources}
 use Rattle.osn_text_commands.specs.PublishInside.{CanStay}
-use Rattle.osn_text_commands.proofs.publish.publish_edits.Goals as goal
+use Rattle.osn_text_commands.proofs.publish_edits.publish_edits.Goals as goal
 
 pub returns-in-Ok-clause-older : goal.returns-in-Ok-clause-older
 returns-in-Ok-clause-older g c = record {
@@ -19,16 +19,16 @@ returns-in-Ok-clause-older g c = record {
 
 pub returns-in-Err-clause-ok : goal.returns-in-Err-clause-ok
 returns-in-Err-clause-ok g c = λ given part_of.
-    anew_refused (CanStay g.K.KeptFile.cut_back_may_fail) c.args.held.object c.args.wanted.now
-    _ _ given _ _ c.report.result c.args.held.version _
+    anew_refused (CanStay g.K.KeptFile.cut_back_may_fail) c.args.path.now c.args.held.object
+    c.args.wanted.now _ _ given _ _ c.report.result c.args.held.version _
     (subst (λ l. needs_sources c.args.held.version l ≡ true) c.deref.ensures.value
     (sym c.needs_sources.ensures ∙ c.if-needs_sources.true)) c.args.edits.items
     c.in-Err.refusal c.in-Err.ensures.refused (refl, (refl, c.report.ensures))
 
 pub returns-clause-ok : goal.returns-clause-ok
 returns-clause-ok g c = λ given part_of.
-    none_needed (CanStay g.K.KeptFile.cut_back_may_fail) c.args.held.object c.args.wanted.now
-    _ _ given _ _ c.append_if_kept.result c.args.held.version _
+    none_needed (CanStay g.K.KeptFile.cut_back_may_fail) c.args.path.now c.args.held.object
+    c.args.wanted.now _ _ given _ _ c.append_if_kept.result c.args.held.version _
     (subst (λ l. needs_sources c.args.held.version l ≡ false) c.deref.ensures.value
     (sym c.needs_sources.ensures ∙ c.if-needs_sources.false)) c.args.edits.items
     (c.append_if_kept.ensures given part_of)

@@ -2,7 +2,7 @@ use Rattle.std.proofs.Common.{inl, inr, refl, subst, sym}
 use Rattle.osn_files.specs.WholePart.{IsWholePart}
 use Rattle.osn_serve_commands.proofs.ResultLemmas.{known_bytes}
 use Rattle.osn_text_commands.specs.PublishInside.{AreLinesOf}
-use Rattle.osn_text_commands.proofs.publish.publish_edition.Goals as goal
+use Rattle.osn_text_commands.proofs.publish_edits.publish_edition.Goals as goal
 
 pub returns-in-Ok : goal.returns-in-Ok
 returns-in-Ok g c = λ given part_of edits lines.
