@@ -130,10 +130,10 @@ abbrev pub plan_grammar : App
 plan_grammar = command_with (codes "plan")
     (journal_arg ∷ required_arg (codes "text") ∷ limits_option ∷ [])
 
--- `publish JOURNAL TEXT [--limits LIMITS]`
+-- `publish JOURNAL TEXT [--onto-newest] [--limits LIMITS]`
 abbrev pub publish_grammar : App
-publish_grammar = command_with (codes "publish")
-    (journal_arg ∷ required_arg (codes "text") ∷ limits_option ∷ [])
+publish_grammar = command_with (codes "publish") (journal_arg ∷ required_arg (codes "text")
+    ∷ flag_option (codes "onto-newest") ∷ limits_option ∷ [])
 
 -- `replay --readers N SCHEDULE [--limits LIMITS]`
 abbrev pub replay_grammar : App

@@ -82,7 +82,7 @@ pub data CommandModel : Type 0 where
   completing : Text → CommandModel
   writing_text : Text → Option Text → CommandModel
   planning : Text → Text → CommandModel
-  publishing : Text → Text → CommandModel
+  publishing : Text → Text → Bool → CommandModel
 
 -- what a command line asks for: a command, and what its limits are said to be, if anything
 pub record InvocationModel : Type 0 where
@@ -151,6 +151,7 @@ plan_command given = planning (text_of (codes "journal") given) (text_of (codes 
 abbrev pub publish_command : List Row → CommandModel
 publish_command given =
     publishing (text_of (codes "journal") given) (text_of (codes "text") given)
+    (is_given (codes "onto-newest") given)
 
 -- the name of a column, which is that of its option where none is given
 abbrev pub column_of : Text → List Row → Text
@@ -302,7 +303,7 @@ command_model (Letters journal options) = reading_letters journal.now (letters_m
 command_model (commands.Text journal code) =
     writing_text journal.now (option_map (λ code. code.now) code)
 command_model (Plan journal text) = planning journal.now text.now
-command_model (Publish journal text) = publishing journal.now text.now
+command_model (Publish journal text onto_newest) = publishing journal.now text.now onto_newest
 
 abbrev pub model_of : Invocation → InvocationModel
 model_of asked = record {

@@ -280,7 +280,7 @@ not at all. With --follow, edits are refused, and FILE need not be there yet. Wi
   ./oldstyle text examples/samples.journal > territories.toml
   ./oldstyle text examples/samples.journal GB
 
-A text that was not changed plans no edit.",
+A text that was not changed plans no edit. Its first line names the edition that it was made of.",
         arguments: &[
             JOURNAL,
             Optional(
@@ -307,8 +307,17 @@ dates it. A territory that TEXT does not name stays as it is. The journal is onl
         examples: "Example:
   ./oldstyle publish new.journal territories.toml
 
-All edits are in the journal as one edition, or none is. A text with a fault changes nothing.",
-        arguments: &[JOURNAL, TEXT, LIMITS],
+All edits are in the journal as one edition, or none is. A text with a fault changes nothing. Nor
+does one that would undo what a later edition changed than the one that it was made of.",
+        arguments: &[
+            JOURNAL,
+            TEXT,
+            Flag(
+                "onto-newest",
+                "Publishes also what undoes or changes again the edits of later editions",
+            ),
+            LIMITS,
+        ],
     },
 ];
 

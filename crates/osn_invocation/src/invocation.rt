@@ -165,6 +165,8 @@ pub enum CommandWords<'a> {
         journal: &'a str,
         /// The file of the text.
         text: &'a str,
+        /// Whether they may change again what later editions than that of the text changed.
+        onto_newest: bool,
     },
     /// To print the text by which a shell completes the program's words.
     Completions {

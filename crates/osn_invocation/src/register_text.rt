@@ -5,7 +5,7 @@ ghost use Rattle.clap.specs.Words.{found_of, rows_of};
 ghost use Rattle.osn_invocation.specs.Invocation.{command_model, plan_command, publish_command};
 ghost use Rattle.osn_invocation.specs.Invocation.{text_command};
 
-use crate::given::{text_of, value_of};
+use crate::given::{is_given, text_of, value_of};
 use crate::invocation::CommandWords;
 use clap::ArgMatches;
 
@@ -36,5 +36,6 @@ pub(crate) fn publish_of<'a>(given: &ArgMatches<'a>) -> CommandWords<'a>
     CommandWords::Publish {
         journal: text_of(given, "journal"),
         text: text_of(given, "text"),
+        onto_newest: is_given(given, "onto-newest"),
     }
 }

@@ -52,7 +52,7 @@ FindsCause path before after causes.NotMade = LooksBeside path before after
 -- the cause after a fault: that another run has the file, or what was found
 abbrev pub IsCauseOf : List ℕ → Option Known → Option Known → KeepFault → KeepCause → Type 0
 IsCauseOf path before after faults.Held cause = (cause ≡ causes.Held) × (after ≡ before)
-IsCauseOf path before after faults.NotOpened cause = FindsCause path before after cause
+IsCauseOf path before after (faults.NotOpened found) cause = FindsCause path before after cause
 
 -- ---- before a publish
 

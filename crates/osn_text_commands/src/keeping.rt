@@ -92,7 +92,7 @@ pub(crate) fn cause_of<D: Folder>(folder: &mut D, path: &str, fault: KeepFault) 
 {
     match fault {
         KeepFault::Held => KeepCause::Held,
-        KeepFault::NotOpened => cause_at(folder, path),
+        KeepFault::NotOpened(_) => cause_at(folder, path),
     }
 }
 

@@ -10,6 +10,9 @@ returns-in-None g c =
     rw c.in-None.is (c.print.ensures (register_text newest_rules (length c.args.object.now.batches)
     (published c.args.object.now))
     (IfOk-weaker c.write_text.result _ _
-    (λ text is. is ∙ ap (register_text newest_rules (length c.args.object.now.batches))
+    (λ text is. is
+    ∙ ap (λ bs. register_text newest_rules (length bs) c.register-register.result.now.lands)
+    c.batches-edition.ensures.value
+    ∙ ap (register_text newest_rules (length c.args.object.now.batches))
     c.register-register.ensures.lands)
     c.write_text.ensures.text))
