@@ -1,22 +1,19 @@
 -- A plan from the register of an object is one from what the object has published, and a journal
 -- that may be there is as the plan's contract says.
-use Rattle.std.proofs.Common.{◌≡◌, ℕ, Bool, List, length, Option, Some, None, is_some, option_map}
+use Rattle.std.proofs.Common.{◌≡◌, ℕ, Bool, List, Option, Some, None, is_some, option_map}
 use Rattle.std.proofs.Common.{refl, subst}
 use Rattle.osn_core.specs.Sequential.{ObjectState}
 use Rattle.osn_folder.specs.Folder.{Known}
 use Rattle.osn_plan.specs.Plan.{IsPlan}
 use Rattle.osn_lines.specs.Streams.{Output}
-use Rattle.osn_register.specs.Plain.{LandModel, RegisterModel}
+use Rattle.osn_register.specs.Plain.{LandModel}
 use Rattle.osn_register.specs.declared.edit.Edit.{Edit}
 use Rattle.osn_register.specs.declared.limits.Limits.{Limits}
-use Rattle.osn_report.specs.Messages.{TellsIfMade, TellsNothing}
+use Rattle.osn_report.specs.Messages.{TellsNothing}
 use Rattle.osn_report.specs.declared.status.Status.{Status}
 use Rattle.osn_report.specs.declared.status.Status.TheVariants as statuses
 use Rattle.osn_serve_commands.specs.Serve.{input_if}
 use Rattle.osn_text_commands.specs.InFolder.{IsOpened, TellsHindranceAfter}
-use Rattle.osn_text_commands.specs.Note.{TellsNote}
-use Rattle.osn_text_commands.specs.Plan.{PrintsPlanTo, PrintsUnlessLater, behind_or}
-use Rattle.osn_text_commands.specs.Since.{behind_lines, later_lines}
 use Rattle.osn_text_commands.specs.Text.{published}
 
 pub same_plan : (s : ObjectState) (limits : Limits) (lands wanted : List LandModel)

@@ -1,6 +1,6 @@
 -- A publish did what its contract says, by whether there are edits and whether some are pending.
 use Rattle.std.proofs.Common.{◌≡◌, ◌==◌, ℕ, Bool, true, false, List, [], ◌∷◌, length}
-use Rattle.std.proofs.Common.{Option, Some, None, inl, inr, refl, subst, arith}
+use Rattle.std.proofs.Common.{Option, None, inl, inr, refl, subst, arith}
 use Rattle.std.proofs.Common.{eqb-true}
 use Rattle.std.specs.List.{All}
 use Rattle.osn_core.specs.Sequential.{HasLawfulSource, ObjectState}
@@ -17,14 +17,13 @@ use Rattle.osn_report.specs.Printing.{PrintsIfMade}
 use Rattle.osn_report.specs.declared.fault.CommandFault.TheVariants.{Refused}
 use Rattle.osn_report.specs.declared.status.Status.{Status}
 use Rattle.osn_serve_commands.specs.Keep.{is_kept}
-use Rattle.osn_text_commands.specs.Edition.{IsNoMemoryOr, edition_refusal, needs_sources}
+use Rattle.osn_text_commands.specs.Edition.{IsNoMemoryOr, edition_refusal}
 use Rattle.osn_text_commands.specs.PlanWords.{not_kept_line, pending_line}
 use Rattle.osn_text_commands.specs.Publish.{AppendsEdits, AppendsIfKept, PublishesEdits}
-use Rattle.osn_text_commands.specs.Publish.{PublishesPlan, PublishesUnlessBehind}
 use Rattle.osn_text_commands.specs.Publish.{PublishesUnlessLater, PublishesUnlessPending}
 use Rattle.osn_text_commands.specs.Publish.{Refuses, RefusesBy, WritesEdition, published_text}
 use Rattle.osn_text_commands.specs.Publish.{standing_text}
-use Rattle.osn_text_commands.specs.Since.{RequestModel, behind_lines, later_lines, later_than}
+use Rattle.osn_text_commands.specs.Since.{RequestModel, later_than}
 use Rattle.osn_text_commands.specs.Text.{published}
 
 module _ (Stays : Type 0) (journal : List ℕ) (s : ObjectState) (wanted : RegisterModel)

@@ -3,7 +3,6 @@ ghost use Rattle.std.specs.Prelude.{◌≡◌, IfOk, option_map, string_bytes};
 ghost use Rattle.osn_folder.specs.Folder.{Changes, Opens, path_if};
 ghost use Rattle.osn_lines.specs.Streams.{output_of};
 ghost use Rattle.osn_text_commands.specs.Keeping as spec;
-ghost use Rattle.osn_text_commands.specs.Note.{TellsNote};
 
 use osn_folder::{Folder, KeepFault, OpenFailed};
 use osn_lines::Sink;

@@ -204,7 +204,8 @@ fn planned_journal<J: Source>(
 /// the text of a path says, under these limits. Where there is no journal, it has published
 /// nothing. Both files are read whole before anything is printed, the journal first.
 ///
-/// After the plan standard error is told what a publish of the edits would refuse, or do first. Where no plan is printed, standard error is told in a line why, and the status says it.
+/// After the plan standard error is told what a publish of the edits would refuse, or do first.
+/// Where no plan is printed, standard error is told why, and the status says it.
 pub fn plan_command<J: Source, T: Source, W: Sink, E: Sink>(
     alloc: Global,
     limits: Limits,

@@ -211,8 +211,8 @@ fn publish_held<K: KeptFile, W: Sink, E: Sink>(
 ///
 /// Where the file holds no object, or one with pending edits, or an edit is refused, the file is
 /// left as it is. So is a journal of the first version, and one whose editions after that of the
-/// text changed what the edits change, unless that is asked for. Where the file can't be changed, it is cut
-/// back to what it held. Standard error is told in a line why, and the status says it.
+/// text changed what the edits change, unless that is asked for. Where the file can't be changed,
+/// it is cut back to what it held. Standard error is told why, and the status says it.
 ///
 /// # Errors
 ///
