@@ -1,5 +1,5 @@
 -- Rows are counted piece by piece.
-use Rattle.std.proofs.Common.{◌≡◌, ◌<◌, ◌∙◌, ℕ, ◌+◌, List, [], ◌∷◌, ◌++◌, length, take}
+use Rattle.std.proofs.Common.{◌≡◌, ◌<◌, ◌∙◌, ℕ, ◌+◌, List, [], ◌∷◌, ◌++◌, length, take, drop}
 use Rattle.std.proofs.Common.{get_or, Option, Some, None, sym, ap, subst, append_assoc}
 use Rattle.std.proofs.Common.{append-nil, add-one, IfSome}
 use Rattle.std.proofs.Math.Seq.{take-suc}
@@ -12,6 +12,10 @@ use Rattle.osn_letters.specs.LettersInside.{CountsAfter, CountsBytes, tally_afte
 use Rattle.osn_letters.specs.LettersInside.{tally_from}
 use Rattle.osn_letters.specs.Start.{held, unmarked, next_start}
 use Rattle.osn_letters.specs.Tally.{TallyModel}
+use Rattle.osn_letters.specs.RecordsInside.{TakesRun}
+use Rattle.osn_letters.specs.TableInside.{tally_of}
+use Rattle.osn_letters.specs.declared.parser.RecordParser.{RecordParser}
+use Rattle.osn_letters.proofs.LetterFacts.{take_then}
 use Rattle.osn_letters.proofs.StartFacts.{marked, unmarked_held, unmarked_end}
 
 -- bytes after bytes, after the beginning
@@ -52,15 +56,27 @@ pub bytes_counted : (s t u : Letters) (xs ys : List ℕ) → CountsBytes s t xs 
 bytes_counted s t u xs ys x y more =
     ap (tally_from s) (append_assoc xs ys more) ∙ (x (ys ++ more) ∙ y more)
 
--- one byte more
-pub byte_counted : (s t u : Letters) (piece : List ℕ) (i b : ℕ) → i < length piece
-    → b ≡ get_or piece i 0 → CountsBytes s t (take i piece) → CountsBytes t u (b ∷ [])
-    → CountsBytes s u (take (i + 1) piece)
-byte_counted s t u piece i b low is x y =
-    subst (CountsBytes s u)
-    (ap (λ c. take i piece ++ c ∷ []) is ∙ sym (take-suc piece i 0 low)
-    ∙ ap (λ k. take k piece) (sym (add-one i)))
-    (bytes_counted s t u (take i piece) (b ∷ []) x y)
+-- some bytes more
+pub part_counted : (s t u : Letters) (piece part : List ℕ) (i n : ℕ) → part ≡ drop i piece
+    → CountsBytes s t (take i piece) → CountsBytes t u (take n part)
+    → CountsBytes s u (take (i + n) piece)
+part_counted s t u piece part i n is x y =
+    subst (CountsBytes s u) (ap (λ l. take i piece ++ take n l) is ∙ take_then i n piece)
+    (bytes_counted s t u (take i piece) (take n part) x y)
+
+-- a run, and a byte after it
+pub run_counted : (s : Letters) (q : RecordParser) (run : List ℕ) → TakesRun s.parser q run
+    → CountsAfter s (record { start = s.start; parser = q; table = s.table }) run
+run_counted s q run takes more = ap (tally_of s.table) (takes more)
+
+pub byte_counted : (s t u : Letters) (bytes : List ℕ) (i b : ℕ) → i < length bytes
+    → b ≡ get_or bytes i 0 → CountsAfter s t (take i bytes) → CountsAfter t u (b ∷ [])
+    → CountsAfter s u (take (i + 1) bytes)
+byte_counted s t u bytes i b low is x y =
+    subst (CountsAfter s u)
+    (ap (λ c. take i bytes ++ c ∷ []) is ∙ sym (take-suc bytes i 0 low)
+    ∙ ap (λ k. take k bytes) (sym (add-one i)))
+    (after_counted s t u (take i bytes) (b ∷ []) x y)
 
 -- ---- all that is read
 

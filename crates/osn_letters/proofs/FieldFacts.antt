@@ -1,9 +1,9 @@
 -- The fields of a row, in the words of the calls that read them.
 use Rattle.std.proofs.Common.{◌≡◌, ◌∙◌, ℕ, Bool, true, false, if◌then◌else◌, List, [], ◌∷◌, ◌++◌}
 use Rattle.std.proofs.Common.{Option, Some, None, option_map, Result, Ok, Err, MatchResult, Bor}
-use Rattle.std.proofs.Common.{refl, ap, IsUtf8}
+use Rattle.std.proofs.Common.{refl, ap, append_assoc, IsUtf8, OnOk}
 use Rattle.std.proofs.lemmas.Str.{IsUtf8-from_is_utf8, is_utf8-from_IsUtf8}
-use Rattle.std.specs.Result.{result_ok}
+use Rattle.std.specs.Result.{is_ok, result_ok}
 use Rattle.std.specs.Str.{is_utf8}
 use Rattle.osn_days.specs.declared.weekday.Weekday.{Weekday}
 use Rattle.osn_days.specs.Profile.{Profile}
@@ -55,3 +55,16 @@ meant_are p edition own t w day given beside on_days days told field_days days_a
     (on_are ∙ ap (remarks_on_days day given) told_are)
     ∙ (some_meant edition w day given reason beside days some
     ∙ ap (fields_of_meaning edition w day given reason beside) days_are))
+
+-- the fields that a row is given, part by part
+pub fields_pushed : (row one two three four five a b : List (List ℕ)) (x y z : List ℕ)
+    → one ≡ row ++ a → two ≡ one ++ b → three ≡ two ++ x ∷ [] → four ≡ three ++ y ∷ []
+    → five ≡ four ++ z ∷ [] → five ≡ row ++ (a ++ (b ++ (x ∷ y ∷ z ∷ [])))
+fields_pushed row one two three four five a b x y z e f g h k =
+    rw (k, h, g, f, e) (simp append_assoc refl)
+
+-- what was appended, where there was memory for it
+pub appended : {T E : Type 0} (r : Result T E) (new text old : List ℕ)
+    → new ≡ (if is_ok r then text else old) → OnOk r (new ≡ text)
+appended (Ok x) new text old h = h
+appended (Err e) new text old h = tt

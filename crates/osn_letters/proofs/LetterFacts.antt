@@ -8,7 +8,7 @@ use Rattle.osn_lines.proofs.ByteLemmas.{Appends-nothing, Appends-then}
 use Rattle.std.specs.Result.{IsErrAnd}
 use Rattle.std.proofs.lemmas.Result.{err_from_is_err_and}
 use Rattle.std.proofs.Math.Seq.{drop-cons, take-suc}
-use Rattle.std.proofs.lemmas.List.{take-append-drop}
+use Rattle.std.proofs.lemmas.List.{take-append-drop, take-take, drop-take}
 use Rattle.osn_letters.specs.declared.fault.LettersFault.{LettersFault}
 use Rattle.osn_letters.specs.declared.fault.LettersFault.TheVariants.{NoMemory}
 use Rattle.osn_letters.specs.declared.letters.Letters.{Letters}
@@ -28,7 +28,7 @@ use Rattle.osn_letters.specs.LettersInside.{Passes}
 use Rattle.osn_letters.specs.Records.{Reading, faulty}
 use Rattle.osn_letters.specs.Records.{records_from, after}
 use Rattle.osn_letters.specs.RecordsInside.{reading_of, record_in, Takes, RefusesByte}
-use Rattle.osn_letters.specs.RecordsInside.{RefusesEnd}
+use Rattle.osn_letters.specs.RecordsInside.{RefusesEnd, TakesRun}
 use Rattle.osn_letters.specs.Table.{EndsEarly, IsLong, IsWhole, whole}
 use Rattle.osn_letters.specs.Table.{TableBasis, Heading, Written, text_before, ended_by}
 use Rattle.osn_letters.specs.Table.{written_from}
@@ -202,15 +202,49 @@ bytes_then s t u xs ys x y more =
     (text_from u more)) (sym (append_assoc xs ys more))
     (wrote_then (x (ys ++ more)) (y more))
 
--- one byte more
-pub byte_then : (s t u : Letters) (piece : List ℕ) (i b : ℕ) → i < length piece
-    → b ≡ get_or piece i 0 → TakesBytes s t (take i piece) → TakesBytes t u (b ∷ [])
-    → TakesBytes s u (take (i + 1) piece)
-byte_then s t u piece i b low is x y =
-    subst (TakesBytes s u)
-    (ap (λ c. take i piece ++ c ∷ []) is ∙ sym (take-suc piece i 0 low)
-    ∙ ap (λ k. take k piece) (sym (add-one i)))
-    (bytes_then s t u (take i piece) (b ∷ []) x y)
+-- some bytes more
+pub take_then : (i n : ℕ) (xs : List ℕ) → take i xs ++ take n (drop i xs) ≡ take (i + n) xs
+take_then i n xs =
+    ap (λ l. l ++ take n (drop i xs)) (sym (take-take i (i + n) xs (omega arith)))
+    ∙ (ap (λ l. take i (take (i + n) xs) ++ l) (sym (drop-take i n xs))
+    ∙ take-append-drop i (take (i + n) xs))
+
+pub part_then : (s t u : Letters) (piece part : List ℕ) (i n : ℕ) → part ≡ drop i piece
+    → TakesBytes s t (take i piece) → TakesBytes t u (take n part)
+    → TakesBytes s u (take (i + n) piece)
+part_then s t u piece part i n is x y =
+    subst (TakesBytes s u) (ap (λ l. take i piece ++ take n l) is ∙ take_then i n piece)
+    (bytes_then s t u (take i piece) (take n part) x y)
+
+-- they were not all taken, so the piece was not
+pub part_stops : (s t u : Letters) (piece part : List ℕ) (i : ℕ) (fault : LettersFault)
+    → part ≡ drop i piece → TakesBytes s t (take i piece) → StopsAt t u part fault
+    → StopsAt s u piece fault
+part_stops s t u piece part i fault is x y more =
+    subst (λ bytes. Stops (waiting s.table.out) (waiting u.table.out) (text_from s bytes) fault)
+    (sym (append_assoc (take i piece) part more)
+    ∙ ap (λ l. (take i piece ++ l) ++ more) is
+    ∙ ap (λ l. l ++ more) (take-append-drop i piece))
+    (wrote_stops (x (part ++ more)) (y more))
+
+-- ---- a run, and a byte after it
+
+pub run_taken : (s : Letters) (q : RecordParser) (run : List ℕ) → TakesRun s.parser q run
+    → TakesAfter s (record { start = s.start; parser = q; table = s.table }) run
+run_taken s q run takes more = record {
+  text = [];
+  out = sym (append-nil (waiting s.table.out));
+  begins = ap (written_of s.table) (takes more);
+}
+
+pub byte_then : (s t u : Letters) (bytes : List ℕ) (i b : ℕ) → i < length bytes
+    → b ≡ get_or bytes i 0 → TakesAfter s t (take i bytes) → TakesAfter t u (b ∷ [])
+    → TakesAfter s u (take (i + 1) bytes)
+byte_then s t u bytes i b low is x y =
+    subst (TakesAfter s u)
+    (ap (λ c. take i bytes ++ c ∷ []) is ∙ sym (take-suc bytes i 0 low)
+    ∙ ap (λ k. take k bytes) (sym (add-one i)))
+    (after_then s t u (take i bytes) (b ∷ []) x y)
 
 split_at : (piece : List ℕ) (i b : ℕ) → i < length piece → b ≡ get_or piece i 0
     → (more : List ℕ)
@@ -221,14 +255,14 @@ split_at piece i b low is more =
     ∙ ap (λ back. (take i piece ++ back) ++ more) (sym (drop-cons piece i 0 low))
     ∙ ap (λ all. all ++ more) (take-append-drop i piece)
 
--- a byte was not taken, so the piece was not
-pub piece_stops : (s t u : Letters) (piece : List ℕ) (i b : ℕ) (fault : LettersFault)
-    → i < length piece → b ≡ get_or piece i 0 → TakesBytes s t (take i piece)
-    → StopsAt t u (b ∷ []) fault → StopsAt s u piece fault
-piece_stops s t u piece i b fault low is x y more =
-    let rest = drop (suc i) piece ++ more in
-    subst (λ bytes. Stops (waiting s.table.out) (waiting u.table.out) (text_from s bytes) fault)
-    (split_at piece i b low is more)
+-- the byte was not taken
+pub byte_stops : (s t u : Letters) (bytes : List ℕ) (i b : ℕ) (fault : LettersFault)
+    → i < length bytes → b ≡ get_or bytes i 0 → TakesAfter s t (take i bytes)
+    → StopsAfter t u (b ∷ []) fault → StopsAfter s u bytes fault
+byte_stops s t u bytes i b fault low is x y more =
+    let rest = drop (suc i) bytes ++ more in
+    subst (λ l. Stops (waiting s.table.out) (waiting u.table.out) (text_after s l) fault)
+    (split_at bytes i b low is more)
     (wrote_stops (x (b ∷ rest)) (y rest))
 
 -- nothing was written, for a fault that is none of the table

@@ -19,6 +19,7 @@ pub mod PlaceFacts
 pub mod PlaceFaultFacts
 pub mod QuietFacts
 pub mod RowFacts
+pub mod RunFacts
 pub mod SeamFacts
 pub mod SeparatorFacts
 pub mod StartFacts

@@ -1,10 +1,9 @@
 -- The twelve fields that are put after a letter's row: which days its date means in its place. This
 -- project's profile.
 use Rattle.std.specs.Prelude.{ℕ, Bool, true, false, List, [], ◌∷◌, ◌++◌, map, codes}
-use Rattle.std.specs.Prelude.{Option, Some, None, is_none, Result, Ok, Err}
+use Rattle.std.specs.Prelude.{Option, Some, None, is_none, Result, Ok, Err, string_bytes}
 use Rattle.std.specs.Fmt.{decimal}
 use Rattle.std.specs.List.{join_by}
-use Rattle.csv.specs.Records.{fields_of}
 use Rattle.osn_days.specs.declared.calendar.Calendar.TheVariants as calendar
 use Rattle.osn_days.specs.declared.weekday.Weekday.{Weekday}
 use Rattle.osn_days.specs.Profile.{Profile}
@@ -105,7 +104,12 @@ pub record FieldsAndRemarks : Type 0 where
 
 -- the same of what a call makes
 abbrev pub fields_and_remarks : LetterFields → FieldsAndRemarks
-fields_and_remarks made = record { fields = fields_of made.fields; remarks = made.remarks.items }
+fields_and_remarks made = record {
+  fields =
+      added_fields made.summary made.days.items (string_bytes made.edtf)
+      (remark_text made.remarks.items);
+  remarks = made.remarks.items;
+}
 
 -- of these days, with this text of them, and with remarks, whose words the last field joins
 abbrev pub fields_with : Summary → List DatedDay → List ℕ → List Remark → FieldsAndRemarks

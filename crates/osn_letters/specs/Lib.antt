@@ -15,6 +15,7 @@ pub mod Records
 pub mod Places
 pub mod PlacesInside
 pub mod Law
+pub mod Runs
 pub mod RecordsInside
 pub mod Table
 pub mod Tally

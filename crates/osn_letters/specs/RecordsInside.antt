@@ -1,5 +1,5 @@
 -- What a parser holds of the records of a text.
-use Rattle.std.specs.Prelude.{◌≡◌, ◌≢◌, ℕ, false, List, [], ◌∷◌, Option, Some, None, Ok}
+use Rattle.std.specs.Prelude.{◌≡◌, ◌≢◌, ℕ, false, List, [], ◌∷◌, ◌++◌, Option, Some, None, Ok}
 use Rattle.csv.specs.declared.parser.State.{State}
 use Rattle.csv.specs.declared.parser.State.TheVariants as st
 use Rattle.csv.specs.declared.parser.Action.{Action}
@@ -14,7 +14,7 @@ use Rattle.osn_letters.specs.declared.fault.LettersFault.{LettersFault}
 use Rattle.osn_letters.specs.declared.fault.LettersFault.TheVariants.{NoMemory}
 use Rattle.osn_letters.specs.Faults.{is_of_stream}
 use Rattle.osn_letters.specs.Records.{Reading, PlacedRecord, read_byte, after, records_by, faulty}
-use Rattle.osn_letters.specs.Records.{last_record}
+use Rattle.osn_letters.specs.Records.{last_record, records_from}
 use Rattle.osn_letters.specs.Separators.{or_comma}
 
 -- the kit's state and action
@@ -76,6 +76,11 @@ Takes p q b (Some line) =
     ((more : List PlacedRecord) → records_by (reading_of p) (read_by p b) more
     ≡ record_in q line ∷ more)
     × (cleared (reading_of q) ≡ after (reading_of p) b)
+
+-- bytes were taken, and ended no record
+abbrev pub TakesRun : RecordParser → RecordParser → List ℕ → Type 0
+TakesRun p q run = (more : List ℕ) →
+    records_from (reading_of p) (run ++ more) ≡ records_from (reading_of q) more
 
 -- a byte was not taken, since the record at hand has that fault, or for want of memory
 abbrev pub RefusesByte : RecordParser → ℕ → LettersFault → Type 0

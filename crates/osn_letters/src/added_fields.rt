@@ -1,11 +1,12 @@
 //! The fields that are put after a row, by what is known of its days.
-ghost use Rattle.std.specs.Prelude.{◌≡◌, [], ◌∷◌, ◌++◌, map, IfOk, OnOk, string_bytes};
+ghost use Rattle.std.specs.Prelude.{◌≡◌, [], ◌∷◌, ◌++◌, map, OnOk};
 ghost use Rattle.std.specs.Fmt.{decimal};
 ghost use Rattle.csv.specs.Records.{fields_of, partial_of};
 ghost use Rattle.osn_letters.specs.Fields as spec;
 
-use crate::date_text::DateText;
-use crate::day_field::{DayField, days_text};
+use crate::day_field::{DayField, push_date, push_days_text, push_number};
+use crate::letter::LetterFields;
+use crate::remark::remark_text;
 use crate::span::Span;
 use csv::ByteRecord;
 use osn_days::{Calendar, Day, date_of};
@@ -23,6 +24,9 @@ const DAY_FIELDS: [DayField; 6] = [
     DayField::JulianDayNumber,
 ];
 
+/// The room that the text of a field is given at first.
+const ROOM: usize = 64;
+
 /// What the fields say of a date as a whole: from when to when it may be, of what kind it is, and
 /// by which edition it is read.
 #[derive(Clone, Copy, Debug, PartialEq, Eq)]
@@ -32,35 +36,50 @@ pub(crate) struct Summary {
     pub(crate) edition: usize,
 }
 
-/// Appends these fields of the days.
+/// Appends these fields of the days to a row.
 fn push_day_fields(
     alloc: Global,
-    fields: &mut ByteRecord,
+    row: &mut ByteRecord,
     which: &[DayField],
     days: &[DatedDay],
 ) -> Result<(), AllocError>
-    requires { partial_of fields.old ≡ [] }
-    ensures fields { OnOk result (fields_of fields.new
-        ≡ fields_of fields.old ++ map (spec.days_text days.now) which.now) }
-    ensures partial { OnOk result (partial_of fields.new ≡ []) }
+    requires { partial_of row.old ≡ [] }
+    ensures fields { OnOk result (fields_of row.new
+        ≡ fields_of row.old ++ map (spec.days_text days.now) which.now) }
+    ensures partial { OnOk result (partial_of row.new ≡ []) }
 {
+    let mut text = Vec::with_capacity(alloc, ROOM)?;
     for field in which {
-        fields.push_field(days_text(alloc, *field, days)?.as_bytes())?;
+        text.clear();
+        push_days_text(alloc, &mut text, *field, days)?;
+        row.push_field(&text)?;
     }
     Ok(())
 }
 
-/// The field of the first or the last day.
-fn end_text(alloc: Global, end: Option<Day>) -> Result<String, AllocError>
-    ensures { IfOk result (λ s. string_bytes s ≡ spec.end_text end) }
+/// Appends the field of the first or the last day.
+fn push_end(alloc: Global, row: &mut ByteRecord, end: Option<Day>) -> Result<(), AllocError>
+    requires { partial_of row.old ≡ [] }
+    ensures fields { OnOk result
+        (fields_of row.new ≡ fields_of row.old ++ spec.end_text end ∷ []) }
+    ensures partial { OnOk result (partial_of row.new ≡ []) }
 {
-    match end {
-        None => Ok(String::new(alloc)),
-        Some(day) => {
-            let date = DateText(date_of(Calendar::Gregorian, day));
-            format!(in alloc; "{date}")
-        }
+    let mut text = Vec::new(alloc);
+    if let Some(day) = end {
+        push_date(alloc, &mut text, date_of(Calendar::Gregorian, day))?;
     }
+    row.push_field(&text)
+}
+
+/// Appends the field of a number.
+fn push_decimal(alloc: Global, row: &mut ByteRecord, number: u64) -> Result<(), AllocError>
+    requires { partial_of row.old ≡ [] }
+    ensures fields { OnOk result (fields_of row.new ≡ fields_of row.old ++ decimal number ∷ []) }
+    ensures partial { OnOk result (partial_of row.new ≡ []) }
+{
+    let mut text = Vec::new(alloc);
+    push_number(&mut text, number)?;
+    row.push_field(&text)
 }
 
 /// The field of the kind.
@@ -74,35 +93,34 @@ fn kind_text(kind: Option<Kind>) -> &'static str
 }
 
 /// Appends the first and the last day, and the kind.
-fn push_summary(alloc: Global, fields: &mut ByteRecord, summary: Summary) -> Result<(), AllocError>
-    requires { partial_of fields.old ≡ [] }
-    ensures fields { OnOk result (fields_of fields.new
-        ≡ fields_of fields.old ++ spec.summary_fields summary) }
-    ensures partial { OnOk result (partial_of fields.new ≡ []) }
+fn push_summary(alloc: Global, row: &mut ByteRecord, summary: Summary) -> Result<(), AllocError>
+    requires { partial_of row.old ≡ [] }
+    ensures fields { OnOk result (fields_of row.new
+        ≡ fields_of row.old ++ spec.summary_fields summary) }
+    ensures partial { OnOk result (partial_of row.new ≡ []) }
 {
     let span = summary.span;
-    fields.push_field(end_text(alloc, span.earliest)?.as_bytes())?;
-    fields.push_field(end_text(alloc, span.latest)?.as_bytes())?;
-    fields.push_field(kind_text(summary.kind).as_bytes())
+    push_end(alloc, row, span.earliest)?;
+    push_end(alloc, row, span.latest)?;
+    row.push_field(kind_text(summary.kind).as_bytes())
 }
 
-/// The twelve fields: of these days, and with these texts of them and of the remarks.
-pub(crate) fn added_fields(
-    alloc: Global,
-    summary: Summary,
-    days: &[DatedDay],
-    edtf: &str,
-    remarks: &str,
-) -> Result<ByteRecord, AllocError>
-    ensures { IfOk result (λ fields. fields_of fields
-        ≡ spec.added_fields summary days.now edtf.now remarks.now) }
-{
-    let mut fields = ByteRecord::new(alloc);
-    push_day_fields(alloc, &mut fields, &DAY_FIELDS, days)?;
-    push_summary(alloc, &mut fields, summary)?;
-    fields.push_field(edtf.as_bytes())?;
-    let edition = summary.edition;
-    fields.push_field(format!(in alloc; "{edition}")?.as_bytes())?;
-    fields.push_field(remarks.as_bytes())?;
-    Ok(fields)
+impl LetterFields {
+    /// Appends the twelve fields to a row.
+    ///
+    /// # Errors
+    ///
+    /// Want of memory, and nothing else.
+    pub fn push_to(&self, alloc: Global, row: &mut ByteRecord) -> Result<(), AllocError>
+        requires { partial_of row.old ≡ [] }
+        ensures fields { OnOk result (fields_of row.new
+            ≡ fields_of row.old ++ (spec.fields_and_remarks self.now).fields) }
+        ensures partial { OnOk result (partial_of row.new ≡ []) }
+    {
+        push_day_fields(alloc, row, &DAY_FIELDS, &self.days)?;
+        push_summary(alloc, row, self.summary)?;
+        row.push_field(self.edtf.as_bytes())?;
+        push_decimal(alloc, row, self.summary.edition as u64)?;
+        row.push_field(remark_text(alloc, &self.remarks)?.as_bytes())
+    }
 }

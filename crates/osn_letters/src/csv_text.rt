@@ -7,7 +7,6 @@ ghost use Rattle.osn_letters.specs.Separators.{writer_by};
 ghost use Rattle.osn_letters.specs.WriterInside as inside;
 
 use crate::added_column::AddedColumn;
-use crate::columns::field_at;
 use crate::separator::Separator;
 use csv::{ByteRecord, Writer, WriterBuilder};
 use std::alloc::{AllocError, Global};
@@ -81,19 +80,6 @@ impl RowWriter {
         *self = RowWriter::new(separator, text);
         Ok(())
     }
-}
-
-/// Appends the fields of another record.
-pub(crate) fn push_fields(row: &mut ByteRecord, fields: &ByteRecord) -> Result<(), AllocError>
-    requires { partial_of row.old ≡ [] }
-    ensures fields { OnOk result
-        (fields_of row.new ≡ fields_of row.old ++ fields_of fields.now) }
-    ensures partial { OnOk result (partial_of row.new ≡ []) }
-{
-    for index in 0..fields.len() {
-        row.push_field(field_at(fields, index))?;
-    }
-    Ok(())
 }
 
 /// Appends fields with the names of these columns.

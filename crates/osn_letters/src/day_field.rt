@@ -1,14 +1,14 @@
 //! What the fields after a row say of days.
-ghost use Rattle.std.specs.Prelude.{◌≡◌, IfOk, Some, string_bytes};
-ghost use Rattle.std.specs.List.{join_by};
+ghost use Rattle.std.specs.Prelude.{◌≡◌, ◌++◌, OnOk};
+ghost use Rattle.std.specs.Fmt.{decimal};
+ghost use Rattle.osn_days.specs.DateText.{text_of_date};
 ghost use Rattle.osn_letters.specs.Fields as spec;
 
 use crate::date_text::DateText;
-use itertools::Itertools;
-use osn_days::{Calendar, date_of};
+use itoa::Buffer;
+use osn_days::{Calendar, Date, date_digits, date_of};
 use osn_lands::DatedDay;
 use std::alloc::{AllocError, Global};
-use std::fmt;
 
 /// What a field says of a day.
 #[derive(Clone, Copy, Debug, PartialEq, Eq)]
@@ -27,51 +27,63 @@ pub(crate) enum DayField {
     JulianDayNumber,
 }
 
-/// A day, as a field says it.
-#[derive(Clone, Copy)]
-struct DayText {
-    field: DayField,
-    dated: DatedDay,
+/// Appends the digits of a number.
+pub(crate) fn push_number(text: &mut Vec<u8>, number: u64) -> Result<(), AllocError>
+    ensures { OnOk result (text.new.items ≡ text.old.items ++ decimal number) }
+{
+    let mut digits = Buffer::new();
+    text.extend_from_slice(digits.format(number).as_bytes())
 }
 
-impl fmt::Display for DayText {
-    ghost output = { λ x. Some (spec.day_text x.field x.dated) };
+/// Appends a date as `1732-02-22`.
+pub(crate) fn push_date(alloc: Global, text: &mut Vec<u8>, date: Date) -> Result<(), AllocError>
+    ensures { OnOk result (text.new.items ≡ text.old.items ++ text_of_date date) }
+{
+    let year = date.year.unsigned_abs();
+    if year < 10_000 && date.month < 100 && date.day < 100 {
+        let digits = date_digits(year, u32::from(date.month), u32::from(date.day));
+        return text.extend_from_slice(&digits);
+    }
+    let date = DateText(date);
+    text.extend_from_slice(format!(in alloc; "{date}")?.as_bytes())
+}
 
-    fn fmt<W: fmt::Write>(&self, f: &mut fmt::Formatter<W>) -> fmt::Result {
-        let day = self.dated.day;
-        match self.field {
-            DayField::Number => write!(f, "{}", day.number()),
-            DayField::Gregorian => write!(f, "{}", DateText(date_of(Calendar::Gregorian, day))),
-            DayField::Julian => write!(f, "{}", DateText(date_of(Calendar::Julian, day))),
-            DayField::Dual => write!(f, "{}", self.dated),
-            DayField::Weekday => f.write_str(day.weekday().name()),
-            DayField::JulianDayNumber => write!(f, "{}", day.julian_day_number()),
-        }
+/// Appends what a field says of a day.
+fn push_day_text(
+    alloc: Global,
+    text: &mut Vec<u8>,
+    field: DayField,
+    dated: DatedDay,
+) -> Result<(), AllocError>
+    ensures { OnOk result (text.new.items ≡ text.old.items ++ spec.day_text field dated) }
+{
+    let day = dated.day;
+    match field {
+        DayField::Number => push_number(text, u64::from(day.number())),
+        DayField::Gregorian => push_date(alloc, text, date_of(Calendar::Gregorian, day)),
+        DayField::Julian => push_date(alloc, text, date_of(Calendar::Julian, day)),
+        DayField::Dual => text.extend_from_slice(format!(in alloc; "{dated}")?.as_bytes()),
+        DayField::Weekday => text.extend_from_slice(day.weekday().name().as_bytes()),
+        DayField::JulianDayNumber => push_number(text, u64::from(day.julian_day_number())),
     }
 }
 
-/// What the field says of all days, with the separator between two.
-fn joined(
+/// Appends the field of all days.
+pub(crate) fn push_days_text(
     alloc: Global,
-    separator: &str,
+    text: &mut Vec<u8>,
     field: DayField,
     days: &[DatedDay],
-) -> Result<String, AllocError>
-    ensures { IfOk result (λ s. string_bytes s
-        ≡ join_by (spec.day_text field) separator.now days.now) }
+) -> Result<(), AllocError>
+    ensures { OnOk result (text.new.items ≡ text.old.items ++ spec.days_text days.now field) }
 {
-    days.iter()
-        .map(|day| DayText { field, dated: *day })
-        .join(alloc, separator)
-}
-
-/// The field of all days.
-pub(crate) fn days_text(
-    alloc: Global,
-    field: DayField,
-    days: &[DatedDay],
-) -> Result<String, AllocError>
-    ensures { IfOk result (λ s. string_bytes s ≡ spec.days_text days.now field) }
-{
-    joined(alloc, "; ", field, days)
+    if days.is_empty() {
+        return Ok(());
+    }
+    push_day_text(alloc, text, field, days[0])?;
+    for index in 1..days.len() {
+        text.extend_from_slice(b"; ")?;
+        push_day_text(alloc, text, field, days[index])?;
+    }
+    Ok(())
 }

@@ -1,19 +1,17 @@
 //! The fields that are put after a letter's row.
 ghost use Rattle.std.specs.Prelude.{◌≡◌, [], ◌∷◌, ◌++◌, option_map, unwrap_or, IfOk};
+ghost use Rattle.std.specs.Prelude.{string_bytes};
 ghost use Rattle.osn_days.specs.Profile.{newest_rules};
 ghost use Rattle.osn_letters.specs.EdtfLaw.{AreDaysRead, AreRunsRead};
 ghost use Rattle.osn_letters.specs.Fields as spec;
 
-use crate::added_fields::{Summary, added_fields};
+use crate::added_fields::Summary;
 use crate::edtf::{edtf_of_days, edtf_of_span, sign};
 use crate::places::Places;
-use crate::remark::{
-    PossibleRemark, Remark, remark_text, remarks_beside, remarks_on_days, those_that_apply,
-};
+use crate::remark::{PossibleRemark, Remark, remarks_beside, remarks_on_days, those_that_apply};
 use crate::row_field::{date_of_field, is_malformed_weekday, territory_in, weekday_in};
 use crate::set::fields_of_set;
 use crate::span::{NO_SPAN, span_of_days, span_of_runs};
-use csv::ByteRecord;
 use osn_days::Weekday;
 use osn_grammar::{DateOrder, Written, WrittenDate as AnyDate};
 use osn_lands::{DatedDay, Run, Territory};
@@ -24,29 +22,35 @@ use osn_written::{
 };
 use std::alloc::{AllocError, Global};
 
-/// The fields that are put after a letter's row, and its remarks.
+/// What the fields that are put after a letter's row say, and its remarks.
 #[derive(Debug, Drop)]
 pub struct LetterFields {
-    /// The twelve fields.
-    pub fields: ByteRecord,
+    /// What they say of its date as a whole.
+    pub(crate) summary: Summary,
+    /// The days of a date that is one day.
+    pub(crate) days: Vec<DatedDay>,
+    /// The days as ISO 8601-2 writes them.
+    pub(crate) edtf: String,
     /// The remarks, whose words the last field joins.
     pub remarks: Vec<Remark>,
 }
 
-/// The fields of these days, with this text of them, and the remarks.
+/// The fields where a date has no days to be said one by one, with this text of its days.
 pub(crate) fn fields_with(
     alloc: Global,
     summary: Summary,
-    days: &[DatedDay],
-    edtf: &str,
+    edtf: String,
     remarks: Vec<Remark>,
-) -> Result<LetterFields, AllocError>
-    ensures { IfOk result (λ made. spec.fields_and_remarks made
-        ≡ spec.fields_with summary days.now edtf.now remarks.items) }
+) -> LetterFields
+    ensures { spec.fields_and_remarks result
+        ≡ spec.fields_with summary [] (string_bytes edtf) remarks.items }
 {
-    let text = remark_text(alloc, &remarks)?;
-    let fields = added_fields(alloc, summary, days, edtf, &text)?;
-    Ok(LetterFields { fields, remarks })
+    LetterFields {
+        summary,
+        days: Vec::new(alloc),
+        edtf,
+        remarks,
+    }
 }
 
 /// The fields of a row that has no day.
@@ -66,7 +70,7 @@ pub(crate) fn fields_of_none(
         edition,
     };
     let remarks = those_that_apply(alloc, reasons, beside)?;
-    fields_with(alloc, summary, &[], "", remarks)
+    Ok(fields_with(alloc, summary, String::new(alloc), remarks))
 }
 
 /// The fields of days.
@@ -74,21 +78,26 @@ fn fields_of_days(
     alloc: Global,
     edition: usize,
     date: AnyDate,
-    days: &[DatedDay],
+    days: Vec<DatedDay>,
     on_days: &[PossibleRemark],
     beside: &[PossibleRemark],
 ) -> Result<LetterFields, AllocError>
     ensures { IfOk result (λ made. spec.fields_and_remarks made
-        ≡ spec.fields_of_days edition date days.now (on_days.now ++ beside.now)) }
+        ≡ spec.fields_of_days edition date days.items (on_days.now ++ beside.now)) }
 {
     let summary = Summary {
-        span: span_of_days(days),
+        span: span_of_days(&days),
         kind: Some(kind_of(date.extent)),
         edition,
     };
-    let edtf = edtf_of_days(alloc, sign(date), days)?;
+    let edtf = edtf_of_days(alloc, sign(date), &days)?;
     let remarks = those_that_apply(alloc, on_days, beside)?;
-    fields_with(alloc, summary, days, &edtf, remarks)
+    Ok(LetterFields {
+        summary,
+        days,
+        edtf,
+        remarks,
+    })
 }
 
 /// The fields of runs.
@@ -110,7 +119,7 @@ fn fields_of_runs(
     };
     let edtf = edtf_of_span(alloc, sign(date), summary.span, runs)?;
     let remarks = those_that_apply(alloc, on_days, beside)?;
-    fields_with(alloc, summary, &[], &edtf, remarks)
+    Ok(fields_with(alloc, summary, edtf, remarks))
 }
 
 /// The fields of a date that means no day.
@@ -157,7 +166,7 @@ fn fields_of_one_day(
         return fields_of_absence(alloc, edition, date, reason, beside);
     }
     let on_days = remarks_on_days(day, given, &days);
-    fields_of_days(alloc, edition, date, &days, &on_days, beside)
+    fields_of_days(alloc, edition, date, days, &on_days, beside)
 }
 
 /// The fields of a date that is not one day, by the reckoning of a territory.
@@ -288,7 +297,7 @@ fn fields_without_date(
     fields_of_none(alloc, edition, None, &reasons, &beside)
 }
 
-/// The twelve fields that are put after the row of a letter, by the register of that edition: which
+/// What the twelve fields say that are put after the row of a letter, by the register of that edition: which
 /// days its date means in its place. The fields `days`, `gregorian`, `julian`, `dual`,
 /// `weekday_found` and `jdn` say each day of a date that is one day. After them stand `earliest`,
 /// `latest`, `kind`, `edtf`, `edition` and `remark`.

@@ -1,6 +1,6 @@
 //! A table of letters, as the bytes of its text come.
-ghost use Rattle.std.specs.Prelude.{ℕ, List, ◌≡◌, ◌+◌, ◌≤◌, ◌<◌, ◌^◌, ◌∷◌, [], length};
-ghost use Rattle.std.specs.Prelude.{OnOk, IfErr};
+ghost use Rattle.std.specs.Prelude.{ℕ, List, ◌≡◌, ◌+◌, ◌≤◌, ◌<◌, ◌^◌, ◌∷◌, [], length, take};
+ghost use Rattle.std.specs.Prelude.{OnOk, IfErr, IfOk};
 ghost use Rattle.osn_letters.specs.LettersInside as inside;
 ghost use Rattle.osn_days.specs.Profile.{newest_rules};
 ghost use Rattle.osn_letters.specs.declared.start.Start.TheVariants.{Past};
@@ -127,6 +127,51 @@ impl Letters<'_> {
         self.take_after(byte)
     }
 
+    /// Takes some of the next bytes after the beginning of the text: a run of those that only join
+    /// the field at hand, and one more. Returns how many.
+    fn take_some_after(&mut self, bytes: &[u8]) -> Result<usize, LettersFault>
+        requires ready { inside.IsReady self.old }
+        requires line { self.old.parser.line + 1 < 2 ^ 64 }
+        requires some { 0 < length bytes.now }
+        ensures some { IfOk result (λ len. (0 < len) × (len ≤ length bytes.now)) }
+        ensures ready { OnOk result (inside.IsReady self.new) }
+        ensures line { IfOk result (λ len. self.new.parser.line ≤ self.old.parser.line + len) }
+        ensures start { self.new.start ≡ self.old.start }
+        ensures takes { IfOk result (λ len.
+            inside.TakesAfter self.old self.new (take len bytes.now)) }
+        ensures counts { IfOk result (λ len.
+            inside.CountsAfter self.old self.new (take len bytes.now)) }
+        ensures stops { IfErr result (inside.StopsAfter self.old self.new bytes.now) }
+    {
+        let len = self.parser.take_run(bytes)?;
+        if len == bytes.len() {
+            return Ok(len);
+        }
+        self.take_after(bytes[len])?;
+        Ok(len + 1)
+    }
+
+    /// Takes some of the next bytes. Returns how many.
+    fn take_some(&mut self, bytes: &[u8]) -> Result<usize, LettersFault>
+        requires ready { inside.IsReady self.old }
+        requires line { self.old.parser.line + 1 < 2 ^ 64 }
+        requires some { 0 < length bytes.now }
+        ensures some { IfOk result (λ len. (0 < len) × (len ≤ length bytes.now)) }
+        ensures ready { OnOk result (inside.IsReady self.new) }
+        ensures line { IfOk result (λ len. self.new.parser.line ≤ self.old.parser.line + len) }
+        ensures takes { IfOk result (λ len.
+            inside.TakesBytes self.old self.new (take len bytes.now)) }
+        ensures counts { IfOk result (λ len.
+            inside.CountsBytes self.old self.new (take len bytes.now)) }
+        ensures stops { IfErr result (inside.StopsAt self.old self.new bytes.now) }
+    {
+        if self.start == Start::Past {
+            return self.take_some_after(bytes);
+        }
+        self.take_byte(bytes[0])?;
+        Ok(1)
+    }
+
     /// Takes the next bytes.
     pub(crate) fn take_piece(&mut self, piece: &[u8]) -> Result<(), LettersFault>
         requires ready { inside.IsReady self.old }
@@ -138,8 +183,9 @@ impl Letters<'_> {
         ensures counts { OnOk result (inside.CountsBytes self.old self.new piece.now) }
         ensures stops { IfErr result (inside.StopsAt self.old self.new piece.now) }
     {
-        for byte in piece {
-            self.take_byte(*byte)?;
+        let mut taken = 0;
+        while taken < piece.len() {
+            taken += self.take_some(&piece[taken..])?;
         }
         Ok(())
     }

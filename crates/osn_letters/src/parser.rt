@@ -1,11 +1,13 @@
 //! The records of a text of CSV, as its bytes come.
-ghost use Rattle.std.specs.Prelude.{◌≡◌, ◌+◌, ◌++◌, ◌<◌, ◌^◌, ◌∷◌, [], false, IfOk, IfErr, OnOk};
-ghost use Rattle.std.specs.Prelude.{if◌then◌else◌, ◌==◌};
+ghost use Rattle.std.specs.Prelude.{◌≡◌, ◌+◌, ◌-◌, ◌++◌, ◌<◌, ◌≤◌, ◌^◌, ◌∷◌, [], false, IfOk, IfErr, OnOk};
+ghost use Rattle.std.specs.Prelude.{if◌then◌else◌, ◌==◌, length, take, true};
+ghost use Rattle.std.specs.List.{list_all};
 ghost use Rattle.csv.specs.Machine.{carriage_return, fields_after, field_after};
 ghost use Rattle.csv.specs.Records.{fields_of, partial_of};
 ghost use Rattle.osn_letters.specs.Records as spec;
 ghost use Rattle.osn_letters.specs.RecordsInside as inside;
 ghost use Rattle.osn_letters.specs.RecordsInside.{state_of, action_of, reading_of};
+ghost use Rattle.osn_letters.specs.Runs as runs;
 ghost use Rattle.osn_letters.specs.Separators as separators;
 
 use crate::fault::LettersFault;
@@ -16,6 +18,22 @@ use std::alloc::{AllocError, Global};
 
 /// The most bytes that a record may have in the text, without its line end.
 const LONGEST_RECORD: usize = 65_536;
+
+/// How many bytes there are before the first that is `end` or ends a line, but no more than `most`.
+fn run_len(bytes: &[u8], end: u8, most: usize) -> usize
+    ensures within { result ≤ length bytes.now }
+    ensures most { result ≤ most }
+    ensures joins { list_all (runs.joins end) (take result bytes.now) ≡ true }
+{
+    let most = most.min(bytes.len());
+    for index in 0..most {
+        let byte = bytes[index];
+        if byte == end || byte == b'\r' || byte == b'\n' {
+            return index;
+        }
+    }
+    most
+}
 
 /// Where the reading of a text stands, and what has come of the record at hand.
 #[derive(Drop)]
@@ -136,6 +154,43 @@ impl RecordParser {
         } else {
             self.size += 1;
         }
+    }
+
+    /// How many bytes at the beginning of these are known to join the field at hand, and to do
+    /// nothing else.
+    fn count_joining(&self, bytes: &[u8]) -> usize
+        ensures within { result ≤ length bytes.now }
+        ensures room { result ≤ spec.longest_record - self.now.size }
+        ensures joins { runs.JoinField (reading_of self.now) (take result bytes.now) }
+    {
+        let (Some(separator), false) = (self.separator, self.returned) else {
+            return 0;
+        };
+        let Some(end) = self.state.run_end(separator) else {
+            return 0;
+        };
+        let room = LONGEST_RECORD.saturating_sub(self.size);
+        run_len(bytes, end, room)
+    }
+
+    /// Takes a run of bytes at once that only join the field at hand. Returns how many there are at
+    /// the beginning of these bytes.
+    ///
+    /// # Errors
+    ///
+    /// Want of memory, and nothing else.
+    #[inline]
+    pub(crate) fn take_run(&mut self, bytes: &[u8]) -> Result<usize, AllocError>
+        ensures within { IfOk result (λ len. len ≤ length bytes.now) }
+        ensures line { self.new.line ≡ self.old.line }
+        ensures partial { partial_of self.new.fields ≡ partial_of self.old.fields }
+        ensures takes { IfOk result (λ len.
+            inside.TakesRun self.old self.new (take len bytes.now)) }
+    {
+        let len = self.count_joining(bytes);
+        self.field.extend_from_slice(&bytes[..len])?;
+        self.size += len;
+        Ok(len)
     }
 
     /// What separates the fields of the record at hand.

@@ -1,8 +1,9 @@
 //! How a byte of CSV is read.
-ghost use Rattle.std.specs.Prelude.{◌≡◌};
+ghost use Rattle.std.specs.Prelude.{◌≡◌, IfSome};
 ghost use Rattle.csv.specs.Machine as machine;
 ghost use Rattle.osn_letters.specs.Records as spec;
 ghost use Rattle.osn_letters.specs.RecordsInside.{state_of, action_of};
+ghost use Rattle.osn_letters.specs.Runs as runs;
 ghost use Rattle.osn_letters.specs.Separators.{config_by};
 
 use crate::separator::{Separator, separator_at};
@@ -104,6 +105,18 @@ impl ParserState {
             ParserState::InQuoted => to(ParserState::InQuoted, Effect::Copy),
             ParserState::AfterQuote if byte == b'"' => to(ParserState::InQuoted, Effect::Copy),
             ParserState::AfterQuote => in_field(separator, byte),
+        }
+    }
+
+    /// The byte that ends a run of bytes which only join the field at hand, as a line end does. Where
+    /// no field is at hand there is no such run.
+    pub(crate) fn run_end(self, separator: Separator) -> Option<u8>
+        ensures { IfSome result (runs.EndsRun separator (state_of self)) }
+    {
+        match self {
+            ParserState::InField => Some(separator.byte()),
+            ParserState::InQuoted => Some(b'"'),
+            _ => None,
         }
     }
 

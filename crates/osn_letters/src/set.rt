@@ -35,7 +35,7 @@ fn fields_of_set_runs(
     let sign = sign_of(is_set_uncertain(members), is_set_approximate(members));
     let edtf = edtf_of_runs(alloc, sign, runs)?;
     let remarks = those_that_apply(alloc, &[], beside)?;
-    fields_with(alloc, summary, &[], &edtf, remarks)
+    Ok(fields_with(alloc, summary, edtf, remarks))
 }
 
 /// The fields of a set without days, for that reason.

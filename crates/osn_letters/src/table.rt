@@ -11,7 +11,7 @@ ghost use Rattle.osn_letters.specs.WriterInside.{IsBetweenRows, waiting};
 
 use crate::added_column::ADDED_COLUMNS;
 use crate::columns::{Columns, DateColumns, field_at, find_columns};
-use crate::csv_text::{RowWriter, push_fields, push_names};
+use crate::csv_text::{RowWriter, push_names};
 use crate::date_parts::parts_text;
 use crate::fault::LettersFault;
 use crate::letter::{LetterFields, letter_fields};
@@ -151,7 +151,7 @@ impl Table<'_> {
             (spec.letter_of (inside.source_of self.old) columns (fields_of row.old)).remarks) }
     {
         let made = self.letter_of(columns, row)?;
-        push_fields(row, &made.fields)?;
+        made.push_to(self.alloc, row)?;
         self.tally.count(&made.remarks)?;
         self.out.write_row(row)
     }

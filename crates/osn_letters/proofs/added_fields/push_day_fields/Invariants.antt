@@ -6,6 +6,6 @@ use Rattle.osn_letters.proofs.added_fields.push_day_fields.Given as goal
 -- the fields so far
 abbrev pub invariant-loop-field : goal.invariant-loop-field
 invariant-loop-field l =
-    (fields_of l.fields ≡ fields_of l.initial.fields
+    (fields_of l.row ≡ fields_of l.initial.row
     ++ map (spec.days_text l.days) (take l.field-index l.which))
-    × (partial_of l.fields ≡ [])
+    × (partial_of l.row ≡ [])

@@ -1,4 +1,4 @@
-use Rattle.std.proofs.Common.{◌≡◌, ◌∙◌, [], rules, length, ap}
+use Rattle.std.proofs.Common.{◌≡◌, ◌∙◌, [], rules, length, ap, refl}
 use Rattle.std.proofs.lemmas.Result.{IfOk-weaker}
 use Rattle.osn_days.specs.Profile.{newest_rules}
 use Rattle.osn_written.specs.Meaning.{dated_by}
@@ -14,5 +14,5 @@ returns c = IfOk-weaker c.fields_of_days.result _ _ (λ fields same.
     (c.in_ok-days.ensures
     ∙ ap (dated_by newest_rules c.args.own.now)
     (c.as_slice.ensures.value ∙ c.in_ok-meant.ensures.value)) some
-    c.deref.ensures.value c.deref-2.ensures.value c.remarks_on_days-on_days.ensures)
+    c.deref.ensures.value refl c.remarks_on_days-on_days.ensures)
     c.fields_of_days.ensures

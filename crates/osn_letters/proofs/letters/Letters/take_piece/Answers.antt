@@ -1,25 +1,33 @@
-use Rattle.std.proofs.Common.{refl, arith}
-use Rattle.osn_letters.proofs.CountFacts.{byte_counted}
-use Rattle.osn_letters.proofs.LetterFacts.{err_of_fault, piece_stops, byte_then}
+use Rattle.std.proofs.Common.{ap, arith, length, length-drop}
+use Rattle.std.proofs.lemmas.Slice.{between_to_end}
+use Rattle.osn_letters.proofs.CountFacts.{part_counted}
+use Rattle.osn_letters.proofs.LetterFacts.{err_of_fault, part_stops, part_then}
 use Rattle.osn_letters.proofs.letters.Letters.take_piece.Goals as goal
 
-pub returns-in_err-take_byte-clause-stops : goal.returns-in_err-take_byte-clause-stops
-returns-in_err-take_byte-clause-stops c = err_of_fault _ c.from_residual.result
-    c.in_err-take_byte.field-0.0 c.from_residual.ensures.1
-    (piece_stops c.args.self.now c.loop-byte.self c.take_byte.new.self c.args.piece.now
-    c.loop-byte.byte-index _ c.in_err-take_byte.field-0.0 c.loop-byte-test.true refl
-    c.loop-byte.invariant.takes c.in_err-take_byte.ensures.stops)
+pub returns-in_err-taken-clause-stops : goal.returns-in_err-taken-clause-stops
+returns-in_err-taken-clause-stops c =
+    let piece = c.args.piece.now in
+    let part_is = between_to_end piece c.loop-taken.taken (length piece) (omega arith) in
+    err_of_fault _ c.from_residual.result c.in_err-taken.field-0.0 c.from_residual.ensures.1
+    (part_stops c.args.self.now c.loop-taken.self c.take_some.new.self piece _ c.loop-taken.taken
+    c.in_err-taken.field-0.0 part_is c.loop-taken.invariant.takes c.in_err-taken.ensures.stops)
 
-pub loop-byte-preserved : goal.loop-byte-preserved
-loop-byte-preserved c = record {
-  ready = c.in_ok-take_byte.ensures.ready;
-  line = omega (arith, c.in_ok-take_byte.ensures.line, c.loop-byte.invariant.line);
-  takes =
-      byte_then c.args.self.now c.loop-byte.self c.take_byte.new.self c.args.piece.now
-      c.loop-byte.byte-index _ c.loop-byte-test.true refl c.loop-byte.invariant.takes
-      c.in_ok-take_byte.ensures.takes;
-  counts =
-      byte_counted c.args.self.now c.loop-byte.self c.take_byte.new.self c.args.piece.now
-      c.loop-byte.byte-index _ c.loop-byte-test.true refl c.loop-byte.invariant.counts
-      c.in_ok-take_byte.ensures.counts;
-}
+pub loop-taken-preserved : goal.loop-taken-preserved
+loop-taken-preserved c =
+    let piece = c.args.piece.now in
+    let taken = c.loop-taken.taken in
+    let part_is = between_to_end piece taken (length piece) (omega arith) in
+    let was = c.loop-taken.invariant in
+    let now = c.in_ok-taken.ensures in
+    record {
+      ready = now.ready;
+      line = omega (arith, now.line, was.line);
+      within =
+          omega (arith, now.some.1, ap length part_is, length-drop taken piece, was.within);
+      takes =
+          part_then c.args.self.now c.loop-taken.self c.take_some.new.self piece _ taken
+          c.in_ok-taken.field-0 part_is was.takes now.takes;
+      counts =
+          part_counted c.args.self.now c.loop-taken.self c.take_some.new.self piece _ taken
+          c.in_ok-taken.field-0 part_is was.counts now.counts;
+    }

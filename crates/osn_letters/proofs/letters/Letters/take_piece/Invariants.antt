@@ -1,13 +1,17 @@
-use Rattle.std.proofs.Common.{◌+◌, ◌≤◌, take}
+use Rattle.std.proofs.Common.{◌+◌, ◌-◌, ◌≤◌, length, take}
 use Rattle.osn_letters.specs.LettersInside.{IsReady, CountsBytes, TakesBytes}
 use Rattle.osn_letters.proofs.letters.Letters.take_piece.Given as goal
 
 -- the bytes so far were taken
-abbrev pub invariant-loop-byte : goal.invariant-loop-byte
-invariant-loop-byte l =
+abbrev pub invariant-loop-taken : goal.invariant-loop-taken
+invariant-loop-taken l =
     record {
       ready : IsReady l.self;
-      line : l.self.parser.line ≤ l.initial.self.parser.line + l.byte-index;
-      takes : TakesBytes l.initial.self l.self (take l.byte-index l.piece);
-      counts : CountsBytes l.initial.self l.self (take l.byte-index l.piece);
+      line : l.self.parser.line ≤ l.initial.self.parser.line + l.taken;
+      within : l.taken ≤ length l.piece;
+      takes : TakesBytes l.initial.self l.self (take l.taken l.piece);
+      counts : CountsBytes l.initial.self l.self (take l.taken l.piece);
     }
+
+abbrev pub decreases-loop-taken : goal.decreases-loop-taken
+decreases-loop-taken l = length l.piece - l.taken

@@ -11,6 +11,6 @@ unfolding letter_text
 returns-clause-text c =
     on_ok_weaker c.write_row.result
     (written_as (writer_by c.args.self.now.out.separator) _ _ _ _
-    (c.in_ok-push_fields.ensures.fields
+    (c.in_ok-push_to.ensures.fields
     ∙ ap (λ made. fields_of c.args.row.now ++ made.fields) c.in_ok-made.ensures))
     c.write_row.ensures.text
