@@ -4,7 +4,7 @@
 The cases are those of crates/osn_cases/data, or the files that are named; README.md beside that
 folder has their form. The gate runs them by the code of the program over a folder in memory, which
 proves nothing about its main function, its files and the streams of the system. A command that
-names a path in `private/` or `broken/` is left out: those are folders of the memory alone. Prints
+names a path in `private/`, `broken/` or `full/`, or `a.folder/`, is left out: only the memory has them. Prints
 each stream and each status that is not as its case says.
 """
 import glob
@@ -24,7 +24,7 @@ LETTERS = {b"t": b"\t", b"r": b"\r", b"n": b"\n", b"0": b"\0", b"e": b"\x1b", b"
 ESCAPE = re.compile(rb"\\(?:x([0-9a-f]{2})|([trn0e\\]))")
 WORD = re.compile(rb"""(?:"[^"]*"|'[^']*'|[^ "'])+""")
 STATUS = re.compile(rb"\[(\d+)\]")
-IN_MEMORY = (b"private/", b"broken/")
+IN_MEMORY = (b"private/", b"broken/", b"full/", b"a.folder/")
 
 
 @dataclass
