@@ -3,6 +3,7 @@ use Rattle.std.proofs.lemmas.Result.{IfErr-weaker, IfOk-weaker}
 use Rattle.osn_file_commands.specs.Audit.{Audits}
 use Rattle.osn_file_commands.specs.Replay.{Replays}
 use Rattle.osn_file_commands.specs.Transcript.{Transcribes}
+use Rattle.osn_lines.specs.Streams.{output_of}
 use Rattle.osn_commands.proofs.RunLemmas.{failed, if_done, if_failed, not_done, one_printed, ran}
 use Rattle.osn_commands.proofs.RunLemmas.{two_printed}
 use Rattle.osn_commands.proofs.program.execute.Goals as goal
@@ -16,14 +17,18 @@ returns-in-Serve-clause-ok g c =
 pub returns-in-Serve-clause-err : goal.returns-in-Serve-clause-err
 returns-in-Serve-clause-err g c =
     IfErr-weaker c.serve_in_folder.result _ _
-    (λ failure h. (failed c.args.limits c.args.command _ _ _ _ _ c.in-Serve.is h.0, h.1))
+    (λ failure h. (failed c.args.limits c.args.command _ _ _ _ _ c.in-Serve.is h.0, h.1, h.2))
     c.serve_in_folder.ensures.err
 
 pub returns-in-Replay-clause-ok : goal.returns-in-Replay-clause-ok
 returns-in-Replay-clause-ok g c =
+    let o = output_of g.W.Sink.contents g.W.Sink.has_failed g.W.Sink.holds_back
+        c.args.output.now c.printed.new.output in
+    let e = output_of g.E.Sink.contents g.E.Sink.has_failed g.E.Sink.holds_back
+        c.args.errors.now c.printed.new.errors in
     IfOk-weaker c.printed.result _ _
-    (λ status h. ran c.args.limits c.args.command _ _ _ _ _ _ _ status c.in-Replay.is
-    (one_printed string_bytes _ _ _ _ status c.replay_in_folder-made.result c.in-Replay.schedule.now (Replays c.args.limits c.in-Replay.readers)
+    (λ status h. ran c.args.limits c.args.command _ _ _ _ _ o e status c.in-Replay.is
+    (one_printed string_bytes _ _ o e status c.replay_in_folder-made.result c.in-Replay.schedule.now (Replays c.args.limits c.in-Replay.readers)
     c.replay_in_folder-made.ensures.ok h.0 h.1))
     c.printed.ensures.ok
 
@@ -34,13 +39,18 @@ returns-in-Replay-clause-err g c =
       failed c.args.limits c.args.command _ _ _ _ _ c.in-Replay.is
           (if_failed c.replay_in_folder-made.result failure _ h.0 c.replay_in_folder-made.ensures.err),
       h.1,
+      h.2,
     )) c.printed.ensures.err
 
 pub returns-in-Desk-clause-ok : goal.returns-in-Desk-clause-ok
 returns-in-Desk-clause-ok g c =
+    let o = output_of g.W.Sink.contents g.W.Sink.has_failed g.W.Sink.holds_back
+        c.args.output.now c.printed-in-Desk.new.output in
+    let e = output_of g.E.Sink.contents g.E.Sink.has_failed g.E.Sink.holds_back
+        c.args.errors.now c.printed-in-Desk.new.errors in
     IfOk-weaker c.printed-in-Desk.result _ _
-    (λ status h. ran c.args.limits c.args.command _ _ _ _ _ _ _ status c.in-Desk.is
-    (two_printed string_bytes _ _ _ _ status c.desk_in_folder-made.result c.in-Desk.script.now c.in-Desk.questions.now (Transcribes c.args.limits)
+    (λ status h. ran c.args.limits c.args.command _ _ _ _ _ o e status c.in-Desk.is
+    (two_printed string_bytes _ _ o e status c.desk_in_folder-made.result c.in-Desk.script.now c.in-Desk.questions.now (Transcribes c.args.limits)
     c.desk_in_folder-made.ensures.ok h.0 h.1))
     c.printed-in-Desk.ensures.ok
 
@@ -51,6 +61,7 @@ returns-in-Desk-clause-err g c =
       failed c.args.limits c.args.command _ _ _ _ _ c.in-Desk.is
           (if_failed c.desk_in_folder-made.result failure _ h.0 c.desk_in_folder-made.ensures.err),
       h.1,
+      h.2,
     )) c.printed-in-Desk.ensures.err
 
 pub returns-in-Page-clause-ok : goal.returns-in-Page-clause-ok
@@ -62,14 +73,18 @@ returns-in-Page-clause-ok g c =
 pub returns-in-Page-clause-err : goal.returns-in-Page-clause-err
 returns-in-Page-clause-err g c =
     IfErr-weaker c.page_in_folder.result _ _
-    (λ failure h. (failed c.args.limits c.args.command _ _ _ _ _ c.in-Page.is h.0, h.1))
+    (λ failure h. (failed c.args.limits c.args.command _ _ _ _ _ c.in-Page.is h.0, h.1, h.2))
     c.page_in_folder.ensures.err
 
 pub returns-in-Audit-clause-ok : goal.returns-in-Audit-clause-ok
 returns-in-Audit-clause-ok g c =
+    let o = output_of g.W.Sink.contents g.W.Sink.has_failed g.W.Sink.holds_back
+        c.args.output.now c.printed-in-Audit.new.output in
+    let e = output_of g.E.Sink.contents g.E.Sink.has_failed g.E.Sink.holds_back
+        c.args.errors.now c.printed-in-Audit.new.errors in
     IfOk-weaker c.printed-in-Audit.result _ _
-    (λ status h. ran c.args.limits c.args.command _ _ _ _ _ _ _ status c.in-Audit.is
-    (two_printed string_bytes _ _ _ _ status c.audit_in_folder-made.result c.in-Audit.journal.now c.in-Audit.transcript.now (Audits c.args.limits)
+    (λ status h. ran c.args.limits c.args.command _ _ _ _ _ o e status c.in-Audit.is
+    (two_printed string_bytes _ _ o e status c.audit_in_folder-made.result c.in-Audit.journal.now c.in-Audit.transcript.now (Audits c.args.limits)
     c.audit_in_folder-made.ensures.ok h.0 h.1))
     c.printed-in-Audit.ensures.ok
 
@@ -80,6 +95,7 @@ returns-in-Audit-clause-err g c =
       failed c.args.limits c.args.command _ _ _ _ _ c.in-Audit.is
           (if_failed c.audit_in_folder-made.result failure _ h.0 c.audit_in_folder-made.ensures.err),
       h.1,
+      h.2,
     )) c.printed-in-Audit.ensures.err
 
 pub returns-in-Letters-clause-ok : goal.returns-in-Letters-clause-ok
@@ -96,6 +112,7 @@ returns-in-Letters-clause-err g c =
     let why = not_done c.letters_in_folder-done.result h.0 _ h.1 c.letters_in_folder-done.ensures.err in (
       failed c.args.limits c.args.command _ _ _ _ _ c.in-Letters.is (h.2, (h.0, h.3), why.0),
       why.1,
+      why.2,
     )) c.opened.ensures.err
 
 pub returns-in-Text-clause-ok : goal.returns-in-Text-clause-ok
@@ -112,6 +129,7 @@ returns-in-Text-clause-err g c =
     let why = not_done c.text_in_folder-done.result h.0 _ h.1 c.text_in_folder-done.ensures.err in (
       failed c.args.limits c.args.command _ _ _ _ _ c.in-Text.is (h.2, (h.0, h.3), why.0),
       why.1,
+      why.2,
     )) c.opened-in-Text.ensures.err
 
 pub returns-in-Plan-clause-ok : goal.returns-in-Plan-clause-ok
@@ -128,6 +146,7 @@ returns-in-Plan-clause-err g c =
     let why = not_done c.plan_in_folder-done.result h.0 _ h.1 c.plan_in_folder-done.ensures.err in (
       failed c.args.limits c.args.command _ _ _ _ _ c.in-Plan.is (h.2, (h.0, h.3), why.0),
       why.1,
+      why.2,
     )) c.opened-in-Plan.ensures.err
 
 pub returns-in-Publish-clause-ok : goal.returns-in-Publish-clause-ok
@@ -144,6 +163,7 @@ returns-in-Publish-clause-err g c =
     let why = not_done c.publish_in_folder-done.result h.0 _ h.1 c.publish_in_folder-done.ensures.err in (
       failed c.args.limits c.args.command _ _ _ _ _ c.in-Publish.is (h.2, (h.0, h.3), why.0),
       why.1,
+      why.2,
     )) c.opened-in-Publish.ensures.err
 
 pub returns-in-Convert-clause-ok : goal.returns-in-Convert-clause-ok
