@@ -23,9 +23,9 @@ returns-in-Serve-clause-err g c =
 pub returns-in-Replay-clause-ok : goal.returns-in-Replay-clause-ok
 returns-in-Replay-clause-ok g c =
     let o = output_of g.W.Sink.contents g.W.Sink.has_failed g.W.Sink.holds_back
-        c.args.output.now c.printed.new.output in
+    c.args.output.now c.printed.new.output in
     let e = output_of g.E.Sink.contents g.E.Sink.has_failed g.E.Sink.holds_back
-        c.args.errors.now c.printed.new.errors in
+    c.args.errors.now c.printed.new.errors in
     IfOk-weaker c.printed.result _ _
     (λ status h. ran c.args.limits c.args.command _ _ _ _ _ o e status c.in-Replay.is
     (one_printed string_bytes _ _ o e status c.replay_in_folder-made.result c.in-Replay.schedule.now (Replays c.args.limits c.in-Replay.readers)
@@ -45,9 +45,9 @@ returns-in-Replay-clause-err g c =
 pub returns-in-Desk-clause-ok : goal.returns-in-Desk-clause-ok
 returns-in-Desk-clause-ok g c =
     let o = output_of g.W.Sink.contents g.W.Sink.has_failed g.W.Sink.holds_back
-        c.args.output.now c.printed-in-Desk.new.output in
+    c.args.output.now c.printed-in-Desk.new.output in
     let e = output_of g.E.Sink.contents g.E.Sink.has_failed g.E.Sink.holds_back
-        c.args.errors.now c.printed-in-Desk.new.errors in
+    c.args.errors.now c.printed-in-Desk.new.errors in
     IfOk-weaker c.printed-in-Desk.result _ _
     (λ status h. ran c.args.limits c.args.command _ _ _ _ _ o e status c.in-Desk.is
     (two_printed string_bytes _ _ o e status c.desk_in_folder-made.result c.in-Desk.script.now c.in-Desk.questions.now (Transcribes c.args.limits)
@@ -79,9 +79,9 @@ returns-in-Page-clause-err g c =
 pub returns-in-Audit-clause-ok : goal.returns-in-Audit-clause-ok
 returns-in-Audit-clause-ok g c =
     let o = output_of g.W.Sink.contents g.W.Sink.has_failed g.W.Sink.holds_back
-        c.args.output.now c.printed-in-Audit.new.output in
+    c.args.output.now c.printed-in-Audit.new.output in
     let e = output_of g.E.Sink.contents g.E.Sink.has_failed g.E.Sink.holds_back
-        c.args.errors.now c.printed-in-Audit.new.errors in
+    c.args.errors.now c.printed-in-Audit.new.errors in
     IfOk-weaker c.printed-in-Audit.result _ _
     (λ status h. ran c.args.limits c.args.command _ _ _ _ _ o e status c.in-Audit.is
     (two_printed string_bytes _ _ o e status c.audit_in_folder-made.result c.in-Audit.journal.now c.in-Audit.transcript.now (Audits c.args.limits)
