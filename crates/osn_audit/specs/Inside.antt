@@ -1,6 +1,6 @@
 -- A line of a transcript as it is read.
 use Rattle.serde_json.specs.View.{view}
-use Rattle.osn_register.specs.BorrowedQuery.{as_query}
+use Rattle.osn_request.specs.LineQuery.{line_query}
 use Rattle.osn_audit.specs.declared.transcript_line.TranscriptLine.{TranscriptLine}
 use Rattle.osn_audit.specs.Audit as spec
 
@@ -9,7 +9,7 @@ abbrev pub entry_model : TranscriptLine → spec.TranscriptLine
 entry_model e =
     record {
       reader = e.reader;
-      query = as_query e.query;
+      query = line_query e.query;
       edition = e.edition;
       reply = view e.reply.now;
     }

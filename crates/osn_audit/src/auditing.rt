@@ -4,9 +4,9 @@ ghost use Rattle.std.specs.Prelude.{true, false, length, slice_set, take};
 ghost use Rattle.serde_json.specs.View.{view};
 ghost use Rattle.serde_json.specs.Written.{has_float as spec_has_float};
 ghost use Rattle.osn_days.specs.Profile.{newest_rules};
-ghost use Rattle.osn_register.specs.BorrowedQuery.{as_query};
 ghost use Rattle.osn_core.specs.Sequential.{reply_at};
 ghost use Rattle.osn_reply.specs.declared.outcome.Outcome.TheVariants.{Replied};
+ghost use Rattle.osn_request.specs.LineQuery.{line_query};
 ghost use Rattle.osn_request.specs.Request.{Fails};
 ghost use Rattle.osn_request.specs.declared.request.RequestError.TheVariants.{NoMemory};
 ghost use Rattle.osn_audit.specs.Audit as spec;
@@ -15,10 +15,10 @@ ghost use Rattle.osn_audit.specs.Inside.{entry_model};
 use crate::float::has_float;
 use crate::followers::Followers;
 use crate::transcript_line::TranscriptLine;
-use osn_core::MOST_READERS;
+use osn_core::{MOST_READERS, Reply};
 use osn_format::WireFault;
 use osn_reply::{Outcome, push_reply};
-use osn_request::RequestError;
+use osn_request::{LineQuery, RequestError};
 use serde_json::Value;
 use std::alloc::{AllocError, Global};
 
@@ -32,8 +32,38 @@ fn has_line(alloc: Global, reply: &Value, line: &[u8]) -> Result<bool, AllocErro
     Ok(text.as_slice() == line)
 }
 
+/// The reply that an entry should have. The entry's edition is the reader's last one then.
+fn reply_due(
+    alloc: Global,
+    followers: &mut Followers,
+    entry: &TranscriptLine,
+) -> Result<Reply, AllocError>
+    requires from_one { 0 < entry.now.reader }
+    requires known { entry.now.reader ≤ MOST_READERS }
+    requires edition { spec.known_edition (length followers.old.object.batches)
+        (spec.last_of followers.old.last entry.now.reader) entry.now.edition
+        ≡ Ok entry.now.edition }
+    ensures reply { IfOk result (λ r. r ≡ reply_at newest_rules followers.old.object.limits
+        (take entry.now.edition followers.old.object.batches) (line_query entry.now.query)) }
+    ensures last { OnOk result (followers.new.last
+        ≡ slice_set followers.old.last (entry.now.reader - 1) entry.now.edition) }
+    ensures object { followers.new.object ≡ followers.old.object }
+{
+    match entry.query {
+        LineQuery::Plain(query) => followers.ask(entry.reader, entry.edition, query),
+        LineQuery::Written { .. } => {
+            let query = entry.query.to_query(alloc)?;
+            followers.ask(entry.reader, entry.edition, query.borrowed())
+        }
+    }
+}
+
 /// What the reader of an entry should be told, whose last edition is that of the entry then.
-fn outcome_due(followers: &mut Followers, entry: &TranscriptLine) -> Result<Outcome, AllocError>
+fn outcome_due(
+    alloc: Global,
+    followers: &mut Followers,
+    entry: &TranscriptLine,
+) -> Result<Outcome, AllocError>
     requires from_one { 0 < entry.now.reader }
     requires known { entry.now.reader ≤ MOST_READERS }
     requires edition { spec.known_edition (length followers.old.object.batches)
@@ -41,12 +71,12 @@ fn outcome_due(followers: &mut Followers, entry: &TranscriptLine) -> Result<Outc
         ≡ Ok entry.now.edition }
     ensures outcome { IfOk result (λ o. o ≡ Replied entry.now.reader (reply_at newest_rules
         followers.old.object.limits (take entry.now.edition followers.old.object.batches)
-        (as_query entry.now.query))) }
+        (line_query entry.now.query))) }
     ensures last { OnOk result (followers.new.last
         ≡ slice_set followers.old.last (entry.now.reader - 1) entry.now.edition) }
     ensures object { followers.new.object ≡ followers.old.object }
 {
-    let reply = followers.ask(entry.reader, entry.edition, entry.query)?;
+    let reply = reply_due(alloc, followers, entry)?;
     Ok(Outcome::Replied {
         reader: entry.reader,
         reply,
@@ -72,7 +102,7 @@ fn put_line_due(
         ≡ slice_set followers.old.last (entry.now.reader - 1) entry.now.edition) }
     ensures object { followers.new.object ≡ followers.old.object }
 {
-    let outcome = outcome_due(followers, entry)?;
+    let outcome = outcome_due(alloc, followers, entry)?;
     line.clear();
     push_reply(alloc, &outcome, line)
 }

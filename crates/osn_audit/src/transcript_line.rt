@@ -6,10 +6,9 @@ ghost use Rattle.osn_audit.specs.Audit as spec;
 ghost use Rattle.osn_audit.specs.Inside.{entry_model};
 
 use osn_core::MOST_READERS;
-use osn_files::borrowed_question_in;
+use osn_files::line_question_in;
 use osn_format::{Member, WireFault};
-use osn_register::BorrowedQuery;
-use osn_request::{LineObject, whole_at};
+use osn_request::{LineObject, LineQuery, whole_at};
 use serde_json::Value;
 
 /// A member that is an object.
@@ -39,7 +38,7 @@ fn edition_of(reply: &Value) -> Result<u32, WireFault>
 #[derive(Drop)]
 pub(crate) struct TranscriptLine<'a> {
     pub(crate) reader: u32,
-    pub(crate) query: BorrowedQuery<'a>,
+    pub(crate) query: LineQuery<'a>,
     pub(crate) edition: u32,
     pub(crate) reply: &'a Value,
 }
@@ -53,7 +52,7 @@ pub(crate) fn entry_in<'a>(object: &'a LineObject<'_>) -> Result<TranscriptLine<
     ensures reader { IfOk result (λ e. (0 < e.reader) × (e.reader ≤ MOST_READERS)) }
 {
     let ask = object_at(object, Member::Ask)?;
-    let (reader, query) = borrowed_question_in(ask)?;
+    let (reader, query) = line_question_in(ask)?;
     let reply = object_at(object, Member::Reply)?;
     let edition = edition_of(reply)?;
     Ok(TranscriptLine {

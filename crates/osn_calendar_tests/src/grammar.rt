@@ -1,9 +1,8 @@
 //! Dates as people write them. Each row is a text and what it says, in a short notation. It has the
 //! numbers of year, month and day, `+` after a double year, and then what is said beside the day.
 use crate::compare::same;
-use osn_grammar::{
-    DateFault, DateOrder, Extent, SimpleDate, Written, WrittenDate, Year, members_of, parse,
-};
+use osn_grammar::{DateFault, DateOrder, Written, members_of, parse};
+use osn_written::{AnyDate, Extent, SimpleDate, Year};
 use std::alloc::Global;
 use std::fmt::{self, Display, Formatter, Write};
 use std::process::Abort;
@@ -61,7 +60,7 @@ impl Display for ShownExtent {
 
 /// A date, and what is said beside its day.
 #[derive(Clone, Copy)]
-struct ShownWritten(WrittenDate);
+struct ShownWritten(AnyDate);
 
 impl Display for ShownWritten {
     fn fmt<W: Write>(&self, f: &mut Formatter<W>) -> fmt::Result {

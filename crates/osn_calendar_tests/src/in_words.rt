@@ -1,7 +1,7 @@
 //! Dates in words. Each row is a text that the grammar reads, and the words of what it says.
 use crate::compare::same;
-use osn_grammar::{DateFault, DateOrder, Written, parse};
-use osn_written::{DateInWords, is_writable};
+use osn_grammar::{DateFault, DateOrder, Written, is_writable, parse};
+use osn_written::DateInWords;
 use std::alloc::Global;
 use std::fmt::{self, Display, Formatter, Write};
 use std::process::Abort;

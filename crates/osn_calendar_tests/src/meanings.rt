@@ -4,9 +4,9 @@
 use crate::compare::same;
 use crate::gaps::{britain, france, sweden};
 use osn_days::{Calendar, Day, date_of};
-use osn_grammar::{DateOrder, Written, WrittenDate, members_of};
+use osn_grammar::{DateOrder, Written, members_of, read_date};
 use osn_lands::{Run, Territory};
-use osn_written::{NoDay, by_reckoning, find_runs, find_set, kind_of, read_date};
+use osn_written::{AnyDate, NoDay, by_reckoning, find_runs, find_set, kind_of};
 use std::alloc::{AllocError, Global};
 use std::fmt::Write;
 use std::process::Abort;
@@ -191,7 +191,7 @@ fn push_runs(
     alloc: Global,
     out: &mut String,
     territory: &Territory,
-    date: WrittenDate,
+    date: AnyDate,
 ) -> Result<(), AllocError> {
     write!(out, "{}:", kind_of(date.extent).word())?;
     match find_runs(alloc, territory, date.extent)? {

@@ -3,9 +3,8 @@
 use crate::compare::same;
 use crate::gaps::britain;
 use crate::meant::{Written, date_of};
-use osn_grammar::Extent;
 use osn_lands::Territory;
-use osn_written::{NoSpan, span_meant};
+use osn_written::{Extent, NoSpan, span_meant};
 use std::alloc::{AllocError, Global};
 use std::process::Abort;
 use std::test::Fail;

@@ -26,7 +26,7 @@ mod written;
 pub use fault::{FileFault, LineFault, Role};
 pub use journal::{JournalPart, load_journal, load_part, load_with_version};
 pub use last_line::LastLine;
-pub use question_line::{borrowed_question_in, question_in};
+pub use question_line::{line_question_in, question_in};
 pub use questions::read_questions;
 pub use reading::{LineFold, read_lines};
 pub use schedule::read_schedule;

@@ -1,31 +1,29 @@
 //! The query of a line of a question file.
 ghost use Rattle.std.specs.Prelude.{◌≡◌, ◌≤◌, IfOk, MatchResult, Ok, Err};
-ghost use Rattle.osn_register.specs.BorrowedQuery.{as_query};
+ghost use Rattle.osn_request.specs.LineQuery.{line_query};
 ghost use Rattle.osn_request.specs.Request.{GivesLast};
 ghost use Rattle.osn_files.specs.Questions as spec;
 
 use osn_core::MOST_READERS;
 use osn_format::WireFault;
-use osn_register::{BorrowedQuery, Query};
-use osn_request::{JsonObject, Op, RequestError, borrowed_query_of, op_of};
+use osn_register::Query;
+use osn_request::{JsonObject, LineQuery, Op, RequestError, line_query_of, op_of};
 use std::alloc::Global;
 
-/// The reader who asks, from 1 to 64, and the query, of the object of a request, whose code stays
-/// where it is in the object.
+/// The reader who asks, from 1 to 64, and the query, of the object of a request, whose texts
+/// stay where they are in the object.
 ///
 /// # Errors
 /// The first fault of the object, which is that of a request, and `NotAQuery` for an edit or a
 /// publish.
-pub fn borrowed_question_in<O: JsonObject>(
-    object: &O,
-) -> Result<(u32, BorrowedQuery<'_>), WireFault>
+pub fn line_question_in<O: JsonObject>(object: &O) -> Result<(u32, LineQuery<'_>), WireFault>
     ensures question { MatchResult result
-        (λ asked. spec.question_in (O.value object.now) ≡ Ok (asked.0, as_query asked.1))
+        (λ asked. spec.question_in (O.value object.now) ≡ Ok (asked.0, line_query asked.1))
         (λ f. spec.question_in (O.value object.now) ≡ Err f) }
     ensures among { IfOk result (λ asked. (1 ≤ asked.0) × (asked.0 ≤ MOST_READERS)) }
 {
     match op_of(object)? {
-        Op::Query(op) => borrowed_query_of(MOST_READERS, op, object),
+        Op::Query(op) => line_query_of(MOST_READERS, op, object),
         Op::Edit(_) | Op::Publish => Err(WireFault::NotAQuery),
     }
 }
@@ -33,11 +31,11 @@ pub fn borrowed_question_in<O: JsonObject>(
 /// The reader who asks, from 1 to 64, and the query, of the object of a request.
 ///
 /// # Errors
-/// As `borrowed_question_in`; want of memory, once nothing was found at fault.
+/// As `line_question_in`; want of memory, once nothing was found at fault.
 pub fn question_in<O: JsonObject>(alloc: Global, object: &O) -> Result<(u32, Query), RequestError>
     ensures question { GivesLast result (spec.question_in (O.value object.now)) }
     ensures among { IfOk result (λ asked. (1 ≤ asked.0) × (asked.0 ≤ MOST_READERS)) }
 {
-    let (reader, query) = borrowed_question_in(object)?;
+    let (reader, query) = line_question_in(object)?;
     Ok((reader, query.to_query(alloc)?))
 }

@@ -17,9 +17,9 @@ use Rattle.osn_grammar.specs.declared.part.Part.{Part}
 use Rattle.osn_grammar.specs.declared.part.Part.TheVariants.{Number, Dash, Slash, Open, About}
 use Rattle.osn_grammar.specs.declared.part.Part.TheVariants.{Doubt, AboutAndDoubt}
 use Rattle.osn_grammar.specs.declared.written.DateOrder.{DateOrder}
-use Rattle.osn_grammar.specs.declared.written.Extent.TheVariants as extent
-use Rattle.osn_grammar.specs.declared.written.SimpleDate.{SimpleDate}
-use Rattle.osn_grammar.specs.declared.written.SimpleDate.TheVariants as date
+use Rattle.osn_written.specs.declared.any_date.Extent.TheVariants as extent
+use Rattle.osn_written.specs.declared.any_date.SimpleDate.{SimpleDate}
+use Rattle.osn_written.specs.declared.any_date.SimpleDate.TheVariants as date
 use Rattle.osn_grammar.specs.Extent.{date_or_range, extent_of}
 use Rattle.osn_grammar.specs.InDigits.{AreDigitsRead, HasFourDigits, sign}
 use Rattle.osn_grammar.proofs.PartFacts.{Say, TextSays, nothing_says, part_adds, text_read}

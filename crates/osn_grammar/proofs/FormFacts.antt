@@ -9,11 +9,11 @@ use Rattle.osn_grammar.specs.declared.part.Part.TheVariants.{After, Not}
 use Rattle.osn_grammar.specs.declared.written.DateFault.{DateFault}
 use Rattle.osn_grammar.specs.declared.written.DateFault.TheVariants as faults
 use Rattle.osn_grammar.specs.declared.written.DateOrder.{DateOrder}
-use Rattle.osn_grammar.specs.declared.written.Extent.{Extent}
-use Rattle.osn_grammar.specs.declared.written.Extent.TheVariants as extent
-use Rattle.osn_grammar.specs.declared.written.SimpleDate.{SimpleDate}
-use Rattle.osn_grammar.specs.declared.written.SimpleDate.TheVariants as date
-use Rattle.osn_grammar.specs.declared.written.Year.{Year}
+use Rattle.osn_written.specs.declared.any_date.Extent.{Extent}
+use Rattle.osn_written.specs.declared.any_date.Extent.TheVariants as extent
+use Rattle.osn_written.specs.declared.any_date.SimpleDate.{SimpleDate}
+use Rattle.osn_written.specs.declared.any_date.SimpleDate.TheVariants as date
+use Rattle.osn_written.specs.declared.any_date.Year.{Year}
 use Rattle.osn_grammar.specs.Extent.{date_or_range, extent_of, first_read}
 use Rattle.osn_grammar.specs.Reading.{is_undated}
 use Rattle.osn_grammar.specs.Simple.{◌>>=◌, simple_date, is_long, year_of}

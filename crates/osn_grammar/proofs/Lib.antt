@@ -10,3 +10,7 @@ mod DigitLaw
 mod SetFacts
 mod RefusedFacts
 pub mod SetLaw
+pub mod LawFacts
+pub mod WordsLaw
+mod DualLaw
+mod Meant

@@ -9,10 +9,11 @@ use Rattle.osn_grammar.specs.declared.part.Part.TheVariants as part
 use Rattle.osn_grammar.specs.declared.written.DateFault.{DateFault}
 use Rattle.osn_grammar.specs.declared.written.DateFault.TheVariants as faults
 use Rattle.osn_grammar.specs.declared.written.DateOrder.{DateOrder}
-use Rattle.osn_grammar.specs.declared.written.Extent.{Extent}
-use Rattle.osn_grammar.specs.declared.written.Reckoning.{Reckoning}
+use Rattle.osn_written.specs.declared.any_date.Extent.{Extent}
+use Rattle.osn_written.specs.declared.any_date.Reckoning.{Reckoning}
 use Rattle.osn_grammar.specs.declared.written.Written.TheVariants as say
-use Rattle.osn_grammar.specs.Extent.{date_or_range, extent_of, has_three_digits}
+use Rattle.osn_grammar.specs.Extent.{date_or_range, extent_of}
+use Rattle.osn_written.specs.AnyDate.{has_three_digits}
 use Rattle.osn_grammar.specs.Parts.{tells_time}
 use Rattle.osn_grammar.specs.Reading.{written, reading_of_parts, weekday_after, with_weekday}
 use Rattle.osn_grammar.specs.Reading.{reckoning_after, with_reckoning, is_about, is_doubt}

@@ -12,12 +12,12 @@ use Rattle.osn_grammar.specs.declared.part.Part.TheVariants.{Number, Dash, Open}
 use Rattle.osn_grammar.specs.declared.written.DateFault.{DateFault}
 use Rattle.osn_grammar.specs.declared.written.DateFault.TheVariants as faults
 use Rattle.osn_grammar.specs.declared.written.DateOrder.{DateOrder}
-use Rattle.osn_grammar.specs.declared.written.Extent.{Extent}
-use Rattle.osn_grammar.specs.declared.written.Extent.TheVariants as extent
-use Rattle.osn_grammar.specs.declared.written.Reckoning.{Reckoning}
-use Rattle.osn_grammar.specs.declared.written.SimpleDate.{SimpleDate}
+use Rattle.osn_written.specs.declared.any_date.Extent.{Extent}
+use Rattle.osn_written.specs.declared.any_date.Extent.TheVariants as extent
+use Rattle.osn_written.specs.declared.any_date.Reckoning.{Reckoning}
+use Rattle.osn_written.specs.declared.any_date.SimpleDate.{SimpleDate}
 use Rattle.osn_grammar.specs.declared.written.Written.TheVariants as say
-use Rattle.osn_grammar.specs.declared.written.WrittenDate.{WrittenDate}
+use Rattle.osn_written.specs.declared.any_date.AnyDate.{AnyDate}
 use Rattle.osn_grammar.specs.declared.extent.Beginning.{Beginning}
 use Rattle.osn_grammar.specs.declared.extent.Joining.TheVariants as joins
 use Rattle.osn_grammar.specs.Extent.{beginning_of, dashed_range, date_or_range, extent_of}
@@ -148,7 +148,7 @@ dated (d, Some e) rest = refl
 
 date_refused : (weekday : Result (Option Weekday) DateFault)
     (reckoning : Result (Option Reckoning) DateFault) (extent : Result Extent DateFault)
-    (f : Option Weekday → Option Reckoning → Extent → Result WrittenDate DateFault)
+    (f : Option Weekday → Option Reckoning → Extent → Result AnyDate DateFault)
     → is_err extent ≡ true
     → is_err (weekday >>= (λ w. reckoning >>= (λ r. extent >>= f w r))) ≡ true
 date_refused (Err fault) reckoning extent f wrong = refl
@@ -156,7 +156,7 @@ date_refused (Ok w) (Err fault) extent f wrong = refl
 date_refused (Ok w) (Ok r) (Err fault) f wrong = refl
 date_refused (Ok w) (Ok r) (Ok e) f wrong = absurd (cc)
 
-open_refused : (ts : List Part) (date : Result WrittenDate DateFault) → is_err date ≡ true
+open_refused : (ts : List Part) (date : Result AnyDate DateFault) → is_err date ≡ true
     → is_err (or_open ts date) ≡ true
 open_refused ts (Ok w) wrong = absurd (cc)
 open_refused ts (Err faults.Malformed) wrong = refl

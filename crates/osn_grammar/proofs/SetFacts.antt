@@ -4,7 +4,7 @@ use Rattle.std.proofs.Common.{Result, Ok, Err}
 use Rattle.std.proofs.Common.{option_map, refl, ap, ◌∙◌, sym, append_assoc}
 use Rattle.std.proofs.lemmas.Bool.{ne_eqb}
 use Rattle.osn_grammar.specs.declared.written.DateFault.{DateFault}
-use Rattle.osn_grammar.specs.declared.written.WrittenDate.{WrittenDate}
+use Rattle.osn_written.specs.declared.any_date.AnyDate.{AnyDate}
 use Rattle.osn_grammar.specs.Simple.{◌>>=◌}
 use Rattle.osn_grammar.specs.Sets.{without_first, without_last}
 
@@ -46,8 +46,8 @@ last_stripped bs (Some x) found = sym (ap (without_last 93) found ∙ last_witho
 -- ---- members
 
 -- one member more
-pub member_added : (front : List WrittenDate) (w : WrittenDate) (found : Result WrittenDate DateFault)
-    (rest : Result (List WrittenDate) DateFault) → found ≡ Ok w
+pub member_added : (front : List AnyDate) (w : AnyDate) (found : Result AnyDate DateFault)
+    (rest : Result (List AnyDate) DateFault) → found ≡ Ok w
     → ((found >>= (λ v. rest >>= (λ ws. Ok (v ∷ ws)))) >>= (λ ws. Ok (front ++ ws)))
     ≡ (rest >>= (λ ws. Ok ((front ++ w ∷ []) ++ ws)))
 member_added front w found (Err fault) is = rw is refl

@@ -19,10 +19,10 @@ use Rattle.osn_days.proofs.DateDigits.{four_digits}
 use Rattle.osn_grammar.specs.declared.part.Part.{Part}
 use Rattle.osn_grammar.specs.declared.part.Part.TheVariants.{Open, Bracket}
 use Rattle.osn_grammar.specs.declared.written.DateFault.{DateFault}
-use Rattle.osn_grammar.specs.declared.written.Extent.{Extent}
+use Rattle.osn_written.specs.declared.any_date.Extent.{Extent}
 use Rattle.osn_grammar.specs.declared.written.Written.{Written}
 use Rattle.osn_grammar.specs.declared.written.Written.TheVariants as say
-use Rattle.osn_grammar.specs.declared.written.WrittenDate.{WrittenDate}
+use Rattle.osn_written.specs.declared.any_date.AnyDate.{AnyDate}
 use Rattle.osn_grammar.specs.InDigits.{HasFourDigits, sign, signed}
 use Rattle.osn_grammar.specs.Parts.{tells_time}
 use Rattle.osn_grammar.specs.Reading.{all_members, member_by, member_in, member_of, or_set}
@@ -284,7 +284,7 @@ unfolding set_in
 members_are a u first rest all =
     ap set_inside (last_without (body a u (first ∷ rest))) ∙ texts_read a u first rest all
 
-set_said : (ws : List WrittenDate) (r : Result Written DateFault) → is_err r ≡ true
+set_said : (ws : List AnyDate) (r : Result Written DateFault) → is_err r ≡ true
     → or_set (Ok ws) r ≡ Ok say.Set
 set_said ws (Ok said) wrong = absurd (cc)
 set_said ws (Err fault) wrong = refl

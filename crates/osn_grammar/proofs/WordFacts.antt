@@ -10,7 +10,7 @@ use Rattle.osn_days.specs.Weekday.{weekday_name}
 use Rattle.osn_grammar.specs.declared.part.Part.TheVariants as part
 use Rattle.osn_grammar.specs.Names.{names}
 use Rattle.osn_grammar.specs.declared.part.Part.{Part}
-use Rattle.osn_grammar.specs.declared.written.Reckoning.TheVariants.{OldStyle, NewStyle}
+use Rattle.osn_written.specs.declared.any_date.Reckoning.TheVariants.{OldStyle, NewStyle}
 use Rattle.osn_grammar.proofs.TextFacts.{Reads, Begins, Closes, blank, no_letter_alone}
 
 -- ---- months

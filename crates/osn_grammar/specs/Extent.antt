@@ -15,10 +15,10 @@ use Rattle.osn_grammar.specs.declared.part.Part.TheVariants.{Not, By}
 use Rattle.osn_grammar.specs.declared.written.DateFault.{DateFault}
 use Rattle.osn_grammar.specs.declared.written.DateFault.TheVariants as faults
 use Rattle.osn_grammar.specs.declared.written.DateOrder.{DateOrder}
-use Rattle.osn_grammar.specs.declared.written.Extent.{Extent}
-use Rattle.osn_grammar.specs.declared.written.Extent.TheVariants as extent
-use Rattle.osn_grammar.specs.declared.written.SimpleDate.{SimpleDate}
-use Rattle.osn_grammar.specs.declared.written.SimpleDate.TheVariants as date
+use Rattle.osn_written.specs.declared.any_date.Extent.{Extent}
+use Rattle.osn_written.specs.declared.any_date.Extent.TheVariants as extent
+use Rattle.osn_written.specs.declared.any_date.SimpleDate.{SimpleDate}
+use Rattle.osn_written.specs.declared.any_date.SimpleDate.TheVariants as date
 use Rattle.osn_grammar.specs.Simple.{◌>>=◌, is_long, month_in, day_in, date_in_digits, simple_date}
 
 -- ---- ranges
@@ -170,19 +170,3 @@ extent_of o (To ∷ parts) = not_after o parts
 extent_of o (Between ∷ parts) = range_after o joins.And [] parts
 extent_of o (From ∷ parts) = range_after o joins.To [] parts
 extent_of o parts = date_or_range o parts
-
--- ---- years of three digits
-
--- a year is written with three digits and no zero before them
-abbrev pub has_year_of_three_digits : SimpleDate → Bool
-has_year_of_three_digits (date.Day year month day) = year.has_three_digits
-has_year_of_three_digits (date.Month year month) = year.has_three_digits
-has_year_of_three_digits (date.Year year) = year.has_three_digits
-
-abbrev pub has_three_digits : Extent → Bool
-has_three_digits (extent.On d) = has_year_of_three_digits d
-has_three_digits (extent.FromTo a b) = has_year_of_three_digits a || has_year_of_three_digits b
-has_three_digits (extent.Before d) = has_year_of_three_digits d
-has_three_digits (extent.NotAfter d) = has_year_of_three_digits d
-has_three_digits (extent.After d) = has_year_of_three_digits d
-has_three_digits (extent.NotBefore d) = has_year_of_three_digits d

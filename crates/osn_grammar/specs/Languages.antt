@@ -7,7 +7,7 @@ use Rattle.osn_days.specs.declared.weekday.Weekday.TheVariants.{Thursday, Friday
 use Rattle.osn_days.specs.Weekday.{weekday_numbered}
 use Rattle.osn_grammar.specs.declared.part.Part.{Part}
 use Rattle.osn_grammar.specs.declared.part.Part.TheVariants as part
-use Rattle.osn_grammar.specs.declared.written.Reckoning.TheVariants.{OldStyle, NewStyle}
+use Rattle.osn_written.specs.declared.any_date.Reckoning.TheVariants.{OldStyle, NewStyle}
 use Rattle.osn_grammar.specs.Scan.{parts_after}
 
 -- the characters have these parts

@@ -9,3 +9,6 @@ pub mod Laws
 pub mod Languages
 pub mod InDigits
 pub mod SetsInDigits
+pub mod ReadDate
+pub mod WordsRead
+pub mod DualTexts

@@ -10,12 +10,13 @@ use Rattle.osn_grammar.specs.declared.part.Part.TheVariants as part
 use Rattle.osn_grammar.specs.declared.written.DateFault.{DateFault}
 use Rattle.osn_grammar.specs.declared.written.DateFault.TheVariants as faults
 use Rattle.osn_grammar.specs.declared.written.DateOrder.{DateOrder}
-use Rattle.osn_grammar.specs.declared.written.Extent.{Extent}
-use Rattle.osn_grammar.specs.declared.written.Reckoning.{Reckoning}
+use Rattle.osn_written.specs.declared.any_date.Extent.{Extent}
+use Rattle.osn_written.specs.declared.any_date.Reckoning.{Reckoning}
 use Rattle.osn_grammar.specs.declared.written.Written.{Written}
 use Rattle.osn_grammar.specs.declared.written.Written.TheVariants as say
-use Rattle.osn_grammar.specs.declared.written.WrittenDate.{WrittenDate}
-use Rattle.osn_grammar.specs.Extent.{extent_of, has_three_digits}
+use Rattle.osn_written.specs.declared.any_date.AnyDate.{AnyDate}
+use Rattle.osn_grammar.specs.Extent.{extent_of}
+use Rattle.osn_written.specs.AnyDate.{has_three_digits}
 use Rattle.osn_grammar.specs.Parts.{tells_time}
 use Rattle.osn_grammar.specs.Scan.{parts_in}
 use Rattle.osn_grammar.specs.Sets.{inside_brackets, between_commas, is_sign, days_in_digits}
@@ -80,13 +81,13 @@ unread parts =
     else None))
 
 -- a year of three digits lacks its last one, perhaps, where it is in doubt or in brackets
-abbrev pub unless_open : WrittenDate → Result WrittenDate DateFault
+abbrev pub unless_open : AnyDate → Result AnyDate DateFault
 unless_open w =
     if has_three_digits w.extent && (w.is_uncertain || w.is_supplied) then Err faults.OpenYear
     else Ok w
 
 -- a date, by all parts and by those that tell its time
-abbrev pub date_of : DateOrder → List Part → List Part → Result WrittenDate DateFault
+abbrev pub date_of : DateOrder → List Part → List Part → Result AnyDate DateFault
 date_of o parts timed = do
   weekday ← weekday_after None parts
   reckoning ← reckoning_after None parts
@@ -116,7 +117,7 @@ abbrev pub ends_open : List Part → Bool
 ends_open parts = nat_le 2 (length parts) && is_open_end (drop (length parts - 2) parts)
 
 -- why parts of no form are no date
-abbrev pub or_open : List Part → Result WrittenDate DateFault → Result WrittenDate DateFault
+abbrev pub or_open : List Part → Result AnyDate DateFault → Result AnyDate DateFault
 or_open timed (Err faults.Malformed) =
     Err (if ends_open timed then faults.OpenYear else faults.Malformed)
 or_open timed read = read
@@ -138,7 +139,7 @@ reading_of_parts o parts timed =
 -- ---- a set of dates
 
 -- a member of a set, with its signs
-abbrev pub with_signs : List Part → Extent → WrittenDate
+abbrev pub with_signs : List Part → Extent → AnyDate
 with_signs parts e = record {
   extent = e;
   weekday = None;
@@ -148,20 +149,20 @@ with_signs parts e = record {
   is_supplied = false;
 }
 
-abbrev pub member_by : List Part → Result Extent DateFault → Result WrittenDate DateFault
+abbrev pub member_by : List Part → Result Extent DateFault → Result AnyDate DateFault
 member_by parts days = do
   extent ← days
   Ok (with_signs parts extent)
 
 -- the member that parts are, or why they are none
-abbrev pub member_of : List Part → Result WrittenDate DateFault
+abbrev pub member_of : List Part → Result AnyDate DateFault
 member_of parts = member_by parts (days_in_digits (filter (λ p. not (is_sign p)) parts))
 
-abbrev pub member_in : List ℕ → Result WrittenDate DateFault
+abbrev pub member_in : List ℕ → Result AnyDate DateFault
 member_in text = member_of (parts_in text)
 
 -- the members that texts are, or why the first one that is none is none
-abbrev pub all_members : List (List ℕ) → Result (List WrittenDate) DateFault
+abbrev pub all_members : List (List ℕ) → Result (List AnyDate) DateFault
 all_members [] = Ok []
 all_members (text ∷ texts) = do
   w ← member_in text
@@ -169,20 +170,20 @@ all_members (text ∷ texts) = do
   Ok (w ∷ ws)
 
 -- the members of the set that a text is, or why it is no set
-abbrev pub set_inside : Option (List ℕ) → Result (List WrittenDate) DateFault
+abbrev pub set_inside : Option (List ℕ) → Result (List AnyDate) DateFault
 set_inside None = Err faults.Malformed
 set_inside (Some inside) = all_members (between_commas inside)
 
-unfoldable pub set_in : List ℕ → Result (List WrittenDate) DateFault
+unfoldable pub set_in : List ℕ → Result (List AnyDate) DateFault
 set_in text = set_inside (inside_brackets text)
 
 -- the members of the set that a text is: none where it is no set
-abbrev pub members : List ℕ → List WrittenDate
+abbrev pub members : List ℕ → List AnyDate
 members text = unwrap_or (result_ok (set_in text)) []
 
 -- a text that says nothing else of a date may be a set. Where it has the form of one, the reason is
 -- that of its first member that is no day
-abbrev pub or_set : Result (List WrittenDate) DateFault → Result Written DateFault
+abbrev pub or_set : Result (List AnyDate) DateFault → Result Written DateFault
     → Result Written DateFault
 or_set set (Ok w) = Ok w
 or_set (Ok ws) (Err fault) = Ok say.Set

@@ -10,8 +10,8 @@ use Rattle.osn_grammar.specs.declared.part.Part.TheVariants as part
 use Rattle.osn_grammar.specs.declared.part.Part.TheVariants.{Number, Dash, Open}
 use Rattle.osn_grammar.specs.declared.written.DateFault.{DateFault}
 use Rattle.osn_grammar.specs.declared.written.DateFault.TheVariants as faults
-use Rattle.osn_grammar.specs.declared.written.Extent.{Extent}
-use Rattle.osn_grammar.specs.declared.written.Extent.TheVariants as extent
+use Rattle.osn_written.specs.declared.any_date.Extent.{Extent}
+use Rattle.osn_written.specs.declared.any_date.Extent.TheVariants as extent
 use Rattle.osn_grammar.specs.Simple.{◌>>=◌, one, day_in_digits}
 
 -- ---- the text between the brackets

@@ -4,10 +4,10 @@ use Rattle.std.specs.Prelude.{Ok}
 use Rattle.std.specs.List.{All, join_by}
 use Rattle.osn_days.specs.declared.date.Date.{Date}
 use Rattle.osn_grammar.specs.declared.written.DateOrder.{DateOrder}
-use Rattle.osn_grammar.specs.declared.written.Extent.{Extent}
-use Rattle.osn_grammar.specs.declared.written.Extent.TheVariants as extent
+use Rattle.osn_written.specs.declared.any_date.Extent.{Extent}
+use Rattle.osn_written.specs.declared.any_date.Extent.TheVariants as extent
 use Rattle.osn_grammar.specs.declared.written.Written.TheVariants as say
-use Rattle.osn_grammar.specs.declared.written.WrittenDate.{WrittenDate}
+use Rattle.osn_written.specs.declared.any_date.AnyDate.{AnyDate}
 use Rattle.osn_grammar.specs.InDigits.{HasFourDigits, day_of_date, signed}
 use Rattle.osn_grammar.specs.Reading.{members, written}
 
@@ -35,7 +35,7 @@ abbrev pub extent_of_days : Days → Extent
 extent_of_days (d, None) = extent.On (day_of_date d)
 extent_of_days (d, Some e) = extent.FromTo (day_of_date d) (day_of_date e)
 
-abbrev pub member : Bool → Bool → Days → WrittenDate
+abbrev pub member : Bool → Bool → Days → AnyDate
 member approximate uncertain days = record {
   extent = extent_of_days days;
   weekday = None;

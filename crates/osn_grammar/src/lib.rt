@@ -1,7 +1,8 @@
-//! The grammar of dates as people write them: from a text to what was written, without any
+//! The grammar of dates as people write them: from a text to the date that it says, without any
 //! territory. What the crate promises to those above is that `parse` is its definition.
 #![tactic(auto)]
 
+mod date_in_text;
 mod extent;
 mod names;
 mod order;
@@ -10,10 +11,11 @@ mod reading;
 mod scan;
 mod set;
 mod simple;
+mod words_read;
 mod written;
 
+pub use date_in_text::{date_reading, parse_day, read_date};
 pub use reading::parse;
 pub use set::members_of;
-pub use written::{
-    DateFault, DateOrder, Extent, Reckoning, SimpleDate, Written, WrittenDate, Year,
-};
+pub use words_read::is_writable;
+pub use written::{DateFault, DateOrder, Written};

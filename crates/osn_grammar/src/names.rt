@@ -3,8 +3,8 @@ ghost use Rattle.std.specs.Prelude.{◌≡◌};
 ghost use Rattle.osn_grammar.specs.Names as spec;
 
 use crate::part::{Numeral, Part};
-use crate::written::Reckoning;
 use osn_days::Weekday;
+use osn_written::Reckoning;
 
 /// Each name with the part of a date that it is: in small letters, with accents and without.
 pub const NAMES: [(&str, Part); 483] = [

@@ -5,8 +5,8 @@ ghost use Rattle.std.specs.Str.{all_ascii_digits};
 ghost use Rattle.osn_grammar.specs.Parts as spec;
 
 use crate::names::part_named;
-use crate::written::Reckoning;
 use osn_days::Weekday;
+use osn_written::Reckoning;
 
 /// A number with the count of its digits.
 #[derive(Clone, Copy, Debug, PartialEq, Eq)]

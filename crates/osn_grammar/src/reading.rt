@@ -13,8 +13,9 @@ use crate::part::Part;
 use crate::scan::parts_in;
 use crate::set::set_in;
 use crate::simple::lacks_digit;
-use crate::written::{DateFault, DateOrder, Reckoning, Written, WrittenDate};
+use crate::written::{DateFault, DateOrder, Written};
 use osn_days::Weekday;
+use osn_written::{AnyDate, Reckoning};
 use std::alloc::{AllocError, Global};
 
 /// The weekday so far, with that of one more part. No two may be named.
@@ -124,7 +125,7 @@ fn unread(parts: &[Part]) -> Option<DateFault>
 
 /// The date, unless a year of it may lack a digit: one of three digits that is in doubt or stands
 /// in brackets.
-fn unless_open(date: WrittenDate) -> Result<WrittenDate, DateFault>
+fn unless_open(date: AnyDate) -> Result<AnyDate, DateFault>
     ensures { result ≡ spec.unless_open date }
 {
     if date.extent.has_year_of_three_digits() && (date.is_uncertain || date.is_supplied) {
@@ -135,13 +136,13 @@ fn unless_open(date: WrittenDate) -> Result<WrittenDate, DateFault>
 }
 
 /// The date that parts say, of which some tell the time.
-fn date_of(order: DateOrder, parts: &[Part], timed: &[Part]) -> Result<WrittenDate, DateFault>
+fn date_of(order: DateOrder, parts: &[Part], timed: &[Part]) -> Result<AnyDate, DateFault>
     ensures { result ≡ spec.date_of order parts.now timed.now }
 {
     let weekday = weekday_of(parts)?;
     let reckoning = reckoning_of(parts)?;
     let extent = extent_of(order, timed)?;
-    unless_open(WrittenDate {
+    unless_open(AnyDate {
         extent,
         weekday,
         reckoning,
@@ -169,7 +170,7 @@ fn ends_open(timed: &[Part]) -> bool
 }
 
 /// A date that was read, or why parts of no form are no date.
-fn or_open(timed: &[Part], read: Result<WrittenDate, DateFault>) -> Result<WrittenDate, DateFault>
+fn or_open(timed: &[Part], read: Result<AnyDate, DateFault>) -> Result<AnyDate, DateFault>
     ensures { result ≡ spec.or_open timed.now read }
 {
     match read {

@@ -8,7 +8,8 @@ use crate::part::Part::{self, About, AboutAndDoubt, Dash, Doubt, Number, Open};
 use crate::reading::{is_approximate, is_uncertain};
 use crate::scan::parts_in;
 use crate::simple::{day_in_digits, one};
-use crate::written::{DateFault, Extent, WrittenDate};
+use crate::written::DateFault;
+use osn_written::{AnyDate, Extent};
 use std::alloc::{AllocError, Global};
 
 /// What stands after the opening bracket of a text, if it begins with one.
@@ -61,11 +62,11 @@ fn days_in_digits(parts: &[Part]) -> Result<Extent, DateFault>
 }
 
 /// The member of a set that parts are, of which some are no signs, or why they are none.
-fn member_of(parts: &[Part], unsigned: &[Part]) -> Result<WrittenDate, DateFault>
+fn member_of(parts: &[Part], unsigned: &[Part]) -> Result<AnyDate, DateFault>
     ensures { result ≡ reading.member_by parts.now (spec.days_in_digits unsigned.now) }
 {
     let extent = days_in_digits(unsigned)?;
-    Ok(WrittenDate {
+    Ok(AnyDate {
         extent,
         weekday: None,
         reckoning: None,
@@ -76,7 +77,7 @@ fn member_of(parts: &[Part], unsigned: &[Part]) -> Result<WrittenDate, DateFault
 }
 
 /// The member of a set that a text is, or why it is none.
-fn member_in(alloc: Global, text: &str) -> Result<Result<WrittenDate, DateFault>, AllocError>
+fn member_in(alloc: Global, text: &str) -> Result<Result<AnyDate, DateFault>, AllocError>
     ensures { IfOk result (λ member. member ≡ reading.member_in text.now) }
 {
     let parts = parts_in(alloc, text)?;
@@ -89,7 +90,7 @@ fn member_in(alloc: Global, text: &str) -> Result<Result<WrittenDate, DateFault>
 }
 
 /// The members of a set, or why it is none.
-type Members = Result<Vec<WrittenDate>, DateFault>;
+type Members = Result<Vec<AnyDate>, DateFault>;
 
 /// The members of a set that texts are, or why the first one that is none is none.
 fn all_members(alloc: Global, texts: &[&str]) -> Result<Members, AllocError>
@@ -142,7 +143,7 @@ pub fn set_in(alloc: Global, text: &str) -> Result<Members, AllocError>
 /// # Errors
 ///
 /// Want of memory.
-pub fn members_of(alloc: Global, text: &str) -> Result<Vec<WrittenDate>, AllocError>
+pub fn members_of(alloc: Global, text: &str) -> Result<Vec<AnyDate>, AllocError>
     ensures { IfOk result (λ members. members.items ≡ reading.members text.now) }
 {
     match set_in(alloc, text)? {

@@ -1,96 +1,13 @@
-//! What a date that people write may be.
-ghost use Rattle.std.specs.Prelude.{◌≡◌};
-ghost use Rattle.osn_grammar.specs.Extent as spec;
+//! What a text says, and why a text is no date.
 
-use osn_days::Weekday;
-
-/// A year as it is written. Of a double year, as `1731/2`, it is the first one.
-#[derive(Clone, Copy, Debug, PartialEq, Eq)]
-pub struct Year {
-    pub first: u16,
-    /// Whether the year that follows is written too.
-    pub is_double: bool,
-    /// Whether it is written with three digits and no zero before them, as `173`, so that it may
-    /// lack its last one.
-    pub has_three_digits: bool,
-}
-
-/// A day, a month or a year. Whether a calendar has the day is not tested.
-#[derive(Clone, Copy, Debug, PartialEq, Eq)]
-pub enum SimpleDate {
-    Day { year: Year, month: u8, day: u8 },
-    Month { year: Year, month: u8 },
-    Year(Year),
-}
-
-/// From when to when a date may be.
-#[derive(Clone, Copy, Debug, PartialEq, Eq)]
-pub enum Extent {
-    On(SimpleDate),
-    FromTo(SimpleDate, SimpleDate),
-    Before(SimpleDate),
-    NotAfter(SimpleDate),
-    After(SimpleDate),
-    NotBefore(SimpleDate),
-}
-
-impl SimpleDate {
-    /// Whether the year is written with three digits and no zero before them.
-    fn has_year_of_three_digits(self) -> bool
-        ensures { result ≡ spec.has_year_of_three_digits self }
-    {
-        match self {
-            SimpleDate::Day { year, .. } | SimpleDate::Month { year, .. } => year.has_three_digits,
-            SimpleDate::Year(year) => year.has_three_digits,
-        }
-    }
-}
-
-impl Extent {
-    /// Whether a year of it is written with three digits and no zero before them.
-    pub fn has_year_of_three_digits(self) -> bool
-        ensures { result ≡ spec.has_three_digits self }
-    {
-        match self {
-            Extent::FromTo(first, last) => {
-                first.has_year_of_three_digits() || last.has_year_of_three_digits()
-            }
-            Extent::On(date)
-            | Extent::Before(date)
-            | Extent::NotAfter(date)
-            | Extent::After(date)
-            | Extent::NotBefore(date) => date.has_year_of_three_digits(),
-        }
-    }
-}
-
-/// By which calendar a date is written, where it says so.
-#[derive(Clone, Copy, Debug, PartialEq, Eq)]
-pub enum Reckoning {
-    OldStyle,
-    NewStyle,
-}
-
-/// A date with all that is written of it.
-#[derive(Clone, Copy, Debug, PartialEq, Eq)]
-pub struct WrittenDate {
-    pub extent: Extent,
-    pub weekday: Option<Weekday>,
-    pub reckoning: Option<Reckoning>,
-    /// Whether it is about then, as in `c. 1731`.
-    pub is_approximate: bool,
-    /// Whether it is in doubt, as in `1731?`.
-    pub is_uncertain: bool,
-    /// Whether an editor supplied it, as in `[1731]`.
-    pub is_supplied: bool,
-}
+use osn_written::AnyDate;
 
 /// What a text says.
 #[derive(Clone, Copy, Debug, PartialEq, Eq)]
 pub enum Written {
     /// That it is undated, as `n.d.` does, or nothing.
     NoDate,
-    Date(WrittenDate),
+    Date(AnyDate),
     /// One of several dates, as `[1543-04-11,1544-04-11]`: those of `members_of`.
     Set,
 }

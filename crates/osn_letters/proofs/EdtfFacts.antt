@@ -19,7 +19,7 @@ use Rattle.osn_letters.specs.Edtf.{edtf_day, edtf_of_days, edtf_of_runs, edtf_ru
 use Rattle.osn_letters.specs.Edtf.{sign_of}
 use Rattle.osn_letters.specs.EdtfLaw.{AreDaysRead, AreRunsRead, IsReadAs, IsRunOf, days_of_day}
 use Rattle.osn_letters.specs.EdtfLaw.{days_of_run}
-use Rattle.osn_written.specs.ReadDate.{grammar_date, read_date}
+use Rattle.osn_grammar.specs.ReadDate.{grammar_date, read_date}
 
 sign_is : (a u : Bool) → sign_of u a ≡ sign a u
 sign_is false false = refl

@@ -7,7 +7,7 @@ use Rattle.osn_days.specs.declared.weekday.Weekday.{Weekday}
 use Rattle.osn_days.specs.Profile.{Profile}
 use Rattle.osn_grammar.specs.declared.written.Written.{Written}
 use Rattle.osn_grammar.specs.declared.written.Written.TheVariants as written
-use Rattle.osn_grammar.specs.declared.written.WrittenDate.{WrittenDate as AnyDate}
+use Rattle.osn_written.specs.declared.any_date.AnyDate.{AnyDate}
 use Rattle.osn_lands.specs.declared.dated.DatedDay.{DatedDay}
 use Rattle.osn_lands.specs.declared.runs.Run.{Run}
 use Rattle.osn_lands.specs.Territory.{TerritoryModel}
@@ -21,7 +21,7 @@ use Rattle.osn_written.specs.Absence.{absence}
 use Rattle.osn_written.specs.Finding.{extent_meant, is_by_other_calendar, reckoned}
 use Rattle.osn_written.specs.Double.{is_extent_not_counted_double}
 use Rattle.osn_written.specs.Meaning.{dated_by, meaning}
-use Rattle.osn_written.specs.ReadDate.{one_day}
+use Rattle.osn_written.specs.PlainDay.{one_day}
 use Rattle.osn_letters.specs.declared.columns.Columns.{Columns}
 use Rattle.osn_letters.specs.declared.fault.LettersFault.{LettersFault}
 use Rattle.osn_letters.specs.declared.remark.Remark.{Remark}

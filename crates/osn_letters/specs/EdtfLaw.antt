@@ -12,7 +12,7 @@ use Rattle.osn_grammar.specs.Reading.{members}
 use Rattle.osn_grammar.specs.SetsInDigits.{Days, member}
 use Rattle.osn_lands.specs.declared.dated.DatedDay.{DatedDay}
 use Rattle.osn_lands.specs.declared.runs.Run.{Run}
-use Rattle.osn_written.specs.ReadDate.{read_date}
+use Rattle.osn_grammar.specs.ReadDate.{read_date}
 use Rattle.osn_letters.specs.Edtf.{edtf_of_days, edtf_of_runs, sign_of}
 
 -- a run, and a day by itself

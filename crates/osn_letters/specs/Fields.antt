@@ -14,7 +14,7 @@ use Rattle.osn_days.specs.Weekday.{weekday_name, weekday_numbered}
 use Rattle.osn_grammar.specs.declared.written.DateOrder.{DateOrder}
 use Rattle.osn_grammar.specs.declared.written.Written.{Written}
 use Rattle.osn_grammar.specs.declared.written.Written.TheVariants as written
-use Rattle.osn_grammar.specs.declared.written.WrittenDate.{WrittenDate as AnyDate}
+use Rattle.osn_written.specs.declared.any_date.AnyDate.{AnyDate}
 use Rattle.osn_lands.specs.declared.dated.DatedDay.{DatedDay}
 use Rattle.osn_lands.specs.declared.runs.Run.{Run}
 use Rattle.osn_lands.specs.Dated.{dated_text}
@@ -33,7 +33,7 @@ use Rattle.osn_written.specs.Double.{is_extent_not_counted_double}
 use Rattle.osn_written.specs.Finding.{extent_meant, is_by_other_calendar, reckoned}
 use Rattle.osn_written.specs.Kind.{kind_of, kind_word}
 use Rattle.osn_written.specs.Meaning.{dated_by, meaning}
-use Rattle.osn_written.specs.ReadDate.{one_day}
+use Rattle.osn_written.specs.PlainDay.{one_day}
 use Rattle.osn_written.specs.SetsMeant.{set_meant, is_set_approximate, is_set_uncertain}
 use Rattle.osn_letters.specs.declared.added_fields.Summary.{Summary}
 use Rattle.osn_letters.specs.declared.day_field.DayField.{DayField}

@@ -3,12 +3,12 @@ use Rattle.std.specs.Prelude.{ℕ, Bool, ◌&&◌, ◌||◌, ◌==◌, nat_lt, i
 use Rattle.std.specs.Prelude.{length, map, filter, count_by, Option, is_some, is_none, codes}
 use Rattle.std.specs.List.{join_by, list_any}
 use Rattle.osn_days.specs.declared.weekday.Weekday.{Weekday}
-use Rattle.osn_grammar.specs.declared.written.WrittenDate.{WrittenDate as AnyDate}
-use Rattle.osn_grammar.specs.Extent.{has_three_digits}
+use Rattle.osn_written.specs.declared.any_date.AnyDate.{AnyDate}
+use Rattle.osn_written.specs.AnyDate.{has_three_digits}
 use Rattle.osn_lands.specs.declared.dated.DatedDay.{DatedDay}
 use Rattle.osn_written.specs.declared.written_date.WrittenDate.{WrittenDate}
 use Rattle.osn_written.specs.Meaning.{has_weekday, is_not_counted_double}
-use Rattle.osn_written.specs.ReadDate.{one_day}
+use Rattle.osn_written.specs.PlainDay.{one_day}
 use Rattle.osn_written.specs.Words.{fault_words, no_day_words}
 use Rattle.osn_letters.specs.declared.remark.Remark.{Remark}
 use Rattle.osn_letters.specs.declared.remark.Remark.TheVariants as remark

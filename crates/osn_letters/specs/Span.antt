@@ -1,8 +1,8 @@
 -- The first and the last day that a date may mean. This project's profile.
 use Rattle.std.specs.Prelude.{ℕ, List, map, Option, None, min, max}
 use Rattle.std.specs.List.{reduce}
-use Rattle.osn_grammar.specs.declared.written.Extent.{Extent}
-use Rattle.osn_grammar.specs.declared.written.Extent.TheVariants as extent
+use Rattle.osn_written.specs.declared.any_date.Extent.{Extent}
+use Rattle.osn_written.specs.declared.any_date.Extent.TheVariants as extent
 use Rattle.osn_lands.specs.declared.dated.DatedDay.{DatedDay}
 use Rattle.osn_lands.specs.declared.runs.Run.{Run}
 use Rattle.osn_written.specs.Spans.{first_of, last_of}

@@ -7,8 +7,8 @@ use crate::date_text::DateText;
 use crate::span::Span;
 use itertools::Itertools;
 use osn_days::{Calendar, Day, date_of};
-use osn_grammar::WrittenDate;
 use osn_lands::{DatedDay, Run};
+use osn_written::AnyDate;
 use std::alloc::{AllocError, Global};
 use std::fmt;
 
@@ -25,7 +25,7 @@ pub(crate) fn sign_of(is_uncertain: bool, is_approximate: bool) -> &'static str
 }
 
 /// The sign after each day of a date.
-pub(crate) fn sign(date: WrittenDate) -> &'static str
+pub(crate) fn sign(date: AnyDate) -> &'static str
     ensures { result.now ≡ spec.sign date }
 {
     sign_of(date.is_uncertain, date.is_approximate)

@@ -13,12 +13,12 @@ use crate::row_field::{date_of_field, is_malformed_weekday, territory_in, weekda
 use crate::set::fields_of_set;
 use crate::span::{NO_SPAN, span_of_days, span_of_runs};
 use osn_days::Weekday;
-use osn_grammar::{DateOrder, Written, WrittenDate as AnyDate};
+use osn_grammar::{DateOrder, Written};
 use osn_lands::{DatedDay, Run, Territory};
 use osn_register::Register;
 use osn_written::{
-    DateFault, Kind, NoDay, WrittenDate, absence_of, by_reckoning, dated_by, days_meant, find_runs,
-    is_by_other_calendar, is_extent_not_counted_double, kind_of,
+    AnyDate, DateFault, Kind, NoDay, WrittenDate, absence_of, by_reckoning, dated_by, days_meant,
+    find_runs, is_by_other_calendar, is_extent_not_counted_double, kind_of,
 };
 use std::alloc::{AllocError, Global};
 

@@ -7,9 +7,8 @@ ghost use Rattle.osn_letters.specs.Remarks as spec;
 
 use itertools::Itertools;
 use osn_days::Weekday;
-use osn_grammar::WrittenDate as AnyDate;
 use osn_lands::DatedDay;
-use osn_written::{DateFault, NoDay, WrittenDate, has_weekday, is_not_counted_double};
+use osn_written::{AnyDate, DateFault, NoDay, WrittenDate, has_weekday, is_not_counted_double};
 use std::alloc::{AllocError, Global};
 use std::fmt;
 

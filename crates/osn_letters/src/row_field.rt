@@ -5,10 +5,10 @@ ghost use Rattle.osn_letters.specs.RowFields as spec;
 
 use crate::places::Places;
 use osn_days::Weekday;
-use osn_grammar::{DateOrder, Written, WrittenDate, members_of};
+use osn_grammar::{DateOrder, Written, members_of, read_date};
 use osn_lands::Territory;
 use osn_register::Register;
-use osn_written::{DateFault, read_date, weekday_named};
+use osn_written::{AnyDate, DateFault, weekday_named};
 use std::alloc::{AllocError, Global};
 use std::str;
 
@@ -41,7 +41,7 @@ pub(crate) fn date_of_field(
 }
 
 /// The dates of the set that a field says.
-pub(crate) fn members_in(alloc: Global, field: &[u8]) -> Result<Vec<WrittenDate>, AllocError>
+pub(crate) fn members_in(alloc: Global, field: &[u8]) -> Result<Vec<AnyDate>, AllocError>
     ensures { IfOk result (λ members. members.items ≡ spec.members_in field.now) }
 {
     match text_in_field(field) {

@@ -11,9 +11,8 @@ use crate::letter::{LetterFields, fields_of_none, fields_with};
 use crate::remark::{PossibleRemark, Remark, remarks_beside_set, those_that_apply};
 use crate::row_field::{is_malformed_weekday, members_in, weekday_in};
 use crate::span::span_of_set;
-use osn_grammar::WrittenDate as AnyDate;
 use osn_lands::{Run, Territory};
-use osn_written::{AbsentMember, Kind, find_set, is_set_approximate, is_set_uncertain};
+use osn_written::{AbsentMember, AnyDate, Kind, find_set, is_set_approximate, is_set_uncertain};
 use std::alloc::{AllocError, Global};
 
 /// The fields of the runs of a set.

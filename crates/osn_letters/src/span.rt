@@ -3,9 +3,8 @@ ghost use Rattle.std.specs.Prelude.{◌≡◌};
 ghost use Rattle.osn_letters.specs.Span as spec;
 
 use osn_days::Day;
-use osn_grammar::Extent;
 use osn_lands::{DatedDay, Run};
-use osn_written::{first_of, last_of};
+use osn_written::{Extent, first_of, last_of};
 
 /// The first and the last day that a date may mean. A bound has one of them, and a date that means
 /// no day has none.

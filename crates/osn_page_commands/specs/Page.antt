@@ -7,7 +7,7 @@ use Rattle.std.specs.Result.{is_err}
 use Rattle.osn_almanac.specs.Almanac.{almanac, almanac_refusal}
 use Rattle.osn_almanac.specs.YearPage.{year_page}
 use Rattle.osn_days.specs.Profile.{newest_rules}
-use Rattle.osn_grammar.specs.declared.written.WrittenDate.{WrittenDate as AnyDate}
+use Rattle.osn_written.specs.declared.any_date.AnyDate.{AnyDate}
 use Rattle.osn_grammar.specs.Reading.{members}
 use Rattle.osn_lands.specs.Territory.{TerritoryModel}
 use Rattle.osn_register.specs.Named.{named_of}

@@ -12,13 +12,13 @@ use Rattle.osn_days.specs.declared.calendar.Calendar.TheVariants.{Gregorian}
 use Rattle.osn_days.specs.declared.weekday.Weekday.{Weekday}
 use Rattle.osn_grammar.specs.declared.written.Written.{Written}
 use Rattle.osn_grammar.specs.declared.written.Written.TheVariants as say
-use Rattle.osn_grammar.specs.declared.written.WrittenDate.{WrittenDate as AnyDate}
+use Rattle.osn_written.specs.declared.any_date.AnyDate.{AnyDate}
 use Rattle.osn_pages.specs.Conversion.{days_of_written}
 use Rattle.osn_pages.specs.declared.page.Page.{Page}
 use Rattle.osn_pages.specs.declared.page.Page.TheVariants as pages
+use Rattle.osn_grammar.specs.ReadDate.{read_date, written_date}
 use Rattle.osn_register.specs.Plain.{is_off_years}
-use Rattle.osn_written.specs.ReadDate.{read_date}
-use Rattle.osn_written.specs.WrittenDate.{written_date, number_of, weekday_named}
+use Rattle.osn_written.specs.WrittenDate.{number_of, weekday_named}
 use Rattle.osn_written.specs.declared.written_date.DateFault.{DateFault}
 use Rattle.osn_written.specs.declared.written_date.DateFault.TheVariants as faults
 use Rattle.osn_written.specs.declared.written_date.WrittenDate.{WrittenDate}

@@ -8,11 +8,11 @@ ghost use Rattle.osn_page_commands.specs.PageWords as spec;
 use crate::day_number::{day_by_julian, day_by_number, is_julian_word};
 use crate::order::order_of_word;
 use osn_days::{Calendar, Day, Keyword, Weekday, Year, month_named};
-use osn_grammar::{DateOrder, Written, WrittenDate as AnyDate};
+use osn_grammar::{DateOrder, Written, parse_day, read_date};
 use osn_invocation::PageWords;
 use osn_pages::{Page, day_of_written};
 use osn_report::Misuse;
-use osn_written::{DateFault, WrittenDate, number_of, read_date, weekday_named};
+use osn_written::{AnyDate, DateFault, WrittenDate, number_of, weekday_named};
 use std::alloc::{AllocError, Global};
 
 /// What a command prints a page on.
@@ -43,7 +43,7 @@ pub(crate) enum Topic {
 fn date_of_word(alloc: Global, text: &str) -> Result<Result<WrittenDate, Misuse>, AllocError>
     ensures { IfOk result (λ date. date ≡ spec.date_of_word text.now) }
 {
-    match WrittenDate::parse(alloc, text)? {
+    match parse_day(alloc, text)? {
         Ok(date) => Ok(Ok(date)),
         Err(fault) => Ok(Err(Misuse::Date(fault))),
     }

@@ -1,6 +1,7 @@
 //! Dates as people write them, and what is wrong with a text that is no date.
 use crate::compare::same;
 use osn_days::{Weekday, month_named};
+use osn_grammar::parse_day;
 use osn_written::{DateFault, WrittenDate, number_of, parts_at, weekday_named};
 use std::alloc::Global;
 use std::process::Abort;
@@ -156,7 +157,7 @@ fn parts_of(date: WrittenDate) -> Parts {
 /// Checks that each text is read so.
 fn are_read(rt: &impl Abort, alloc: Global, rows: &[Row]) -> Result<(), Fail> {
     for (text, wanted) in rows {
-        let found = WrittenDate::parse(alloc, text)?.map(parts_of);
+        let found = parse_day(alloc, text)?.map(parts_of);
         same(rt, (text, found), (text, *wanted));
     }
     Ok(())

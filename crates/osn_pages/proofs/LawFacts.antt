@@ -10,10 +10,10 @@ use Rattle.osn_days.specs.Profile.{newest_rules}
 use Rattle.osn_days.proofs.LineFacts.{date_of_line, day_of_date}
 use Rattle.osn_lands.specs.Dual.{year_text}
 use Rattle.osn_written.specs.declared.written_date.WrittenDate.{WrittenDate}
-use Rattle.osn_written.specs.WrittenDate.{written_date}
+use Rattle.osn_grammar.specs.ReadDate.{written_date}
 use Rattle.osn_written.specs.DateInWords.{weekday_before}
-use Rattle.osn_written.proofs.LawFacts.{words}
-use Rattle.osn_written.proofs.WordsLaw.{day_written}
+use Rattle.osn_grammar.proofs.LawFacts.{words}
+use Rattle.osn_grammar.proofs.WordsLaw.{day_written}
 use Rattle.osn_pages.specs.Words.{words_of_date, calendar_words}
 use Rattle.osn_pages.specs.Conversion.{numbered_date}
 use Rattle.osn_pages.specs.Law.{AreCalendarWordsWritten}

@@ -5,8 +5,8 @@ use Rattle.std.specs.Prelude.{codes}
 use Rattle.std.specs.Result.{is_err}
 use Rattle.osn_days.specs.declared.weekday.Weekday.{Weekday}
 use Rattle.osn_days.specs.Profile.{Profile}
-use Rattle.osn_grammar.specs.declared.written.Extent.{Extent}
-use Rattle.osn_grammar.specs.declared.written.WrittenDate.{WrittenDate as AnyDate}
+use Rattle.osn_written.specs.declared.any_date.Extent.{Extent}
+use Rattle.osn_written.specs.declared.any_date.AnyDate.{AnyDate}
 use Rattle.osn_lands.specs.declared.dated.DatedDay.{DatedDay}
 use Rattle.osn_lands.specs.declared.runs.Run.{Run}
 use Rattle.osn_lands.specs.Territory.{TerritoryModel}
@@ -21,7 +21,7 @@ use Rattle.osn_written.specs.declared.written_date.WrittenDate.{WrittenDate}
 use Rattle.osn_written.specs.Finding.{extent_meant, reckoned, ends_of, first_day_of}
 use Rattle.osn_written.specs.Kind.{kind_of}
 use Rattle.osn_written.specs.Meaning.{dated_by, meaning}
-use Rattle.osn_written.specs.ReadDate.{one_day}
+use Rattle.osn_written.specs.PlainDay.{one_day}
 use Rattle.osn_pages.specs.Reading.{days_text}
 use Rattle.osn_pages.specs.Runs.{runs_text}
 use Rattle.osn_pages.specs.Why.{why_lines, why_text}

@@ -14,7 +14,7 @@ use Rattle.osn_register.specs.declared.query.Query.TheVariants.{DayIn, Periods}
 use Rattle.osn_register.specs.Answer.{answer, found_under}
 use Rattle.osn_register.specs.Plain.{LandModel}
 use Rattle.osn_written.specs.declared.written_date.WrittenDate.{WrittenDate}
-use Rattle.osn_written.specs.WrittenDate.{written_date}
+use Rattle.osn_grammar.specs.ReadDate.{written_date}
 use Rattle.osn_pages.specs.Words.{calendar_words}
 use Rattle.osn_pages.specs.Conversion.{days_of_written}
 

@@ -6,10 +6,10 @@ use Rattle.std.specs.Option.{option_or}
 use Rattle.osn_days.specs.declared.weekday.Weekday.{Weekday}
 use Rattle.osn_days.specs.Profile.{Profile}
 use Rattle.osn_days.specs.Weekday.{weekday_name}
-use Rattle.osn_grammar.specs.declared.written.Reckoning.{Reckoning}
-use Rattle.osn_grammar.specs.declared.written.Reckoning.TheVariants.{OldStyle, NewStyle}
-use Rattle.osn_grammar.specs.declared.written.WrittenDate.{WrittenDate as AnyDate}
-use Rattle.osn_grammar.specs.Extent.{has_three_digits}
+use Rattle.osn_written.specs.declared.any_date.Reckoning.{Reckoning}
+use Rattle.osn_written.specs.declared.any_date.Reckoning.TheVariants.{OldStyle, NewStyle}
+use Rattle.osn_written.specs.declared.any_date.AnyDate.{AnyDate}
+use Rattle.osn_written.specs.AnyDate.{has_three_digits}
 use Rattle.osn_lands.specs.declared.dated.DatedDay.{DatedDay}
 use Rattle.osn_lands.specs.declared.runs.Run.{Run}
 use Rattle.osn_lands.specs.Dated.{dated_on, dated_text}
@@ -19,8 +19,8 @@ use Rattle.osn_written.specs.declared.written_date.DateFault.{DateFault}
 use Rattle.osn_written.specs.declared.written_date.WrittenDate.{WrittenDate}
 use Rattle.osn_written.specs.DateInWords.{words_of}
 use Rattle.osn_written.specs.Finding.{by_reckoning, extent_meant, is_by_other_calendar}
-use Rattle.osn_written.specs.OtherForms.{plain_day}
-use Rattle.osn_written.specs.ReadDate.{one_day}
+use Rattle.osn_written.specs.PlainDay.{plain_day}
+use Rattle.osn_written.specs.PlainDay.{one_day}
 
 -- ---- the name of a date
 

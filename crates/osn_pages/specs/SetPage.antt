@@ -2,7 +2,7 @@
 use Rattle.std.specs.Prelude.{ℕ, Bool, false, List, [], ◌++◌, Option, Some, None, Result, Ok, Err}
 use Rattle.osn_days.specs.declared.weekday.Weekday.{Weekday}
 use Rattle.osn_days.specs.Profile.{Profile}
-use Rattle.osn_grammar.specs.declared.written.WrittenDate.{WrittenDate}
+use Rattle.osn_written.specs.declared.any_date.AnyDate.{AnyDate}
 use Rattle.osn_grammar.specs.Reading.{members}
 use Rattle.osn_lands.specs.declared.runs.Run.{Run}
 use Rattle.osn_lands.specs.Territory.{TerritoryModel}
@@ -29,7 +29,7 @@ abbrev pub set_sureness : Bool → Bool → List ℕ
 set_sureness approximate uncertain = sureness approximate uncertain false
 
 -- both, and that a weekday is not looked for
-unfoldable pub set_lines : Profile → TerritoryModel → Option SourcesModel → List WrittenDate
+unfoldable pub set_lines : Profile → TerritoryModel → Option SourcesModel → List AnyDate
     → Option Weekday → List ℕ
 set_lines p t sources ws given =
     found_set_lines p t sources (set_meant p t ws)

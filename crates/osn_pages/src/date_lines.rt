@@ -3,7 +3,7 @@ ghost use Rattle.std.specs.Prelude.{◌≡◌, ◌++◌, IfOk, OnOk, string_byte
 ghost use Rattle.osn_days.specs.Profile.{newest_rules};
 ghost use Rattle.osn_written.specs.Finding.{extent_meant};
 ghost use Rattle.osn_written.specs.Meaning.{dated_by, meaning};
-ghost use Rattle.osn_written.specs.ReadDate.{one_day};
+ghost use Rattle.osn_written.specs.PlainDay.{one_day};
 ghost use Rattle.osn_pages.specs.DateLines as spec;
 
 use crate::land_sources::LandSources;
@@ -11,11 +11,10 @@ use crate::reading::push_days;
 use crate::runs::push_runs;
 use crate::why::{push_reason, push_why};
 use osn_days::Weekday;
-use osn_grammar::{Extent, WrittenDate as AnyDate};
 use osn_lands::Territory;
 use osn_written::{
-    Absence, Kind, NoDay, WrittenDate, by_reckoning, dated_by, days_meant, ends_of, find_runs,
-    first_day_of, kind_of,
+    Absence, AnyDate, Extent, Kind, NoDay, WrittenDate, by_reckoning, dated_by, days_meant,
+    ends_of, find_runs, first_day_of, kind_of,
 };
 use std::alloc::{AllocError, Global};
 

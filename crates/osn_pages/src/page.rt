@@ -18,9 +18,9 @@ use crate::reading::push_named_day;
 use crate::remarks::{Subject, push_remarks};
 use crate::territory::push_territory;
 use osn_days::{Day, Weekday};
-use osn_grammar::WrittenDate;
 use osn_lands::Territory;
 use osn_register::{Refusal, Register};
+use osn_written::AnyDate;
 use std::alloc::{AllocError, Global};
 use std::fmt::Write;
 
@@ -29,7 +29,7 @@ use std::fmt::Write;
 pub enum Page {
     /// Which days a date means, with all that is written of it.
     Reading {
-        date: WrittenDate,
+        date: AnyDate,
         /// The weekday that is given beside the date, if any.
         weekday: Option<Weekday>,
     },
@@ -94,7 +94,7 @@ fn push_reading_page(
     alloc: Global,
     out: &mut String,
     place: Place<'_>,
-    date: WrittenDate,
+    date: AnyDate,
     given: Option<Weekday>,
 ) -> Result<(), AllocError>
     ensures { OnOk result (string_bytes out.new ≡ string_bytes out.old

@@ -5,10 +5,10 @@ ghost use Rattle.osn_written.specs.Finding.{list_of};
 ghost use Rattle.osn_pages.specs.Remarks as spec;
 
 use osn_days::{Day, Weekday};
-use osn_grammar::{Reckoning, WrittenDate as AnyDate};
 use osn_lands::{DatedDay, Run, Territory};
 use osn_written::{
-    DateInWords, NoDay, WrittenDate, by_reckoning, find_runs, is_by_other_calendar, plain_day,
+    AnyDate, DateInWords, NoDay, Reckoning, WrittenDate, by_reckoning, find_runs,
+    is_by_other_calendar, plain_day,
 };
 use std::alloc::{AllocError, Global};
 use std::fmt;

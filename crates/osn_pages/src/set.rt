@@ -15,10 +15,10 @@ use crate::page::{Place, Published, ROOM};
 use crate::remarks::push_not_sought;
 use crate::runs::push_runs;
 use osn_days::Weekday;
-use osn_grammar::{WrittenDate, members_of};
+use osn_grammar::members_of;
 use osn_lands::{Run, Territory};
 use osn_register::{Refusal, Register};
-use osn_written::{AbsentMember, Kind, find_set, is_set_approximate, is_set_uncertain};
+use osn_written::{AbsentMember, AnyDate, Kind, find_set, is_set_approximate, is_set_uncertain};
 use std::alloc::{AllocError, Global};
 use std::fmt::Write;
 
@@ -58,7 +58,7 @@ fn push_set(
     out: &mut String,
     territory: &Territory,
     sources: &LandSources<'_>,
-    members: &[WrittenDate],
+    members: &[AnyDate],
     given: Option<Weekday>,
 ) -> Result<(), AllocError>
     ensures { OnOk result (string_bytes out.new ≡ string_bytes out.old

@@ -41,6 +41,7 @@ use Rattle.osn_register.specs.Answer.{answer, unless, found_under, found_on, per
 use Rattle.osn_register.specs.Answer.{on_day, day_answer, reading_answer, easters_answer}
 use Rattle.osn_register.specs.Answer.{figures_of, periods_answer, label_from}
 use Rattle.osn_register.specs.Answer.{read_refusal, day_refusal, year_refusal, easter_refusal}
+use Rattle.osn_written.specs.declared.date_reading.DateReading.{DateReading}
 use Rattle.osn_register.specs.Answer.{date_refusal, written_answer, refusal_in}
 use Rattle.osn_register.specs.EarlierRules.{start_of, found_until, IsLabelYear, IsListedUntil}
 use Rattle.osn_register.specs.EarlierRules.{KeepsReading, KeepsDay, KeepsAnswer}
@@ -297,11 +298,11 @@ same_unless now_refused refused now before same kept = ap (λ r. unless r now) s
 
 -- a date as it is written
 
-keeps_written : (t : Option TerritoryModel) (text : List ℕ) (given : Option Weekday)
-    → refusal_in (written_answer newest_rules t text given)
-    ≡ refusal_in (written_answer first_rules t text given)
-keeps_written None text given = refl
-keeps_written (Some t) text given = refl
+keeps_written : (t : Option TerritoryModel) (date : DateReading) (given : Option Weekday)
+    → refusal_in (written_answer newest_rules t date given)
+    ≡ refusal_in (written_answer first_rules t date given)
+keeps_written None date given = refl
+keeps_written (Some t) date given = refl
 
 refused_unless : (refused : Option Refusal) (now before : Answer)
     → refusal_in now ≡ refusal_in before
@@ -347,7 +348,7 @@ keeps_answer lands (queries.Periods code) =
     (periods_answer newest_rules (territory_of code lands) (sources_of code lands))
     (periods_answer first_rules (territory_of code lands) (sources_of code lands)) refl
     (keeps_periods (territory_of code lands) (sources_of code lands))
-keeps_answer lands (queries.Written code date weekday) =
+keeps_answer lands (queries.Written code text date weekday) =
     refused_unless (code_refusal lands code)
     (written_answer newest_rules (territory_of code lands) date weekday)
     (written_answer first_rules (territory_of code lands) date weekday)

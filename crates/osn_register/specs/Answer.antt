@@ -11,10 +11,6 @@ use Rattle.osn_computus.specs.declared.letters.Letters.{Letters}
 use Rattle.osn_computus.specs.Figures.{golden_number, indiction, julian_epact, gregorian_epact}
 use Rattle.osn_computus.specs.Letters.{letters_of}
 use Rattle.osn_computus.specs.Easter.{easter_of}
-use Rattle.osn_grammar.specs.declared.written.DateOrder.TheVariants.{Unknown}
-use Rattle.osn_grammar.specs.declared.written.Written.{Written as TextDate}
-use Rattle.osn_grammar.specs.declared.written.Written.TheVariants as say
-use Rattle.osn_grammar.specs.declared.written.WrittenDate.{WrittenDate as AnyDate}
 use Rattle.osn_lands.specs.declared.regime.Regime.{Regime}
 use Rattle.osn_lands.specs.declared.label.Label.{Label}
 use Rattle.osn_lands.specs.Label.{local_label}
@@ -24,17 +20,18 @@ use Rattle.osn_lands.specs.declared.runs.Run.{Run}
 use Rattle.osn_lands.specs.Territory.{TerritoryModel, regime_at, periods_of, reading, skipped}
 use Rattle.osn_lands.specs.Exceptions.{exception_of}
 use Rattle.osn_lands.specs.Easters.{easters}
-use Rattle.osn_grammar.specs.Reading.{members}
+use Rattle.osn_written.specs.declared.any_date.AnyDate.{AnyDate}
+use Rattle.osn_written.specs.declared.date_reading.DateReading.{DateReading}
+use Rattle.osn_written.specs.declared.date_reading.DateReading.TheVariants as readings
 use Rattle.osn_written.specs.declared.finding.NoDay.{NoDay}
 use Rattle.osn_written.specs.declared.kind.Kind.TheVariants as kinds
 use Rattle.osn_written.specs.declared.set.AbsentMember.{AbsentMember}
 use Rattle.osn_written.specs.declared.written_date.DateFault.{DateFault}
-use Rattle.osn_written.specs.declared.written_date.DateFault.TheVariants.{NoDate}
 use Rattle.osn_written.specs.declared.written_date.WrittenDate.{WrittenDate}
 use Rattle.osn_written.specs.Finding.{extent_meant, reckoned, is_by_other_calendar}
 use Rattle.osn_written.specs.Kind.{kind_of}
 use Rattle.osn_written.specs.Meaning.{meaning, has_weekday}
-use Rattle.osn_written.specs.ReadDate.{read_date, one_day}
+use Rattle.osn_written.specs.PlainDay.{one_day}
 use Rattle.osn_written.specs.SetsMeant.{set_meant, is_set_approximate, is_set_uncertain}
 use Rattle.osn_register.specs.declared.query.Query.{Query}
 use Rattle.osn_register.specs.declared.query.Query.TheVariants as queries
@@ -89,7 +86,7 @@ query_refusal p lands (queries.Easter code year) = easter_refusal p lands code y
 query_refusal p lands (queries.YearFigures year) = year_refusal p year
 query_refusal p lands queries.Lands = None
 query_refusal p lands (queries.Periods code) = code_refusal lands code
-query_refusal p lands (queries.Written code date weekday) = code_refusal lands code
+query_refusal p lands (queries.Written code text date weekday) = code_refusal lands code
 
 -- a day as a regime names it
 abbrev pub found_under : Profile → Regime → ℕ → Found
@@ -237,17 +234,16 @@ set_answer p t ws = record {
   is_on_weekday = None;
 }
 
--- the answer about what a text says
-abbrev pub text_answer : Profile → TerritoryModel → List ℕ → Result TextDate DateFault
-    → Option Weekday → WrittenAnswer
-text_answer p t text (Ok (say.Date w)) given = date_answer p t w given
-text_answer p t text (Ok say.Set) given = set_answer p t (members text)
-text_answer p t text (Ok say.NoDate) given = no_date NoDate
-text_answer p t text (Err fault) given = no_date fault
+-- the answer about a date that was read
+abbrev pub date_reading_answer : Profile → TerritoryModel → DateReading → Option Weekday
+    → WrittenAnswer
+date_reading_answer p t (readings.Date w) given = date_answer p t w given
+date_reading_answer p t (readings.Set ws) given = set_answer p t ws
+date_reading_answer p t (readings.Fault fault) given = no_date fault
 
-abbrev pub written_answer : Profile → Option TerritoryModel → List ℕ → Option Weekday → Answer
-written_answer p None text given = Refused UnknownLand
-written_answer p (Some t) text given = Written (text_answer p t text (read_date Unknown text) given)
+abbrev pub written_answer : Profile → Option TerritoryModel → DateReading → Option Weekday → Answer
+written_answer p None date given = Refused UnknownLand
+written_answer p (Some t) date given = Written (date_reading_answer p t date given)
 
 -- ---- each query
 
@@ -281,9 +277,10 @@ periods_in_answer p lands code =
     unless (code_refusal lands code)
     (periods_answer p (territory_of code lands) (sources_of code lands))
 
-abbrev pub written_in_answer : Profile → List LandModel → List ℕ → List ℕ → Option Weekday → Answer
-written_in_answer p lands code text given =
-    unless (code_refusal lands code) (written_answer p (territory_of code lands) text given)
+abbrev pub written_in_answer : Profile → List LandModel → List ℕ → DateReading → Option Weekday
+    → Answer
+written_in_answer p lands code date given =
+    unless (code_refusal lands code) (written_answer p (territory_of code lands) date given)
 
 -- the answer to a query
 abbrev pub answer : Profile → List LandModel → Query → Answer
@@ -293,7 +290,7 @@ answer p lands (queries.Easter code year) = easter_answer p lands code year
 answer p lands (queries.YearFigures year) = figures_answer p year
 answer p lands queries.Lands = Lands (map listed lands)
 answer p lands (queries.Periods code) = periods_in_answer p lands code
-answer p lands (queries.Written code date weekday) = written_in_answer p lands code date weekday
+answer p lands (queries.Written code text date weekday) = written_in_answer p lands code date weekday
 
 -- the refusal that an answer is, if it is one
 abbrev pub refusal_in : Answer → Option Refusal

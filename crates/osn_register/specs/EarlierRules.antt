@@ -75,5 +75,5 @@ KeepsAnswer p lands (queries.YearFigures year) now =
 KeepsAnswer p lands queries.Lands now = now ≡ answer p lands queries.Lands
 KeepsAnswer p lands (queries.Periods code) now =
     KeepsDay (answer p lands (queries.Periods code)) now
-KeepsAnswer p lands (queries.Written code date weekday) now =
-    refusal_in now ≡ refusal_in (answer p lands (queries.Written code date weekday))
+KeepsAnswer p lands (queries.Written code text date weekday) now =
+    refusal_in now ≡ refusal_in (answer p lands (queries.Written code text date weekday))

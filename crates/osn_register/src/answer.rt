@@ -1,12 +1,11 @@
 //! What the register answers.
-use crate::listing::{DayList, Listing};
 use crate::refusal::Refusal;
 use crate::source::Source;
 use crate::text::Text;
 use osn_computus::{Epact, Letters};
 use osn_days::{Day, Year};
 use osn_lands::{Label, Period};
-use osn_written::{DateFault, Kind, NoDay};
+use osn_written::{DateFault, Kind, Listing, NoDay};
 
 /// A day as a territory names it: its label and its dual text, under the regime in force on it.
 #[derive(Debug, Drop)]
@@ -25,6 +24,9 @@ pub struct Land {
 
 /// Days that were found, in ascending order.
 pub type FoundList = Listing<Found>;
+
+/// Days in ascending order.
+pub type DayList = Listing<Day>;
 
 /// Territories in the order in which they were added.
 pub type LandList = Listing<Land>;

@@ -6,6 +6,7 @@ ghost use Rattle.osn_register.specs.BorrowedQuery.{as_query};
 use crate::query::Query;
 use crate::text::Text;
 use osn_days::Weekday;
+use osn_written::DateReading;
 use std::alloc::{AllocError, Global};
 
 /// A `Query` whose texts are borrowed, so that it takes no memory. Its variants are those of
@@ -18,7 +19,7 @@ pub enum BorrowedQuery<'a> {
     YearFigures(i64),
     Lands,
     Periods(&'a str),
-    Written(&'a str, &'a str, Option<Weekday>),
+    Written(&'a str, &'a str, &'a DateReading, Option<Weekday>),
 }
 
 impl<'a> BorrowedQuery<'a> {
@@ -51,9 +52,10 @@ impl<'a> BorrowedQuery<'a> {
             BorrowedQuery::Periods(code) => Query::Periods {
                 code: Text::from_str(alloc, code)?,
             },
-            BorrowedQuery::Written(code, date, weekday) => Query::Written {
+            BorrowedQuery::Written(code, text, date, weekday) => Query::Written {
                 code: Text::from_str(alloc, code)?,
-                date: Text::from_str(alloc, date)?,
+                text: Text::from_str(alloc, text)?,
+                date: date.copy(alloc)?,
                 weekday,
             },
         })

@@ -12,7 +12,6 @@ mod edit;
 mod edit_checks;
 mod figures;
 mod limits;
-mod listing;
 mod numbers;
 mod query;
 mod refusal;
@@ -25,13 +24,13 @@ mod unanswered;
 mod written_answer;
 
 pub use answer::{
-    Answer, Found, FoundList, FoundRun, Land, LandList, PeriodAndSource, PeriodList, Reason,
-    RunList, WrittenAnswer,
+    Answer, DayList, Found, FoundList, FoundRun, Land, LandList, PeriodAndSource, PeriodList,
+    Reason, RunList, WrittenAnswer,
 };
 pub use borrowed_query::BorrowedQuery;
 pub use edit::Edit;
 pub use limits::Limits;
-pub use listing::{DayList, Listing};
+pub use osn_written::Listing;
 pub use query::Query;
 pub use refusal::Refusal;
 pub use register::Register;

@@ -6,6 +6,7 @@ ghost use Rattle.osn_register.specs.BorrowedQuery.{as_query};
 use crate::borrowed_query::BorrowedQuery;
 use crate::text::Text;
 use osn_days::Weekday;
+use osn_written::DateReading;
 use std::alloc::AllocError;
 
 /// A question to the register.
@@ -40,10 +41,11 @@ pub enum Query {
         code: Text,
     },
     /// Which days a date means in a territory, as the date is written, and whether they are of a
-    /// weekday, where one is given.
+    /// weekday, where one is given. The answer is by what was read of the text, and not by the text.
     Written {
         code: Text,
-        date: Text,
+        text: Text,
+        date: DateReading,
         weekday: Option<Weekday>,
     },
 }
@@ -87,9 +89,10 @@ impl Query {
             Query::Periods { code } => BorrowedQuery::Periods(code.as_str()),
             Query::Written {
                 code,
+                text,
                 date,
                 weekday,
-            } => BorrowedQuery::Written(code.as_str(), date.as_str(), *weekday),
+            } => BorrowedQuery::Written(code.as_str(), text.as_str(), date, *weekday),
         }
     }
 }

@@ -7,12 +7,12 @@ ghost use Rattle.osn_register.specs.Answer as spec;
 ghost use Rattle.osn_register.specs.Inside.{sources_in};
 
 use crate::answer::{Answer, Found, PeriodAndSource};
-use crate::listing::Listing;
 use crate::source::Source;
 use crate::sources::{Sources, source_of};
 use crate::text::Text;
 use osn_days::{Day, Year};
 use osn_lands::{Label, Period, Regime, Territory, dual_text, label_of};
+use osn_written::Listing;
 use std::alloc::{AllocError, Global};
 
 /// The period that holds a day.

@@ -2,20 +2,17 @@
 ghost use Rattle.std.specs.Prelude.{◌≡◌, Some, IfOk, map};
 ghost use Rattle.osn_days.specs.Profile.{newest_rules};
 ghost use Rattle.osn_register.specs.Answer as spec;
-ghost use Rattle.osn_grammar.specs.Reading.{members};
 ghost use Rattle.osn_written.specs.Finding as finding;
 ghost use Rattle.osn_written.specs.SetsMeant.{set_list_of};
 
 use crate::answer::{Answer, FoundRun, Reason, WrittenAnswer};
-use crate::listing::Listing;
 use crate::territory_answer::found_on;
 use osn_days::Weekday;
-use osn_grammar::{DateOrder, Written, WrittenDate as AnyDate, members_of};
 use osn_lands::{Run, Territory};
 use osn_written::{
-    AbsentMember, DateFault, Kind, NoDay, WrittenDate, by_reckoning, days_meant, find_runs,
-    find_set, has_weekday, is_by_other_calendar, is_set_approximate, is_set_uncertain, kind_of,
-    read_date,
+    AbsentMember, AnyDate, DateFault, DateReading, Kind, Listing, NoDay, WrittenDate, by_reckoning,
+    days_meant, find_runs, find_set, has_weekday, is_by_other_calendar, is_set_approximate,
+    is_set_uncertain, kind_of,
 };
 use std::alloc::{AllocError, Global};
 
@@ -175,19 +172,6 @@ fn set_answer(
     })
 }
 
-/// What the set of dates that a text is means in a territory.
-fn set_answer_of(
-    alloc: Global,
-    territory: &Territory,
-    text: &str,
-) -> Result<WrittenAnswer, AllocError>
-    ensures { IfOk result (λ a.
-        a ≡ spec.set_answer newest_rules territory.now (members text.now)) }
-{
-    let members = members_of(alloc, text)?;
-    set_answer(alloc, territory, members.as_slice())
-}
-
 /// What is told where no date is read.
 fn no_date(alloc: Global, fault: DateFault) -> WrittenAnswer
     ensures { result ≡ spec.no_date fault }
@@ -204,35 +188,32 @@ fn no_date(alloc: Global, fault: DateFault) -> WrittenAnswer
     }
 }
 
-/// What is told of what a text says.
-fn text_answer(
+/// What is told of a date that was read.
+fn reading_answer(
     alloc: Global,
     territory: &Territory,
-    text: &str,
-    read: Result<Written, DateFault>,
+    date: &DateReading,
     given: Option<Weekday>,
 ) -> Result<WrittenAnswer, AllocError>
     ensures { IfOk result (λ a.
-        a ≡ spec.text_answer newest_rules territory.now text.now read given) }
+        a ≡ spec.date_reading_answer newest_rules territory.now date.now given) }
 {
-    match read {
-        Ok(Written::Date(date)) => date_answer(alloc, territory, date, given),
-        Ok(Written::Set) => set_answer_of(alloc, territory, text),
-        Ok(Written::NoDate) => Ok(no_date(alloc, DateFault::NoDate)),
-        Err(fault) => Ok(no_date(alloc, fault)),
+    match date {
+        DateReading::Date(date) => date_answer(alloc, territory, *date, given),
+        DateReading::Set(dates) => set_answer(alloc, territory, dates.as_slice()),
+        DateReading::Fault(fault) => Ok(no_date(alloc, *fault)),
     }
 }
 
-/// What a text means as a date in a territory.
+/// What a date means in a territory, as it was read.
 pub(crate) fn written(
     alloc: Global,
     territory: &Territory,
-    text: &str,
+    date: &DateReading,
     given: Option<Weekday>,
 ) -> Result<Answer, AllocError>
     ensures { IfOk result (λ a.
-        a ≡ spec.written_answer newest_rules (Some territory.now) text.now given) }
+        a ≡ spec.written_answer newest_rules (Some territory.now) date.now given) }
 {
-    let read = read_date(alloc, text, DateOrder::Unknown)?;
-    Ok(Answer::Written(text_answer(alloc, territory, text, read, given)?))
+    Ok(Answer::Written(reading_answer(alloc, territory, date, given)?))
 }

@@ -3,6 +3,7 @@ pub mod LineObject
 pub mod Field
 pub mod Op
 pub mod EditRequest
+pub mod LineQuery
 pub mod QueryRequest
 pub mod Request
 pub mod LineRequest

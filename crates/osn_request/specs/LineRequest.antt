@@ -1,9 +1,9 @@
 -- The request that one which borrows from its line stands for.
 use Rattle.std.specs.Prelude.{Bool, true, false, Result, Ok, Err}
-use Rattle.osn_register.specs.BorrowedQuery.{as_query}
 use Rattle.osn_format.specs.declared.wire_fault.WireFault.{WireFault}
 use Rattle.osn_request.specs.declared.request.line_request.LineRequest.{LineRequest}
 use Rattle.osn_request.specs.declared.request.line_request.LineRequest.TheVariants as lines
+use Rattle.osn_request.specs.LineQuery.{line_query}
 use Rattle.osn_request.specs.declared.request.op.Op.{Op}
 use Rattle.osn_request.specs.declared.request.op.Op.TheVariants as ops
 use Rattle.osn_request.specs.declared.request.Request.{Request}
@@ -12,7 +12,7 @@ use Rattle.osn_request.specs.declared.request.Request.TheVariants.{Stage, Publis
 abbrev pub as_request : LineRequest → Request
 as_request (lines.Stage edit) = Stage edit
 as_request lines.Publish = Publish
-as_request (lines.Ask reader query) = Ask reader (as_query query)
+as_request (lines.Ask reader query) = Ask reader (line_query query)
 
 -- whether what an object asks for is an edit, whose texts take memory
 abbrev pub is_edit : Result Op WireFault → Bool

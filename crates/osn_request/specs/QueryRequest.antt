@@ -1,10 +1,8 @@
 -- The query of a line's object, its members in the order of the formats: this project's profile.
 -- The reader's number is the first member, and that it is the number of a reader is tested last.
-use Rattle.std.specs.Prelude.{◌≡◌, MatchResult, ℕ, ℤ, pos, int_le, unsigned_abs, ◌&&◌}
+use Rattle.std.specs.Prelude.{ℕ, ℤ, pos, int_le, unsigned_abs, ◌&&◌}
 use Rattle.std.specs.Prelude.{if◌then◌else◌, Bool, true, false, Result, Ok, Err}
 use Rattle.serde_json.specs.Data.{Data}
-use Rattle.osn_register.specs.declared.borrowed_query.BorrowedQuery.{BorrowedQuery}
-use Rattle.osn_register.specs.BorrowedQuery.{as_query}
 use Rattle.osn_register.specs.declared.query.Query.{Query}
 use Rattle.osn_register.specs.declared.query.Query.TheVariants as queries
 use Rattle.osn_format.specs.declared.member.Member.TheVariants as members
@@ -13,6 +11,7 @@ use Rattle.osn_request.specs.declared.request.op.QueryOp.TheVariants as ops
 use Rattle.osn_format.specs.declared.wire_fault.WireFault.{WireFault}
 use Rattle.osn_format.specs.declared.wire_fault.WireFault.TheVariants.{UnknownReader}
 use Rattle.osn_request.specs.Field.{◌>>=◌, text_at, weekday_at, whole_at}
+use Rattle.osn_request.specs.LineQuery.{written_query}
 
 -- the readers are counted from 1
 abbrev pub reader_in : ℕ → ℤ → Result ℕ WireFault
@@ -52,9 +51,9 @@ periods_of d = do
 unfoldable pub written_of : Data → Result Query WireFault
 written_of d = do
   code ← text_at members.Code d
-  date ← text_at members.Date d
+  text ← text_at members.Date d
   weekday ← weekday_at d
-  Ok (queries.Written code date weekday)
+  Ok (written_query code text weekday)
 
 -- the query of an object that asks for this one, without the reader who asks it
 abbrev pub query_by : QueryOp → Data → Result Query WireFault
@@ -83,7 +82,3 @@ query_of readers op d = do
   query ← query_by op d
   number ← reader_in readers reader
   Ok (number, query)
-
--- the query that was read stands for the given one, or the fault is the given one
-abbrev pub Reads : Result BorrowedQuery WireFault → Result Query WireFault → Type 0
-Reads result said = MatchResult result (λ q. said ≡ Ok (as_query q)) (λ f. said ≡ Err f)

@@ -6,7 +6,7 @@
 mod request;
 
 pub use request::{
-    EditOp, FlatObject, JsonObject, LineObject, LineRequest, Op, QueryOp, Request, RequestError,
-    borrowed_query_of, edit_of, flat_object_in, line_request_of, object_in, object_of, op_of,
-    query_of, read_request, reader_in, request_of_line, text_at, text_of, whole_at,
+    EditOp, FlatObject, JsonObject, LineObject, LineQuery, LineRequest, Op, QueryOp, Request,
+    RequestError, edit_of, flat_object_in, line_query_of, line_request_of, object_in, object_of,
+    op_of, query_of, read_request, reader_in, request_of_line, text_at, text_of, whole_at,
 };

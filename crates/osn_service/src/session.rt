@@ -4,11 +4,13 @@
 //! wait only the first has changed it.
 ghost use Rattle.std.specs.Prelude.{◌≡◌, ◌<◌, ℕ, List, Ok, Err, length, IfErr, IfOk, MatchResult};
 ghost use Rattle.std.specs.Prelude.{OnOk, OnErr};
+ghost use Rattle.osn_days.specs.Profile.{newest_rules};
+ghost use Rattle.osn_core.specs.Sequential.{reply_at};
 ghost use Rattle.osn_lines.specs.Faults.{WriteFails};
 ghost use Rattle.osn_lines.specs.Lines.{IsLine};
-ghost use Rattle.osn_register.specs.BorrowedQuery.{as_query};
 ghost use Rattle.osn_reply.specs.Outcome.{is_refused};
 ghost use Rattle.osn_reply.specs.ReplyText.{reply_line};
+ghost use Rattle.osn_request.specs.LineQuery.{line_query};
 ghost use Rattle.osn_request.specs.LineRequest.{as_request};
 ghost use Rattle.osn_request.specs.Request.{Fails};
 ghost use Rattle.osn_request.specs.declared.request.RequestError.TheVariants.{NoMemory};
@@ -23,11 +25,11 @@ use crate::rules::ServeRules;
 use crate::stop::{Stop, UnwrittenReplies};
 use crate::store::{Change, Store};
 use json::Scratch;
+use osn_core::Reply;
 use osn_format::WireFault;
 use osn_lines::{Line, LineTaker, Sink};
-use osn_register::BorrowedQuery;
 use osn_reply::Outcome;
-use osn_request::{LineObject, LineRequest, RequestError, line_request_of, object_of};
+use osn_request::{LineObject, LineQuery, LineRequest, RequestError, line_request_of, object_of};
 use std::alloc::{AllocError, Global};
 
 /// Adds the reply to a line that changes nothing, and answers whether it was refused.
@@ -72,22 +74,33 @@ fn change<W: Sink, S: Store>(
     }
 }
 
+/// What a query of a line is told.
+fn reply_to<S: Store>(alloc: Global, store: &S, query: LineQuery<'_>) -> Result<Reply, AllocError>
+    ensures { IfOk result (λ r. r ≡ reply_at newest_rules (S.state store.now).limits
+        (S.state store.now).batches (line_query query.entry)) }
+{
+    match query {
+        LineQuery::Plain(query) => store.ask(query),
+        LineQuery::Written { .. } => store.ask(query.to_query(alloc)?.borrowed()),
+    }
+}
+
 /// Adds the reply to a query, and answers whether it was refused.
 fn ask<S: Store>(
     alloc: Global,
     store: &S,
     reader: u32,
-    query: BorrowedQuery<'_>,
+    query: LineQuery<'_>,
     waiting: &mut ReplyBuffer,
 ) -> Result<bool, AllocError>
     ensures refused { IfOk result (λ refused. refused
-        ≡ is_refused (spec.ask_outcome (S.state store.now) reader (as_query query.entry))) }
+        ≡ is_refused (spec.ask_outcome (S.state store.now) reader (line_query query.entry))) }
     ensures ok { OnOk result (Pushes waiting.old waiting.new
-        (reply_line (spec.ask_outcome (S.state store.now) reader (as_query query.entry)))) }
+        (reply_line (spec.ask_outcome (S.state store.now) reader (line_query query.entry)))) }
     ensures err { OnErr result (waiting.new.text.items ≡ waiting.old.text.items) }
     ensures err_ends { OnErr result (waiting.new.ends.items ≡ waiting.old.ends.items) }
 {
-    let reply = store.ask(query)?;
+    let reply = reply_to(alloc, store, query)?;
     tell(alloc, waiting, Outcome::Replied { reader, reply })
 }
 

@@ -15,7 +15,7 @@ use Rattle.std.specs.Ordering.{int_eq, nat_cmp}
 use Rattle.osn_days.specs.Line.{line}
 use Rattle.osn_days.specs.Profile.{Profile}
 use Rattle.osn_days.proofs.RangeFacts.{filter_same, filter_both}
-use Rattle.osn_grammar.specs.declared.written.SimpleDate.{SimpleDate}
+use Rattle.osn_written.specs.declared.any_date.SimpleDate.{SimpleDate}
 use Rattle.osn_lands.specs.Dated.{dated_on}
 use Rattle.osn_lands.specs.Style.{is_before_25_march}
 use Rattle.osn_lands.specs.Territory.{TerritoryModel}

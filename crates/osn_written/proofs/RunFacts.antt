@@ -13,9 +13,9 @@ use Rattle.std.specs.Ordering.{int_eq}
 use Rattle.osn_days.specs.Line.{line}
 use Rattle.osn_days.specs.Profile.{Profile}
 use Rattle.osn_days.proofs.RangeFacts.{range_join, filter_same, filter_two}
-use Rattle.osn_grammar.specs.declared.written.SimpleDate.{SimpleDate}
-use Rattle.osn_grammar.specs.declared.written.SimpleDate.TheVariants.{Day, Month, Year}
-use Rattle.osn_grammar.specs.declared.written.Year as written
+use Rattle.osn_written.specs.declared.any_date.SimpleDate.{SimpleDate}
+use Rattle.osn_written.specs.declared.any_date.SimpleDate.TheVariants.{Day, Month, Year}
+use Rattle.osn_written.specs.declared.any_date.Year as written
 use Rattle.osn_lands.specs.declared.runs.Run.{Run}
 use Rattle.osn_lands.specs.Dated.{dated_on}
 use Rattle.osn_lands.specs.Runs.{days_in, days_of_run, days_of_year, days_of_month, AreRunsAfter}

@@ -9,14 +9,14 @@ use Rattle.std.specs.Cmp.Lexicographic.{pointwise}
 use Rattle.osn_computus.specs.declared.rule.Rule.TheVariants as Easter
 use Rattle.osn_days.specs.declared.calendar.Calendar.TheVariants as Calendar
 use Rattle.osn_days.specs.Profile.{Profile}
-use Rattle.osn_grammar.specs.declared.written.Extent.{Extent}
-use Rattle.osn_grammar.specs.declared.written.Extent.TheVariants as extent
-use Rattle.osn_grammar.specs.declared.written.Reckoning.{Reckoning}
-use Rattle.osn_grammar.specs.declared.written.Reckoning.TheVariants.{OldStyle, NewStyle}
-use Rattle.osn_grammar.specs.declared.written.SimpleDate.{SimpleDate}
-use Rattle.osn_grammar.specs.declared.written.SimpleDate.TheVariants as date
-use Rattle.osn_grammar.specs.declared.written.WrittenDate.{WrittenDate as AnyDate}
-use Rattle.osn_grammar.specs.declared.written.Year.{Year as WrittenYear}
+use Rattle.osn_written.specs.declared.any_date.Extent.{Extent}
+use Rattle.osn_written.specs.declared.any_date.Extent.TheVariants as extent
+use Rattle.osn_written.specs.declared.any_date.Reckoning.{Reckoning}
+use Rattle.osn_written.specs.declared.any_date.Reckoning.TheVariants.{OldStyle, NewStyle}
+use Rattle.osn_written.specs.declared.any_date.SimpleDate.{SimpleDate}
+use Rattle.osn_written.specs.declared.any_date.SimpleDate.TheVariants as date
+use Rattle.osn_written.specs.declared.any_date.AnyDate.{AnyDate}
+use Rattle.osn_written.specs.declared.any_date.Year.{Year as WrittenYear}
 use Rattle.osn_lands.specs.declared.regime.Regime.{Regime}
 use Rattle.osn_lands.specs.declared.runs.Run.{Run}
 use Rattle.osn_lands.specs.declared.style.Style.TheVariants as Style

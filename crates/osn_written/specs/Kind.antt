@@ -1,9 +1,9 @@
 -- What kind of date is written, and its word. This project's profile.
 use Rattle.std.specs.Prelude.{ℕ, List, codes}
-use Rattle.osn_grammar.specs.declared.written.Extent.{Extent}
-use Rattle.osn_grammar.specs.declared.written.Extent.TheVariants as extent
-use Rattle.osn_grammar.specs.declared.written.SimpleDate.{SimpleDate}
-use Rattle.osn_grammar.specs.declared.written.SimpleDate.TheVariants as date
+use Rattle.osn_written.specs.declared.any_date.Extent.{Extent}
+use Rattle.osn_written.specs.declared.any_date.Extent.TheVariants as extent
+use Rattle.osn_written.specs.declared.any_date.SimpleDate.{SimpleDate}
+use Rattle.osn_written.specs.declared.any_date.SimpleDate.TheVariants as date
 use Rattle.osn_written.specs.declared.kind.Kind.{Kind}
 use Rattle.osn_written.specs.declared.kind.Kind.TheVariants as kinds
 

@@ -1,9 +1,9 @@
-pub mod OtherForms
+pub mod AnyDate
+pub mod PlainDay
 pub mod WrittenDate
 pub mod DateInWords
 pub mod Meaning
 pub mod Absence
-pub mod Law
 pub mod Runs
 pub mod OneDay
 pub mod Spans
@@ -11,5 +11,4 @@ pub mod Kind
 pub mod Finding
 pub mod SetsMeant
 pub mod Double
-pub mod ReadDate
 pub mod Words

@@ -2,8 +2,8 @@
 use Rattle.std.specs.Prelude.{false}
 use Rattle.std.specs.List.Sorted.{IsPermutation}
 use Rattle.osn_days.specs.Profile.{Profile}
-use Rattle.osn_grammar.specs.declared.written.SimpleDate.{SimpleDate}
-use Rattle.osn_grammar.specs.declared.written.SimpleDate.TheVariants.{Day}
+use Rattle.osn_written.specs.declared.any_date.SimpleDate.{SimpleDate}
+use Rattle.osn_written.specs.declared.any_date.SimpleDate.TheVariants.{Day}
 use Rattle.osn_lands.specs.Territory.{TerritoryModel}
 use Rattle.osn_written.specs.declared.written_date.WrittenDate.{WrittenDate}
 use Rattle.osn_written.specs.Meaning.{days_meant}

@@ -3,9 +3,9 @@
 use Rattle.std.specs.Prelude.{ℕ, ◌+◌, ◌-◌, nat_le, nat_lt, if◌then◌else◌, List, [], ◌∷◌}
 use Rattle.std.specs.Prelude.{Option, Some, None, Result, Ok, Err}
 use Rattle.osn_days.specs.Profile.{Profile}
-use Rattle.osn_grammar.specs.declared.written.Extent.{Extent}
-use Rattle.osn_grammar.specs.declared.written.Extent.TheVariants as extent
-use Rattle.osn_grammar.specs.declared.written.SimpleDate.{SimpleDate}
+use Rattle.osn_written.specs.declared.any_date.Extent.{Extent}
+use Rattle.osn_written.specs.declared.any_date.Extent.TheVariants as extent
+use Rattle.osn_written.specs.declared.any_date.SimpleDate.{SimpleDate}
 use Rattle.osn_lands.specs.declared.runs.Run.{Run}
 use Rattle.osn_lands.specs.Territory.{TerritoryModel}
 use Rattle.osn_written.specs.declared.span.NoSpan.{NoSpan}

@@ -1,18 +1,12 @@
--- Dates of one day, as people write them. Letters may be capital or small. This project's profile.
+-- The parts of a text, its numbers and its weekdays, whose letters may be capital or small. This
+-- project's profile.
 use Rattle.std.specs.Prelude.{ℕ, Bool, ◌&&◌, nat_le, ◌==◌, if◌then◌else◌, List, [], ◌∷◌, length, find}
-use Rattle.std.specs.Prelude.{Option, Some, None, option_map, Result}
+use Rattle.std.specs.Prelude.{Option, Some, None, option_map}
 use Rattle.std.specs.List.{range_with_len}
 use Rattle.std.specs.Str.{all_ascii_digits, str_eq_ignore_ascii_case}
 use Rattle.std.specs.Str.Parse.{digits_value}
 use Rattle.osn_days.specs.declared.weekday.Weekday.{Weekday}
 use Rattle.osn_days.specs.Weekday.{weekday_name, weekday_numbered}
-use Rattle.osn_grammar.specs.declared.written.DateOrder.TheVariants.{Unknown}
-use Rattle.osn_grammar.specs.Reading.{written}
-use Rattle.osn_written.specs.declared.written_date.WrittenDate.{WrittenDate}
-use Rattle.osn_written.specs.declared.written_date.DateFault.{DateFault}
-use Rattle.osn_written.specs.OtherForms.{day_read}
-
--- ---- parts
 
 -- parts of which the first begins with a further byte
 abbrev pub with_first : ℕ → List ℕ × List ℕ → List ℕ × List ℕ
@@ -39,9 +33,3 @@ has_name name weekday = str_eq_ignore_ascii_case (weekday_name weekday) name
 abbrev pub weekday_named : List ℕ → Option Weekday
 weekday_named name = option_map weekday_numbered
     (find (λ n. has_name name (weekday_numbered n)) (range_with_len 0 7))
-
--- ---- dates
-
--- the date of one day that a text is, or why it is no such date
-unfoldable pub written_date : List ℕ → Result WrittenDate DateFault
-written_date text = day_read (written Unknown text)

@@ -1,13 +1,11 @@
-//! A date in words, as the grammar of dates reads it.
+//! A date in words.
 ghost use Rattle.std.specs.Prelude.{◌≡◌, Some, pos};
 ghost use Rattle.osn_lands.specs.Dated.{years_text};
 ghost use Rattle.osn_lands.specs.Dual.{year_text};
-ghost use Rattle.osn_grammar.specs.Simple as simple;
 ghost use Rattle.osn_written.specs.DateInWords as spec;
-ghost use Rattle.osn_written.specs.DateInWords.{AreWordsRead};
 
+use crate::any_date::{AnyDate, Extent, Reckoning, SimpleDate, Year};
 use osn_days::{Day, Weekday, month_name};
-use osn_grammar::{Extent, Reckoning, SimpleDate, WrittenDate, Year};
 use osn_lands::{DatedDay, DatedYears, Label};
 use std::fmt;
 
@@ -133,58 +131,12 @@ fn optional_word(applies: bool, word: &'static str) -> &'static str
     if applies { word } else { "" }
 }
 
-/// Whether a number is from a least to a greatest one.
-fn is_between(low: u8, high: u8, number: u8) -> bool
-    ensures { result ≡ simple.is_between low high number }
-{
-    low <= number && number <= high
-}
-
-/// Whether the words of a year are read back.
-fn is_writable_year(year: Year) -> bool
-    ensures { result ≡ spec.is_writable_year year }
-{
-    year.first <= 10000 && !year.has_three_digits
-}
-
-/// Whether the words of a day, a month or a year are read back.
-fn is_writable_date(date: SimpleDate) -> bool
-    ensures { result ≡ spec.is_writable_date date }
-{
-    match date {
-        SimpleDate::Day { year, month, day } => {
-            is_writable_year(year) && is_between(1, 12, month) && is_between(1, 31, day)
-        }
-        SimpleDate::Month { year, month } => is_writable_year(year) && is_between(1, 12, month),
-        SimpleDate::Year(year) => is_writable_year(year),
-    }
-}
-
-/// Whether each year of a date is at most 10000 and none is written with three digits, each month
-/// is 1 to 12 and each day 1 to 31. Then `osn_grammar::parse` reads the words of the date as that
-/// very date, in each order of day and month.
-#[tactic(auto, using(crate::proofs::WordsLaw::words_law))]
-pub fn is_writable(date: WrittenDate) -> bool
-    ensures value { result ≡ spec.is_writable date }
-    // as a law: the words of such a date are read as that date, in each order of day and month
-    ensures words { AreWordsRead }
-{
-    match date.extent {
-        Extent::FromTo(first, last) => is_writable_date(first) && is_writable_date(last),
-        Extent::On(date)
-        | Extent::Before(date)
-        | Extent::NotAfter(date)
-        | Extent::After(date)
-        | Extent::NotBefore(date) => is_writable_date(date),
-    }
-}
-
 /// Writes a date in words, with all that is said of it: `[about Friday 11 February 1731/2 O.S.?]`,
 /// `February 1731/2 to 1735`, `not after 1640`. A year below 1000 has zeros before it, as `0045`,
 /// since a shorter number is read as no year, or as one that may lack a digit. A month that is not 1 to 12 is taken for
 /// 12, and `is_writable` tells of which dates the words are read back.
 #[derive(Clone, Copy, Debug, PartialEq, Eq)]
-pub struct DateInWords(pub WrittenDate);
+pub struct DateInWords(pub AnyDate);
 
 impl fmt::Display for DateInWords {
     ghost output = { λ x. Some (spec.words_of x.0) };

@@ -4,10 +4,10 @@ ghost use Rattle.std.specs.List.{list_any};
 ghost use Rattle.osn_days.specs.Profile.{newest_rules};
 ghost use Rattle.osn_written.specs.Double as spec;
 
+use crate::any_date::{Extent, SimpleDate};
 use crate::finding::ends_of;
 use crate::runs::{double_days, year_of};
 use osn_days::Day;
-use osn_grammar::{Extent, SimpleDate};
 use osn_lands::Territory;
 use std::alloc::{AllocError, Global};
 

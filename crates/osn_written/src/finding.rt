@@ -4,12 +4,12 @@ ghost use Rattle.osn_days.specs.Profile.{newest_rules};
 ghost use Rattle.osn_written.specs.Finding as spec;
 
 use crate::absence::{Absence, absence_of};
+use crate::any_date::{AnyDate, Extent, Reckoning, SimpleDate};
 use crate::runs::runs_meant;
 use crate::span::{NoSpan, span_meant};
 use crate::written_date::WrittenDate;
 use osn_computus::Rule;
 use osn_days::Calendar;
-use osn_grammar::{Extent, Reckoning, SimpleDate, WrittenDate as AnyDate};
 use osn_lands::{Regime, Run, Style, Territory};
 use std::alloc::{AllocError, Global};
 

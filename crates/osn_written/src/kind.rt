@@ -2,7 +2,7 @@
 ghost use Rattle.std.specs.Prelude.{◌≡◌};
 ghost use Rattle.osn_written.specs.Kind as spec;
 
-use osn_grammar::{Extent, SimpleDate};
+use crate::any_date::{Extent, SimpleDate};
 
 /// What kind of date is written.
 #[derive(Clone, Copy, Debug, PartialEq, Eq)]

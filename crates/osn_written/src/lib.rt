@@ -1,15 +1,17 @@
-//! Written dates: a date as people write it, the days that it means in a territory, and why it
+//! Written dates, once their texts are read: the days that a date means in a territory, and why it
 //! means none. What the crate promises to those above is that each of these is its definition.
 #![tactic(auto)]
 
 mod absence;
-mod date_in_text;
+mod any_date;
 mod date_in_words;
+mod date_reading;
 mod double;
 mod finding;
 mod kind;
+mod listing;
 mod meaning;
-mod reading;
+mod one_day;
 mod runs;
 mod set;
 mod span;
@@ -17,13 +19,15 @@ mod words;
 mod written_date;
 
 pub use absence::{Absence, absence_of};
-pub use date_in_text::read_date;
-pub use date_in_words::{DateInWords, is_writable};
+pub use any_date::{AnyDate, Extent, Reckoning, SimpleDate, Year};
+pub use date_in_words::DateInWords;
+pub use date_reading::DateReading;
 pub use double::is_extent_not_counted_double;
 pub use finding::{NoDay, by_reckoning, ends_of, find_runs, first_day_of, is_by_other_calendar};
 pub use kind::{Kind, kind_of};
+pub use listing::Listing;
 pub use meaning::{dated_by, days_meant, has_weekday, is_not_counted_double, is_on};
-pub use reading::plain_day;
+pub use one_day::plain_day;
 pub use runs::runs_meant;
 pub use set::{AbsentMember, find_set, is_set_approximate, is_set_uncertain};
 pub use span::{NoSpan, first_of, last_of, span_meant};

@@ -3,7 +3,6 @@ ghost use Rattle.std.specs.Prelude.{◌≡◌, IfOk, map};
 ghost use Rattle.osn_days.specs.Profile.{newest_rules};
 ghost use Rattle.osn_lands.specs.Dated.{dated_on};
 ghost use Rattle.osn_lands.specs.Style.{is_before_25_march};
-ghost use Rattle.osn_written.specs.Law.{AreDualTextsMeant};
 ghost use Rattle.osn_written.specs.OneDay.{AreSameDays};
 ghost use Rattle.osn_written.specs.Meaning as spec;
 
@@ -191,7 +190,7 @@ fn first_by_weekday(
 /// # Errors
 ///
 /// `AllocError` where there is no memory for the list.
-#[tactic(auto, using(crate::proofs::Meant::meant_laws), unfolding(crate::specs::Meaning::meaning))]
+#[tactic(auto, using(crate::proofs::OneDayFacts::same_days), unfolding(crate::specs::Meaning::meaning))]
 pub fn days_meant(
     alloc: Global,
     territory: &Territory,
@@ -200,9 +199,7 @@ pub fn days_meant(
 ) -> Result<Vec<DatedDay>, AllocError>
     ensures value { IfOk result (λ days.
         days.items ≡ spec.meaning newest_rules territory.now date given) }
-    // as laws: the dual text of each day means that day; and the days of the label are those that a
-    // search through every day finds
-    ensures dual { AreDualTextsMeant newest_rules territory.now }
+    // as a law: the days of the label are those that a search through every day finds
     ensures same { AreSameDays newest_rules territory.now }
 {
     let days = plain_days_meant(alloc, territory, date)?;

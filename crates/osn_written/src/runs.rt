@@ -7,8 +7,8 @@ ghost use Rattle.osn_lands.specs.Style.{is_before_25_march};
 ghost use Rattle.osn_lands.specs.Territory.{reading};
 ghost use Rattle.osn_written.specs.Runs as spec;
 
+use crate::any_date::{SimpleDate, Year};
 use osn_days::Day;
-use osn_grammar::{SimpleDate, Year};
 use osn_lands::{DatedDay, Label, Run, Territory};
 use std::alloc::{AllocError, Global};
 

@@ -4,10 +4,10 @@ ghost use Rattle.std.specs.List.Sorted.{IsNonDecreasingBy, IsPermutation};
 ghost use Rattle.osn_days.specs.Profile.{newest_rules};
 ghost use Rattle.osn_written.specs.SetsMeant as spec;
 
+use crate::any_date::{AnyDate, Extent};
 use crate::finding::{NoDay, find_runs};
 use crate::runs::joined;
 use osn_days::Day;
-use osn_grammar::{Extent, WrittenDate as AnyDate};
 use osn_lands::{Run, Territory};
 use std::alloc::{AllocError, Global};
 

@@ -3,9 +3,9 @@ ghost use Rattle.std.specs.Prelude.{◌≡◌, IfOk};
 ghost use Rattle.osn_days.specs.Profile.{newest_rules};
 ghost use Rattle.osn_written.specs.Spans as spec;
 
+use crate::any_date::{Extent, SimpleDate};
 use crate::runs::runs_meant;
 use osn_days::{Day, HIGH};
-use osn_grammar::{Extent, SimpleDate};
 use osn_lands::{Run, Territory};
 use std::alloc::{AllocError, Global};
 

@@ -11,7 +11,6 @@ ghost use Rattle.osn_register.specs.InsideQuery.{IsAnswered};
 use crate::answer::{Answer, Land};
 use crate::borrowed_query::BorrowedQuery;
 use crate::figures::figures;
-use crate::listing::Listing;
 use crate::numbers::{asked_label, day_on_line, year_in_range};
 use crate::query::Query;
 use crate::refusal::Refusal;
@@ -21,6 +20,7 @@ use crate::text::Text;
 use crate::unanswered::Unanswered;
 use crate::written_answer::written;
 use osn_days::Weekday;
+use osn_written::{DateReading, Listing};
 use std::alloc::{AllocError, Global};
 
 /// A territory as it is listed.
@@ -100,7 +100,7 @@ impl Register {
             BorrowedQuery::YearFigures(year) => Ok(figures(year_in_range(year)?)),
             BorrowedQuery::Lands => Ok(Answer::Lands(Listing::new(self.listed()?))),
             BorrowedQuery::Periods(code) => self.periods(code),
-            BorrowedQuery::Written(code, date, weekday) => self.written(code, date, weekday),
+            BorrowedQuery::Written(code, _, date, weekday) => self.written(code, date, weekday),
         }
     }
 
@@ -146,7 +146,7 @@ impl Register {
     fn written(
         &self,
         code: &str,
-        date: &str,
+        date: &DateReading,
         weekday: Option<Weekday>,
     ) -> Result<Answer, Unanswered>
         ensures { IsAnswered

@@ -93,15 +93,15 @@ fn write_written(
     out: &mut LineWriter,
     reader: u32,
     code: &Text,
-    date: &Text,
+    text: &Text,
     weekday: Option<Weekday>,
 ) -> Result<(), AllocError>
     ensures text { OnOk result (out.new.text ≡ out.old.text
-        ++ compact_text (spec.query_data reader (queries.Written code.now date.now weekday))) }
+        ++ compact_text (spec.asked_date_data reader code.now text.now weekday)) }
     ensures before { out.new.before ≡ out.old.before }
 {
     out.push_text(r#"{"code":"#, code.as_str())?;
-    out.push_text(r#","date":"#, date.as_str())?;
+    out.push_text(r#","date":"#, text.as_str())?;
     out.push_text(r#","op":"#, "written")?;
     out.push_number(r#","reader":"#, reader)?;
     match weekday {
@@ -132,9 +132,10 @@ fn write_query(out: &mut LineWriter, reader: u32, query: &Query) -> Result<(), A
         Query::Periods { code } => write_periods(out, reader, code),
         Query::Written {
             code,
-            date,
+            text,
             weekday,
-        } => write_written(out, reader, code, date, *weekday),
+            ..
+        } => write_written(out, reader, code, text, *weekday),
     }
 }
 

@@ -8,14 +8,15 @@ ghost use Rattle.osn_request.specs.Request.{request_of, FailsLast};
 
 use crate::request::edit::edit_of;
 use crate::request::json_object::JsonObject;
+use crate::request::line_query::LineQuery;
 use crate::request::op::{Op, op_of};
-use crate::request::query::borrowed_query_of;
+use crate::request::query::line_query_of;
 use crate::request::{Request, RequestError};
 use osn_format::Version;
-use osn_register::{BorrowedQuery, Edit};
+use osn_register::Edit;
 use std::alloc::{AllocError, Global};
 
-/// A `Request` whose query borrows its code from the object of the line. An edit owns its texts,
+/// A `Request` whose query borrows its texts from the object of the line. An edit owns its texts,
 /// since it joins the pending ones.
 #[derive(Debug, Drop)]
 pub enum LineRequest<'a> {
@@ -24,10 +25,7 @@ pub enum LineRequest<'a> {
     /// `Request::Publish`.
     Publish,
     /// `Request::Ask`.
-    Ask {
-        reader: u32,
-        query: BorrowedQuery<'a>,
-    },
+    Ask { reader: u32, query: LineQuery<'a> },
 }
 
 impl<'a> LineRequest<'a> {
@@ -66,7 +64,7 @@ pub fn line_request_of<O: JsonObject>(
         Op::Edit(op) => Ok(LineRequest::Stage(edit_of(alloc, Version::newest(), op, object)?)),
         Op::Publish => Ok(LineRequest::Publish),
         Op::Query(op) => {
-            let (reader, query) = borrowed_query_of(readers, op, object)?;
+            let (reader, query) = line_query_of(readers, op, object)?;
             Ok(LineRequest::Ask { reader, query })
         }
     }

@@ -1,14 +1,15 @@
 //! The query of a line's object. The questions of a desk, a schedule and a transcript read theirs
 //! by the same call.
 ghost use Rattle.std.specs.Prelude.{◌≡◌, ◌≤◌, true, Ok, Err, MatchResult, IfOk, IfErr};
-ghost use Rattle.osn_register.specs.BorrowedQuery.{as_query};
 ghost use Rattle.osn_request.specs.declared.request.RequestError.TheVariants.{NoMemory};
+ghost use Rattle.osn_request.specs.LineQuery.{line_query, Reads};
 ghost use Rattle.osn_request.specs.QueryRequest as spec;
 ghost use Rattle.osn_request.specs.Request.{GivesLast};
 
 use crate::request::RequestError;
 use crate::request::field::{text_at, weekday_at, whole_at};
 use crate::request::json_object::JsonObject;
+use crate::request::line_query::LineQuery;
 use crate::request::op::QueryOp;
 use osn_format::{Member, WireFault};
 use osn_register::{BorrowedQuery, Query};
@@ -29,70 +30,74 @@ pub fn reader_in(readers: u32, reader: i64) -> Result<u32, WireFault>
 }
 
 #[tactic(auto, unfolding(crate::specs::QueryRequest::read_of))]
-fn read_of<O: JsonObject>(object: &O) -> Result<BorrowedQuery<'_>, WireFault>
-    ensures { spec.Reads result (spec.read_of (O.value object.now)) }
+fn read_of<O: JsonObject>(object: &O) -> Result<LineQuery<'_>, WireFault>
+    ensures { Reads result (spec.read_of (O.value object.now)) }
 {
     let code = text_at(object, Member::Code)?;
     let year = whole_at(object, Member::Year)?;
     let month = whole_at(object, Member::Month)?;
     let day = whole_at(object, Member::Day)?;
-    Ok(BorrowedQuery::Read(code, year, month, day))
+    Ok(LineQuery::Plain(BorrowedQuery::Read(code, year, month, day)))
 }
 
 #[tactic(auto, unfolding(crate::specs::QueryRequest::day_in_of))]
-fn day_in_of<O: JsonObject>(object: &O) -> Result<BorrowedQuery<'_>, WireFault>
-    ensures { spec.Reads result (spec.day_in_of (O.value object.now)) }
+fn day_in_of<O: JsonObject>(object: &O) -> Result<LineQuery<'_>, WireFault>
+    ensures { Reads result (spec.day_in_of (O.value object.now)) }
 {
     let code = text_at(object, Member::Code)?;
     let day = whole_at(object, Member::Day)?;
-    Ok(BorrowedQuery::DayIn(code, day))
+    Ok(LineQuery::Plain(BorrowedQuery::DayIn(code, day)))
 }
 
 #[tactic(auto, unfolding(crate::specs::QueryRequest::easter_of))]
-fn easter_of<O: JsonObject>(object: &O) -> Result<BorrowedQuery<'_>, WireFault>
-    ensures { spec.Reads result (spec.easter_of (O.value object.now)) }
+fn easter_of<O: JsonObject>(object: &O) -> Result<LineQuery<'_>, WireFault>
+    ensures { Reads result (spec.easter_of (O.value object.now)) }
 {
     let code = text_at(object, Member::Code)?;
     let year = whole_at(object, Member::Year)?;
-    Ok(BorrowedQuery::Easter(code, year))
+    Ok(LineQuery::Plain(BorrowedQuery::Easter(code, year)))
 }
 
 #[tactic(auto, unfolding(crate::specs::QueryRequest::periods_of))]
-fn periods_of<O: JsonObject>(object: &O) -> Result<BorrowedQuery<'_>, WireFault>
-    ensures { spec.Reads result (spec.periods_of (O.value object.now)) }
+fn periods_of<O: JsonObject>(object: &O) -> Result<LineQuery<'_>, WireFault>
+    ensures { Reads result (spec.periods_of (O.value object.now)) }
 {
     let code = text_at(object, Member::Code)?;
-    Ok(BorrowedQuery::Periods(code))
+    Ok(LineQuery::Plain(BorrowedQuery::Periods(code)))
 }
 
 #[tactic(auto, unfolding(crate::specs::QueryRequest::year_figures_of))]
-fn year_figures_of<O: JsonObject>(object: &O) -> Result<BorrowedQuery<'_>, WireFault>
-    ensures { spec.Reads result (spec.year_figures_of (O.value object.now)) }
+fn year_figures_of<O: JsonObject>(object: &O) -> Result<LineQuery<'_>, WireFault>
+    ensures { Reads result (spec.year_figures_of (O.value object.now)) }
 {
     let year = whole_at(object, Member::Year)?;
-    Ok(BorrowedQuery::YearFigures(year))
+    Ok(LineQuery::Plain(BorrowedQuery::YearFigures(year)))
 }
 
 #[tactic(auto, unfolding(crate::specs::QueryRequest::written_of))]
-fn written_of<O: JsonObject>(object: &O) -> Result<BorrowedQuery<'_>, WireFault>
-    ensures { spec.Reads result (spec.written_of (O.value object.now)) }
+fn written_of<O: JsonObject>(object: &O) -> Result<LineQuery<'_>, WireFault>
+    ensures { Reads result (spec.written_of (O.value object.now)) }
 {
     let code = text_at(object, Member::Code)?;
     let date = text_at(object, Member::Date)?;
     let weekday = weekday_at(object)?;
-    Ok(BorrowedQuery::Written(code, date, weekday))
+    Ok(LineQuery::Written {
+        code,
+        date,
+        weekday,
+    })
 }
 
 /// The query of a line's object by itself, without the reader who asks it.
-fn query_by<O: JsonObject>(op: QueryOp, object: &O) -> Result<BorrowedQuery<'_>, WireFault>
-    ensures { spec.Reads result (spec.query_by op (O.value object.now)) }
+fn query_by<O: JsonObject>(op: QueryOp, object: &O) -> Result<LineQuery<'_>, WireFault>
+    ensures { Reads result (spec.query_by op (O.value object.now)) }
 {
     match op {
         QueryOp::Read => read_of(object),
         QueryOp::DayIn => day_in_of(object),
         QueryOp::Easter => easter_of(object),
         QueryOp::YearFigures => year_figures_of(object),
-        QueryOp::Lands => Ok(BorrowedQuery::Lands),
+        QueryOp::Lands => Ok(LineQuery::Plain(BorrowedQuery::Lands)),
         QueryOp::Periods => periods_of(object),
         QueryOp::Written => written_of(object),
     }
@@ -104,14 +109,14 @@ fn query_by<O: JsonObject>(op: QueryOp, object: &O) -> Result<BorrowedQuery<'_>,
 /// # Errors
 /// The first fault of the object, and `UnknownReader` where it has no other.
 #[tactic(auto, unfolding(crate::specs::QueryRequest::query_of))]
-pub fn borrowed_query_of<O: JsonObject>(
+pub fn line_query_of<O: JsonObject>(
     readers: u32,
     op: QueryOp,
     object: &O,
-) -> Result<(u32, BorrowedQuery<'_>), WireFault>
+) -> Result<(u32, LineQuery<'_>), WireFault>
     ensures query { MatchResult result
         (λ asked. spec.query_of readers op (O.value object.now)
-        ≡ Ok (asked.0, as_query asked.1))
+        ≡ Ok (asked.0, line_query asked.1))
         (λ f. spec.query_of readers op (O.value object.now) ≡ Err f) }
     ensures among { IfOk result (λ asked. (1 ≤ asked.0) × (asked.0 ≤ readers)) }
 {
@@ -137,6 +142,6 @@ pub fn query_of<O: JsonObject>(
     ensures among { IfOk result (λ asked. (1 ≤ asked.0) × (asked.0 ≤ readers)) }
     ensures memory { IfErr result (λ e. e ≡ NoMemory → spec.has_code op ≡ true) }
 {
-    let (reader, query) = borrowed_query_of(readers, op, object)?;
+    let (reader, query) = line_query_of(readers, op, object)?;
     Ok((reader, query.to_query(alloc)?))
 }

@@ -21,7 +21,7 @@ returns-in-None-clause-text c =
     )
     (chain c.args.out.now.text
     ((codes "{\"code\":", quoted c.args.code.now)
-    ∷ (codes ",\"date\":", quoted c.args.date.now)
+    ∷ (codes ",\"date\":", quoted c.args.text.now)
     ∷ (codes ",\"op\":", quoted (codes "written"))
     ∷ (codes ",\"reader\":", decimal c.args.reader)
     ∷ [])
@@ -45,7 +45,7 @@ returns-in_ok-push_text-in-Some-clause-text c =
     )
     (chain c.args.out.now.text
     ((codes "{\"code\":", quoted c.args.code.now)
-    ∷ (codes ",\"date\":", quoted c.args.date.now)
+    ∷ (codes ",\"date\":", quoted c.args.text.now)
     ∷ (codes ",\"op\":", quoted (codes "written"))
     ∷ (codes ",\"reader\":", decimal c.args.reader)
     ∷ (codes ",\"weekday\":", quoted (weekday_name c.in-Some.weekday))

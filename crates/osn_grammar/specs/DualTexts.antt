@@ -14,7 +14,7 @@ use Rattle.osn_lands.specs.Dual.{dual_text}
 use Rattle.osn_lands.specs.Label.{local_label}
 use Rattle.osn_lands.specs.Territory.{TerritoryModel, regime_at}
 use Rattle.osn_written.specs.declared.written_date.WrittenDate.{WrittenDate}
-use Rattle.osn_written.specs.WrittenDate.{written_date}
+use Rattle.osn_grammar.specs.ReadDate.{written_date}
 use Rattle.osn_written.specs.Meaning.{label_of, meaning}
 
 -- the text is a date with the label and that weekday. It is a double date where the label's year is

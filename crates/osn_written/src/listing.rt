@@ -1,17 +1,13 @@
-//! The items of an answer, as contracts see them.
+//! Items in order, as contracts see them.
 ghost use Rattle.std.specs.Prelude.{◌≡◌};
 
-use osn_days::Day;
 use std::marker::Model;
 
-/// The items of an answer, in order. Contracts see them as a list.
+/// Items in order, as those of an answer. Contracts see them as a list.
 #[derive(Debug, Drop)]
 pub struct Listing<T> {
     items: Vec<T>,
 }
-
-/// Days in ascending order.
-pub type DayList = Listing<Day>;
 
 impl<T> Model for Listing<T> {
     ghost use Rattle.std.specs.Prelude.{List};

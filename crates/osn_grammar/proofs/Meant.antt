@@ -16,12 +16,11 @@ use Rattle.osn_lands.specs.Label.{local_label, same_label}
 use Rattle.osn_lands.specs.Territory.{TerritoryModel, regime_at, reading}
 use Rattle.osn_lands.proofs.LabelFacts.{same_label_decides}
 use Rattle.osn_written.specs.declared.written_date.WrittenDate.{WrittenDate}
-use Rattle.osn_written.specs.Law.{IsWritten, AreDualTextsWritten, AreNamedDaysWritten}
-use Rattle.osn_written.specs.Law.{Means, AreDualTextsMeant}
+use Rattle.osn_grammar.specs.DualTexts.{IsWritten, AreDualTextsWritten, AreNamedDaysWritten}
+use Rattle.osn_grammar.specs.DualTexts.{Means, AreDualTextsMeant}
 use Rattle.osn_written.specs.Meaning.{label_of, is_of_later_year, counted_double, double_meant}
 use Rattle.osn_written.specs.Meaning.{not_counted_double, days_meant, has_weekday, meaning}
-use Rattle.osn_written.proofs.DualLaw.{dual_texts_written, named_days_written}
-use Rattle.osn_written.proofs.OneDayFacts.{same_days}
+use Rattle.osn_grammar.proofs.DualLaw.{dual_texts_written, named_days_written}
 
 -- ---- elements
 
@@ -142,6 +141,3 @@ texts_meant t d on late = (
   written_means newest_rules t d _ _ on (dual_texts_written (regime_at t d) d on late),
   written_means newest_rules t d _ _ on (named_days_written (regime_at t d) d on late),
 )
-
--- the laws of what a date means
-pub ruleset meant_laws = (texts_meant, same_days)

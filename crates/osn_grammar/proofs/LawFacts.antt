@@ -16,12 +16,13 @@ use Rattle.std.proofs.lemmas.Str.Parse.{numerals_by_value, tells_all_ascii_digit
 use Rattle.osn_days.specs.Month.{month_name}
 use Rattle.osn_grammar.specs.declared.part.Numeral.{Numeral}
 use Rattle.osn_grammar.specs.declared.part.Part.TheVariants.{Number}
-use Rattle.osn_grammar.specs.declared.written.Year.{Year}
+use Rattle.osn_written.specs.declared.any_date.Year.{Year}
 use Rattle.osn_grammar.proofs.FormFacts.{IsYear, year_parts}
 use Rattle.osn_grammar.proofs.TextFacts.{Reads, slash, digits_read, joined_reads}
 use Rattle.osn_lands.specs.Dual.{later_digits, year_text}
 use Rattle.osn_lands.proofs.YearDigits.{last_digit_differs, earlier_digit_differs}
-use Rattle.osn_written.specs.DateInWords.{zeros_before, words_of_year, is_writable_year}
+use Rattle.osn_written.specs.DateInWords.{zeros_before, words_of_year}
+use Rattle.osn_grammar.specs.WordsRead.{is_writable_year}
 
 -- ---- numbers
 

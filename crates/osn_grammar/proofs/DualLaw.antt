@@ -24,11 +24,11 @@ use Rattle.osn_lands.specs.Style.{is_from_25_december, is_from_september}
 use Rattle.osn_lands.proofs.LabelFacts.{style_year_range}
 use Rattle.osn_written.specs.declared.written_date.WrittenDate.{WrittenDate}
 use Rattle.osn_written.specs.DateInWords.{weekday_before}
-use Rattle.osn_written.specs.Law.{AreDualTextsWritten, AreNamedDaysWritten, weekday_of}
+use Rattle.osn_grammar.specs.DualTexts.{AreDualTextsWritten, AreNamedDaysWritten, weekday_of}
 use Rattle.osn_written.specs.Meaning.{label_of}
-use Rattle.osn_written.specs.WrittenDate.{written_date}
-use Rattle.osn_written.proofs.LawFacts.{words}
-use Rattle.osn_written.proofs.WordsLaw.{day_written}
+use Rattle.osn_grammar.specs.ReadDate.{written_date}
+use Rattle.osn_grammar.proofs.LawFacts.{words}
+use Rattle.osn_grammar.proofs.WordsLaw.{day_written}
 
 -- ---- years
 

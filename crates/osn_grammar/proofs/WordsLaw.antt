@@ -11,14 +11,14 @@ use Rattle.osn_grammar.specs.declared.part.Part.TheVariants.{Number, Month, Week
 use Rattle.osn_grammar.specs.declared.part.Part.TheVariants.{Reckoning as By, To, Before, After}
 use Rattle.osn_grammar.specs.declared.part.Part.TheVariants.{Not, Bracket, Doubt, About}
 use Rattle.osn_grammar.specs.declared.written.DateOrder.TheVariants.{Unknown}
-use Rattle.osn_grammar.specs.declared.written.Extent.{Extent}
-use Rattle.osn_grammar.specs.declared.written.Extent.TheVariants as extent
-use Rattle.osn_grammar.specs.declared.written.Reckoning.{Reckoning}
-use Rattle.osn_grammar.specs.declared.written.Reckoning.TheVariants.{OldStyle, NewStyle}
-use Rattle.osn_grammar.specs.declared.written.SimpleDate.{SimpleDate}
-use Rattle.osn_grammar.specs.declared.written.SimpleDate.TheVariants as date
-use Rattle.osn_grammar.specs.declared.written.Year.{Year}
-use Rattle.osn_grammar.specs.Extent.{has_three_digits, has_year_of_three_digits}
+use Rattle.osn_written.specs.declared.any_date.Extent.{Extent}
+use Rattle.osn_written.specs.declared.any_date.Extent.TheVariants as extent
+use Rattle.osn_written.specs.declared.any_date.Reckoning.{Reckoning}
+use Rattle.osn_written.specs.declared.any_date.Reckoning.TheVariants.{OldStyle, NewStyle}
+use Rattle.osn_written.specs.declared.any_date.SimpleDate.{SimpleDate}
+use Rattle.osn_written.specs.declared.any_date.SimpleDate.TheVariants as date
+use Rattle.osn_written.specs.declared.any_date.Year.{Year}
+use Rattle.osn_written.specs.AnyDate.{has_three_digits, has_year_of_three_digits}
 use Rattle.osn_grammar.specs.Simple.{is_between}
 use Rattle.osn_grammar.proofs.FormFacts.{IsDate, IsExtent, year_parts, day_is, month_is}
 use Rattle.osn_grammar.proofs.FormFacts.{year_is, on_is, from_to_is, before_is, after_is}
@@ -33,12 +33,13 @@ use Rattle.osn_grammar.proofs.WordFacts.{after_begins, not_before_begins, not_af
 use Rattle.osn_grammar.proofs.WordFacts.{to_begins, bracket_begins, old_style_closes}
 use Rattle.osn_grammar.proofs.WordFacts.{new_style_closes}
 use Rattle.osn_written.specs.DateInWords.{words_of_date, words_of_extent, words_of, optional_word}
-use Rattle.osn_written.specs.DateInWords.{weekday_before, calendar_after, AreWordsRead}
-use Rattle.osn_written.specs.DateInWords.{is_writable_year, is_writable_date, is_writable_extent}
-use Rattle.osn_written.specs.OtherForms.{day_read}
-use Rattle.osn_written.specs.WrittenDate.{written_date}
-use Rattle.osn_written.proofs.LawFacts.{IsYearRead, both, decimal_reads, from_hundred, is_not}
-use Rattle.osn_written.proofs.LawFacts.{numeral, padded_year, words, year_by, year_in, year_read}
+use Rattle.osn_written.specs.DateInWords.{weekday_before, calendar_after}
+use Rattle.osn_grammar.specs.WordsRead.{AreWordsRead}
+use Rattle.osn_grammar.specs.WordsRead.{is_writable_year, is_writable_date, is_writable_extent}
+use Rattle.osn_grammar.specs.ReadDate.{day_read}
+use Rattle.osn_grammar.specs.ReadDate.{written_date}
+use Rattle.osn_grammar.proofs.LawFacts.{IsYearRead, both, decimal_reads, from_hundred, is_not}
+use Rattle.osn_grammar.proofs.LawFacts.{numeral, padded_year, words, year_by, year_in, year_read}
 
 -- ---- dates
 

@@ -1,5 +1,5 @@
 use Rattle.std.proofs.Common.{rules}
-use Rattle.osn_register.proofs.listing.Listing.new.Goals as goal
+use Rattle.osn_written.proofs.listing.Listing.as_slice.Goals as goal
 
 pub returns : goal.returns
 returns g c = search rules
