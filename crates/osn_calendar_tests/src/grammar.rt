@@ -1,8 +1,8 @@
 //! Dates as people write them. Each row is a text and what it says, in a short notation. It has the
 //! numbers of year, month and day, `+` after a double year, and then what is said beside the day.
 use crate::compare::same;
-use osn_grammar::{DateFault, DateOrder, Written, members_of, parse};
-use osn_written::{AnyDate, Extent, SimpleDate, Year};
+use osn_grammar::{DateOrder, Written, members_of, read_date};
+use osn_written::{AnyDate, DateFault, Extent, SimpleDate, Year};
 use std::alloc::Global;
 use std::fmt::{self, Display, Formatter, Write};
 use std::process::Abort;
@@ -106,7 +106,7 @@ fn are_read(
     rows: &[(&'static str, &'static str)],
 ) -> Result<(), Fail> {
     for (text, wanted) in rows {
-        let read = parse(alloc, text, order)?;
+        let read = read_date(alloc, text, order)?;
         let mut shown = format!(in alloc; "{}", ReadText(read))?;
         if let Ok(Written::Set) = read {
             for date in &members_of(alloc, text)? {

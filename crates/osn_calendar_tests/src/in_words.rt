@@ -1,7 +1,7 @@
 //! Dates in words. Each row is a text that the grammar reads, and the words of what it says.
 use crate::compare::same;
-use osn_grammar::{DateFault, DateOrder, Written, is_writable, parse};
-use osn_written::DateInWords;
+use osn_grammar::{DateOrder, Written, is_writable, read_date};
+use osn_written::{DateFault, DateInWords};
 use std::alloc::Global;
 use std::fmt::{self, Display, Formatter, Write};
 use std::process::Abort;
@@ -26,7 +26,7 @@ fn are_written(
     rows: &[(&'static str, &'static str)],
 ) -> Result<(), Fail> {
     for (text, wanted) in rows {
-        let read = parse(alloc, text, DateOrder::Unknown)?;
+        let read = read_date(alloc, text, DateOrder::Unknown)?;
         let words = format!(in alloc; "{}", Words(read))?;
         same(rt, (*text, words.as_str()), (*text, *wanted));
     }

@@ -6,8 +6,8 @@ use Rattle.osn_grammar.specs.declared.part.Numeral.{Numeral}
 use Rattle.osn_grammar.specs.declared.part.Part.{Part}
 use Rattle.osn_grammar.specs.declared.part.Part.TheVariants.{Number, Month, Slash, To, Before}
 use Rattle.osn_grammar.specs.declared.part.Part.TheVariants.{After, Not}
-use Rattle.osn_grammar.specs.declared.written.DateFault.{DateFault}
-use Rattle.osn_grammar.specs.declared.written.DateFault.TheVariants as faults
+use Rattle.osn_written.specs.declared.written_date.DateFault.{DateFault}
+use Rattle.osn_written.specs.declared.written_date.DateFault.TheVariants as faults
 use Rattle.osn_grammar.specs.declared.written.DateOrder.{DateOrder}
 use Rattle.osn_written.specs.declared.any_date.Extent.{Extent}
 use Rattle.osn_written.specs.declared.any_date.Extent.TheVariants as extent

@@ -6,8 +6,8 @@ use Rattle.std.specs.List.{list_any}
 use Rattle.osn_days.specs.declared.weekday.Weekday.{Weekday}
 use Rattle.osn_grammar.specs.declared.part.Part.{Part}
 use Rattle.osn_grammar.specs.declared.part.Part.TheVariants as part
-use Rattle.osn_grammar.specs.declared.written.DateFault.{DateFault}
-use Rattle.osn_grammar.specs.declared.written.DateFault.TheVariants as faults
+use Rattle.osn_written.specs.declared.written_date.DateFault.{DateFault}
+use Rattle.osn_written.specs.declared.written_date.DateFault.TheVariants as faults
 use Rattle.osn_grammar.specs.declared.written.DateOrder.{DateOrder}
 use Rattle.osn_written.specs.declared.any_date.Extent.{Extent}
 use Rattle.osn_written.specs.declared.any_date.Reckoning.{Reckoning}
@@ -15,7 +15,7 @@ use Rattle.osn_grammar.specs.declared.written.Written.TheVariants as say
 use Rattle.osn_grammar.specs.Extent.{date_or_range, extent_of}
 use Rattle.osn_written.specs.AnyDate.{has_three_digits}
 use Rattle.osn_grammar.specs.Parts.{tells_time}
-use Rattle.osn_grammar.specs.Reading.{written, reading_of_parts, weekday_after, with_weekday}
+use Rattle.osn_grammar.specs.Reading.{read_date, reading_of_parts, weekday_after, with_weekday}
 use Rattle.osn_grammar.specs.Reading.{reckoning_after, with_reckoning, is_about, is_doubt}
 use Rattle.osn_grammar.specs.Reading.{is_bracket, is_feast, is_open_year, is_roman_numeral}
 use Rattle.osn_grammar.specs.Reading.{is_undated, or_set, set_in}
@@ -224,7 +224,7 @@ pub record TextSays (text : List ℕ) (timed : List Part) (w : Option Weekday) (
 pub text_read : {text : List ℕ} {ts : List Part} {w : Option Weekday} {r : Option Reckoning}
     {a u s : Bool} (o : DateOrder) (e : Extent) → TextSays text ts w r a u s → is_undated ts ≡ false
     → (has_three_digits e && (u || s)) ≡ false → extent_of o ts ≡ Ok e
-    → written o text ≡ Ok (say.Date (record {
+    → read_date o text ≡ Ok (say.Date (record {
       extent = e;
       weekday = w;
       reckoning = r;
@@ -232,6 +232,7 @@ pub text_read : {text : List ℕ} {ts : List Part} {w : Option Weekday} {r : Opt
       is_uncertain = u;
       is_supplied = s;
     }))
+unfolding read_date
 text_read {text} o e scanned dated sure is =
     ap (λ ps. or_set (set_in text) (reading_of_parts o ps (filter tells_time ps)))
     (parts_scanned scanned.scans)

@@ -9,8 +9,8 @@ use Rattle.osn_days.specs.declared.date.Date.{Date}
 use Rattle.osn_days.specs.declared.weekday.Weekday.{Weekday}
 use Rattle.osn_grammar.specs.declared.part.Part.{Part}
 use Rattle.osn_grammar.specs.declared.part.Part.TheVariants.{Number, Dash, Open}
-use Rattle.osn_grammar.specs.declared.written.DateFault.{DateFault}
-use Rattle.osn_grammar.specs.declared.written.DateFault.TheVariants as faults
+use Rattle.osn_written.specs.declared.written_date.DateFault.{DateFault}
+use Rattle.osn_written.specs.declared.written_date.DateFault.TheVariants as faults
 use Rattle.osn_grammar.specs.declared.written.DateOrder.{DateOrder}
 use Rattle.osn_written.specs.declared.any_date.Extent.{Extent}
 use Rattle.osn_written.specs.declared.any_date.Extent.TheVariants as extent

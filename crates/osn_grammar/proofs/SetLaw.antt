@@ -18,7 +18,7 @@ use Rattle.osn_days.specs.DateText.{at_least, date_text, text_of_date}
 use Rattle.osn_days.proofs.DateDigits.{four_digits}
 use Rattle.osn_grammar.specs.declared.part.Part.{Part}
 use Rattle.osn_grammar.specs.declared.part.Part.TheVariants.{Open, Bracket}
-use Rattle.osn_grammar.specs.declared.written.DateFault.{DateFault}
+use Rattle.osn_written.specs.declared.written_date.DateFault.{DateFault}
 use Rattle.osn_written.specs.declared.any_date.Extent.{Extent}
 use Rattle.osn_grammar.specs.declared.written.Written.{Written}
 use Rattle.osn_grammar.specs.declared.written.Written.TheVariants as say
@@ -26,7 +26,7 @@ use Rattle.osn_written.specs.declared.any_date.AnyDate.{AnyDate}
 use Rattle.osn_grammar.specs.InDigits.{HasFourDigits, sign, signed}
 use Rattle.osn_grammar.specs.Parts.{tells_time}
 use Rattle.osn_grammar.specs.Reading.{all_members, member_by, member_in, member_of, or_set}
-use Rattle.osn_grammar.specs.Reading.{reading_of_parts, set_in, set_inside, with_signs}
+use Rattle.osn_grammar.specs.Reading.{read_date, reading_of_parts, set_in, set_inside, with_signs}
 use Rattle.osn_grammar.specs.Scan.{first_of, is_letter_alone, next_is, part_of_run, parts_after, parts_in}
 use Rattle.osn_grammar.specs.Sets.{between_commas, days_in_digits, is_sign}
 use Rattle.osn_grammar.specs.SetsInDigits.{AreSetsRead, Days, HaveFourDigits, days_text}
@@ -290,7 +290,7 @@ set_said ws (Ok said) wrong = absurd (cc)
 set_said ws (Err fault) wrong = refl
 
 pub sets_law : AreSetsRead
-unfolding AreSetsRead
+unfolding AreSetsRead read_date
 sets_law o a u first next rest all =
     let days = first ∷ next ∷ rest in
     let text = set_text a u days in

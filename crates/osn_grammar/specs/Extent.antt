@@ -12,8 +12,8 @@ use Rattle.osn_grammar.specs.declared.part.Part.TheVariants.{Number, Month, Dash
 use Rattle.osn_grammar.specs.declared.part.Part.TheVariants.{Dot, Open, To}
 use Rattle.osn_grammar.specs.declared.part.Part.TheVariants.{Or, And, Between, From, Before, After}
 use Rattle.osn_grammar.specs.declared.part.Part.TheVariants.{Not, By}
-use Rattle.osn_grammar.specs.declared.written.DateFault.{DateFault}
-use Rattle.osn_grammar.specs.declared.written.DateFault.TheVariants as faults
+use Rattle.osn_written.specs.declared.written_date.DateFault.{DateFault}
+use Rattle.osn_written.specs.declared.written_date.DateFault.TheVariants as faults
 use Rattle.osn_grammar.specs.declared.written.DateOrder.{DateOrder}
 use Rattle.osn_written.specs.declared.any_date.Extent.{Extent}
 use Rattle.osn_written.specs.declared.any_date.Extent.TheVariants as extent

@@ -11,7 +11,7 @@ use Rattle.osn_written.specs.declared.any_date.SimpleDate.{SimpleDate}
 use Rattle.osn_written.specs.declared.any_date.SimpleDate.TheVariants as date
 use Rattle.osn_grammar.specs.declared.written.Written.{Written}
 use Rattle.osn_grammar.specs.declared.written.Written.TheVariants as say
-use Rattle.osn_grammar.specs.Reading.{written}
+use Rattle.osn_grammar.specs.Reading.{read_date}
 
 -- a date from 0001-01-01 to 9999-12-31
 pub record HasFourDigits (d : Date) : Type 0 where
@@ -56,14 +56,14 @@ with_sign e approximate uncertain = say.Date (record {
 -- 1731-02-11~ is that day, 1731-02-11~/1731-03-01~ the range, ../1731-03-01~ not after it, and
 -- 1731-02-11~/.. not before it
 pub record IsSignRead (o : DateOrder) (a b : Date) (approximate uncertain : Bool) : Type 0 where
-  pub day : written o (signed a approximate uncertain)
+  pub day : read_date o (signed a approximate uncertain)
       ≡ Ok (with_sign (extent.On (day_of_date a)) approximate uncertain)
-  pub range : written o
+  pub range : read_date o
       (signed a approximate uncertain ++ (codes "/" ++ signed b approximate uncertain))
       ≡ Ok (with_sign (extent.FromTo (day_of_date a) (day_of_date b)) approximate uncertain)
-  pub not_after : written o (codes "../" ++ signed b approximate uncertain)
+  pub not_after : read_date o (codes "../" ++ signed b approximate uncertain)
       ≡ Ok (with_sign (extent.NotAfter (day_of_date b)) approximate uncertain)
-  pub not_before : written o (signed a approximate uncertain ++ codes "/..")
+  pub not_before : read_date o (signed a approximate uncertain ++ codes "/..")
       ≡ Ok (with_sign (extent.NotBefore (day_of_date a)) approximate uncertain)
 
 -- as a law: so it is for all such dates and each sign

@@ -1,12 +1,9 @@
--- What a text says of a date, by the faults that a date has. This project's profile.
+-- The date that a query asks about, and the date of one day, of a text. This project's profile.
 use Rattle.std.specs.Prelude.{ℕ, List, Result, Ok, Err}
-use Rattle.osn_grammar.specs.declared.written.DateFault.{DateFault as FormFault}
-use Rattle.osn_grammar.specs.declared.written.DateFault.TheVariants as form
-use Rattle.osn_grammar.specs.declared.written.DateOrder.{DateOrder}
 use Rattle.osn_grammar.specs.declared.written.DateOrder.TheVariants.{Unknown}
 use Rattle.osn_grammar.specs.declared.written.Written.{Written}
 use Rattle.osn_grammar.specs.declared.written.Written.TheVariants as say
-use Rattle.osn_grammar.specs.Reading.{members, written}
+use Rattle.osn_grammar.specs.Reading.{members, read_date}
 use Rattle.osn_written.specs.declared.any_date.AnyDate.{AnyDate}
 use Rattle.osn_written.specs.declared.date_reading.DateReading.{DateReading}
 use Rattle.osn_written.specs.declared.date_reading.DateReading.TheVariants as readings
@@ -14,29 +11,6 @@ use Rattle.osn_written.specs.declared.written_date.DateFault.{DateFault}
 use Rattle.osn_written.specs.declared.written_date.DateFault.TheVariants as faults
 use Rattle.osn_written.specs.declared.written_date.WrittenDate.{WrittenDate}
 use Rattle.osn_written.specs.PlainDay.{plain_day}
-
--- the fault of a text that has none of the forms
-abbrev pub fault_of : FormFault → DateFault
-fault_of form.Malformed = faults.Malformed
-fault_of form.LaterYear = faults.LaterYear
-fault_of form.Year = faults.Year
-fault_of form.Month = faults.Month
-fault_of form.Day = faults.Day
-fault_of form.ShortYear = faults.ShortYear
-fault_of form.OpenYear = faults.OpenYear
-fault_of form.DayOrMonth = faults.DayOrMonth
-fault_of form.TwoDays = faults.TwoDays
-fault_of form.Feast = faults.Feast
-fault_of form.RomanNumeral = faults.RomanNumeral
-
--- what was read, by the faults of a date
-abbrev pub grammar_date : Result Written FormFault → Result Written DateFault
-grammar_date (Ok date) = Ok date
-grammar_date (Err fault) = Err (fault_of fault)
-
--- what a text says of a date, or why it says nothing of one
-unfoldable pub read_date : DateOrder → List ℕ → Result Written DateFault
-read_date o text = grammar_date (written o text)
 
 -- ---- the date that a query asks about
 
@@ -54,12 +28,12 @@ date_reading text = reading_by (members text) (read_date Unknown text)
 -- ---- dates of one day
 
 -- the date of one day that was read, or why no such date was read
-abbrev pub day_read : Result Written FormFault → Result WrittenDate DateFault
+abbrev pub day_read : Result Written DateFault → Result WrittenDate DateFault
 day_read (Ok (say.Date w)) = plain_day w
 day_read (Ok say.NoDate) = Err faults.NoDate
 day_read (Ok say.Set) = Err faults.NotOneDay
-day_read (Err fault) = Err (fault_of fault)
+day_read (Err fault) = Err fault
 
 -- the date of one day that a text is, or why it is no such date
 unfoldable pub written_date : List ℕ → Result WrittenDate DateFault
-written_date text = day_read (written Unknown text)
+written_date text = day_read (read_date Unknown text)

@@ -7,8 +7,8 @@ use Rattle.std.specs.Result.{result_ok}
 use Rattle.osn_days.specs.declared.weekday.Weekday.{Weekday}
 use Rattle.osn_grammar.specs.declared.part.Part.{Part}
 use Rattle.osn_grammar.specs.declared.part.Part.TheVariants as part
-use Rattle.osn_grammar.specs.declared.written.DateFault.{DateFault}
-use Rattle.osn_grammar.specs.declared.written.DateFault.TheVariants as faults
+use Rattle.osn_written.specs.declared.written_date.DateFault.{DateFault}
+use Rattle.osn_written.specs.declared.written_date.DateFault.TheVariants as faults
 use Rattle.osn_grammar.specs.declared.written.DateOrder.{DateOrder}
 use Rattle.osn_written.specs.declared.any_date.Extent.{Extent}
 use Rattle.osn_written.specs.declared.any_date.Reckoning.{Reckoning}
@@ -191,6 +191,6 @@ or_set (Err faults.Malformed) (Err fault) = Err fault
 or_set (Err reason) (Err fault) = Err reason
 
 -- what a text says of a date, or why it is none
-abbrev pub written : DateOrder → List ℕ → Result Written DateFault
-written o text =
+unfoldable pub read_date : DateOrder → List ℕ → Result Written DateFault
+read_date o text =
     or_set (set_in text) (reading_of_parts o (parts_in text) (filter tells_time (parts_in text)))

@@ -9,7 +9,7 @@ use Rattle.osn_written.specs.declared.any_date.Extent.TheVariants as extent
 use Rattle.osn_grammar.specs.declared.written.Written.TheVariants as say
 use Rattle.osn_written.specs.declared.any_date.AnyDate.{AnyDate}
 use Rattle.osn_grammar.specs.InDigits.{HasFourDigits, day_of_date, signed}
-use Rattle.osn_grammar.specs.Reading.{members, written}
+use Rattle.osn_grammar.specs.Reading.{members, read_date}
 
 -- one day, or the first one and the last one
 abbrev pub Days : Type 0
@@ -48,7 +48,7 @@ member approximate uncertain days = record {
 -- the text of the set is read as a set, and as that of these dates
 pub record IsSetRead (o : DateOrder) (approximate uncertain : Bool) (days : List Days)
     : Type 0 where
-  pub is : written o (set_text approximate uncertain days) ≡ Ok say.Set
+  pub is : read_date o (set_text approximate uncertain days) ≡ Ok say.Set
   pub dates : members (set_text approximate uncertain days)
       ≡ map (member approximate uncertain) days
 

@@ -7,8 +7,8 @@ use Rattle.osn_grammar.specs.declared.part.Numeral.{Numeral}
 use Rattle.osn_grammar.specs.declared.part.Part.{Part}
 use Rattle.osn_grammar.specs.declared.part.Part.TheVariants.{Number, Month, Dash, Slash, Dot, Blank}
 use Rattle.osn_grammar.specs.declared.simple.YearNumbers.{YearNumbers}
-use Rattle.osn_grammar.specs.declared.written.DateFault.{DateFault}
-use Rattle.osn_grammar.specs.declared.written.DateFault.TheVariants as faults
+use Rattle.osn_written.specs.declared.written_date.DateFault.{DateFault}
+use Rattle.osn_written.specs.declared.written_date.DateFault.TheVariants as faults
 use Rattle.osn_grammar.specs.declared.written.DateOrder.{DateOrder}
 use Rattle.osn_grammar.specs.declared.written.DateOrder.TheVariants as order
 use Rattle.osn_written.specs.declared.any_date.SimpleDate.{SimpleDate}

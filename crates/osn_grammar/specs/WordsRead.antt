@@ -2,7 +2,7 @@
 use Rattle.std.specs.Prelude.{◌≡◌, Bool, true, not, ◌&&◌, nat_le, Ok}
 use Rattle.osn_grammar.specs.declared.written.DateOrder.{DateOrder}
 use Rattle.osn_grammar.specs.declared.written.Written.TheVariants as say
-use Rattle.osn_grammar.specs.Reading.{written}
+use Rattle.osn_grammar.specs.Reading.{read_date}
 use Rattle.osn_grammar.specs.Simple.{is_between}
 use Rattle.osn_written.specs.declared.any_date.AnyDate.{AnyDate}
 use Rattle.osn_written.specs.declared.any_date.Extent.{Extent}
@@ -37,4 +37,4 @@ is_writable w = is_writable_extent w.extent
 -- as a law: the words of such a date are read as that date, in each order of day and month
 unfoldable pub AreWordsRead : Type 0
 AreWordsRead =
-    (o : DateOrder) (w : AnyDate) → is_writable w ≡ true → written o (words_of w) ≡ Ok (say.Date w)
+    (o : DateOrder) (w : AnyDate) → is_writable w ≡ true → read_date o (words_of w) ≡ Ok (say.Date w)

@@ -1,4 +1,4 @@
-//! A text is read as a date, by the faults that a date has.
+//! The date that a text is, for a query, and for one that is about a day.
 ghost use Rattle.std.specs.Prelude.{◌≡◌, IfOk};
 ghost use Rattle.osn_days.specs.Profile.{newest_rules};
 ghost use Rattle.osn_lands.specs.Territory.{TerritoryModel};
@@ -6,59 +6,11 @@ ghost use Rattle.osn_grammar.specs.DualTexts.{AreDualTextsWritten, AreNamedDaysW
 ghost use Rattle.osn_grammar.specs.DualTexts.{AreDualTextsMeant};
 ghost use Rattle.osn_grammar.specs.ReadDate as spec;
 
-use crate::reading::parse;
+use crate::reading::read_date;
 use crate::set::members_of;
-use crate::written::{DateFault as FormFault, DateOrder, Written};
+use crate::written::{DateOrder, Written};
 use osn_written::{DateFault, DateReading, Listing, WrittenDate, plain_day};
 use std::alloc::{AllocError, Global};
-
-/// The fault of a text that has none of the forms.
-fn fault_of(fault: FormFault) -> DateFault
-    ensures { result ≡ spec.fault_of fault }
-{
-    match fault {
-        FormFault::Malformed => DateFault::Malformed,
-        FormFault::LaterYear => DateFault::LaterYear,
-        FormFault::Year => DateFault::Year,
-        FormFault::Month => DateFault::Month,
-        FormFault::Day => DateFault::Day,
-        FormFault::ShortYear => DateFault::ShortYear,
-        FormFault::OpenYear => DateFault::OpenYear,
-        FormFault::DayOrMonth => DateFault::DayOrMonth,
-        FormFault::TwoDays => DateFault::TwoDays,
-        FormFault::Feast => DateFault::Feast,
-        FormFault::RomanNumeral => DateFault::RomanNumeral,
-    }
-}
-
-/// What was read, by the faults of a date.
-fn grammar_date(read: Result<Written, FormFault>) -> Result<Written, DateFault>
-    ensures { result ≡ spec.grammar_date read }
-{
-    match read {
-        Ok(written) => Ok(written),
-        Err(fault) => Err(fault_of(fault)),
-    }
-}
-
-/// What a text says of a date: a day, a month, a year, a range, a bound or a set, and what is said
-/// beside it, as `docs/DATES.md` tells. Where the text says nothing of a date, the result within
-/// has the fault.
-///
-/// # Errors
-///
-/// Want of memory.
-#[tactic(auto, unfolding(crate::specs::ReadDate::read_date))]
-pub fn read_date(
-    alloc: Global,
-    text: &str,
-    order: DateOrder,
-) -> Result<Result<Written, DateFault>, AllocError>
-    ensures { IfOk result (λ date. date ≡ spec.read_date order text.now) }
-{
-    let read = parse(alloc, text, order)?;
-    Ok(grammar_date(read))
-}
 
 /// The date that a text is, or why it is none, for what is told of it in a territory: the date or
 /// the set of dates of `read_date`.
@@ -79,14 +31,14 @@ pub fn date_reading(alloc: Global, text: &str) -> Result<DateReading, AllocError
 }
 
 /// The date of one day that was read, or why no such date was read.
-fn day_read(read: Result<Written, FormFault>) -> Result<WrittenDate, DateFault>
+fn day_read(read: Result<Written, DateFault>) -> Result<WrittenDate, DateFault>
     ensures { result ≡ spec.day_read read }
 {
     match read {
         Ok(Written::Date(date)) => plain_day(date),
         Ok(Written::NoDate) => Err(DateFault::NoDate),
         Ok(Written::Set) => Err(DateFault::NotOneDay),
-        Err(fault) => Err(fault_of(fault)),
+        Err(fault) => Err(fault),
     }
 }
 
@@ -108,6 +60,6 @@ pub fn parse_day(alloc: Global, text: &str) -> Result<Result<WrittenDate, DateFa
     // as a law: in each territory the dual text of each day means that day
     ensures meant { (t : TerritoryModel) → AreDualTextsMeant newest_rules t }
 {
-    let read = parse(alloc, text, DateOrder::Unknown)?;
+    let read = read_date(alloc, text, DateOrder::Unknown)?;
     Ok(day_read(read))
 }

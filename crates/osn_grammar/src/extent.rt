@@ -7,8 +7,8 @@ use crate::part::Part::{
     self, After, And, Before, Between, By, Dash, Dot, From, Month, Not, Number, Open, Or, Slash, To,
 };
 use crate::simple::{date_in_digits, day_in, is_long, month_in, simple_date};
-use crate::written::{DateFault, DateOrder};
-use osn_written::{Extent, SimpleDate};
+use crate::written::DateOrder;
+use osn_written::{DateFault, Extent, SimpleDate};
 
 /// By which parts the two dates of a range are joined.
 #[derive(Clone, Copy, Debug, PartialEq, Eq)]

@@ -1,5 +1,5 @@
 //! The grammar of dates as people write them: from a text to the date that it says, without any
-//! territory. What the crate promises to those above is that `parse` is its definition.
+//! territory. What the crate promises to those above is that `read_date` is its definition.
 #![tactic(auto)]
 
 mod date_in_text;
@@ -14,8 +14,8 @@ mod simple;
 mod words_read;
 mod written;
 
-pub use date_in_text::{date_reading, parse_day, read_date};
-pub use reading::parse;
+pub use date_in_text::{date_reading, parse_day};
+pub use reading::read_date;
 pub use set::members_of;
 pub use words_read::is_writable;
-pub use written::{DateFault, DateOrder, Written};
+pub use written::{DateOrder, Written};

@@ -13,9 +13,9 @@ use crate::part::Part;
 use crate::scan::parts_in;
 use crate::set::set_in;
 use crate::simple::lacks_digit;
-use crate::written::{DateFault, DateOrder, Written};
+use crate::written::{DateOrder, Written};
 use osn_days::Weekday;
-use osn_written::{AnyDate, Reckoning};
+use osn_written::{AnyDate, DateFault, Reckoning};
 use std::alloc::{AllocError, Global};
 
 /// The weekday so far, with that of one more part. No two may be named.
@@ -219,13 +219,13 @@ fn or_set(
 /// # Errors
 ///
 /// Want of memory. What is wrong with a text that is no date is the result within.
-#[tactic(auto, using(crate::proofs::NameFacts::name_laws, crate::proofs::DigitLaw::digits_law, crate::proofs::SetLaw::sets_law))]
-pub fn parse(
+#[tactic(auto, using(crate::proofs::NameFacts::name_laws, crate::proofs::DigitLaw::digits_law, crate::proofs::SetLaw::sets_law), unfolding(crate::specs::Reading::read_date))]
+pub fn read_date(
     alloc: Global,
     text: &str,
     order: DateOrder,
 ) -> Result<Result<Written, DateFault>, AllocError>
-    ensures value { IfOk result (λ read. read ≡ spec.written order text.now) }
+    ensures value { IfOk result (λ read. read ≡ spec.read_date order text.now) }
     // as a law: no name stands twice in the table of names
     ensures names { AreNamesDistinct }
     // as a law: it has the English months and weekdays

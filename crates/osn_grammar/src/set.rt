@@ -8,8 +8,7 @@ use crate::part::Part::{self, About, AboutAndDoubt, Dash, Doubt, Number, Open};
 use crate::reading::{is_approximate, is_uncertain};
 use crate::scan::parts_in;
 use crate::simple::{day_in_digits, one};
-use crate::written::DateFault;
-use osn_written::{AnyDate, Extent};
+use osn_written::{AnyDate, DateFault, Extent};
 use std::alloc::{AllocError, Global};
 
 /// What stands after the opening bracket of a text, if it begins with one.
@@ -137,7 +136,7 @@ pub fn set_in(alloc: Global, text: &str) -> Result<Members, AllocError>
 }
 
 /// The dates of a set of EDTF, of which one is meant, as `[1543-04-11,1544-04-11]`: those of a text
-/// that `parse` tells as `Written::Set`. Each is a day or a range, and has its own signs. Of a text
+/// that `read_date` returns as `Written::Set`. Each is a day or a range, and has its own signs. Of a text
 /// that has not the form of a set there is none.
 ///
 /// # Errors

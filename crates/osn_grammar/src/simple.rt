@@ -5,8 +5,8 @@ ghost use Rattle.osn_grammar.specs.Simple as spec;
 use crate::order::{is_month, order_of};
 use crate::part::Numeral;
 use crate::part::Part::{self, Blank, Dash, Dot, Month, Number, Slash};
-use crate::written::{DateFault, DateOrder};
-use osn_written::{SimpleDate, Year};
+use crate::written::DateOrder;
+use osn_written::{DateFault, SimpleDate, Year};
 
 /// The numbers of a year: its own, and what stands after a `/`.
 #[derive(Clone, Copy, Debug, PartialEq, Eq)]

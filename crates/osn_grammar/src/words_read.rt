@@ -34,7 +34,7 @@ fn is_writable_date(date: SimpleDate) -> bool
 }
 
 /// Whether each year of a date is at most 10000 and none is written with three digits, each month
-/// is 1 to 12 and each day 1 to 31. Then `parse` reads the words of the date as that
+/// is 1 to 12 and each day 1 to 31. Then `read_date` reads the words of the date as that
 /// very date, in each order of day and month.
 #[tactic(auto, using(crate::proofs::WordsLaw::words_law))]
 pub fn is_writable(date: AnyDate) -> bool

@@ -19,7 +19,6 @@ use Rattle.osn_letters.specs.Edtf.{edtf_day, edtf_of_days, edtf_of_runs, edtf_ru
 use Rattle.osn_letters.specs.Edtf.{sign_of}
 use Rattle.osn_letters.specs.EdtfLaw.{AreDaysRead, AreRunsRead, IsReadAs, IsRunOf, days_of_day}
 use Rattle.osn_letters.specs.EdtfLaw.{days_of_run}
-use Rattle.osn_grammar.specs.ReadDate.{grammar_date, read_date}
 
 sign_is : (a u : Bool) → sign_of u a ≡ sign a u
 sign_is false false = refl
@@ -98,12 +97,12 @@ mapped_digits P h each (x ∷ xs) all =
 read_as : (o : DateOrder) (a u : Bool) (text : List ℕ) (first next : Days) (rest : List Days)
     → text ≡ set_text a u (first ∷ next ∷ rest) → All HaveFourDigits (first ∷ next ∷ rest)
     → IsReadAs o a u text (first ∷ next ∷ rest)
-unfolding AreSetsRead read_date
+unfolding AreSetsRead
 read_as o a u text first next rest same all =
     let read = sets_law o a u first next rest all in
     subst (λ t. IsReadAs o a u t (first ∷ next ∷ rest)) (sym same)
     (record {
-      is = ap grammar_date read.is;
+      is = read.is;
       dates = read.dates;
     })
 

@@ -8,11 +8,10 @@ use Rattle.osn_days.specs.Line.{IsDay}
 use Rattle.osn_days.specs.Profile.{Profile}
 use Rattle.osn_grammar.specs.declared.written.DateOrder.{DateOrder}
 use Rattle.osn_grammar.specs.declared.written.Written.TheVariants as say
-use Rattle.osn_grammar.specs.Reading.{members}
+use Rattle.osn_grammar.specs.Reading.{members, read_date}
 use Rattle.osn_grammar.specs.SetsInDigits.{Days, member}
 use Rattle.osn_lands.specs.declared.dated.DatedDay.{DatedDay}
 use Rattle.osn_lands.specs.declared.runs.Run.{Run}
-use Rattle.osn_grammar.specs.ReadDate.{read_date}
 use Rattle.osn_letters.specs.Edtf.{edtf_of_days, edtf_of_runs, sign_of}
 
 -- a run, and a day by itself

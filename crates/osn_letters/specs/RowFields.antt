@@ -9,7 +9,7 @@ use Rattle.osn_days.specs.declared.weekday.Weekday.{Weekday}
 use Rattle.osn_grammar.specs.declared.written.DateOrder.{DateOrder}
 use Rattle.osn_grammar.specs.declared.written.Written.{Written}
 use Rattle.osn_written.specs.declared.any_date.AnyDate.{AnyDate}
-use Rattle.osn_grammar.specs.Reading.{members}
+use Rattle.osn_grammar.specs.Reading.{members, read_date}
 use Rattle.osn_lands.specs.Territory.{TerritoryModel}
 use Rattle.osn_letters.specs.PlaceEntries.{PlaceEntry, code_of}
 use Rattle.osn_register.specs.ByName.{territory_named}
@@ -17,7 +17,6 @@ use Rattle.osn_register.specs.Code.{is_code}
 use Rattle.osn_register.specs.Plain.{LandModel, territory_of}
 use Rattle.osn_written.specs.declared.written_date.DateFault.{DateFault}
 use Rattle.osn_written.specs.declared.written_date.DateFault.TheVariants.{Malformed}
-use Rattle.osn_grammar.specs.ReadDate.{read_date}
 use Rattle.osn_written.specs.WrittenDate.{weekday_named}
 
 -- bytes without the white space of ASCII before them

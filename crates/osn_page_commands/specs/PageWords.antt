@@ -16,7 +16,8 @@ use Rattle.osn_written.specs.declared.any_date.AnyDate.{AnyDate}
 use Rattle.osn_pages.specs.Conversion.{days_of_written}
 use Rattle.osn_pages.specs.declared.page.Page.{Page}
 use Rattle.osn_pages.specs.declared.page.Page.TheVariants as pages
-use Rattle.osn_grammar.specs.ReadDate.{read_date, written_date}
+use Rattle.osn_grammar.specs.ReadDate.{written_date}
+use Rattle.osn_grammar.specs.Reading.{read_date}
 use Rattle.osn_register.specs.Plain.{is_off_years}
 use Rattle.osn_written.specs.WrittenDate.{number_of, weekday_named}
 use Rattle.osn_written.specs.declared.written_date.DateFault.{DateFault}
