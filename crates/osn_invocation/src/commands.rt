@@ -26,13 +26,13 @@ const TEXT: Argument = Required("text", "TEXT", "The file of the text");
 const ORDER: Argument = Valued(
     "order",
     "ORDER",
-    "How a date of three numbers, as 11/2/1731, is read: dmy or mdy",
+    "How a date of three numbers, such as 11/2/1731, is read: dmy or mdy",
 );
 
 const LIMITS: Argument = Valued(
     "limits",
     "LIMITS",
-    "The most that the register holds, as lands=5000,changes=200",
+    "The most that the register may contain, such as lands=5000,changes=200",
 );
 
 /// The commands that say what a date means, in the order in which help lists them.
@@ -44,23 +44,22 @@ pub(crate) const DATES: [CommandRow; 6] = [
   ./oldstyle read examples/samples.journal GB \"11 February 1731/2\" --weekday Friday
   ./oldstyle read examples/samples.journal GB 1752-09-05
 
-A date is written 1731-02-11, \"11 February 1731\" or \"11 February 1731/2\", with a weekday before
-it or without, or in another form, as \"11 Feb. 1731/32\". Its year is the one that the document
-has, or both years are given. It may be a month, a year, a range or a bound, as \"March 1731\",
-\"3-10 May 1640\" or \"before 1640\", and say more, as \"[about 1640?]\" or \"11 February 1731 \
-N.S.\".
-Where a date means several days, those of the weekday come first.",
+A date is written 1731-02-11, \"11 February 1731\" or \"11 February 1731/2\", with or without a
+weekday before it, or in another form, such as \"11 Feb. 1731/32\". Its year is that of the
+document, or both years are given. It may be a month, a year, a range or a bound, such as
+\"March 1731\", \"3-10 May 1640\" or \"before 1640\", and say more, such as \"[about 1640?]\" or
+\"11 February 1731 N.S.\". If a date means several days, those of the weekday come first.",
         arguments: &[
             JOURNAL,
             CODE,
-            Required("date", "DATE", "The date as the document has it"),
+            Required("date", "DATE", "The date, as in the document"),
             Valued(
                 "weekday",
                 "DAY",
-                "The weekday that the document names, as Friday",
+                "The weekday that the document names, such as Friday",
             ),
             ORDER,
-            Flag("strict", "Ends with status 1 where the date means no day"),
+            Flag("strict", "Ends with status 1 if the date means no day"),
             LIMITS,
         ],
     },
@@ -100,7 +99,7 @@ is the day number plus 1721425.",
             Required(
                 "date",
                 "DATE",
-                "A Gregorian date, a day number, or a Julian day number as \"JDN 2361222\"",
+                "A Gregorian date, a day number, or a Julian day number such as \"JDN 2361222\"",
             ),
             LIMITS,
         ],
@@ -165,7 +164,7 @@ dated in it. The figures are of the year from 1 January, and the page says so.",
 pub(crate) const TABLES: [CommandRow; 5] = [
     CommandRow {
         name: "letters",
-        about: "Says of each letter of a table on standard input which day its date means",
+        about: "Prints which day the date of each letter of a table on standard input means",
         examples: "Examples:
   ./oldstyle letters examples/samples.journal < examples/letters.csv
   ./oldstyle letters examples/samples.journal --places examples/places.csv --summary \\
@@ -214,13 +213,13 @@ edtf, edition and remark.",
             Valued(
                 "separator",
                 "NAME",
-                "What stands between two fields: comma, semicolon or tab [default: by the header]",
+                "The separator of fields: comma, semicolon or tab [default: by the header]",
             ),
             ORDER,
-            Flag("strict", "Ends with status 1 where a row has a remark"),
+            Flag("strict", "Ends with status 1 if a row has a remark"),
             Flag(
                 "summary",
-                "Tells standard error at the end how many rows have each remark",
+                "Prints the number of rows with each remark on standard error at the end",
             ),
             LIMITS,
         ],
@@ -233,8 +232,8 @@ edtf, edition and remark.",
 
 Requests and replies are JSON lines. With --save, the journal is saved only if all lines were
 answered. With --keep, each change is in the journal before its reply is written. A journal of an
-earlier version than 4 takes no source of an edit: --upgrade saves it anew as version 4, whole or
-not at all. With --follow, edits are refused, and FILE need not be there yet. With
+earlier version than 4 accepts no source of an edit: --upgrade saves it as version 4, whole or not
+at all. With --follow, edits are refused, and FILE need not be there yet. With
 --stop-at-refusal, a batch of edits is published whole or not at all.",
         arguments: &[
             Valued(
@@ -250,18 +249,18 @@ not at all. With --follow, edits are refused, and FILE need not be there yet. Wi
             Valued(
                 "keep",
                 "FILE",
-                "The journal to begin with, to which each change is appended while the service runs",
+                "The journal to begin with; each change is appended to it while the service runs",
             ),
             Flag(
                 "upgrade",
-                "Saves the journal of --keep as version 4 first, where it is of an earlier one",
+                "Saves the journal of --keep as version 4 first, if it is of an earlier one",
             ),
             Valued(
                 "follow",
                 "FILE",
                 "The journal that another run keeps: each line is answered from its newest edition",
             ),
-            Readers("How many readers ask, 1 to 64 [default: 8]"),
+            Readers("The number of readers, 1 to 64 [default: 8]"),
             Flag(
                 "read-only",
                 "Refuses each edit and each publish by 45 ReadOnly",
@@ -307,8 +306,8 @@ dates it. A territory that TEXT does not name stays as it is. The journal is onl
         examples: "Example:
   ./oldstyle publish new.journal territories.toml
 
-All edits are in the journal as one edition, or none is. A text with a fault changes nothing. Nor
-does one that would undo what a later edition changed than the one that it was made of.",
+All edits are in the journal as one edition, or none of them. A text with a fault changes nothing.
+Nor does a text that would undo a change of an edition later than its own.",
         arguments: &[
             JOURNAL,
             TEXT,
@@ -331,7 +330,7 @@ pub(crate) const OTHERS: [CommandRow; 5] = [
 
 A step is a JSON line. All steps are taken before anything is printed.",
         arguments: &[
-            RequiredReaders("How many readers there are, 1 to 64"),
+            RequiredReaders("The number of readers, 1 to 64"),
             Required("schedule", "SCHEDULE", "The file of the steps"),
             LIMITS,
         ],
@@ -360,8 +359,8 @@ editions of the replies may differ from run to run.",
         examples: "Example:
   ./oldstyle almanac examples/samples.journal GB 1752
 
-YEAR stands for two years: the months are those of the year as the territory counted it, and the
-figures, the changes and the feasts are those of the year from 1 January. Where the year began on
+YEAR means two years: the months are those of the year as the territory counted it, and the
+figures, the changes and the feasts are those of the year from 1 January. If the year began on
 25 March, almanac 1731 has February of 1731/2, and Easter and Ash Wednesday of 1731 from 1 January.
 The command year prints one year alone.",
         arguments: &[
@@ -382,14 +381,14 @@ The command year prints one year alone.",
             Required(
                 "transcript",
                 "TRANSCRIPT",
-                "The file of what readers asked and were told",
+                "The file of the questions and replies of readers",
             ),
             LIMITS,
         ],
     },
     CommandRow {
         name: "completions",
-        about: "Prints the text by which a shell completes the program's words",
+        about: "Prints the text by which a shell completes the program's arguments",
         examples: "Example:
   source <(./oldstyle completions bash)",
         arguments: &[Required("shell", "SHELL", "The shell: bash, zsh or fish")],

@@ -16,7 +16,7 @@ year and the rule of Easter that were in force where it was written";
 const STATUSES: &str = "Statuses:
   0  done
   1  the input was refused: a line, a text, a territory, a year, or a file without questions
-  2  a word of the command line is wrong
+  2  an argument is wrong
   3  a file could not be opened, or a read or a write failed
   4  memory ran out
 If the status is not 0, standard error says what was refused or failed.";

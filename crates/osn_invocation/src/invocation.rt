@@ -59,7 +59,7 @@ pub enum PageWords<'a> {
     Read {
         /// The code of the territory.
         code: &'a str,
-        /// The date as the document has it.
+        /// The date, as in the document.
         date: &'a str,
         /// The name of the weekday that the document has, if any.
         weekday: Option<&'a str>,
@@ -128,7 +128,7 @@ pub enum CommandWords<'a> {
     Audit {
         /// The file of the journal.
         journal: &'a str,
-        /// The file of what readers asked and were told.
+        /// The file of the questions and replies of readers.
         transcript: &'a str,
     },
     /// To say of each letter of a table which day its date means.
