@@ -12,12 +12,13 @@ use std::process::ExitCode;
 use std::rt::Env;
 use std::{env, fs, io};
 
-/// The arguments of the command line, of which the first is the program's name.
+/// Returns the arguments, of which the first is the program's name.
 fn given_args(rt: &(impl Env + AllocGlobal)) -> io::Result<Vec<String>> {
     Ok(env::args(rt)?.collect(rt.alloc())?)
 }
 
-/// A file that was opened in the place of a closed standard stream: it has that stream's number.
+/// Returns a file that was opened in the place of a closed standard stream: it has that stream's
+/// number.
 fn in_place(opened: io::Result<File>, number: RawFd) -> Option<File> {
     match opened {
         Ok(file) if file.as_raw_fd() == number => Some(file),

@@ -22,7 +22,7 @@ use Rattle.osn_days.specs.Profile.{Profile}
 use Rattle.osn_days.specs.DateText.{at_least, date_text, text_of_date}
 use Rattle.osn_almanac.specs.Trimmed.{is_trimmed, AreTrimmed}
 
--- a last character is there, and is no space
+-- there is a last character, and it is not a space
 abbrev pub no_space_last : List ℕ → Bool
 no_space_last [] = false
 no_space_last (c ∷ []) = not (c == 32)

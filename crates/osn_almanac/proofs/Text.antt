@@ -57,7 +57,7 @@ concat_each f [] = refl
 concat_each f (x ∷ xs) =
     concat_append (f x) (flat_map f xs) ∙ ap (λ t. concat (f x) ++ t) (concat_each f xs)
 
--- the line of a source, where one is given
+-- the line of a source, if one is given
 pub concat_source : (source : Option (List ℕ)) → concat (source_lines source) ≡ source_text source
 concat_source None = refl
 concat_source (Some source) = append-nil (source_line source)

@@ -42,7 +42,8 @@ heading name code year =
     ++ (name
     ++ (codes " (" ++ (code ++ (codes ") for " ++ (signed_decimal year ++ codes "\n")))))
 
--- the name of the territory that has the code, of those that are listed, and no text where none has
+-- the name of the territory that has the code, of those that are listed, and no text if no
+-- territory has it
 abbrev pub name_among : List ℕ → List Land → List ℕ
 name_among code [] = []
 name_among code (land ∷ rest) =
@@ -84,7 +85,7 @@ figures_lines other = []
 
 -- ---- a source
 
--- the line that cites it, where one is given
+-- the line that cites it, if one is given
 abbrev pub source_lines : Option (List ℕ) → List (List ℕ)
 source_lines None = []
 source_lines (Some source) = source_line source ∷ []
@@ -134,7 +135,7 @@ easter_heading [] listed = codes "Easter never\n"
 easter_heading (found ∷ more) true = codes "Easter listed\n"
 easter_heading (found ∷ more) false = codes "Easter by rule\n"
 
--- a feast by the answer about its day, where the day is on the line
+-- a feast by the answer about its day, if the day is on the line
 abbrev pub feast_line_of : Feast → Answer → List ℕ
 feast_line_of feast (answers.OnDay found period) = day_line (feast_name feast) found.day found.dual
 feast_line_of feast other = absent_line (feast_name feast) (codes "off the line")

@@ -1,7 +1,7 @@
 -- Lines that do not end with a space.
 use Rattle.std.specs.Prelude.{ℕ, Bool, false, not, ◌&&◌, ◌==◌, IsTrue, List, [], ◌∷◌}
 
--- at the end stand a character that is no space, and a line feed
+-- at the end are a character that is not a space, and a line feed
 abbrev pub is_trimmed : List ℕ → Bool
 is_trimmed [] = false
 is_trimmed (c ∷ []) = false

@@ -120,12 +120,12 @@ is_between before year after =
 abbrev pub year_on : Profile → TerritoryModel → ℕ → ℤ
 year_on p t d = (dated_on p t d).label.year
 
--- the year has the change, is ended by it or is passed over by it
+-- the change is in the year, ends it or skips it
 abbrev pub is_change_of : Profile → TerritoryModel → ℕ → ℕ → Bool
 is_change_of p t year change =
     is_between (year_on p t (change - 1)) (pos year) (year_on p t change)
 
--- a part of the reckoning with its words before and from a change on, where it changed
+-- a part of the reckoning with its words before and from a change on, if it changed
 abbrev pub turned_if_other : List ℕ → List ℕ → List ℕ → List ℕ
 turned_if_other part old new = if bytes_eq old new then [] else turned_line part old new
 
@@ -160,7 +160,7 @@ change_lines p t sources change =
     ++ (source_text (period_source sources change)
     ++ turned_lines (regime_at t (change - 1)) (regime_at t change))
 
--- those of the change with which a period begins, where it is one of the year
+-- those of the change with which a period begins, if it is one of the year
 abbrev pub change_lines_if : Profile → TerritoryModel → Option SourcesModel → ℕ → Period → List ℕ
 change_lines_if p t sources year period =
     if nat_lt 1 period.first && is_change_of p t year period.first then
@@ -201,7 +201,7 @@ unfoldable pub feast_lines : Option SourcesModel → ℕ → Feast → DatedDay 
 feast_lines sources n f x =
     feast_name f ++ (codes ": " ++ (plain_day_line x ++ feast_source sources n f))
 
--- the same where the territory dated the feast's day in the year
+-- the same if the territory dated the feast's day in the year
 abbrev pub feast_on : Profile → TerritoryModel → Option SourcesModel → ℕ → ℕ → Feast → Option ℕ
     → List ℕ
 feast_on p t sources year n f None = []
@@ -242,7 +242,7 @@ unfoldable pub figures_heading : ℕ → List ℕ
 figures_heading year =
     codes "of the year " ++ (decimal year ++ codes " counted from 1 January:\n")
 
--- the figures, as the almanac has them
+-- the figures, as in the almanac
 abbrev pub figures_text : Profile → List LandModel → ℕ → List ℕ
 figures_text p lands year =
     figures_heading year ++ concat (figures_lines (answer p lands (YearFigures (pos year))))

@@ -16,7 +16,7 @@ use std::alloc::{AllocError, Global};
 /// The room that the text gets at first: that of a year with one Easter takes some 1,000 bytes.
 const ROOM: usize = 2048;
 
-/// The almanac, part by part.
+/// Returns the almanac, part by part.
 fn text_of_year(
     alloc: Global,
     register: &Register,
@@ -35,14 +35,14 @@ fn text_of_year(
     Ok(text)
 }
 
-/// The almanac of a territory and a year from 1 to 9999. It has the figures of the year, the
-/// changes that fall in it, its feasts and the first days of its months. The figures, the Easters
-/// and the heading count the year from 1 January, and the months count it as the territory does.
+/// Returns the almanac of a territory and a year from 1 to 9999. It has the figures of the year,
+/// the changes in it, its feasts and the first days of its months. The figures, the Easters and the
+/// heading count the year from 1 January, and the months count it as the territory does.
 ///
 /// # Errors
 ///
 /// Those of a query of the territory's Easters, in their order: `BadCode`, `UnknownLand`,
-/// `YearOffRange`. Else `NoMemory` where no memory is found.
+/// `YearOffRange`. Otherwise `NoMemory` if memory runs out.
 pub fn almanac_text(
     alloc: Global,
     register: &Register,

@@ -13,7 +13,7 @@ use osn_register::{Answer, BorrowedQuery, PeriodAndSource, Register};
 use std::alloc::{AllocError, Global};
 use std::fmt::Write;
 
-/// Whether the period begins with a change, on a day that has a Gregorian date in the year.
+/// Returns whether the period begins with a change, on a day that has a Gregorian date in the year.
 fn is_change_in(year: i64, period: &Period) -> bool
     ensures { result ≡ spec.is_change_in year period.now }
 {
@@ -72,7 +72,7 @@ fn push_cited_change(
     push_source(out, item.source.as_ref())
 }
 
-/// Appends the lines of a change, where it is one of the year.
+/// Appends the lines of a change, if it is one of the year.
 #[tactic(auto, unfolding(crate::specs::Almanac::change_of))]
 fn push_change_of(
     alloc: Global,

@@ -14,7 +14,7 @@ use osn_pages::push_source;
 use osn_register::{Answer, BorrowedQuery, Found, Register, Source};
 use std::alloc::AllocError;
 
-/// The line that says whether the territory had an Easter in the year, and by what.
+/// Returns the line that says whether the territory had an Easter in the year, and by what.
 fn easter_heading(found: &[Found], listed: bool) -> &'static str
     ensures { result.now ≡ spec.easter_heading found.now listed }
 {
@@ -40,7 +40,7 @@ fn push_feast_in(out: &mut String, feast: Feast, on_day: &Answer) -> Result<(), 
     }
 }
 
-/// The number of a feast's day, of a year with that Easter.
+/// Returns the number of a feast's day, of a year with that Easter.
 pub(crate) fn feast_day(easter: Day, feast: Feast) -> i64
     ensures { result ≡ pos easter +ℤ days_after_easter feast }
 {

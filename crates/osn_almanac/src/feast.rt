@@ -24,7 +24,7 @@ pub(crate) const FEASTS: [Feast; 6] = [
 ];
 
 impl Feast {
-    /// The English name.
+    /// Returns the English name.
     pub(crate) fn name(self) -> &'static str
         ensures { result.now ≡ spec.feast_name self }
     {
@@ -38,7 +38,7 @@ impl Feast {
         }
     }
 
-    /// How many days it is after Easter, a number below 0 where it is before.
+    /// Returns how many days it is after Easter, a number below 0 if it is before.
     pub(crate) fn days_after_easter(self) -> i8
         ensures { result ≡ spec.days_after_easter self }
     {

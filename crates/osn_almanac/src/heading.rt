@@ -10,7 +10,8 @@ use osn_register::{Answer, BorrowedQuery, Land, Register};
 use std::alloc::AllocError;
 use std::fmt::Write;
 
-/// The name of the territory that has the code, of these, or no text where none has it.
+/// Returns the name of the territory that has the code, of these, or no text if no territory has
+/// it.
 fn name_among<'a>(lands: &'a [Land], code: &str) -> &'a str
     ensures { result.now ≡ spec.name_among code.now lands.now }
 {
@@ -22,7 +23,7 @@ fn name_among<'a>(lands: &'a [Land], code: &str) -> &'a str
     ""
 }
 
-/// The name of the territory that has the code, by what is answered to `Query::Lands`.
+/// Returns the name of the territory that has the code, by what is answered to `Query::Lands`.
 fn name_in<'a>(lands: &'a Answer, code: &str) -> &'a str
     ensures { result.now ≡ spec.name_in code.now lands.now }
 {

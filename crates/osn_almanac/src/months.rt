@@ -15,7 +15,7 @@ use std::alloc::{AllocError, Global};
 /// The months of a year.
 const MONTHS: [u8; 12] = [1, 2, 3, 4, 5, 6, 7, 8, 9, 10, 11, 12];
 
-/// The Gregorian date of a day.
+/// Returns the Gregorian date of a day.
 fn gregorian_text(alloc: Global, day: Day) -> Result<String, AllocError>
     ensures { IfOk result (λ s. string_bytes s ≡ text_of_date (chain.date_of Gregorian day)) }
 {

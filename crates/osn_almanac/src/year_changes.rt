@@ -13,14 +13,14 @@ use osn_register::Register;
 use std::alloc::AllocError;
 use std::fmt::Write;
 
-/// Whether the year is one of these two, or lies between them.
+/// Returns whether the year is one of these two, or lies between them.
 fn is_between(before: i32, year: i32, after: i32) -> bool
     ensures { result ≡ spec.is_between before year after }
 {
     (before <= year && year <= after) || (after <= year && year <= before)
 }
 
-/// The day before a change.
+/// Returns the day before a change.
 fn day_before(change: Day) -> Day
     requires { 1 < change }
     ensures { result ≡ change - 1 }
@@ -28,7 +28,7 @@ fn day_before(change: Day) -> Day
     Day::on_line(i64::from(change.number()) - 1)
 }
 
-/// Whether the year has a change, is ended by it or is passed over by it.
+/// Returns whether a change is in the year, ends it or skips it.
 fn is_change_of(territory: &Territory, year: Year, change: Day) -> bool
     requires { 1 < change }
     ensures { result ≡ spec.is_change_of newest_rules territory.now year change }
@@ -143,7 +143,7 @@ fn push_change(
     push_parts(out, territory.regime_at(last), territory.regime_at(change))
 }
 
-/// Appends the lines of the change with which a period begins, where it is one of the year.
+/// Appends the lines of the change with which a period begins, if it is one of the year.
 fn push_change_if(
     out: &mut String,
     register: &Register,

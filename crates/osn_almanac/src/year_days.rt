@@ -14,7 +14,7 @@ use osn_pages::{DayInCalendar, NamedDay, YearEnds, dated_days, push_count, push_
 use std::alloc::{AllocError, Global};
 use std::fmt::Write;
 
-/// The year as labels have it.
+/// Returns the year as a label's year.
 pub(crate) fn label_year(year: Year) -> i32
     ensures { result ≡ pos year }
 {
@@ -30,14 +30,14 @@ pub(crate) enum Part {
     Month,
 }
 
-/// Whether a day is the next one on the line.
+/// Returns whether a day is the next one on the line.
 fn is_next(before: &DatedDay, after: &DatedDay) -> bool
     ensures { result ≡ is_next before.now after.now }
 {
     after.day.number() == before.day.number() + 1
 }
 
-/// Whether a day is of the same run as the day before it, or of the same month.
+/// Returns whether a day is of the same run as the day before it, or of the same month.
 fn goes_on(part: Part, before: &DatedDay, after: &DatedDay) -> bool
     ensures { result ≡ spec.goes_on part before.now after.now }
 {
@@ -47,7 +47,7 @@ fn goes_on(part: Part, before: &DatedDay, after: &DatedDay) -> bool
     }
 }
 
-/// How many days the first run or month has.
+/// Returns how many days the first run or month has.
 fn piece_len(part: Part, days: &[DatedDay]) -> usize
     requires { 0 < length days.now }
     ensures some { 0 < result }
@@ -97,7 +97,7 @@ fn push_run(
     push_line_ends(out, first_day, last_day)
 }
 
-/// A day by the Gregorian calendar.
+/// Returns a day by the Gregorian calendar.
 fn gregorian(day: Day) -> DayInCalendar
     ensures { (result.calendar ≡ Gregorian) × (result.day ≡ day) }
 {

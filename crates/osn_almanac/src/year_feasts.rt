@@ -15,14 +15,14 @@ use osn_register::Register;
 use std::alloc::{AllocError, Global};
 use std::fmt::Write;
 
-/// Whether the territory dated a day in a year.
+/// Returns whether the territory dated a day in a year.
 fn is_in_year(territory: &Territory, year: Year, day: Day) -> bool
     ensures { result ≡ spec.is_in_year newest_rules territory.now year day }
 {
     territory.dated(day).label.year == label_year(year)
 }
 
-/// The Easters of a year from 1 January, if it is one of those that have figures.
+/// Returns the Easters of a year from 1 January, if it is one of those that have figures.
 fn easters_from_january(
     alloc: Global,
     territory: &Territory,
@@ -37,7 +37,7 @@ fn easters_from_january(
     }
 }
 
-/// Appends the source of a listed Easter, where the feast is Easter.
+/// Appends the source of a listed Easter, if the feast is Easter.
 fn push_feast_source(
     out: &mut String,
     register: &Register,
@@ -72,14 +72,14 @@ fn push_feast_lines(
     push_feast_source(out, register, code, january_year, feast)
 }
 
-/// The day of a feast, if the line has it.
+/// Returns the day of a feast, if the line has it.
 fn day_of_feast(easter: Day, feast: Feast) -> Option<Day>
     ensures { result ≡ spec.feast_day newest_rules easter feast }
 {
     Day::new(feast_day(easter, feast))
 }
 
-/// Appends a feast of an Easter, where the territory dated it in the year.
+/// Appends a feast of an Easter, if the territory dated it in the year.
 fn push_feast(
     out: &mut String,
     register: &Register,
@@ -213,7 +213,7 @@ fn push_feasts_of_year(
     }
 }
 
-/// Whether an Easter of a year from 1 January fell in the year.
+/// Returns whether an Easter of a year from 1 January fell in the year.
 fn has_easter_of(
     alloc: Global,
     territory: &Territory,
@@ -227,7 +227,7 @@ fn has_easter_of(
     Ok(easters.iter().any(|day| is_in_year(territory, year, *day)))
 }
 
-/// Appends that no Easter fell in the year, where none did.
+/// Appends that no Easter fell in the year, if none did.
 fn push_no_easter(
     alloc: Global,
     out: &mut String,

@@ -78,7 +78,7 @@ fn push_year(
     push_figures_of(alloc, out, register, year)
 }
 
-/// The whole text of a year's page.
+/// Returns the whole text of a year's page.
 fn text_of(
     alloc: Global,
     register: &Register,
@@ -100,14 +100,14 @@ fn text_of(
     Ok(text)
 }
 
-/// The page of a year of the territory of that code as it counted the year, by what was published.
-/// Its feasts are those that the territory dated in the year, and its figures those of the year
-/// from 1 January.
+/// Returns the page of a year of the territory of that code as it counted the year, by what was
+/// published. Its feasts are those that the territory dated in the year, and its figures those of
+/// the year from 1 January.
 ///
 /// # Errors
 ///
-/// `BadCode` for a code that no territory can have, then `UnknownLand` where none has it. Else
-/// `NoMemory` where no memory is found.
+/// `BadCode` for a code that no territory can have, then `UnknownLand` if no territory has it.
+/// Otherwise `NoMemory` if memory runs out.
 pub fn year_page_text(
     alloc: Global,
     register: &Register,

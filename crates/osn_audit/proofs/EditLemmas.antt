@@ -1,4 +1,4 @@
--- Edits and batches that are applied in turn, and a register that goes on to a later edition.
+-- Edits and batches that are applied in turn, and a register that advances to a later edition.
 use Rattle.std.proofs.Common.{◌≡◌, ℕ, ◌+◌, ◌-◌, ◌<◌, ◌≤◌, List, [], ◌∷◌, ◌++◌, length, get_or}
 use Rattle.std.proofs.Common.{take, drop, refl, sym, ap, subst, ◌∙◌, arith, append_assoc, None}
 use Rattle.std.specs.List.{slice_range}

@@ -55,7 +55,7 @@ IsPlace-first limits given batches p same last edition register = record {
   from = omega (arith, edition);
 }
 
--- where each reader's last edition is 0, no reader has a reply
+-- if each reader's last edition is 0, no reader has a reply
 pub none_replied : (ps : List Place) (n : ℕ) → length ps ≡ n → All (λ p. p.last ≡ 0) ps
     → map (λ p. p.last) ps ≡ replicate n 0
 none_replied ps n count each = zeros ps each ∙ ap (λ k. replicate k 0) count

@@ -74,7 +74,7 @@ lower : (a b : ℕ) (ns : List ℕ) → a ≤ b → NeverFalls b ns → NeverFal
 lower a b [] order h = tt
 lower a b (n ∷ ns) order h = (omega (arith, order, h.0), h.1)
 
--- where a number is put in place of one that isn't greater, each is as great as before
+-- if a number replaces one that isn't greater, each is as great as before
 set_up : (xs : List ℕ) (i j x : ℕ) → get_or xs i 0 ≤ x → get_or xs j 0 ≤ get_or (set xs i x) j 0
 set_up [] i j x h = omega arith
 set_up (y ∷ ys) zero zero x h = h
@@ -139,7 +139,7 @@ with_entry s last next line ls e count says holds rest =
           (sym holds.next_is) (rest.1 reader))),
     )
 
--- lines that agree from here on, where the first has this number
+-- lines that agree from here on, if the first has this number
 abbrev agree_from : ObjectState → ℕ → List ℕ → List (List ℕ) → Result (List ℕ) (ℕ × LineFault)
 agree_from s k last ls = in_turn (after_object s) k (Some newest_version) last ls
 
@@ -201,7 +201,7 @@ agrees_by s ls n (Ok final) is h =
       },
     )
 
--- what an audit's yes says, where both inputs are known
+-- what an audit without a fault says, if both inputs are known
 pub agreed_on : (limits : Limits) (journal transcript : Option (List ℕ)) (s : ObjectState) (n : ℕ)
     → IfSome journal (λ edits. load newest_rules limits (lines edits) ≡ Ok s)
     → IfSome transcript (λ told. agreed_lines s (lines told) ≡ Ok n)

@@ -12,7 +12,7 @@ use Rattle.osn_files.proofs.TurnLemmas.{faults_from_1}
 use Rattle.osn_audit.specs.Audit.{after_object, after_lines, no_replies, count_or_fault}
 use Rattle.osn_audit.specs.Audit.{agreed_lines}
 
--- lines that are read by the newest version, where no reader has a reply
+-- lines that are read by the newest version, if no reader has a reply
 pub lines_read : (object s : ObjectState) (version : Version) (last : List ℕ)
     (ls : List (List ℕ)) → object ≡ s → version ≡ newest_version → last ≡ no_replies
     → in_turn (after_object object) 1 (Some version) last ls ≡ after_lines s ls

@@ -1,5 +1,5 @@
--- The audit of a transcript: its lines in turn against the object of a journal, up to the first
--- that is refused. This project's profile.
+-- The audit of a transcript: its lines compared in turn with the object of a journal, up to the
+-- first that is refused. This project's profile.
 use Rattle.std.specs.Prelude.{ℕ, ◌-◌, ℤ, pos, int_le, unsigned_abs, nat_lt, ◌&&◌, not, Bool, List}
 use Rattle.std.specs.Prelude.{length, take, replicate, slice_index, slice_set, if◌then◌else◌}
 use Rattle.std.specs.Prelude.{Some, option_and_then, Result, Ok, Err}
@@ -66,8 +66,8 @@ abbrev pub line_due : ObjectState → TranscriptLine → List ℕ
 line_due s e = reply_line
     (Replied e.reader (reply_at newest_rules s.limits (take e.edition s.batches) e.query))
 
--- a reply has this line, which has no number that is read as a float: for such a number no text is
--- laid down
+-- a reply without a number that is read as a float has this line: the text of such a number is not
+-- defined
 abbrev pub has_line : Data → List ℕ → Bool
 has_line reply line = not (has_float reply) && bytes_eq (line_of reply) line
 
@@ -78,7 +78,7 @@ agreed reply line = if has_line reply line then Ok reply else Err WrongReply
 abbrev pub last_of : List ℕ → ℕ → ℕ
 last_of last reader = slice_index last (reader - 1)
 
--- an entry that may be compared with the object: its reader may be told its edition, and its reply
+-- an entry that may be compared with the object: its reader may be given its edition, and its reply
 -- has no number that is read as a float
 abbrev pub checked : ObjectState → List ℕ → TranscriptLine → Result TranscriptLine WireFault
 checked s last e =

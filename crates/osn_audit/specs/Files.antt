@@ -9,9 +9,9 @@ use Rattle.osn_files.specs.Files.{ReadsFile}
 use Rattle.osn_files.specs.Journal.{load}
 use Rattle.osn_audit.specs.Audit.{agreed_lines}
 
--- The journal is read first, as a call that loads it does. Where that fails, its fault is the
--- audit's, and nothing of the transcript is read. Where it gives an object, the transcript is read,
--- up to the first line that does not agree with that.
+-- The journal is read first, as a call that loads it does. If that fails, its fault is the audit's,
+-- and the transcript is not read. If it gives an object, the transcript is read up to the first
+-- line that does not agree with it.
 abbrev pub AuditsFiles : {R S : Type 0} → Limits → Result ℕ FileFault
     → (R → Option (List ℕ)) → (R → Bool) → R → R
     → (S → Option (List ℕ)) → (S → Bool) → S → S → Type 0

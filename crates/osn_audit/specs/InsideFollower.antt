@@ -1,4 +1,4 @@
--- A register that goes on from edition to edition.
+-- A register that advances from edition to edition.
 use Rattle.std.specs.Prelude.{◌≡◌, ◌≤◌, List, length, take}
 use Rattle.osn_days.specs.Profile.{newest_rules}
 use Rattle.osn_register.specs.declared.edit.Edit.{Edit}

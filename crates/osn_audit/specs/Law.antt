@@ -1,5 +1,5 @@
--- What an audit's yes says of a transcript: each reply is what the journal gives, and no reader's
--- editions fall.
+-- What an audit without a fault says of a transcript: each reply is what the journal gives, and no
+-- reader's editions fall.
 use Rattle.std.specs.Prelude.{◌≡◌, ◌≤◌, ℕ, ◌==◌, if◌then◌else◌, List, [], ◌∷◌, ◌++◌, length}
 use Rattle.std.specs.Prelude.{false, Result, Ok, Err}
 use Rattle.std.specs.List.{All}
@@ -16,7 +16,7 @@ use Rattle.osn_audit.specs.Audit.{TranscriptLine, entry_in, line_due}
 abbrev pub entry_of : List ℕ → Result TranscriptLine WireFault
 entry_of line = object_of line >>= entry_in
 
--- a line is a query with a reply. Written with no space, the reply is the line of the object's
+-- a line is a query with a reply. Written without spaces, the reply is the line of the object's
 -- reply to the query after the first batches, as many as the edition that it names
 pub record IsAnswered (s : ObjectState) (line : List ℕ) : Type 0 where
   pub entry : TranscriptLine

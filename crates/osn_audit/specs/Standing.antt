@@ -1,5 +1,4 @@
--- What an audit has come to: the object of the journal, and the editions of the readers' last
--- replies.
+-- The state of an audit: the object of the journal, and the editions of the readers' last replies.
 use Rattle.std.specs.Prelude.{ℕ, List}
 use Rattle.osn_core.specs.Sequential.{ObjectState}
 

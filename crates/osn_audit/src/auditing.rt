@@ -22,7 +22,7 @@ use osn_request::{LineQuery, RequestError};
 use serde_json::Value;
 use std::alloc::{AllocError, Global};
 
-/// Whether a reply with no float, written with no space, has this line.
+/// Returns whether a reply without floats, written without spaces, has this line.
 fn has_line(alloc: Global, reply: &Value, line: &[u8]) -> Result<bool, AllocError>
     requires { spec_has_float (view reply.now) ≡ false }
     ensures { IfOk result (λ b. b ≡ spec.has_line (view reply.now) line.now) }
@@ -32,7 +32,7 @@ fn has_line(alloc: Global, reply: &Value, line: &[u8]) -> Result<bool, AllocErro
     Ok(text.as_slice() == line)
 }
 
-/// The reply that an entry should have. The entry's edition is the reader's last one then.
+/// Returns the reply that an entry should have. The entry's edition is then the reader's last one.
 fn reply_due(
     alloc: Global,
     followers: &mut Followers,
@@ -58,7 +58,8 @@ fn reply_due(
     }
 }
 
-/// What the reader of an entry should be told, whose last edition is that of the entry then.
+/// Returns the reply that the reader of an entry should have. The entry's edition is then the
+/// reader's last one.
 fn outcome_due(
     alloc: Global,
     followers: &mut Followers,
@@ -83,8 +84,8 @@ fn outcome_due(
     })
 }
 
-/// Puts the line of the reply that an entry should have in place of the one before. The entry's
-/// edition is the reader's last one then.
+/// Replaces the line by that of the reply that an entry should have. The entry's edition is then
+/// the reader's last one.
 fn put_line_due(
     alloc: Global,
     followers: &mut Followers,
@@ -107,8 +108,8 @@ fn put_line_due(
     push_reply(alloc, &outcome, line)
 }
 
-/// Whether an entry may be compared with the journal: its reader may be told its edition now, and
-/// its reply has no float. This takes no memory.
+/// Checks that an entry may be compared with the journal: its reader may be given its edition now,
+/// and its reply has no float. This takes no memory.
 fn check_entry(followers: &Followers, entry: &TranscriptLine) -> Result<(), WireFault>
     requires from_one { 0 < entry.now.reader }
     requires known { entry.now.reader ≤ MOST_READERS }
@@ -128,11 +129,10 @@ fn check_entry(followers: &Followers, entry: &TranscriptLine) -> Result<(), Wire
     Ok(())
 }
 
-/// Compares an entry with the journal. The line that is due stands in the room of the one before.
+/// Compares an entry with the journal. The line that is due replaces the one before.
 ///
 /// # Errors
-/// The entry's fault, or want of memory where its edition is one that its reader may be told and
-/// its reply has no float.
+/// Returns the entry's fault, or `NoMemory` for an entry that `check_entry` accepts.
 pub(crate) fn take_entry(
     alloc: Global,
     followers: &mut Followers,

@@ -14,14 +14,14 @@ use std::alloc::{AllocError, Global};
 #[derive(Drop)]
 pub(crate) struct Auditor {
     followers: Followers,
-    /// The reply line that was due last, whose room the next one takes.
+    /// The reply line that was due last. The next one reuses its memory.
     due: Vec<u8>,
 }
 
 impl Auditor {
     ghost use Rattle.osn_audit.specs.Audit.{no_replies};
 
-    /// Where no reader has a reply.
+    /// Returns an auditor that has no reply of a reader.
     pub(crate) fn new(alloc: Global, object: Object) -> Result<Auditor, AllocError>
         ensures object { IfOk result (λ a. a.followers.object ≡ object) }
         ensures last { IfOk result (λ a. a.followers.last ≡ no_replies) }

@@ -5,7 +5,7 @@ ghost use Rattle.serde_json.specs.Written as spec;
 
 use serde_json::{Map, Value};
 
-/// Whether a value has a number that is read as a float, however deep.
+/// Returns whether a value has a number that is read as a float, however deep.
 #[cycle(has_float)]
 pub(crate) fn has_float(value: &Value) -> bool
     ensures { result ≡ spec.has_float (view value.now) }

@@ -1,4 +1,4 @@
-//! A register that goes on from edition to edition.
+//! A register that advances from edition to edition.
 ghost use Rattle.std.specs.Prelude.{◌≡◌, ◌≤◌, [], IfOk, OnOk, length, take};
 ghost use Rattle.osn_days.specs.Profile.{newest_rules};
 ghost use Rattle.osn_register.specs.BorrowedQuery.{as_query};
@@ -12,7 +12,7 @@ use osn_register::{Answer, BorrowedQuery, Edit, Limits, Register};
 use std::alloc::{AllocError, Global};
 use std::mem;
 
-/// Applies edits that are lawful, each in its turn, with no further check.
+/// Applies edits that are lawful, each in its turn, without another check.
 fn admit_edits(register: &mut Register, edits: &[Edit]) -> Result<(), AllocError>
     requires { AreLawful newest_rules register.old.limits register.old.lands edits.now }
     ensures { OnOk result (register.new ≡ record register.old {
@@ -46,7 +46,7 @@ pub(crate) struct Follower {
 }
 
 impl Follower {
-    /// At edition 0, which is empty.
+    /// Returns a follower at edition 0, which is empty.
     pub(crate) fn new(alloc: Global, limits: Limits) -> Follower
         ensures edition { result.edition ≡ 0 }
         ensures register { result.register ≡ folded newest_rules limits [] }
@@ -57,7 +57,7 @@ impl Follower {
         }
     }
 
-    /// The same at an edition that is not before its own.
+    /// Returns the follower at an edition that is not before its own.
     fn at(self, batches: &[Batch], edition: u32) -> Result<Follower, AllocError>
         requires at { IsAt self.register.limits batches.now self }
         requires lawful { AreLawful newest_rules self.register.limits [] (joined batches.now) }
@@ -74,8 +74,8 @@ impl Follower {
         Ok(Follower { edition, register })
     }
 
-    /// The answer to a query under an edition of the object that is not before its own, to which it
-    /// goes on. Where memory runs out it is at edition 0.
+    /// Advances to an edition of the object that is not before its own, and returns the answer to a
+    /// query under that edition. If memory runs out, the follower is at edition 0.
     pub(crate) fn ask(
         &mut self,
         alloc: Global,

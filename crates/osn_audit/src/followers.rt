@@ -1,5 +1,5 @@
 //! The registers that replies are compared with: one of the greatest edition that a reply named,
-//! and one for each reader who was told an edition before that.
+//! and one for each reader with a reply of an earlier edition.
 ghost use Rattle.std.specs.Prelude.{◌≡◌, ◌<◌, ◌≤◌, ◌-◌, Ok, Err, IfOk, OnOk, MatchResult, length};
 ghost use Rattle.std.specs.Prelude.{take, slice_set};
 ghost use Rattle.osn_days.specs.Profile.{newest_rules};
@@ -23,8 +23,8 @@ struct Place {
     own: Follower,
 }
 
-/// The object of a journal, and registers of it. Each only goes on from edition to edition, so an
-/// audit applies each edit once, and once more for each reader at most.
+/// The object of a journal, and registers of it. Each register only advances from edition to
+/// edition, so an audit applies each edit once, and at most once more for each reader.
 #[derive(Drop)]
 pub(crate) struct Followers {
     alloc: Global,
@@ -47,7 +47,7 @@ impl Model for Followers {
 }
 
 impl Followers {
-    /// Where no reader has a reply.
+    /// Returns followers that have no reply of a reader.
     pub(crate) fn new(alloc: Global, object: Object) -> Result<Followers, AllocError>
         ensures object { IfOk result (λ f. f.object ≡ object) }
         ensures last { IfOk result (λ f. f.last ≡ no_replies) }
@@ -67,7 +67,7 @@ impl Followers {
         })
     }
 
-    /// Whether a reader may be told an edition now.
+    /// Checks that a reader may be given an edition now.
     pub(crate) fn check(&self, reader: u32, edition: u32) -> Result<(), WireFault>
         requires from_one { 0 < reader }
         requires known { reader ≤ MOST_READERS }
@@ -86,8 +86,8 @@ impl Followers {
         Ok(())
     }
 
-    /// The answer to a query under the edition of a reader's last reply, by the latest register
-    /// where that is not after it, else by the reader's own.
+    /// Returns the answer to a query under the edition of a reader's last reply, from the latest
+    /// register if that is not after the edition, and otherwise from the reader's own.
     fn answer(&mut self, reader: u32, query: BorrowedQuery<'_>) -> Result<Answer, AllocError>
         requires from_one { 0 < reader }
         requires known { reader ≤ MOST_READERS }
@@ -104,8 +104,8 @@ impl Followers {
         }
     }
 
-    /// The reply to a query of a reader under an edition that `check` has let in, which is the
-    /// reader's last one then.
+    /// Returns the reply to a query of a reader under an edition that `check` accepted, which is
+    /// then the reader's last one.
     pub(crate) fn ask(
         &mut self,
         reader: u32,

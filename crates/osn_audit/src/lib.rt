@@ -1,7 +1,7 @@
-//! Transcripts compared with journals. What the crate promises to those above: `audit` answers how
-//! many lines a transcript has, or the first fault with its file and its line. Where it answers a
-//! number, each line is a query with the very reply that the journal gives under the edition that
-//! the reply names.
+//! Compares transcripts with journals. The crate guarantees that `audit` returns the number of
+//! lines of a transcript, or the first fault with its file and its line. If it returns a number,
+//! each line is a query with exactly the reply that the journal gives under the edition that the
+//! reply names.
 #![tactic(auto)]
 
 mod auditing;

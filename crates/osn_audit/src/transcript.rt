@@ -18,7 +18,7 @@ use osn_lines::Source;
 use osn_register::Limits;
 use std::alloc::Global;
 
-/// Compares a transcript with an object, and answers the number of its lines.
+/// Compares a transcript with an object, and returns the number of its lines.
 fn audit_lines<S: Source>(
     alloc: Global,
     object: Object,
@@ -35,23 +35,23 @@ fn audit_lines<S: Source>(
     Ok(count)
 }
 
-/// Compares a transcript with the object of a journal under these limits, and answers the number of
+/// Compares a transcript with the object of a journal under these limits, and returns the number of
 /// its lines, all of which agree. A line of a transcript has an `ask`, which is the request of a
-/// query by a reader from 1 to 64, and a `reply`. They agree where the reply names an edition of
-/// the journal that is not before the reader's last one in the transcript. Written with no space,
-/// the reply also has to be the reply line to the query under that edition. Edits that the journal
-/// leaves pending are in no edition.
+/// query by a reader from 1 to 64, and a `reply`. They agree if the reply names an edition of the
+/// journal that is not before the reader's last one in the transcript. Written without spaces, the
+/// reply must also be the reply line to the query under that edition. Edits that the journal leaves
+/// pending are in no edition.
 ///
-/// Besides the object, memory holds a register of the greatest edition that a reply named, and one
-/// for each reader who was told an edition before that. It also holds what `take_lines` has, the
-/// value of one line, and the texts of its reply and of the one that is due.
+/// Besides the object, memory contains a register of the greatest edition that a reply named, and
+/// one for each reader with a reply of an earlier edition. It also contains what `take_lines` has,
+/// the value of one line, and the texts of its reply and of the reply that is due.
 ///
 /// # Errors
 ///
-/// `BadLine` for the first line that is refused, with its file. The journal is loaded first, as by
-/// `load_journal`, and nothing of the transcript is read where that fails. `ReadFault` where a
-/// source failed, or gave no end within 4,294,967,295 reads. `NoMemory` where a growth of memory
-/// was refused, which leaves open whether the line that was being read has a fault.
+/// Returns `BadLine` for the first line that is refused, with its file. The journal is loaded
+/// first, as by `load_journal`, and the transcript is not read if that fails. Returns `ReadFault`
+/// if a source failed, or didn't end within 4,294,967,295 reads. Returns `NoMemory` if memory runs
+/// out; the line that was being read may have a fault or not.
 pub fn audit<R: Source, S: Source>(
     alloc: Global,
     limits: Limits,

@@ -11,7 +11,7 @@ use osn_format::{Member, WireFault};
 use osn_request::{LineObject, LineQuery, whole_at};
 use serde_json::Value;
 
-/// A member that is an object.
+/// Returns a member that is an object.
 fn object_at<'a>(object: &'a LineObject<'_>, member: Member) -> Result<&'a Value, WireFault>
     ensures { MatchResult result
         (λ v. spec.object_at member (line_data object.now) ≡ Ok (view v.now))
@@ -23,7 +23,7 @@ fn object_at<'a>(object: &'a LineObject<'_>, member: Member) -> Result<&'a Value
     }
 }
 
-/// The edition that a reply names.
+/// Returns the edition that a reply names.
 fn edition_of(reply: &Value) -> Result<u32, WireFault>
     ensures { result ≡ spec.edition_of (view reply.now) }
 {
@@ -43,7 +43,7 @@ pub(crate) struct TranscriptLine<'a> {
     pub(crate) reply: &'a Value,
 }
 
-/// What the object of a line says, which borrows from it.
+/// Returns what the object of a line says, borrowed from it.
 #[tactic(auto, unfolding(crate::specs::Audit::entry_in))]
 pub(crate) fn entry_in<'a>(object: &'a LineObject<'_>) -> Result<TranscriptLine<'a>, WireFault>
     ensures entry { MatchResult result

@@ -1,7 +1,7 @@
-//! The dates that a change passes over, labels off the line, and how a territory dates its days.
-//! The days are Python's `toordinal` and those of the Julian day number's formula. The changes are
-//! those of the Calendar (New Style) Act 1750, and of Sweden in 1700, 1712 and 1753. One is that of
-//! the French edict that moved the beginning of the year to 1 January 1567.
+//! The dates that a change skips, labels off the line, and how a territory dates its days. The days
+//! are Python's `toordinal` and those of the Julian day number's formula. The changes are those of
+//! the Calendar (New Style) Act 1750, and of Sweden in 1700, 1712 and 1753. One is that of the
+//! French edict that moved the beginning of the year to 1 January 1567.
 use crate::compare::same;
 use crate::named::{day_of, label, regime_of};
 use osn_computus::Rule;
@@ -29,8 +29,8 @@ const SWEDEN: [Change; 2] = [
 
 const FRANCE: [Change; 1] = [(571_980, Calendar::Julian, Style::January)];
 
-/// A territory of the Julian calendar that opens with a style, changes so, and goes over to the
-/// Gregorian calendar on a day.
+/// Returns a territory of the Julian calendar that opens with a style, changes so, and goes over to
+/// the Gregorian calendar on a day.
 fn changed(
     alloc: Global,
     style: Style,

@@ -1,5 +1,6 @@
 //! Dates as people write them. Each row is a text and what it says, in a short notation. It has the
-//! numbers of year, month and day, `+` after a double year, and then what is said beside the day.
+//! numbers of year, month and day, `+` after a double year, and then what the text says beside the
+//! day.
 use crate::compare::same;
 use osn_grammar::{DateOrder, Written, members_of, read_date};
 use osn_written::{AnyDate, DateFault, Extent, SimpleDate, Year};
@@ -8,7 +9,7 @@ use std::fmt::{self, Display, Formatter, Write};
 use std::process::Abort;
 use std::test::Fail;
 
-/// A year, with `+` where it is double.
+/// A year, with `+` if it is double.
 #[derive(Clone, Copy)]
 struct ShownYear(Year);
 
@@ -58,7 +59,7 @@ impl Display for ShownExtent {
     }
 }
 
-/// A date, and what is said beside its day.
+/// A date, and what its text says beside its day.
 #[derive(Clone, Copy)]
 struct ShownWritten(AnyDate);
 
@@ -83,7 +84,7 @@ impl Display for ShownWritten {
     }
 }
 
-/// What a text says, or why it is no date.
+/// What a text says, or why it is not a date.
 #[derive(Clone, Copy)]
 struct ReadText(Result<Written, DateFault>);
 
@@ -98,7 +99,7 @@ impl Display for ReadText {
     }
 }
 
-/// Checks that texts are read so. After a set stand its dates.
+/// Checks that texts are read so. A set is followed by its dates.
 fn are_read(
     rt: &impl Abort,
     alloc: Global,

@@ -102,14 +102,14 @@ const CALLS: [(Call, Result<(), LandFault>); 23] = [
     (Call::AlterChange(1, JULIAN), Ok(())),
 ];
 
-/// The periods that stand then.
+/// The periods after these calls.
 const PERIODS: [(u32, u32, Regime); 3] = [
     (1, 1, JULIAN),
     (2, 639_796, JULIAN),
     (639_797, HIGH, GREGORIAN),
 ];
 
-/// A territory after some calls, each of which is answered so.
+/// Returns a territory after some calls, each of which is answered so.
 fn changed(
     rt: &impl Abort,
     alloc: Global,
@@ -199,7 +199,7 @@ const READ: [Read; 5] = [
     ((9999, 12, 31), Some(HIGH), None),
 ];
 
-/// The first of some days.
+/// Returns the first of some days.
 fn first_of(days: Vec<Day>) -> Option<Day> {
     days.first().copied()
 }
@@ -221,7 +221,7 @@ fn dates_are_read_or_skipped(rt: HostRuntime) -> Result<(), Fail> {
     Ok(())
 }
 
-/// A territory that changes its calendar forty times, every 1,000 days from day 401000 on.
+/// Returns a territory that changes its calendar forty times, every 1,000 days from day 401000 on.
 pub fn of_forty_changes(alloc: Global) -> Result<Territory, LandFault> {
     let mut territory = Territory::new(alloc, JULIAN)?;
     for place in 1..41 {
@@ -284,7 +284,7 @@ fn unlisted(territory: &mut Territory, year: Year) -> bool {
     true
 }
 
-/// Makes a change where it is lawful, by the calls that refuse nothing, and says whether it was.
+/// Makes a change if it is lawful, by the calls that refuse nothing, and returns whether it was.
 fn admitted(territory: &mut Territory, call: Call) -> Result<bool, AllocError> {
     match call {
         Call::AddChange(day, regime) => inserted(territory, day_of(day), regime),
@@ -295,7 +295,7 @@ fn admitted(territory: &mut Territory, call: Call) -> Result<bool, AllocError> {
     }
 }
 
-/// A territory after the lawful ones of some calls.
+/// Returns a territory after the lawful ones of some calls.
 fn admitting(
     rt: &impl Abort,
     alloc: Global,

@@ -1,6 +1,6 @@
 //! Tests of the calendars, the computus and the territories over their public calls. What a
-//! contract says is not tested again. Here stand values from outside, and the slow programs that
-//! the definitions describe, beside the quick ones.
+//! contract says is not tested again. The tests contain values from outside, and the slow programs
+//! that the definitions describe, beside the quick ones.
 #![tactic(auto)]
 
 #[cfg(test)]

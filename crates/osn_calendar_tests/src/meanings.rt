@@ -127,7 +127,7 @@ const FRENCH: [(&str, &str); 7] = [
     ),
 ];
 
-/// In Great Britain: members that overlap, that touch, that stand in any order or mean no day.
+/// In Great Britain: members that overlap, that touch, that are in any order or mean no day.
 const SETS: [(&str, &str); 10] = [
     ("[1731-03-20,1731-03-26]", "set: 1731-04-06 1732-03-31"),
     ("[1731-03-26?,1731-03-20?]", "set: 1731-04-06 1732-03-31"),
@@ -200,7 +200,7 @@ fn push_runs(
     }
 }
 
-/// The same of the set that a text is.
+/// Appends the same for the set that a text is.
 fn push_set(
     alloc: Global,
     out: &mut String,
@@ -215,7 +215,7 @@ fn push_set(
     }
 }
 
-/// What a text means in a territory.
+/// Returns what a text means in a territory.
 fn meaning_of(alloc: Global, territory: &Territory, text: &str) -> Result<String, AllocError> {
     let mut out = String::new(alloc);
     match read_date(alloc, text, DateOrder::Unknown)? {

@@ -105,7 +105,7 @@ fn turned_back(alloc: Global) -> Result<Territory, LandFault> {
     Ok(territory)
 }
 
-/// The date that is written so.
+/// Returns the date that is written so.
 pub fn date_of(written: Written) -> SimpleDate {
     let (first, is_double, month, day) = written;
     let year = Year {
@@ -120,12 +120,12 @@ pub fn date_of(written: Written) -> SimpleDate {
     }
 }
 
-/// The first and the last day of a run.
+/// Returns the first and the last day of a run.
 fn ends(run: &Run) -> Option<(u32, u32)> {
     Some((run.first.number(), run.last.number()))
 }
 
-/// The ends of at most two runs, and of more than two what no row wants.
+/// Returns the ends of at most two runs, and for more than two what no row expects.
 fn ends_of(runs: &[Run]) -> Runs {
     match runs {
         [] => NONE,

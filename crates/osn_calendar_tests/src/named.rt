@@ -6,12 +6,12 @@ use osn_lands::{Label, Regime, Style, day_of_label, dual_text, label_of};
 use std::alloc::{AllocError, Global};
 use std::process::Abort;
 
-/// The day of a number on the line.
+/// Returns the day of a number on the line.
 pub fn day_of(number: u32) -> Day {
     Day::new(i64::from(number)).unwrap_or(Day::FIRST)
 }
 
-/// The label of a year, a month and a day.
+/// Returns the label of a year, a month and a day.
 pub fn label(ymd: (i32, u8, u8)) -> Label {
     Label {
         year: ymd.0,
@@ -23,7 +23,7 @@ pub fn label(ymd: (i32, u8, u8)) -> Label {
 /// A day under a regime of a calendar and a style: its number, its label and its dual text.
 pub type Named = (Calendar, Style, u32, (i32, u8, u8), &'static str);
 
-/// The regime of a calendar and a style under the Julian rule.
+/// Returns the regime of a calendar and a style under the Julian rule.
 pub fn regime_of(calendar: Calendar, style: Style) -> Regime {
     let rule = Rule::Julian;
     Regime {

@@ -7,10 +7,10 @@ use std::alloc::AllocError;
 use std::process::Abort;
 use std::test::Fail;
 
-/// The first day, the last and the number of days: all 0 where there are no days.
+/// The first day, the last and the number of days: all 0 if there are no days.
 type Days = (u32, u32, u32);
 
-/// The days of runs.
+/// Returns the days of runs.
 fn days_in(runs: &[Run]) -> Days {
     let (Some(first), Some(last)) = (runs.first(), runs.last()) else {
         return (0, 0, 0);

@@ -90,7 +90,7 @@ const BOUNDS: [(Bound, Written, Span); 8] = [
     ),
 ];
 
-/// What a date says that bounds what may be.
+/// Returns what a date says that bounds what may be.
 fn bounded(bound: Bound, written: Written) -> Extent {
     let date = date_of(written);
     match bound {
@@ -102,7 +102,7 @@ fn bounded(bound: Bound, written: Written) -> Extent {
     }
 }
 
-/// The first and the last day of a range or a bound.
+/// Returns the first and the last day of a range or a bound.
 fn span_of(alloc: Global, territory: &Territory, extent: Extent) -> Result<Span, AllocError> {
     let span = span_meant(alloc, territory, extent)?;
     Ok(span.map(|run| (run.first.number(), run.last.number())))

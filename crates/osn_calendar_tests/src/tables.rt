@@ -1,5 +1,5 @@
-//! The slow programs of the figures. They are the tables as they stand, searches through the line
-//! of days, and a walk that keeps the letter of the day. Beside them the quick calls.
+//! The slow programs of the figures. They are the tables as printed, searches through the line of
+//! days, and a walk that keeps the letter of the day. They are compared with the quick calls.
 use crate::compare::same;
 use crate::walk::day_at;
 use osn_computus::{Epact, Letter, Letters, Rule, golden_number, gregorian_epact};
@@ -70,7 +70,7 @@ fn row_at(rows: &[(u8, u8)], place: usize) -> Option<(u8, u8)> {
     rows.get(place).copied()
 }
 
-/// The full moon of a golden number.
+/// Returns the full moon of a golden number.
 fn julian_full_moon(golden: u8) -> Option<(u8, u8)> {
     row_at(&JULIAN_FULL_MOONS, golden.saturating_sub(1) as usize)
 }
@@ -88,12 +88,12 @@ fn row_of(rows: &[(u8, u8, u8, bool)], epact: Epact) -> Option<(u8, u8)> {
     None
 }
 
-/// The day that stands beside the epact.
+/// Returns the day of the epact.
 fn gregorian_new_moon(epact: Epact) -> Option<(u8, u8)> {
     row_of(&PASCHAL_ROWS, epact)
 }
 
-/// The day of the line with a date.
+/// Returns the day of the line with a date.
 fn day_with(calendar: Calendar, date: Date) -> Option<Day> {
     for number in 1..HIGH + 1 {
         let day = day_at(number);
@@ -112,7 +112,7 @@ fn date_in(year: Year, month: u8, day: u8) -> Date {
     }
 }
 
-/// The full moon of the table, or 13 days after the new moon.
+/// Returns the full moon of the table, or 13 days after the new moon.
 fn paschal_moon(rule: Rule, year: Year) -> Option<Day> {
     match rule {
         Rule::Julian => {
@@ -126,7 +126,7 @@ fn paschal_moon(rule: Rule, year: Year) -> Option<Day> {
     }
 }
 
-/// The first Sunday strictly after a day.
+/// Returns the first Sunday strictly after a day.
 fn first_sunday_after(moon: Day) -> Option<Day> {
     for number in 1..HIGH + 1 {
         if moon.number() < number && number % 7 == 0 {
@@ -136,7 +136,7 @@ fn first_sunday_after(moon: Day) -> Option<Day> {
     None
 }
 
-/// The first Sunday after the paschal moon.
+/// Returns the first Sunday after the paschal moon.
 fn easter(rule: Rule, year: Year) -> Option<Day> {
     first_sunday_after(paschal_moon(rule, year)?)
 }
@@ -167,7 +167,7 @@ fn next_letter(letter: Letter) -> Letter {
     }
 }
 
-/// The letter of a date, from the letter of the day before.
+/// Returns the letter of a date, from the letter of the day before.
 fn letter_after(date: Date, letter: Letter) -> Letter {
     if date.month == 1 && date.day == 1 {
         Letter::A
@@ -178,14 +178,14 @@ fn letter_after(date: Date, letter: Letter) -> Letter {
     }
 }
 
-/// Whether the day is a Sunday of the year, in the months from one to another.
+/// Returns whether the day is a Sunday of the year, in the months from one to another.
 fn is_sunday_of(calendar: Calendar, year: Year, low: u8, high: u8, day: Day) -> bool {
     let date = date_of(calendar, day);
     day.number() % 7 == 0
         && (date.year == year.number() as i32 && (low <= date.month && date.month <= high))
 }
 
-/// The letter of the first of those Sundays.
+/// Returns the letter of the first of those Sundays.
 fn letter_of_sundays(calendar: Calendar, year: Year, low: u8, high: u8) -> Option<Letter> {
     let mut letter = first_letter(calendar);
     for number in 1..HIGH + 1 {
@@ -200,7 +200,7 @@ fn letter_of_sundays(calendar: Calendar, year: Year, low: u8, high: u8) -> Optio
     None
 }
 
-/// The letters of the first Sundays of January and from March on, or `None` for the Swedish
+/// Returns the letters of the first Sundays of January and from March on, or `None` for the Swedish
 /// calendar.
 fn sunday_letters(calendar: Calendar, year: Year) -> Option<Letters> {
     if !has_letters(calendar) {

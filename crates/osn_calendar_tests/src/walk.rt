@@ -6,7 +6,7 @@ ghost use Rattle.osn_days.specs.Line.{IsDay};
 use crate::compare::same;
 use osn_days::{Calendar, Date, Day, HIGH, date_of, day_of};
 
-/// The day of a number of the line.
+/// Returns the day of a number of the line.
 pub fn day_at(number: u32) -> Day
     requires { IsDay newest_rules number }
 {
@@ -21,7 +21,7 @@ fn month_length(year: i32, month: u8) -> u8 {
     }
 }
 
-/// The date after a date.
+/// Returns the date after a date.
 fn next(date: Date) -> Date {
     if date == february(1700, 28) {
         march_1(1700)

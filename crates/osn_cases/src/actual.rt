@@ -15,7 +15,7 @@ pub(crate) struct Actual {
     pub status: u8,
 }
 
-/// What a run of the program leaves.
+/// Returns what a run of the program leaves.
 fn run_program<R: Threads + Wait + AllocGlobal>(
     rt: &R,
     folder: &mut MemoryFolder,
@@ -42,7 +42,7 @@ fn run_program<R: Threads + Wait + AllocGlobal>(
     }
 }
 
-/// What a command leaves that prints these bytes.
+/// Returns what a command leaves that prints these bytes.
 fn printed(alloc: Global, bytes: &[u8]) -> Result<Actual, AllocError> {
     Ok(Actual {
         output: Vec::from_slice(alloc, bytes)?,
@@ -51,7 +51,7 @@ fn printed(alloc: Global, bytes: &[u8]) -> Result<Actual, AllocError> {
     })
 }
 
-/// What a command leaves that can't be done.
+/// Returns what a command leaves that can't be done.
 fn refused(alloc: Global, word: &str, why: &str) -> Result<Actual, AllocError> {
     Ok(Actual {
         output: Vec::new(alloc),
@@ -64,7 +64,7 @@ fn refused(alloc: Global, word: &str, why: &str) -> Result<Actual, AllocError> {
 ///
 /// # Errors
 ///
-/// Out of memory.
+/// Returns `AllocError` if memory runs out.
 pub(crate) fn do_step<R: Threads + Wait + AllocGlobal>(
     rt: &R,
     folder: &mut MemoryFolder,

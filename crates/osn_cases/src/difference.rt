@@ -1,4 +1,4 @@
-//! Where what a command left differs from what is expected of it.
+//! The first difference between what a command left and what is expected of it.
 ghost use Rattle.std.specs.Prelude.{◌≡◌, IfNone, IfOk};
 
 use crate::actual::Actual;
@@ -15,7 +15,8 @@ pub(crate) struct Difference {
     pub actual: String,
 }
 
-/// The line of some bytes at this place, as a case shows it, after what a case has before it.
+/// Returns the line of some bytes at this place, as a case shows it, after what a case has before
+/// it.
 fn line_at(alloc: Global, bytes: &[u8], place: usize, mark: &str) -> Result<String, AllocError> {
     match bytes.split_inclusive(|byte| *byte == b'\n').nth(place) {
         Some(line) => format!(in alloc; "{mark}{}", shown(alloc, line)?),
@@ -23,7 +24,7 @@ fn line_at(alloc: Global, bytes: &[u8], place: usize, mark: &str) -> Result<Stri
     }
 }
 
-/// How many whole lines some bytes begin with that others begin with too.
+/// Returns the number of whole lines with which both texts begin.
 fn same_lines(left: &[u8], right: &[u8]) -> usize {
     let same = left
         .iter()
@@ -32,7 +33,7 @@ fn same_lines(left: &[u8], right: &[u8]) -> usize {
     same.filter(|(byte, _)| **byte == b'\n').count()
 }
 
-/// The first line of a stream that differs, if one does.
+/// Returns the first line of a stream that differs, if one does.
 fn stream_difference(
     alloc: Global,
     step: &Step,
@@ -53,12 +54,12 @@ fn stream_difference(
     }))
 }
 
-/// The first difference of what a command left, if there is one: in its text on standard error, its
-/// output or its status.
+/// Returns the first difference of what a command left, if there is one: in its text on standard
+/// error, its output or its status.
 ///
 /// # Errors
 ///
-/// Out of memory.
+/// Returns `AllocError` if memory runs out.
 pub(crate) fn difference_of(
     alloc: Global,
     step: &Step,

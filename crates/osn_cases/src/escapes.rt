@@ -1,4 +1,4 @@
-//! The bytes that a line of a case stands for, and the line that shows some bytes.
+//! The bytes of a line of a case, and the line that shows some bytes.
 use std::alloc::{AllocError, Global};
 
 /// A line that ends in this has escapes.
@@ -16,8 +16,8 @@ const LETTERS: [(char, u8); 5] = [
     ('e', 27),
 ];
 
-/// The byte of an escape whose backslash was taken off, and what follows it. An escape is one of
-/// the letters, or `x` and two hexadecimal digits.
+/// Returns the byte of an escape whose backslash was taken off, and what follows it. An escape is
+/// one of the letters, or `x` and two hexadecimal digits.
 fn escaped(text: &str) -> Option<(u8, &str)> {
     for (letter, byte) in LETTERS {
         if let Some(rest) = text.strip_prefix(letter) {
@@ -29,7 +29,7 @@ fn escaped(text: &str) -> Option<(u8, &str)> {
     Some((byte, digits.get(2..)?))
 }
 
-/// Adds the bytes of a text with escapes. What is no escape stands for itself.
+/// Adds the bytes of a text with escapes. What is not an escape is kept as it is.
 fn push_escaped(bytes: &mut Vec<u8>, text: &str) -> Result<(), AllocError> {
     let mut is_plain = true;
     for part in text.split('\\') {
@@ -48,11 +48,11 @@ fn push_escaped(bytes: &mut Vec<u8>, text: &str) -> Result<(), AllocError> {
     Ok(())
 }
 
-/// Adds the bytes that a line of a case stands for, with a line feed unless it has none.
+/// Adds the bytes of a line of a case, with a line feed unless it has none.
 ///
 /// # Errors
 ///
-/// Out of memory.
+/// Returns `AllocError` if memory runs out.
 pub(crate) fn push_line(bytes: &mut Vec<u8>, line: &str) -> Result<(), AllocError> {
     let (text, feed) = match line.strip_suffix(NO_FEED) {
         Some(text) => (text, ""),
@@ -65,11 +65,11 @@ pub(crate) fn push_line(bytes: &mut Vec<u8>, line: &str) -> Result<(), AllocErro
     bytes.extend_from_slice(feed.as_bytes())
 }
 
-/// The line of a case that shows some bytes, which are those of one line.
+/// Returns the line of a case that shows some bytes, which are those of one line.
 ///
 /// # Errors
 ///
-/// Out of memory.
+/// Returns `AllocError` if memory runs out.
 pub(crate) fn shown(alloc: Global, bytes: &[u8]) -> Result<String, AllocError> {
     let (line, mark) = match bytes {
         [line @ .., b'\n'] => (line, ""),
@@ -88,7 +88,7 @@ pub(crate) fn shown(alloc: Global, bytes: &[u8]) -> Result<String, AllocError> {
     Ok(text)
 }
 
-/// A text with its backslashes and its control characters as escapes.
+/// Returns a text with its backslashes and its control characters as escapes.
 fn escaped_text(alloc: Global, text: &str) -> Result<String, AllocError> {
     let mut escaped = String::new(alloc);
     for character in text.chars() {

@@ -34,7 +34,7 @@ pub(crate) struct Expected {
     blanks: usize,
 }
 
-/// The status that a line as `[2]` says.
+/// Returns the status of a line such as `[2]`.
 fn status_of(line: &str) -> Option<u8> {
     line.strip_prefix('[')?
         .strip_suffix(']')?
@@ -43,7 +43,7 @@ fn status_of(line: &str) -> Option<u8> {
 }
 
 impl Expected {
-    /// Nothing, and status 0.
+    /// Returns no output, and status 0.
     pub(crate) fn new(alloc: Global) -> Expected {
         Expected {
             output: Stream::new(alloc),
@@ -58,7 +58,7 @@ impl Expected {
     ///
     /// # Errors
     ///
-    /// Out of memory.
+    /// Returns `AllocError` if memory runs out.
     pub(crate) fn add(&mut self, number: usize, line: &str) -> Result<(), AllocError> {
         if line.is_empty() {
             self.blanks = self.blanks.saturating_add(1);

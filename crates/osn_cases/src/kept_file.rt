@@ -14,7 +14,7 @@ pub(crate) struct MemoryFile {
 }
 
 impl MemoryFile {
-    /// One that holds these bytes, and the bytes.
+    /// Returns a file with these bytes, and the bytes.
     pub(crate) fn of(alloc: Global, bytes: &[u8]) -> Result<(MemoryFile, Vec<u8>), AllocError>
         ensures { IfOk result (λ both. (both.0.contents.items ≡ both.1.items)
             × (both.0.synced.items ≡ both.1.items) × (both.0.fault ≡ None)) }
@@ -28,7 +28,7 @@ impl MemoryFile {
         Ok((kept, Vec::from_slice(alloc, bytes)?))
     }
 
-    /// What it holds.
+    /// Returns the contents of the file.
     pub(crate) fn contents(&self) -> &[u8] {
         &self.contents
     }

@@ -27,7 +27,7 @@ use std::sync::Wait;
 use std::thread::Threads;
 use std::{env, fs, io};
 
-/// The files that the command line names, or those of cases in this folder.
+/// Returns the files that the command line names, or those of cases in this folder.
 fn file_names<R: Env + Files + AllocGlobal + Clone + Drop>(rt: &R) -> io::Result<Vec<String>> {
     let mut names = env::args(rt)?.skip(1).collect::<Vec<String>>(rt.alloc())?;
     if !names.is_empty() {

@@ -9,7 +9,7 @@ use std::alloc::{AllocError, Global};
 use std::collections::BTreeMap;
 use std::io::Cursor;
 
-/// Files by their names. It has no folders: a path with a `/` leads nowhere.
+/// Files by their names. It has no folders: no file is found at a path with a `/`.
 #[derive(Drop)]
 pub(crate) struct MemoryFolder {
     alloc: Global,
@@ -27,7 +27,7 @@ pub(crate) struct MemoryFollowed {
 }
 
 impl MemoryFolder {
-    /// One with no files.
+    /// Returns a folder without files.
     pub(crate) fn new(alloc: Global) -> MemoryFolder {
         MemoryFolder {
             alloc,
@@ -35,12 +35,12 @@ impl MemoryFolder {
         }
     }
 
-    /// What the file of this name holds, if it is there.
+    /// Returns the contents of the file of this name, if it is there.
     pub(crate) fn contents(&self, name: &str) -> Option<&[u8]> {
         self.files.get(name).map(|contents| contents.as_slice())
     }
 
-    /// The names of the files, in order.
+    /// Returns the names of the files, in order.
     pub(crate) fn names(&self) -> Result<Vec<u8>, AllocError> {
         let mut names = Vec::new(self.alloc);
         for (name, _) in self.files.iter() {
@@ -58,7 +58,7 @@ impl MemoryFolder {
         Ok(())
     }
 
-    /// The same at a path that a run names.
+    /// Makes a file at a path that a run names, which replaces one that is there.
     fn write(&mut self, path: &str, contents: &[u8]) -> Result<(), ChangeFailed> {
         if path.contains('/') {
             return Err(ChangeFailed);
@@ -192,8 +192,8 @@ impl Folder for MemoryFolder {
     }
 }
 
-/// Why nothing is opened at a path without a file. In the folder `private` nothing may be read, in
-/// the folder `broken` the system fails, and a path `PATH/` is a folder.
+/// Returns why nothing is opened at a path without a file. In the folder `private` nothing may be
+/// read, in the folder `broken` the system fails, and a path `PATH/` is a folder.
 fn cause_at(path: &str) -> OpenFailed {
     if path.ends_with('/') {
         OpenFailed::IsDirectory
@@ -206,7 +206,7 @@ fn cause_at(path: &str) -> OpenFailed {
     }
 }
 
-/// Why no file is made at a path to be kept.
+/// Returns why no file is made at a path to be kept.
 fn make_cause_at(path: &str) -> OpenFailed {
     match cause_at(path) {
         OpenFailed::NotFound => OpenFailed::NoFolder,
@@ -214,7 +214,7 @@ fn make_cause_at(path: &str) -> OpenFailed {
     }
 }
 
-/// Why no text is written at a path. In the folder `full` no space is left.
+/// Returns why no text is written at a path. In the folder `full` no space is left.
 fn change_cause_at(path: &str) -> ChangeCause {
     if path.starts_with("full/") {
         ChangeCause::NoSpace

@@ -6,7 +6,7 @@ use crate::words::words_of;
 use std::alloc::{AllocError, Global};
 use thiserror::Error;
 
-/// Why a file is no file of cases, with the number of the line.
+/// Why a file is not a file of cases, with the number of the line.
 #[derive(Debug, Drop, Error)]
 pub(crate) enum CaseFault {
     /// A line comes before any command.
@@ -21,7 +21,7 @@ pub(crate) enum CaseFault {
     NoMemory(#[from] AllocError),
 }
 
-/// What the lines so far have, and where the next one belongs.
+/// What was read of the lines so far, and where the next one belongs.
 #[derive(Drop)]
 struct Reading<'a> {
     alloc: Global,
@@ -41,7 +41,7 @@ impl<'a> Reading<'a> {
         Ok(())
     }
 
-    /// The steps of the last case, or those before the first one.
+    /// Returns the steps of the last case, or those before the first one.
     fn steps(&mut self) -> &mut Vec<Step> {
         match self.file.cases.last_mut() {
             Some(case) => &mut case.steps,
@@ -115,11 +115,11 @@ impl<'a> Reading<'a> {
     }
 }
 
-/// What a file of cases has.
+/// Reads a file of cases.
 ///
 /// # Errors
 ///
-/// Why it is none, and out of memory.
+/// Returns why it is not such a file, or that memory ran out.
 pub(crate) fn read_cases<'a>(alloc: Global, text: &'a str) -> Result<CaseFile<'a>, CaseFault> {
     let mut reading = Reading {
         alloc,

@@ -1,4 +1,4 @@
-//! Cases, run in turn, and what is printed of them.
+//! Runs cases in turn, and prints their results.
 use crate::actual::do_step;
 use crate::case_file::{Case, CaseFile, Step};
 use crate::difference::{Difference, difference_of};
@@ -33,7 +33,7 @@ impl Tally {
     ///
     /// # Errors
     ///
-    /// What the system refuses.
+    /// Returns an error of the system.
     pub(crate) fn add_fault<R: Print, F: Display>(
         &mut self,
         rt: &R,
@@ -48,7 +48,7 @@ impl Tally {
     ///
     /// # Errors
     ///
-    /// What the system refuses.
+    /// Returns an error of the system.
     pub(crate) fn print_verdict<R: Print>(&self, rt: &R) -> io::Result<ExitCode> {
         if self.cases > 0 && self.differ == 0 {
             println!(rt; "all cases hold")?;
@@ -103,7 +103,7 @@ fn holds<R: Threads + Wait + AllocGlobal + Print>(
 ///
 /// # Errors
 ///
-/// What the system refuses, and out of memory.
+/// Returns an error of the system, or an error if memory runs out.
 pub(crate) fn run_cases<R: Threads + Wait + AllocGlobal + Print>(
     rt: &R,
     name: &str,

@@ -1,18 +1,18 @@
 //! The words of a command line.
 use std::alloc::{AllocError, Global};
 
-/// Adds a character to a word, which it begins where there is none yet.
+/// Adds a character to a word, and begins the word if there is none.
 fn extend(alloc: Global, word: &mut Option<String>, character: char) -> Result<(), AllocError> {
     word.get_or_insert_with(|| String::new(alloc))
         .push(character)
 }
 
-/// The words of a command line, with blanks between them. What is between `"` and `"`, or between
-/// `'` and `'`, is taken as it is; nothing is expanded.
+/// Returns the words of a command line, with blanks between them. What is between `"` and `"`, or
+/// between `'` and `'`, is taken as it is; nothing is expanded.
 ///
 /// # Errors
 ///
-/// Out of memory.
+/// Returns `AllocError` if memory runs out.
 pub(crate) fn words_of(alloc: Global, line: &str) -> Result<Vec<String>, AllocError> {
     let mut words = Vec::new(alloc);
     let mut word = None;

@@ -1,4 +1,4 @@
-//! Commands over streams that fail, completions, and words that are no text.
+//! Commands over streams that fail, completions, and arguments that are not text.
 use crate::support::compare::same;
 use crate::support::{is_outcome, left_by, left_over, sink};
 use osn_commands::{run, tell_no_words};

@@ -1,5 +1,5 @@
-//! How the program reads and writes files: what is saved where, and what stands there where it
-//! can't be. Also what a terminal is told. Each test works in a folder of its own.
+//! How the program reads and writes files: what is saved, and what a file contains if it can't be
+//! saved. Also what is printed to a terminal. Each test works in a folder of its own.
 use crate::support::compare::same;
 use crate::support::{File, RunRow, are_run, entered, has_text, left_by, left_over, sink};
 use osn_commands::run;
@@ -28,7 +28,7 @@ const NOTHING: &str = "{\"op\":\"publish\"}\n";
 
 const REFUSED: &str = "{\"fault\":15,\"name\":\"NothingPending\"}\n";
 
-/// What takes no journal: a full device, a folder, a path in no folder. And a service that ends
+/// Paths that take no journal: a full device, a folder, a path in no folder. A service that ends
 /// early saves nothing.
 const UNSAVED: [RunRow; 4] = [
     (
@@ -80,7 +80,7 @@ fn what_cannot_be_saved(rt: HostRuntime) -> Result<(), Fail> {
     Ok(())
 }
 
-/// A folder is no file to be read.
+/// A folder is not a file of a table.
 const NO_TABLE: [RunRow; 1] = [(
     "oldstyle letters a.journal --places folder",
     "place,date\n",
@@ -96,8 +96,8 @@ fn a_folder_is_no_table_of_places(rt: HostRuntime) -> Result<(), Fail> {
     Ok(())
 }
 
-/// A journal that was loaded is replaced, and another one is left beside the one that takes its
-/// place. Of a text that is no journal nothing is lost.
+/// A journal that was loaded is replaced, and another one is left beside the one that replaces it.
+/// A text that is not a journal is not lost.
 const SAVED: [RunRow; 4] = [
     (
         "oldstyle serve --journal a.journal --save a.journal",
@@ -186,8 +186,8 @@ fn links_that_lead_nowhere_stay(rt: HostRuntime) -> Result<(), Fail> {
     Ok(())
 }
 
-/// Through a link the file that it leads to is replaced. It keeps its permissions, and so does the
-/// old one beside it.
+/// A save through a link replaces the file that it leads to. The file keeps its permissions, and so
+/// does the old one beside it.
 #[test]
 fn a_link_and_permissions_stay(rt: HostRuntime) -> Result<(), Fail> {
     let folder = entered(&rt, "links", &HELD)?;
@@ -231,7 +231,7 @@ fn a_pipe_takes_a_journal(rt: HostRuntime) -> Result<(), Fail> {
 
 const HEAD: [File; 1] = [("a.journal", OLD)];
 
-/// A reply that agrees, but for its end.
+/// A reply that agrees, except its end.
 const AGREES: &str = "{\"ask\":{\"op\":\"lands\",\"reader\":1},\"reply\":{\"answer\":\
 {\"lands\":[]},\"edition\":0,\"reader\":1}";
 
@@ -247,7 +247,7 @@ fn write_transcript<R: Files + AllocGlobal>(rt: &R, path: &str, lines: u32) -> R
     Ok(())
 }
 
-/// What a terminal is told of a run that ends well.
+/// Returns what is printed to a terminal by a run that ends well.
 fn told_of<R: Files<File = fs::File> + Threads + Wait + AllocGlobal + Abort>(
     rt: &R,
     words: &[&str],
@@ -272,7 +272,7 @@ fn told_of<R: Files<File = fs::File> + Threads + Wait + AllocGlobal + Abort>(
 
 const AUDIT: [&str; 4] = ["oldstyle", "audit", "a.journal", "a.transcript"];
 
-/// A terminal is told each 64 MiB, and nothing of a shorter transcript.
+/// A terminal gets a line for each 64 MiB, and no line for a shorter transcript.
 #[test]
 fn a_terminal_is_told_how_far_an_audit_is(rt: HostRuntime) -> Result<(), Fail> {
     let folder = entered(&rt, "long", &HEAD)?;
@@ -295,7 +295,7 @@ const SECOND: &str = "{\"op\":\"add_exception\",\"code\":\"RM\",\"year\":1500,\"
 {\"op\":\"publish\"}
 ";
 
-/// A terminal is told of editions that are saved nowhere, and of no others.
+/// A terminal gets a line about editions that are saved nowhere, and about no others.
 #[test]
 fn a_terminal_is_told_of_editions_that_are_saved_nowhere(rt: HostRuntime) -> Result<(), Fail> {
     let folder = entered(&rt, "unsaved", &HEAD)?;

@@ -71,7 +71,8 @@ const AGREED: [RunRow; 1] = [(
     (0, "audit: 4 replies agree\n", ""),
 )];
 
-/// Checks that what a desk tells two readers, under whatever editions, is what its script gives.
+/// Checks that the replies of a desk to two readers, under whatever editions, are those of its
+/// script.
 fn is_agreed<R: Files<File = fs::File> + Threads + Wait + AllocGlobal + Abort>(
     rt: &R,
 ) -> Result<(), Fail> {

@@ -1,5 +1,5 @@
-//! Runs of the service that keep their journal in a file: what the file holds then, and what is not
-//! kept. Each test works in a folder of its own.
+//! Runs of the service that keep their journal in a file: what the file contains then, and what is
+//! not kept. Each test works in a folder of its own.
 use crate::support::compare::same;
 use crate::support::{File, KeptRow as Row, RunRow, SAVED, are_kept, are_run, entered};
 use osn_folder::{Disk, Folder, KeptFile, KeptFileFault, SaveFault, save_file};
@@ -111,7 +111,7 @@ fn no_file_is_kept_in_the_place_of_a_folder(rt: HostRuntime) -> Result<(), Fail>
     Ok(())
 }
 
-/// While a run keeps the journal.
+/// Runs while another run keeps the journal.
 const HELD: [RunRow; 3] = [
     (
         "oldstyle serve --keep rome.journal",
@@ -149,7 +149,7 @@ fn one_run_keeps_a_journal_and_any_reads_it(rt: HostRuntime) -> Result<(), Fail>
     Ok(())
 }
 
-/// Checks that a file holds this text.
+/// Checks that a file contains this text.
 fn is_held<R: Files<File = fs::File> + AllocGlobal + Abort>(
     rt: &R,
     path: &str,

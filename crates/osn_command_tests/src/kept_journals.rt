@@ -25,7 +25,7 @@ pub struct MemoryFile {
     pub fault: Option<KeptFileFault>,
 }
 
-/// The same bytes.
+/// Returns a copy of the bytes.
 fn copy(alloc: Global, bytes: &[u8]) -> Result<Vec<u8>, AllocError>
     ensures { IfOk result (λ copy. copy.items ≡ bytes.now) }
 {
@@ -114,8 +114,8 @@ const FAILED: ServiceFault<KeptFileFault> = ServiceFault::NotKept(KeptFileFault:
     ChangeCause::Other,
 ));
 
-/// The number of appends that a file takes, and what comes of the lines. Then how many replies are
-/// written, how many lines the file holds, and how many of them are on the disk.
+/// The number of appends that a file takes, and how serving the lines ends. Then how many replies
+/// are written, how many lines the file contains, and how many of them are on the disk.
 type Row = (
     u32,
     Result<u64, (u64, ServiceFault<KeptFileFault>)>,

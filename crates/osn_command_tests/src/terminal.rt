@@ -1,5 +1,5 @@
-//! What a terminal is told: how much was read of a long input, and how many editions were saved
-//! nowhere.
+//! What is printed to a terminal: how much was read of a long input, and how many editions were
+//! saved nowhere.
 use crate::support::compare::same;
 use crate::support::{ADDED, File, Left, NOTED, PUBLISHED, entered, is_outcome, left_by, sink};
 use osn_commands::run;
@@ -18,7 +18,7 @@ use std::{fs, io, str};
 /// 64 MiB in bytes.
 const STEP: usize = 67_108_864;
 
-/// How many bytes each read gives, and all that is told of them.
+/// The number of bytes of each read, and what is printed about all of them.
 const READS: [(&[usize], &str); 6] = [
     (&[STEP - 1], ""),
     (&[STEP - 1, 1], "oldstyle: 64 MiB of the table read\n"),
@@ -40,7 +40,7 @@ const READS: [(&[usize], &str); 6] = [
     ),
 ];
 
-/// What a terminal is told of these reads.
+/// Returns what is printed to a terminal about these reads.
 fn told_of_reads(alloc: Global, reads: &[usize]) -> Vec<u8> {
     let mut told = Vec::new(alloc);
     let mut progress = ReadProgress::new(alloc, "table", Some(Plain::new(&mut told)));
@@ -66,7 +66,7 @@ fn a_terminal_is_told_each_64_mebibytes(rt: HostRuntime) -> Result<(), Fail> {
 
 const FILES: [File; 2] = [("a.journal", PUBLISHED), ("places.csv", "place,code\n")];
 
-/// How a run of this line ends, and what a terminal is told of it.
+/// Returns how a run of this line ends, and what it prints to a terminal.
 fn told_of<R: Files<File = fs::File> + Threads + Wait + AllocGlobal>(
     rt: &R,
     line: &str,
@@ -92,7 +92,7 @@ const HEADER: &str = "place,date\n";
 const WRITTEN: &str = "place,date,days,gregorian,julian,dual,weekday_found,jdn,earliest,latest,\
 kind,edtf,edition,remark\n";
 
-/// Checks what is told of a table of 64 MiB, of which all lines but the first are empty.
+/// Checks what is printed about a table of 64 MiB whose lines are empty except the first.
 fn is_told_of_table<R: Files<File = fs::File> + Threads + Wait + AllocGlobal + Abort>(
     rt: &R,
     line: &str,

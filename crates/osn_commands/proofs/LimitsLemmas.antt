@@ -41,7 +41,7 @@ number_parsed {E = E} text (Err f) h =
     number_by {E = E} text (Err f) (is_number (without_leading_plus text)) refl
     (λ other. number_read {E = E} (ParsesUnsigned 32 10) (λ t x p. p) other text None (f, h))
 
--- the settings of a text by what stands before and after its first comma
+-- the settings of a text by what is before and after its first comma
 abbrev settings_by : List ℕ → Option (List ℕ × List ℕ) → List (List ℕ)
 settings_by text None = text ∷ []
 settings_by text (Some parts) = parts.0 ∷ settings parts.1
@@ -58,7 +58,7 @@ pub settings_cut : (text : List ℕ) → settings text ≡ settings_by text (par
 settings_cut [] = refl
 settings_cut (b ∷ rest) = one_more b rest (b == 44) (parts_at 44 rest) (settings_cut rest)
 
--- what stands after a comma is shorter
+-- what comes after a comma is shorter
 shorter_by : (b : ℕ) (rest : List ℕ) (t : Bool) (parts : Option (List ℕ × List ℕ))
     (first further : List ℕ)
     → ((first further : List ℕ) → parts ≡ Some (first, further) → length further < length rest)
@@ -84,7 +84,7 @@ pub first_set : (limits set : Limits) (text first further : List ℕ)
     → with_settings limits (settings text) ≡ with_settings set (settings further)
 first_set limits set text first further cut is = rw (settings_cut text, cut, is) refl
 
--- where it sets nothing, the text has no limits
+-- if it sets nothing, the text has no limits
 pub none_set : (limits : Limits) (text first further : List ℕ)
     → parts_at 44 text ≡ Some (first, further) → with_setting limits first ≡ None
     → with_settings limits (settings text) ≡ None

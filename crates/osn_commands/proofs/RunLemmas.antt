@@ -1,4 +1,4 @@
--- A run of the program did what its contract says of that.
+-- A run of the program did what its contract says.
 use Rattle.std.proofs.Common.{◌≡◌, ◌≢◌, Bool, true, List, ℕ, Result, Ok, Err, IfOk, IfErr, OnErr}
 use Rattle.std.proofs.Common.{sym, subst, inl, inr}
 use Rattle.std.specs.Result.{is_ok}
@@ -25,7 +25,7 @@ pub ran : (limits : Limits) (given found : CommandWords) (CanFail : Bool → Typ
 ran limits given found CanFail CanStay d i o e status is h =
     subst (λ w. Runs limits (command_model w) CanFail CanStay d i o e status) (sym is) h
 
--- help is no want of memory
+-- help is not NoMemory
 help_is_no_fault : (kind : ErrorKind) → IsHelp kind → kind ≢ OutOfMemory
 help_is_no_fault kind (inl help) e = cc
 help_is_no_fault kind (inr version) e = cc
@@ -85,7 +85,7 @@ pub if_failed : {T F : Type 0} (made : Result T F) (failure : F) (Why : F → Ty
     → made ≡ Err failure → IfErr made Why → Why failure
 if_failed made failure Why is h = subst (λ r. IfErr r Why) is h
 
--- what a command did whose file was opened, and what is known where it was not
+-- what a command did whose file was opened, and what is known if it was not
 pub if_done : {T F : Type 0} (done : Result T F) (status : T) (Did : T → Type 0)
     → done ≡ Ok status → IfOk done Did → Did status
 if_done done status Did is h = subst (λ r. IfOk r Did) is h

@@ -8,11 +8,12 @@ use Rattle.osn_report.specs.Messages.{TellsMisuse}
 use Rattle.osn_report.specs.declared.misuse.Misuse.TheVariants as misuses
 use Rattle.osn_report.specs.declared.status.Status.{Status}
 
--- the text of this shell was printed; of none, standard error was told of the word
+-- the text of this shell was printed; for no shell, the word was reported
 abbrev pub PrintsFor : Option Shell → List ℕ → Output → Output → Status → Type 0
 PrintsFor (Some shell) word o e status = PrintsIfMade (completions shell) o e status
 PrintsFor None word o e status = (o.new ≡ o.old) × TellsMisuse e misuses.Shell word status
 
--- how the command ends: it printed the text of the shell of this word, or told that no shell has it
+-- how the command ends: it printed the text of the shell of this word, or reported that no shell
+-- has it
 abbrev pub PrintsCompletions : List ℕ → Output → Output → Status → Type 0
 PrintsCompletions word o e status = PrintsFor (shell_named word) word o e status

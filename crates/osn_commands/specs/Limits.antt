@@ -11,7 +11,7 @@ use Rattle.osn_written.specs.WrittenDate.{parts_at}
 use Rattle.osn_report.specs.declared.misuse.Misuse.{Misuse}
 use Rattle.osn_report.specs.declared.misuse.Misuse.TheVariants as misuses
 
--- one part after another, where the first one is there
+-- one part after another, if the first one is there
 infixl 10 ◌>>=◌
 abbrev pub ◌>>=◌ : {A B : Type 0} → Option A → (A → Option B) → Option B
 (Some x) >>= f = f x
@@ -22,12 +22,12 @@ abbrev pub onto_first : ℕ → List (List ℕ) → List (List ℕ)
 onto_first b [] = (b ∷ []) ∷ []
 onto_first b (part ∷ parts) = (b ∷ part) ∷ parts
 
--- the settings of a text, which stand between its commas: `lands=5000,changes=200`
+-- the settings of a text, which are between its commas: `lands=5000,changes=200`
 abbrev pub settings : List ℕ → List (List ℕ)
 settings [] = [] ∷ []
 settings (b ∷ rest) = if b == 44 then [] ∷ settings rest else onto_first b (settings rest)
 
--- the number that a text is, below 2 ^ 32, after a plus or none
+-- the number that a text is, below 2 ^ 32, after an optional plus
 abbrev pub number_of : List ℕ → Option ℕ
 number_of text =
     if is_number (without_leading_plus text) then Some (digits_value 10 (without_leading_plus text))
@@ -50,7 +50,7 @@ with_setting limits text = do
   n ← number_of setting.1
   with_limit limits setting.0 n
 
--- the limits with one after another set, so that of one that is named twice the last counts
+-- the limits with one after another set: if one is named twice, the last counts
 abbrev pub with_settings : Limits → List (List ℕ) → Option Limits
 with_settings limits [] = Some limits
 with_settings limits (text ∷ texts) = do

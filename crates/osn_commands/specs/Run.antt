@@ -43,8 +43,8 @@ abbrev pub PrintsSuch : (List ℕ → Type 0) → Output → Output → Status �
 PrintsSuch IsText o e status = (text : List ℕ) × IsText text × PrintsOrReports text o e status
 
 -- the command that is asked for was run under these limits, with the files that the arguments name.
--- This is what it wrote to standard output, what standard error was told, and its status. The facts
--- say whether a read can fail, and whether a file that is kept can stay uncut
+-- This is what it wrote to standard output and to standard error, and its status. The facts say
+-- whether a read can fail, and whether a file that is kept can stay uncut
 abbrev pub Runs : Limits → CommandModel → (Bool → Type 0) → Type 0 → Folders → Input → Output
     → Output → Status → Type 0
 Runs limits (serving journal save keep follow service) CanFail CanStay d i o e status =
@@ -80,8 +80,8 @@ IsUnopened file d path fault =
     (path ≡ file) × ((cause : OpenFailed) × (fault ≡ NotOpened cause))
     × CannotOpen (file ∷ []) d.before d.after
 
--- why the command ended early that is asked for, by this fault at the file of this path: nothing was
--- printed, and standard error was told nothing yet
+-- why the command that is asked for ended early, by this fault at the file of this path: nothing
+-- was printed, and nothing was reported yet
 abbrev pub Fails : Limits → CommandModel → (Bool → Type 0) → Folders → List ℕ → CommandFault
     → Type 0
 Fails limits (serving journal save kept followed service) CanFail d path fault =
@@ -107,7 +107,7 @@ Fails limits (publishing journal text onto_newest) CanFail d path fault =
 abbrev pub IsHelp : ErrorKind → Type 0
 IsHelp kind = (kind ≡ DisplayHelp) ⊎ (kind ≡ DisplayVersion)
 
--- nothing was written, since memory ran out, which standard error was told
+-- nothing was written, since memory ran out, which was reported
 abbrev pub HasNoMemory : Output → Output → Status → Type 0
 HasNoMemory o e status = (o.new ≡ o.old) × EndsBy e NoMemory status
 
@@ -124,8 +124,8 @@ abbrev pub ShowsOrEnds : ErrorKind → Output → Output → Status → Type 0
 ShowsOrEnds kind o e status =
     HasNoMemory o e status ⊎ ((kind ≢ OutOfMemory) × Shows kind o e status)
 
--- what is asked for was done under its limits; or it ended early, and standard error was told why and
--- at which file
+-- what is asked for was done under its limits; or it ended early, and it was reported why and at
+-- which file
 abbrev pub RunsUnder : Limits → CommandModel → (Bool → Type 0) → Type 0 → Folders → Input → Output
     → Output → Status → Type 0
 RunsUnder limits command CanFail CanStay d i o e status =
@@ -133,7 +133,7 @@ RunsUnder limits command CanFail CanStay d i o e status =
     ⊎ ((path : Text) × (fault : CommandFault) × Fails limits command CanFail d path fault
     × PrintsNoneAt path fault o e status)
 
--- that, or the words of the limits are none
+-- that, or the words of the limits are not limits
 abbrev pub RunsInvocation : InvocationModel → (Bool → Type 0) → Type 0 → Folders → Input → Output
     → Output → Status → Type 0
 RunsInvocation asked CanFail CanStay d i o e status = MatchResult (limits_of_words asked.limits)
@@ -141,8 +141,8 @@ RunsInvocation asked CanFail CanStay d i o e status = MatchResult (limits_of_wor
     (λ misuse. (d.after ≡ d.before) × (o.new ≡ o.old)
     × TellsMisuse e misuse (unwrap_or asked.limits []) status)
 
--- what a run does with these arguments. Where the grammar takes them it does what they ask for.
--- Else it shows what is wrong, or help, by a kind that the grammar gives
+-- what a run does with these arguments. If the grammar takes them it does what they ask for.
+-- Otherwise it shows what is wrong, or help, by a kind that the grammar gives
 abbrev pub RunsArgs : List (List ℕ) → (Bool → Type 0) → Type 0 → Folders → Input → Output → Output
     → Status → Type 0
 RunsArgs args CanFail CanStay d i o e status =

@@ -7,10 +7,10 @@ use osn_lines::Sink;
 use osn_report::{Misuse, Status, print, tell_misuse};
 use std::alloc::Global;
 
-/// The command `completions`: prints the text by which the shell of this word completes the words
-/// of the command line.
+/// Runs the command `completions`: prints the text by which the shell of this word completes the
+/// arguments.
 ///
-/// Where it is the word of no shell, standard error is told so in a line, and the status says it.
+/// If it is the word of no shell, a line on standard error reports that, and the status says so.
 pub(crate) fn completions_command<W: Sink, E: Sink>(
     alloc: Global,
     shell: &str,

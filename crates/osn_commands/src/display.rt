@@ -13,7 +13,7 @@ use osn_shown::ShownLines;
 use std::alloc::Global;
 use std::io;
 
-/// Shows help or the version where they were asked for, or else what is wrong with the arguments.
+/// Shows help or the version if they were asked for, or else what is wrong with the arguments.
 pub(crate) fn show<W: Sink, E: Sink>(
     alloc: Global,
     error: &Error,
@@ -43,8 +43,8 @@ pub(crate) fn show<W: Sink, E: Sink>(
     }
 }
 
-/// Tells standard error that the words of the command line could not be had: for want of memory, or
-/// where one of them is no text of UTF-8.
+/// Reports on standard error that the arguments could not be read: because memory ran out, or
+/// because one of them is not UTF-8.
 pub fn tell_no_words<E: Sink>(why: &io::Error, errors: &mut E) -> Status
     ensures { TellsNoWords (output_of E.contents E.has_failed E.holds_back errors.old errors.new)
         (error_kind why.now) result }

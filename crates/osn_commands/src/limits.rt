@@ -7,14 +7,14 @@ use osn_register::Limits;
 use osn_report::Misuse;
 use osn_written::parts_at;
 
-/// The number that a text is, 0 to 4,294,967,295, if it is one.
+/// Returns the number that a text is, 0 to 4,294,967,295, if it is one.
 fn number_of(text: &str) -> Option<u32>
     ensures { result ≡ spec.number_of text.now }
 {
     text.parse::<u32>().ok()
 }
 
-/// The limits with the one of this name set, if there is one.
+/// Returns the limits with the one of this name set, if there is one.
 fn with_limit(limits: Limits, name: &str, number: u32) -> Option<Limits>
     ensures { result ≡ spec.with_limit limits name.now number }
 {
@@ -30,7 +30,7 @@ fn with_limit(limits: Limits, name: &str, number: u32) -> Option<Limits>
     Some(limits)
 }
 
-/// The limits with one set as a text says, `NAME=NUMBER`.
+/// Returns the limits with one set as a text says, `NAME=NUMBER`.
 fn with_setting(limits: Limits, text: &str) -> Option<Limits>
     ensures { result ≡ spec.with_setting limits text.now }
 {
@@ -38,7 +38,7 @@ fn with_setting(limits: Limits, text: &str) -> Option<Limits>
     with_limit(limits, name, number_of(number)?)
 }
 
-/// The standard limits with those set that a text names.
+/// Returns the standard limits with those set that a text names.
 fn limits_of(text: &str) -> Option<Limits>
     ensures { result ≡ spec.with_settings standard_limits (spec.settings text.now) }
 {
@@ -51,7 +51,7 @@ fn limits_of(text: &str) -> Option<Limits>
     with_setting(limits, rest)
 }
 
-/// The limits that words ask for: of no words the standard ones.
+/// Returns the limits that words ask for: the standard ones if there are no words.
 pub(crate) fn limits_of_words(words: Option<&str>) -> Result<Limits, Misuse>
     ensures { result ≡ spec.limits_of_words (option_map (λ words. words.now) words.entry) }
 {

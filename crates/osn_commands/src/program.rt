@@ -29,11 +29,11 @@ use std::sync::Wait;
 use std::thread::Threads;
 
 /// Does what the arguments of a command line ask for, of which the first is the program's name, and
-/// answers how that ended. Files that are read are opened before the command begins, in the order
-/// of the arguments. The journal is saved where the service ended well, and nowhere else.
+/// returns how that ended. Files that are read are opened before the command begins, in the order
+/// of the arguments. The journal is saved only if the service ended well.
 ///
-/// A terminal, where there is one, is told how far a long audit or table of letters is. Of a
-/// service that neither saves nor keeps a journal it is told how many editions were published.
+/// A terminal, if there is one, shows how far a long audit or table of letters is. For a service
+/// that neither saves nor keeps a journal it shows how many editions were published.
 pub fn run<F, D: Folder, S: AsStr, R: Source, W: Sink, E: Sink, T: Sink + Drop>(
     rt: &F,
     folder: &mut D,
@@ -59,7 +59,7 @@ where
     }
 }
 
-/// A word as it was typed, and no text where it was not.
+/// Returns a word as it was typed, or an empty text if it was not.
 fn as_typed<'a>(word: Option<&'a str>) -> &'a str
     ensures { result.now ≡ unwrap_or (option_map (λ word. word.now) word.entry) [] }
 {
@@ -69,7 +69,7 @@ fn as_typed<'a>(word: Option<&'a str>) -> &'a str
     }
 }
 
-/// Does what was asked for, under the limits that were.
+/// Does what was asked for, under the limits that were asked for.
 fn run_invocation<F, D: Folder, R: Source, W: Sink, E: Sink, T: Sink + Drop>(
     rt: &F,
     folder: &mut D,
@@ -122,7 +122,7 @@ fn printed<'a, W: Sink, E: Sink>(
     }
 }
 
-/// What a command did, or why its file of this path could not be opened.
+/// Returns what a command did, or why its file of this path could not be opened.
 fn opened<'a>(path: &'a str, done: Result<Status, OpenFailed>) -> Result<Status, Failure<'a>>
     ensures ok { IfOk result (λ status. done ≡ Ok status) }
     ensures err { IfErr result (λ failure. (cause : OpenFailed) × (done ≡ Err cause)
@@ -137,8 +137,8 @@ fn opened<'a>(path: &'a str, done: Result<Status, OpenFailed>) -> Result<Status,
     }
 }
 
-/// Opens the files that are read, and calls the command. Where it failed, nothing was told yet, and
-/// nothing was printed.
+/// Opens the files that are read, and calls the command. If it failed, nothing was reported yet,
+/// and nothing was printed.
 fn execute<'a, F, D: Folder, R: Source, W: Sink, E: Sink, T: Sink + Drop>(
     rt: &F,
     limits: Limits,

@@ -1,5 +1,4 @@
--- What completes the words of the command line in a shell, by the grammar that is parsed. This
--- project's profile.
+-- How a shell completes command lines, by the grammar that is parsed. This project's profile.
 use Rattle.std.specs.Prelude.{◌++◌, ◌∷◌, Bool, true, false, if◌then◌else◌, [], codes}
 use Rattle.std.specs.Prelude.{Option, Some, None}
 use Rattle.std.specs.List.{flat_map, list_any}
@@ -31,7 +30,7 @@ is_file id = list_any (bytes_eq id)
     ∷ codes "script" ∷ codes "questions" ∷ codes "transcript" ∷ codes "text" ∷ codes "places" ∷ [])
 
 -- what the value of the argument of this name may be: FILE is the path of a file, TEXT any text,
--- and else it is one of these words
+-- and otherwise it is one of these words
 abbrev pub values_named : Text → Text
 values_named id =
     if is_file id then codes " FILE"
@@ -40,7 +39,7 @@ values_named id =
     else (if bytes_eq id (codes "calendar") then codes " gregorian julian swedish day jdn"
     else (if bytes_eq id (codes "shell") then codes " bash zsh fish" else codes " TEXT"))))
 
--- that, and no text of an argument that takes no value
+-- that, or no text for an argument that takes no value
 abbrev pub values_of : Rule → Text
 values_of rule = if takes_value (action_of rule) then values_named rule.id else []
 
@@ -78,18 +77,18 @@ shell_named word =
     else (if bytes_eq word (codes "zsh") then Some Zsh
     else (if bytes_eq word (codes "fish") then Some Fish else None))
 
--- what stands before the rows: a function of the shell that takes a row
+-- the text before the rows: a function of the shell that takes a row
 unfoldable pub head_of : Shell → Text
 head_of Bash = BASH_HEAD.now
 head_of Zsh = ZSH_HEAD.now
 head_of Fish = FISH_HEAD.now
 
--- what stands after them, and completes by them
+-- the text after them, which completes by them
 unfoldable pub end_of : Shell → Text
 end_of Bash = BASH_END.now
 end_of Zsh = ZSH_END.now
 end_of Fish = FISH_END.now
 
--- the text by which a shell completes the words: its rows are those of the grammar that is parsed
+-- the text with which a shell completes the words: its rows are those of the grammar that is parsed
 unfoldable pub completions : Shell → Text
 completions shell = head_of shell ++ (grammar_rows command_line ++ end_of shell)

@@ -1,5 +1,5 @@
-//! What completes the words of the command line in a shell. What the crate promises to those above:
-//! the text has a row for each command, option and argument that the grammar takes, and no other.
+//! Completion of command lines in a shell. The crate guarantees that the text has a row for each
+//! command, option and argument that the grammar takes, and no other row.
 #![tactic(auto)]
 
 mod rows;

@@ -1,4 +1,4 @@
-//! The text that completes the words of the command line, a row for each argument of the grammar.
+//! The text that completes command lines, with a row for each argument of the grammar.
 ghost use Rattle.std.specs.Prelude.{◌≡◌, ◌++◌, IfOk, OnOk, string_bytes};
 ghost use Rattle.std.specs.List.{flat_map};
 ghost use Rattle.clap.specs.Words.{app_of, rule_of};
@@ -15,7 +15,7 @@ use std::fmt::Write;
 /// The room that the text gets at first: it takes some 4,000 bytes.
 const ROOM: usize = 4096;
 
-/// Whether an argument with this action takes a value.
+/// Returns whether an argument with this action takes a value.
 fn takes_value(action: ArgAction) -> bool
     ensures { result ≡ spec.takes_value action }
 {
@@ -25,7 +25,8 @@ fn takes_value(action: ArgAction) -> bool
     }
 }
 
-/// What the value of the argument of this name may be: words of a list, a file or other text.
+/// Returns what the value of the argument of this name may be: words of a list, a file or other
+/// text.
 fn values_named(id: &str) -> &'static str
     ensures { result.now ≡ spec.values_named id.now }
 {
@@ -48,7 +49,7 @@ fn values_named(id: &str) -> &'static str
     }
 }
 
-/// What the value of an argument may be, and no text where it takes none.
+/// Returns what the value of an argument may be, or an empty text if it takes no value.
 fn values_of(arg: &Arg<'_>) -> &'static str
     ensures { result.now ≡ spec.values_of (rule_of arg.now) }
 {
@@ -122,7 +123,7 @@ fn push_grammar(out: &mut String, grammar: &Command<'_>) -> Result<(), AllocErro
     push_commands(out, grammar.get_subcommands())
 }
 
-/// What stands before the rows, and what after them.
+/// Returns the text before the rows, and the text after them.
 #[tactic(auto, unfolding(crate::specs::Completions::head_of, crate::specs::Completions::end_of))]
 fn frame_of(shell: Shell) -> (&'static str, &'static str)
     ensures head { result.0.now ≡ spec.head_of shell }
@@ -135,11 +136,11 @@ fn frame_of(shell: Shell) -> (&'static str, &'static str)
     }
 }
 
-/// The text by which a shell completes the words of the command line.
+/// Returns the text with which a shell completes command lines.
 ///
 /// # Errors
 ///
-/// Want of memory, and nothing else.
+/// Returns `AllocError` if memory runs out.
 #[tactic(auto, unfolding(crate::specs::Completions::completions))]
 pub fn completions(alloc: Global, shell: Shell) -> Result<String, AllocError>
     ensures { IfOk result (λ text. string_bytes text ≡ spec.completions shell) }

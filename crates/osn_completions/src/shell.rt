@@ -13,7 +13,7 @@ pub enum Shell {
     Fish,
 }
 
-/// The shell of a word, if it is the word of one.
+/// Returns the shell of a word, if it is the word of a shell.
 pub fn shell_named(word: &str) -> Option<Shell>
     ensures { result ≡ spec.shell_named word.now }
 {

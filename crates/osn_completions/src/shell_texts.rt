@@ -1,7 +1,7 @@
-//! What stands around the rows of the grammar in the text of each shell: before them what takes a
-//! row, and after them what completes a word by the rows.
+//! The text around the rows of the grammar for each shell: a function before them takes a row, and
+//! the code after them completes a word by the rows.
 
-/// What stands before the rows in GNU Bash.
+/// The text before the rows in GNU Bash.
 pub(crate) const BASH_HEAD: &str = r#"# Made by `oldstyle completions bash`.
 
 # A row of the grammar: a command; or with it the word argument, or an option, and what the value
@@ -29,7 +29,7 @@ _oldstyle() {
     [ ${#words[@]} = 0 ] || command=${words[0]}
 "#;
 
-/// What stands after the rows in GNU Bash.
+/// The text after the rows in GNU Bash.
 pub(crate) const BASH_END: &str = r#"    [ "$command" != oldstyle ] || options[--version]=""
     case $command in oldstyle | help) arguments=("${commands[*]} help") ;; esac
     for before in "${words[@]:1}"; do
@@ -58,7 +58,7 @@ pub(crate) const BASH_END: &str = r#"    [ "$command" != oldstyle ] || options[-
 complete -F _oldstyle oldstyle
 "#;
 
-/// What stands before the rows in the Z shell.
+/// The text before the rows in the Z shell.
 pub(crate) const ZSH_HEAD: &str = r#"#compdef oldstyle
 # Made by `oldstyle completions zsh`.
 
@@ -91,7 +91,7 @@ _oldstyle() {
     (( CURRENT == 2 )) || command=$words[2]
 "#;
 
-/// What stands after the rows in the Z shell.
+/// The text after the rows in the Z shell.
 pub(crate) const ZSH_END: &str = r#"    case $command in
         oldstyle) wanted+=(--version ":command:($commands help)") ;;
         help) wanted+=(":command:($commands help)") ;;
@@ -110,7 +110,7 @@ else
 fi
 "#;
 
-/// What stands before the rows in fish.
+/// The text before the rows in fish.
 pub(crate) const FISH_HEAD: &str = r#"# Made by `oldstyle completions fish`.
 
 # Whether a command was typed; before any, it is oldstyle.
@@ -166,7 +166,7 @@ end
 complete -c oldstyle -f
 "#;
 
-/// What stands after the rows in fish.
+/// The text after the rows in fish.
 pub(crate) const FISH_END: &str = r#"_oldstyle_row help
 complete -c oldstyle -n '_oldstyle_has oldstyle' -l help
 complete -c oldstyle -n '_oldstyle_has oldstyle' -l version

@@ -1,4 +1,4 @@
--- Figures of years that are known from elsewhere, as the definitions have them.
+-- The definitions give figures of years that are known from elsewhere.
 use Rattle.std.proofs.Common.{◌≡◌, [], ◌∷◌, map, Some, refl}
 use Rattle.std.specs.List.{range_with_len}
 use Rattle.osn_computus.specs.Figures.{golden_number, indiction, julian_epact, gregorian_epact}
@@ -18,8 +18,8 @@ reform : (golden_number 1582 ≡ 6) × (gregorian_epact 1582 ≡ plain 26)
     × (golden_number 1583 ≡ 7) × (gregorian_epact 1583 ≡ plain 7)
 reform = (refl, refl, refl, refl)
 
--- the epacts of the 19 golden numbers from 1900 to 2199, as they stand before a Missal of that
--- time, with 0 for the star
+-- the epacts of the 19 golden numbers from 1900 to 2199, as printed at the beginning of a Missal of
+-- that time, with 0 for the star
 from_1900 : map gregorian_epact (range_with_len 1900 19)
     ≡ plain 29 ∷ plain 10 ∷ plain 21 ∷ plain 2 ∷ plain 13 ∷ plain 24 ∷ plain 5 ∷ plain 16 ∷ plain 27
     ∷ plain 8 ∷ plain 19 ∷ plain 0 ∷ plain 11 ∷ plain 22 ∷ plain 3 ∷ plain 14 ∷ twenty_five_prime

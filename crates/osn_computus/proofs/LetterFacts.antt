@@ -295,7 +295,7 @@ pub march_1_is : (c : Calendar) → c ≢ Swedish → (y : ℕ) → IsYear newes
 march_1_is c months y year day d e is =
     omega (arith, some_same d _ day is (spring_found c months y 0 year (omega arith) day e))
 
--- the letters of the Sundays, from 1 February and 1 March, which stand beside D
+-- the letters of the Sundays, from 1 February and 1 March, whose letter is D
 pub letters_from : (c : Calendar) → c ≢ Swedish → (y f m : ℕ) (letters : Letters)
     → f + 27 + leap_days c y ≡ march_1 c y → m ≡ march_1 c y + 1
     → (letter_number letters.january + f) % 7 ≡ 3 → (letter_number letters.march + m) % 7 ≡ 3

@@ -24,7 +24,7 @@ use Rattle.osn_computus.proofs.WalkFacts.{date, lt_test, ge_test, on_in_month, t
 use Rattle.osn_computus.proofs.WalkFacts.{march_1, march_on_chain, march_1-bound}
 use Rattle.osn_computus.proofs.TableFacts.{julian_days, julian_row, gregorian_days, gregorian_row}
 
--- both rules' calendars go by the lengths of the months
+-- both rules' calendars follow the lengths of the months
 pub of_months : (rule : Rule) → calendar_of rule ≢ Swedish
 of_months Julian = julian_by_months
 of_months Gregorian = gregorian_by_months
@@ -122,7 +122,7 @@ moon_is Gregorian y n year low table =
 pub some_same : (a b : ℕ) (o : Option ℕ) → o ≡ Some a → o ≡ Some b → a ≡ b
 some_same a b o p q = cc
 
--- and it is no later than 18 April, well before the end of the line
+-- and it is on 18 April or earlier, well before the end of the line
 pub moon_bounds : (rule : Rule) (y moon : ℕ) → IsYear newest_rules y
     → paschal_moon newest_rules rule y ≡ Some moon
     → (march_1 (calendar_of rule) y + 21 ≤ moon) × (moon < march_1 (calendar_of rule) y + 50) ×

@@ -1,5 +1,5 @@
--- The place of each date of a chain that goes by the lengths of the months. It says how many days
--- the date lies after 1 March, and which letter it has.
+-- The place of each date of a chain that follows the lengths of the months: how many days the date
+-- is after 1 March, and which letter it has.
 use Rattle.std.proofs.Common.{◌≡◌, ◌≢◌, ℕ, zero, suc, ◌+◌, ◌-◌, ◌%◌, ◌<◌, ◌≤◌, inl, inr, ◌==◌, ◌&&◌}
 use Rattle.std.proofs.Common.{false, nat_lt, if◌then◌else◌, refl, ap, subst, ◌∙◌, arith, ℤ}
 use Rattle.std.proofs.Common.{pos}
@@ -154,7 +154,7 @@ letter_plain : (c : Calendar) (n : ℕ) (y : ℤ) (m d : ℕ) → chain c (suc n
 letter_plain c n y m d is new leap =
     ap letter_number (letter_next c n (date y m d) is) ∙ after_plain y m d (letter_at c n) new leap
 
--- the letter of the next day of a month, which is no 29 February
+-- the letter of the next day of a month, which is not 29 February
 day_letter_plain : (c : Calendar) (n y m d : ℕ) → Placed c n y m d
     → chain c (suc n) ≡ date (pos y) m (d + 1) → is_leap_day (date (pos y) m (d + 1)) ≡ false
     → mark m d ≡ 0 → mark m (d + 1) ≡ 0

@@ -1,5 +1,5 @@
 -- Walks along a chain: through a month, to the next month, and from one 1 March to the next, in a
--- calendar that goes by the lengths of the months.
+-- calendar that follows the lengths of the months.
 use Rattle.std.proofs.Common.{◌≡◌, ◌≢◌, ℕ, zero, suc, ◌+◌, ◌-◌, ◌*◌, ◌/◌, ◌<◌, ◌≤◌, true, false}
 use Rattle.std.proofs.Common.{nat_lt, refl, ap, ◌∙◌, arith, ℤ, pos, ◌+ℤ◌}
 use Rattle.std.proofs.lemmas.Bool.Decides.{nat_tests}

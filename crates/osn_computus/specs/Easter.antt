@@ -15,7 +15,7 @@ use Rattle.osn_computus.specs.declared.rule.Rule.TheVariants.{Julian, Gregorian}
 use Rattle.osn_computus.specs.Figures.{golden_number, gregorian_epact}
 use Rattle.osn_computus.specs.Moon.{MonthDay, julian_full_moon, gregorian_new_moon}
 
--- the calendar in which the rule's moons stand
+-- the calendar of the dates of the rule's moons
 abbrev pub calendar_of : Rule → Calendar
 calendar_of Julian = calendar.Julian
 calendar_of Gregorian = calendar.Gregorian

@@ -13,7 +13,7 @@ epact_text e =
     else (if (e.number == 25) && e.prime then codes "25'"
     else decimal e.number)
 
--- the letter of January before that of March, and one letter where they are the same
+-- the letter of January before that of March, and one letter if they are the same
 unfoldable pub letters_text : Letters → List ℕ
 letters_text l =
     if letter_number l.january == letter_number l.march then letter_name l.january

@@ -22,7 +22,7 @@ julian_epact y = (11 * (golden_number y - 1)) % 30
 abbrev pub century : ℕ → ℕ
 century y = y / 100 + 1
 
--- the leap days that centuries pass over, each of which makes the moon a day younger
+-- the leap days that centuries skip, each of which makes the moon a day younger
 abbrev pub solar_correction : ℕ → ℕ
 solar_correction y = (3 * century y) / 4
 
@@ -30,16 +30,16 @@ solar_correction y = (3 * century y) / 4
 abbrev pub lunar_correction : ℕ → ℕ
 lunar_correction y = (8 * century y + 5) / 25
 
--- canon 2: the epact of the first golden number in the first century is 8, and that of each further
--- one 11 more. Both corrections apply, and 30 are a whole month
+-- canon 2: the epact of the first golden number in the first century is 8, and that of each next
+-- one is 11 more. Both corrections apply, and 30 are a whole month
 abbrev pub epact_number : ℕ → ℕ
 epact_number y =
     let older = pos (8 + 11 * (golden_number y - 1) + lunar_correction y) in
     unsigned_abs (int_rem_euclid (older -ℤ pos (solar_correction y)) (pos 30))
 
--- 25 has a prime where the golden number is above 11, so that no two of the 19 years of a cycle
--- have one new moon. Up to 3107 the golden numbers with the epact 25 are 11 at most or 14 at least:
--- 12 first has it in 3108
+-- 25 has a prime if the golden number is above 11, so that no two of the 19 years of a cycle have
+-- one new moon. Up to 3107 the golden numbers with the epact 25 are 11 at most or 14 at least: 12
+-- first has it in 3108
 abbrev pub gregorian_epact : ℕ → Epact
 gregorian_epact y = record {
   number = epact_number y;

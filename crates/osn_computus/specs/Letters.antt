@@ -1,5 +1,5 @@
 -- The Sunday letters, by the third canon of Inter gravissimas (1582) and the calendar of the
--- canons. In that calendar each day of the year stands beside one of the letters A to G.
+-- canons, in which each day of the year has one of the letters A to G.
 use Rattle.std.specs.Prelude.{◌≡◌, ℕ, zero, suc, ◌-◌, ◌==◌, ◌&&◌, nat_lt, nat_le, pos, codes}
 use Rattle.std.specs.Prelude.{Bool, true, false, if◌then◌else◌, Option, None, List}
 use Rattle.std.specs.List.{find}
@@ -49,7 +49,7 @@ is_new_year d = (d.month == 1) && (d.day == 1)
 abbrev pub is_leap_day : Date → Bool
 is_leap_day d = (d.month == 2) && (d.day == 29)
 
--- each year the letters begin again with A, and 29 February is passed over
+-- each year the letters begin again with A, and 29 February is skipped
 abbrev pub letter_after : Date → Letter → Letter
 letter_after d l = if is_new_year d then A else (if is_leap_day d then l else next_letter l)
 

@@ -1,7 +1,7 @@
--- The tables of the paschal moon. The Julian rule goes by the 19 full moons of the cycle of 19
--- years (Reingold and Dershowitz, Calendrical Calculations, "The Ecclesiastical Calendars"). The
--- Gregorian rule goes by epacts. The second canon of Inter gravissimas (1582) and the calendar of
--- the canons set them beside the days on which a paschal new moon can fall.
+-- The tables of the paschal moon. The Julian rule uses the 19 full moons of the cycle of 19 years
+-- (Reingold and Dershowitz, Calendrical Calculations, "The Ecclesiastical Calendars"). The
+-- Gregorian rule uses epacts. The second canon of Inter gravissimas (1582) and the calendar of the
+-- canons give them for the days on which a paschal new moon can fall.
 use Rattle.std.specs.Prelude.{ℕ, ◌+◌, ◌-◌, ◌==◌, ◌&&◌, Bool, true, false, not, nat_lt}
 use Rattle.std.specs.Prelude.{if◌then◌else◌, List, [], ◌∷◌, Option, slice_get}
 use Rattle.std.specs.List.{find, list_any}
@@ -39,7 +39,7 @@ plain n = record { number = n; prime = false }
 abbrev pub twenty_five_prime : Epact
 twenty_five_prime = record { number = 25; prime = true }
 
--- a day of the canons' calendar with the epacts that stand beside it
+-- a day of the canons' calendar with its epacts
 pub record Row : Type 0 where
   pub date : MonthDay
   pub epacts : List Epact

@@ -14,11 +14,11 @@ pub struct Epact {
     pub prime: bool,
 }
 
-/// An epact of the Gregorian reckoning as the canons write it: `*`, `25'` or its number.
+/// Returns an epact of the Gregorian reckoning as the canons write it: `*`, `25'` or its number.
 ///
 /// # Errors
 ///
-/// Want of memory, and nothing else.
+/// If memory runs out, and in no other case.
 #[tactic(auto, unfolding(crate::specs::FigureTexts::epact_text))]
 pub fn epact_text(alloc: Global, epact: Epact) -> Result<String, AllocError>
     ensures { IfOk result (λ s. string_bytes s ≡ spec.epact_text epact) }

@@ -10,7 +10,7 @@ use crate::moon::paschal_moon;
 use crate::rule::Rule;
 use osn_days::{Day, Year};
 
-/// The first Sunday strictly after a day.
+/// Returns the first Sunday strictly after a day.
 fn sunday_after(moon: Day) -> Day
     requires { IsDay newest_rules (moon + 7) }
     ensures value { feast.first_sunday_after newest_rules moon ≡ Some result }
@@ -21,10 +21,10 @@ fn sunday_after(moon: Day) -> Day
     Day::on_line(i64::from(number + 7 - number % 7))
 }
 
-/// Easter of the year, the first Sunday strictly after the rule's paschal moon (the fifth canon of
-/// *Inter gravissimas*). By the Julian rule it is from 22 March to 25 April of the Julian calendar,
-/// by the Gregorian rule between the same dates of the Gregorian. Years before 1583 are counted by
-/// the same rules.
+/// Returns Easter of the year, the first Sunday strictly after the rule's paschal moon (the fifth
+/// canon of *Inter gravissimas*). By the Julian rule it is from 22 March to 25 April of the Julian
+/// calendar, by the Gregorian rule between the same dates of the Gregorian. Years before 1583 are
+/// counted by the same rules.
 pub fn easter(rule: Rule, year: Year) -> Day
     ensures value { easter_of newest_rules rule year ≡ Some result }
     // it is a Sunday, from 22 March to 25 April, and in the week after the moon

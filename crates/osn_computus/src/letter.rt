@@ -2,7 +2,7 @@
 ghost use Rattle.std.specs.Prelude.{◌≡◌, ◌<◌};
 ghost use Rattle.osn_computus.specs.Letters.{letter_name, letter_number};
 
-/// One of the seven letters that stand beside the days of the year in the calendar of the canons.
+/// One of the seven letters of the days of the year in the calendar of the canons.
 #[derive(Clone, Copy, Debug, PartialEq, Eq, Hash)]
 pub enum Letter {
     A,
@@ -15,7 +15,7 @@ pub enum Letter {
 }
 
 impl Letter {
-    /// The letter as it is written.
+    /// Returns the letter as it is written.
     pub fn name(self) -> &'static str
         ensures { result.now ≡ letter_name self }
     {
@@ -30,7 +30,7 @@ impl Letter {
         }
     }
 
-    /// The letter that many places after A.
+    /// Returns the letter that many places after A.
     pub(crate) fn at(number: u32) -> Letter
         requires { number < 7 }
         ensures { letter_number result ≡ number }

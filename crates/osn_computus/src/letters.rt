@@ -23,18 +23,18 @@ pub struct Letters {
     pub march: Letter,
 }
 
-/// The places from A to D, which stands beside 1 February and 1 March in every year.
+/// The places from A to D, the letter of 1 February and 1 March in every year.
 const PLACE_OF_D: u32 = 3;
 
-/// The letter of the next Sundays, from a day that stands beside D: a Sunday some days later
-/// stands beside the letter as many places after D.
+/// Returns the letter of the next Sundays, from a day whose letter is D: the letter of a Sunday
+/// some days later is as many places after D.
 fn sunday_letter(day: Day) -> Letter
     ensures { (letter_number result + day) % 7 ≡ letter_number D }
 {
     Letter::at((PLACE_OF_D + 7 - day.number() % 7) % 7)
 }
 
-/// The Sunday letters in a calendar that has them. Both days are on the line in every year.
+/// Returns the Sunday letters in a calendar that has them. Both days are on the line in every year.
 fn letters_of_year(calendar: Calendar, year: Year) -> Letters
     requires { calendar ≢ Swedish }
     ensures value { letters_of newest_rules calendar year ≡ Some result }
@@ -50,7 +50,7 @@ fn letters_of_year(calendar: Calendar, year: Year) -> Letters
     }
 }
 
-/// The Sunday letters of the year, or `None` for a calendar that has none: the Swedish.
+/// Returns the Sunday letters of the year, or `None` for a calendar that has none: the Swedish.
 pub fn sunday_letters(calendar: Calendar, year: Year) -> Option<Letters>
     ensures value { result ≡ letters_of newest_rules calendar year }
     // as a law: a year of the first rules keeps its letters
@@ -68,11 +68,11 @@ pub fn sunday_letters(calendar: Calendar, year: Year) -> Option<Letters>
     }
 }
 
-/// One letter in a common year and two in a leap year, that of January first.
+/// Returns one letter for a common year and two for a leap year, that of January first.
 ///
 /// # Errors
 ///
-/// Want of memory, and nothing else.
+/// If memory runs out, and in no other case.
 #[tactic(auto, unfolding(crate::specs::FigureTexts::letters_text))]
 pub fn letters_text(alloc: Global, letters: Letters) -> Result<String, AllocError>
     ensures { IfOk result (λ s. string_bytes s ≡ spec.letters_text letters) }

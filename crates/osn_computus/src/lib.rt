@@ -1,9 +1,9 @@
-//! The figures of a year and both Easters. They go by the cycles of the Julian reckoning, and by
-//! the epacts and the calendar of *Inter gravissimas* (1582) with its six canons. The arithmetic is
+//! The figures of a year and both Easters. They follow the cycles of the Julian reckoning, and the
+//! epacts and the calendar of *Inter gravissimas* (1582) with its six canons. The arithmetic is
 //! that of Reingold and Dershowitz, *Calendrical Calculations*, chapter "The Ecclesiastical
 //! Calendars". What the crate promises to those above is each figure by its table, and Easter as
 //! the first Sunday after the table's full moon. The words of the rules and the texts of epacts and
-//! letters stand beside their types.
+//! letters are beside their types.
 #![tactic(auto)]
 
 mod epact;

@@ -12,8 +12,9 @@ use crate::rule::Rule;
 use crate::year_date::date_in;
 use osn_days::{Day, Year, day_of};
 
-/// The days from 21 March to the full moon of the Julian rule. It is 15 days later, on 5 April,
-/// where the golden number is 1, and with each further one 19 days later or 11 days earlier.
+/// Returns the days from 21 March to the full moon of the Julian rule. For golden number 1, these
+/// are 15 days, to 5 April. For each next golden number the moon is 19 days later or 11 days
+/// earlier.
 fn julian_moon_days(year: Year) -> u32
     ensures table { julian_full_moon (figure.golden_number year)
         ≡ Some (after_march_1 (20 + result)) }
@@ -23,10 +24,10 @@ fn julian_moon_days(year: Year) -> u32
     (15 + 19 * (golden - 1)) % 30
 }
 
-/// The days from 21 March to the fourteenth day of the moon of the Gregorian rule, 13 days after
-/// the new moon. Epact 23 has its new moon on 8 March, and each epact that is less by one a day
-/// later. But 24 stands a day before its turn, with 25 on 5 April, and 25 with a prime stands with
-/// 26 on 4 April.
+/// Returns the days from 21 March to the fourteenth day of the moon of the Gregorian rule, 13 days
+/// after the new moon. Epact 23 has its new moon on 8 March, and each epact that is less by one has
+/// it a day later. But 24 is one day early, with 25 on 5 April, and 25 with a prime is with 26 on 4
+/// April.
 fn gregorian_moon_days(year: Year) -> u32
     ensures table { gregorian_new_moon (figure.gregorian_epact year)
         ≡ Some (after_march_1 (7 + result)) }
@@ -37,8 +38,8 @@ fn gregorian_moon_days(year: Year) -> u32
     days - u32::from(number == 24 || prime)
 }
 
-/// The paschal full moon or the fourteenth day of the paschal moon. Every year of the range has its
-/// 21 March on the line.
+/// Returns the paschal full moon or the fourteenth day of the paschal moon. Every year of the range
+/// has its 21 March on the line.
 pub fn paschal_moon(rule: Rule, year: Year) -> Day
     ensures value { feast.paschal_moon newest_rules rule year ≡ Some result }
     ensures in_range { IsYear newest_rules year }

@@ -15,7 +15,7 @@ pub enum Rule {
 }
 
 impl Rule {
-    /// The calendar in which the rule's moons stand.
+    /// Returns the calendar of the dates of the rule's moons.
     pub(crate) fn calendar(self) -> Calendar
         ensures { result ≡ calendar_of self }
     {

@@ -6,7 +6,7 @@ ghost use Rattle.osn_computus.specs.Easter as feast;
 
 use osn_days::{Date, Year};
 
-/// The date of a month and a day in a year.
+/// Returns the date of a month and a day in a year.
 pub fn date_in(year: Year, month: u8, day: u8) -> Date
     ensures value { result ≡ feast.date_in year (record { month = month; day = day }) }
     ensures in_range { IsYear newest_rules year }

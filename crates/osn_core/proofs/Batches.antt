@@ -34,7 +34,7 @@ without_part es fs =
     let rest : length es ≡ length (es ++ fs) - length fs = omega (arith, length-append es fs) in
     take_at es fs (length (es ++ fs) - length fs) rest
 
--- all batches but the last, and the last
+-- all batches without the last, and the last
 pub split_last : (c : List Edit) (bs : List (List Edit)) →
     joined (c ∷ bs) ≡ joined (take (length bs) (c ∷ bs)) ++ last_batch (c ∷ bs)
 split_last c [] = append-nil c

@@ -1,5 +1,4 @@
--- What the editor is told over every list of steps is what the sequential object tells it on the
--- history.
+-- Over every list of steps, the editor gets what the sequential object gives it on the history.
 use Rattle.std.proofs.Common.{◌≡◌, ℕ, ◌-◌, ◌+◌, ◌==◌, Bool, true, false, List, []}
 use Rattle.std.proofs.Common.{◌∷◌, ◌++◌, length, Option, Some, None, refl, sym, ap, ◌∙◌}
 use Rattle.osn_days.specs.Profile.{Profile}
@@ -102,7 +101,7 @@ publish_loud : (n : ℕ) (f : Option Refusal) → is_editors (out_unless f (Says
 publish_loud n None = refl
 publish_loud n (Some f) = refl
 
--- an ask tells the editor nothing
+-- an ask gives the editor nothing
 ask_skipped : (p : Profile) (s : ObjectState) (a : ℕ) (l : Option Query) (calls : List Call) →
     editor_outs (outs_to p s (ask_of l a ++ calls)) ≡ editor_outs (outs_to p s calls)
 ask_skipped p s a None calls = refl
@@ -194,7 +193,7 @@ step_same p looks c Claim calls outs h =
 step_same p looks c Absorb calls outs h =
     skips _ outs (absorb_quiet (c.control.lag == 0) c.control.phase) ∙ h
 
--- whatever the steps, the editor is told what the sequential object tells it
+-- whatever the steps, the editor gets what the sequential object gives it
 pub editor_outs_of_run : (p : Profile) (looks : Looks) (c : CoreState) (steps : List Step) →
     editor_outs (outs_of p c steps)
     ≡ editor_outs (outs_to p c.object (calls_of looks steps (outs_of p c steps)))

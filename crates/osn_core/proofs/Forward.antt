@@ -1,5 +1,5 @@
--- No reader's editions fall: those that the sequential object tells a reader never do, and a reader
--- is told the first of them.
+-- No reader's editions fall: those that the sequential object gives a reader never do, and a reader
+-- gets the first of them.
 use Rattle.std.proofs.Common.{◌≡◌, ℕ, ◌+◌, ◌≤◌, ◌==◌, true, false, if◌then◌else◌, List, []}
 use Rattle.std.proofs.Common.{◌∷◌, ◌++◌, map, length, Option, Some, None, refl, sym, subst, arith}
 use Rattle.std.proofs.Common.{le_refl, length-append, ap, ◌∙◌}

@@ -23,13 +23,13 @@ use Rattle.osn_core.proofs.Lawful.{AreLawful-push, AreLawful-front, lawful_at, a
 abbrev register_of : Limits → List Edit → RegisterModel
 register_of limits es = record { limits = limits; lands = applied_all newest_rules limits [] es }
 
--- where any edit is pending, the standby lacks none
+-- if any edit is pending, the standby lacks none
 pub none_lacked : (d : DraftState) (bs : List (List Edit)) (lag : ℕ) (other : RegisterModel) →
     AreInStep d bs lag other → 0 < length d.pending → lag ≡ 0
 none_lacked d bs lag other h some = elim h.caught_up
     [ inl nothing ↦ absurd (omega (arith, some, ap length nothing)) | inr all ↦ all ]
 
--- the draft is the live register where nothing is pending
+-- the draft is the live register if nothing is pending
 pub draft_live : (d : DraftState) (bs : List (List Edit)) (lag : ℕ) (other : RegisterModel) →
     AreInStep d bs lag other → d.pending ≡ [] →
     d.register.lands ≡ lands_of newest_rules d.register.limits bs
@@ -37,14 +37,14 @@ draft_live d bs lag other h none = h.draft.lands
     ∙ ap (applied_all newest_rules d.register.limits [])
     (ap (λ es. joined bs ++ es) none ∙ append-nil (joined bs))
 
--- and the other one where the standby lacks nothing
+-- and the other one if the standby lacks nothing
 pub other_live : (d : DraftState) (bs : List (List Edit)) (lag : ℕ) (other : RegisterModel) →
     AreInStep d bs lag other → lag ≡ 0 →
     other.lands ≡ lands_of newest_rules d.register.limits bs
 other_live d bs lag other h none = ap (λ (r : RegisterModel). r.lands) h.other_is
     ∙ ap (applied_all newest_rules d.register.limits []) (without_none (joined bs) lag none)
 
--- so they are equal where both is so
+-- so they are equal if both is so
 pub are_equal : (d : DraftState) (bs : List (List Edit)) (lag : ℕ) (other : RegisterModel) →
     AreInStep d bs lag other → lag ≡ 0 → d.pending ≡ [] → other ≡ d.register
 are_equal d bs lag other h all none = h.other_is
@@ -52,7 +52,7 @@ are_equal d bs lag other h all none = h.other_is
     ∙ ap (λ (ls : List LandModel). record { limits = d.register.limits; lands = ls })
     (sym (draft_live d bs lag other h none))
 
--- the draft is the standby where that lacks nothing
+-- the draft is the standby if that lacks nothing
 pub draft_standby : (d : DraftState) (bs : List (List Edit)) (lag : ℕ) (other : RegisterModel) →
     AreInStep d bs lag other → lag ≡ 0 →
     d.register.lands ≡ lagging_lands newest_rules (record { object = object_of d bs; lag = lag })
@@ -60,7 +60,7 @@ draft_standby d bs lag other h none = h.draft.lands
     ∙ ap (applied_all newest_rules d.register.limits [])
     (sym (without_none (joined bs ++ d.pending) lag none))
 
--- and the other one where nothing is pending
+-- and the other one if nothing is pending
 pub other_standby : (d : DraftState) (bs : List (List Edit)) (lag : ℕ) (other : RegisterModel) →
     AreInStep d bs lag other → d.pending ≡ [] →
     other.lands ≡ lagging_lands newest_rules (record { object = object_of d bs; lag = lag })

@@ -1,4 +1,4 @@
--- What a reader has asked and was not told yet: one reply from its check on until its answer.
+-- What a reader has asked and has no answer to yet: one reply from its check until its answer.
 use Rattle.std.proofs.Common.{◌≡◌, ℕ, ◌==◌, inl, inr, if◌then◌else◌, List, [], ◌∷◌, ◌++◌}
 use Rattle.std.proofs.Common.{length, take, Option, Some, None, refl, sym, ap, subst, ◌∙◌, le_refl}
 use Rattle.std.proofs.lemmas.List.{take_all, take-append-le}
@@ -17,7 +17,7 @@ use Rattle.osn_core.specs.History.{Looks}
 use Rattle.osn_core.proofs.Standing.{same_or_not, test_same, test_other, put_here, put_elsewhere}
 use Rattle.osn_core.proofs.Knows.{Knows}
 
--- what a reader has asked and was not told yet
+-- the reply that a reader has asked for and has not got yet
 abbrev pub owed : Profile → ObjectState → Option ReaderState → List Reply
 owed p s None = []
 owed p s (Some Idle) = []
@@ -26,7 +26,7 @@ owed p s (Some (Marked q side)) = []
 owed p s (Some (Entered q side k)) = reply_at p s.limits (take k s.batches) q ∷ []
 owed p s (Some (Answered side k)) = []
 
--- a reader is put where it is owed what it was owed before
+-- a reader is put in a state in which it is owed what it was owed before
 pub still_owed : (p : Profile) (s : ObjectState) (readers : List ReaderState) (a r : ℕ)
     (x y : ReaderState) → reader_at readers a ≡ Some x → owed p s (Some y) ≡ owed p s (Some x) →
     (rest : List Reply) → owed p s (reader_at (set_reader readers a y) r) ++ rest
@@ -47,7 +47,7 @@ if_other : (a r : ℕ) (reply : Reply) → (a ≡ r → ⊥) →
     (if a == r then reply ∷ [] else []) ≡ []
 if_other a r reply ne = ap (λ b. if b then reply ∷ [] else []) (test_other a r ne)
 
--- a reader enters: it is owed the reply that the object tells it there
+-- a reader enters: it is owed the reply that the object gives it there
 pub enters : (p : Profile) (s : ObjectState) (readers : List ReaderState) (a r side : ℕ)
     (q : Query) →
     reader_at readers a ≡ Some (Marked q side) → (rest : List Reply) →
@@ -70,7 +70,7 @@ enters p s readers a r side q is rest =
           (if_other a r reply ne))
     ]
 
--- a reader is answered: it is told what it was owed
+-- a reader is answered: it gets what it was owed
 pub answers : (p : Profile) (s : ObjectState) (readers : List ReaderState) (a r side k : ℕ)
     (q : Query) → reader_at readers a ≡ Some (Entered q side k) → (rest : List Reply) →
     (if a == r then reply_at p s.limits (take k s.batches) q ∷ [] else [])

@@ -85,7 +85,7 @@ in_two live phase n s k two h = elim h [
   | inr (side, draining, all) ↦ omega (arith, two, side)
 ]
 
--- where nobody marks the standby, nobody is in it
+-- if nobody marks the standby, nobody is in it
 unmarked_at : (side : ℕ) (readers : List ReaderState) (i : ℕ) (x : ReaderState) →
     is_marked side readers ≡ false → slice_get readers i ≡ Some x → marks side x ≡ false
 unmarked_at side [] i x none is = cc

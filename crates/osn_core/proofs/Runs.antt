@@ -1,5 +1,5 @@
 -- What the core gives over every list of steps, compared with the sequential object run on the
--- history. The editor is told the same, and each reader is told the first of the replies.
+-- history. The editor gets the same, and each reader gets the first of the replies.
 use Rattle.std.proofs.Common.{◌≡◌, ℕ, ◌+◌, ◌==◌, Bool, true, false}
 use Rattle.std.proofs.Common.{List, [], ◌∷◌, ◌++◌, length, Option, Some}
 use Rattle.std.proofs.Common.{None, refl, sym, ap, ◌∙◌, ◌-◌, append_assoc}
@@ -30,7 +30,7 @@ use Rattle.osn_core.specs.History.{calls_of, ask_of, outs_to, replies_to, reply_
 use Rattle.osn_core.proofs.Knows.{Knows, AllKnown, step_known}
 use Rattle.osn_core.proofs.Owed.{owed, still_owed, enters, answers, owed_staged, owed_published}
 
--- the replies that are told and owed after a step are those owed before, and the object's reply to
+-- the replies that are given and owed after a step are those owed before, and the object's reply to
 -- its call
 abbrev Settles : Profile → ℕ → Looks → CoreState → Step → Type 0
 Settles p r looks c step = (calls : List Call) →
@@ -302,7 +302,7 @@ step_settles p r looks c Absorb h calls =
     ++ replies_to r (outs_to p c.object calls)))
     (absorb_silent r (c.control.lag == 0) c.control.phase)
 
--- whatever the steps, a reader is told, first of all, what it is owed and what the object tells it
+-- whatever the steps, a reader gets the first of what it is owed and of what the object gives it
 pub replies_of_run : (p : Profile) (r : ℕ) (looks : Looks) (c : CoreState) (steps : List Step) →
     AllKnown looks (length c.object.batches) c.control.readers →
     (rest : List Reply) × (replies_to r (outs_of p c steps) ++ rest

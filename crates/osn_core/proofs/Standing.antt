@@ -77,7 +77,7 @@ put_elsewhere readers (suc a) (suc r) y ne =
     ∙ get_set_other readers a r y (λ e. ne (ap suc e))
     ∙ sym (at_place readers r)
 
--- what holds of every reader holds where one was put elsewhere and it holds of that one
+-- what holds of every reader still holds after one was put elsewhere, if it holds of that one
 pub put_keeps : (P : ℕ → Option ReaderState → Type 0) (readers : List ReaderState) (a : ℕ)
     (x y : ReaderState) → reader_at readers a ≡ Some x →
     ((r : ℕ) → P r (reader_at readers r)) → P a (Some y) →

@@ -25,7 +25,7 @@ all_idle readers = replicate readers Idle
 abbrev pub first_control : ℕ → Control
 first_control readers = record { side = 0; phase = Ready; lag = 0; readers = all_idle readers }
 
--- what a reader is at, or None where there is no such reader
+-- the state of a reader, or None if there is no such reader
 abbrev pub reader_at : List ReaderState → ℕ → Option ReaderState
 reader_at readers reader = if reader == 0 then None else slice_get readers (reader - 1)
 
@@ -52,7 +52,7 @@ abbrev pub pin : ReaderState → Move
 pin (Noted query side) = record { out = Says.Moved; at = Marked query side }
 pin at = stays at
 
--- it enters a side that is live, with the number of editions then. Else it notes the live side
+-- it enters a side that is live, with the number of editions then. Otherwise it notes the live side
 abbrev pub entering : Bool → ℕ → ℕ → Query → ℕ → Move
 entering true live editions query side = record {
   out = Says.Entered;
@@ -69,7 +69,7 @@ abbrev pub leave : ReaderState → Move
 leave (Answered side edition) = record { out = Says.Moved; at = Idle }
 leave at = stays at
 
--- a step gives nothing where there is no such reader
+-- a step gives nothing if there is no such reader
 abbrev pub out_at : (ReaderState → Move) → Option ReaderState → Out
 out_at move None = Says.NotNow
 out_at move (Some at) = (move at).out
@@ -90,7 +90,7 @@ marks side (Answered marked edition) = marked == side
 abbrev pub is_marked : ℕ → List ReaderState → Bool
 is_marked side readers = list_any (λ at. marks side at) readers
 
--- the standby is claimed where it is draining and not marked
+-- the standby is claimed if it is draining and not marked
 abbrev pub claim_out : Bool → Phase → Out
 claim_out marked Draining = if marked then Says.NotNow else Says.Moved
 claim_out marked phase = Says.NotNow
@@ -99,7 +99,7 @@ abbrev pub phase_claimed : Bool → Phase → Phase
 phase_claimed marked Draining = if marked then Draining else Claimed
 phase_claimed marked phase = phase
 
--- a standby that is claimed takes in an edit that it lacks, and is ready where it lacks none
+-- a standby that is claimed takes in an edit that it lacks, and is ready if it lacks none
 abbrev pub absorb_out : Bool → Phase → Out
 absorb_out none Claimed = if none then Says.Ready else Says.Moved
 absorb_out none phase = Says.NotNow

@@ -23,7 +23,7 @@ IsLag s lag Draining = (s.pending ≡ []) × (lag ≡ length (last_batch s.batch
 IsLag s lag Claimed = s.pending ≡ []
 
 -- a reader is in the live side with all editions, or, while it is draining, in the standby with all
--- but the last
+-- editions except the last
 abbrev pub IsIn : ℕ → Phase → ℕ → ℕ → ℕ → Type 0
 IsIn live phase editions side edition =
     ((side ≡ live) × (edition ≡ editions))

@@ -26,13 +26,13 @@ first_draft limits = record {
   editions = 0;
 }
 
--- the first refusal of an edit, as the sequential object has it
+-- the first refusal of an edit, the same as that of the sequential object
 abbrev pub edit_refusal : DraftState → Edit → Option Refusal
 edit_refusal d e =
     or_else (refusal newest_rules d.register.limits d.register.lands e)
     (if nat_lt d.edits d.register.limits.edits then None else Some JournalFull)
 
--- the first refusal of a publish, as the sequential object has it
+-- the first refusal of a publish, the same as that of the sequential object
 abbrev pub edition_refusal : DraftState → Option Refusal
 edition_refusal d =
     if length d.pending == 0 then Some NothingPending

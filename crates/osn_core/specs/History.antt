@@ -1,6 +1,6 @@
 -- History: the calls of the sequential object that a list of steps and outs amounts to, in the
--- order of the steps. It is read from the steps and the outs alone. An ask stands at the check by
--- which its reader entered, so what readers are told comes later than their asks.
+-- order of the steps. It is read from the steps and the outs alone. An ask is at the check by which
+-- its reader entered, so the replies to readers come later than their asks.
 use Rattle.std.specs.Prelude.{◌≡◌, ℕ, ◌≤◌, ◌==◌, if◌then◌else◌, Bool, true, false, List, [], ◌∷◌}
 use Rattle.std.specs.Prelude.{◌++◌, map, Option, Some, None}
 use Rattle.std.specs.List.{filter}

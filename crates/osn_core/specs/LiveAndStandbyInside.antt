@@ -1,4 +1,4 @@
--- How a draft and a further register keep the sequential object's state. One is the live register,
+-- How a draft and another register keep the sequential object's state. One is the live register,
 -- and the other a standby that may still lack the end of the last batch.
 use Rattle.std.specs.Prelude.{◌≡◌, ℕ, ◌≤◌, ◌⊎◌, List, [], ◌++◌, length}
 use Rattle.osn_days.specs.Profile.{Profile, newest_rules}
@@ -18,7 +18,7 @@ pub record CopiesState : Type 0 where
 abbrev pub first_copies : Limits → CopiesState
 first_copies limits = record { object = opened limits; lag = 0 }
 
--- the territories of all edits, published and pending, but the last ones
+-- the territories of all edits, published and pending, except the last ones
 abbrev pub lagging_lands : Profile → CopiesState → List LandModel
 lagging_lands p c = applied_all p c.object.limits []
     (without_last c.lag (joined c.object.batches ++ c.object.pending))
@@ -26,8 +26,8 @@ lagging_lands p c = applied_all p c.object.limits []
 abbrev pub copies_in : Inside → CopiesState
 copies_in c = record { object = object_of c.draft c.batches.items; lag = c.lag }
 
--- the draft is that of the object. The other register has the batches but for the edits that the
--- standby lacks, and where any edit is pending the standby lacks no edit
+-- the draft is that of the object. The other register has the batches except for the edits that the
+-- standby lacks, and if any edit is pending, the standby lacks no edit
 pub record AreInStep (d : DraftState) (batches : List (List Edit)) (lag : ℕ) (other : RegisterModel)
     : Type 0 where
   pub draft : IsDraftOf d batches

@@ -33,7 +33,7 @@ pub record CoreState : Type 0 where
 abbrev pub first_core : Limits → ℕ → CoreState
 first_core limits readers = record { object = opened limits; control = first_control readers }
 
--- a reader that has entered is told what the sequential object told under the editions of that time
+-- a reader that has entered gets the sequential object's reply under the editions of that time
 abbrev pub answer : Profile → ObjectState → ℕ → ReaderState → Move
 answer p s reader (Entered query side edition) = record {
   out = Says.Replied reader (reply_at p s.limits (take edition s.batches) query);
@@ -41,7 +41,7 @@ answer p s reader (Entered query side edition) = record {
 }
 answer p s reader at = stays at
 
--- what a step of a reader does with where that reader is. A step of the editor does nothing with it
+-- what a step of a reader does with the reader's state. A step of the editor does nothing with it
 abbrev pub move_of : Profile → CoreState → Step → ReaderState → Move
 move_of p c (Look reader query) at = look c.control.side query at
 move_of p c (Pin reader) at = pin at

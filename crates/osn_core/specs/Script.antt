@@ -1,4 +1,4 @@
--- A script: what one editor is told to do, in order, and the editions that come of it.
+-- A script: the commands to one editor, in order, and the editions that they make.
 use Rattle.std.specs.Prelude.{Bool, true, false, List, fold}
 use Rattle.osn_days.specs.Profile.{Profile}
 use Rattle.osn_register.specs.declared.limits.Limits.{Limits}
@@ -12,7 +12,7 @@ abbrev pub copy_takes_memory : Command → Bool
 copy_takes_memory (Stage edit) = true
 copy_takes_memory Publish = false
 
--- what a command leaves: a refused one is passed over
+-- what a command leaves: a refused one is ignored
 abbrev pub command_after : Profile → ObjectState → Command → ObjectState
 command_after p s (Stage edit) = stage_after p s edit
 command_after p s Publish = publish_after s

@@ -91,7 +91,7 @@ publish_out s = out_unless (publish_refusal s) (Published (length s.batches + 1)
 abbrev pub publish_after : ObjectState → ObjectState
 publish_after s = state_unless (publish_refusal s) (with_edition s) s
 
--- what a query is told under these batches
+-- the reply to a query under these batches
 abbrev pub reply_at : Profile → Limits → List (List Edit) → Query → Reply
 reply_at p limits batches q =
     record { edition = length batches; answer = answer p (lands_of p limits batches) q }

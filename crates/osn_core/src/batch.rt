@@ -20,21 +20,21 @@ impl Model for Batch {
 }
 
 impl Batch {
-    /// The edits that were moved in.
+    /// Returns the edits that were moved in.
     pub fn new(edits: Vec<Edit>) -> Batch
         ensures { result ≡ edits.items }
     {
         Batch { edits }
     }
 
-    /// The edits, to read.
+    /// Returns the edits, to read.
     pub fn edits(&self) -> &[Edit]
         ensures { result.now ≡ self.now }
     {
         self.edits.as_slice()
     }
 
-    /// The edits, moved out.
+    /// Returns the edits, moved out.
     pub fn into_edits(self) -> Vec<Edit>
         ensures { result.items ≡ self }
     {

@@ -1,11 +1,11 @@
-//! What an editor is told to do.
+//! The commands to an editor.
 ghost use Rattle.std.specs.Prelude.{◌≡◌, true, IfOk, OnErr};
 ghost use Rattle.osn_core.specs.Script.{copy_takes_memory};
 
 use osn_register::Edit;
 use std::alloc::AllocError;
 
-/// What an editor is told to do.
+/// A command to an editor.
 #[derive(Debug, Drop)]
 pub enum Command {
     /// To stage an edit.
@@ -15,11 +15,11 @@ pub enum Command {
 }
 
 impl Command {
-    /// A command equal to this one.
+    /// Returns a command equal to this one.
     ///
     /// # Errors
     ///
-    /// Only where no memory is found.
+    /// If memory runs out.
     pub fn copy(&self) -> Result<Command, AllocError>
         ensures value { IfOk result (λ c. c ≡ self.now) }
         ensures memory { OnErr result (copy_takes_memory self.now ≡ true) }

@@ -34,7 +34,7 @@ impl Model for Draft {
 }
 
 impl Draft {
-    /// A draft with no edit.
+    /// Returns a draft with no edit.
     pub fn new(alloc: Global, limits: Limits) -> Draft
         ensures { result ≡ first_draft limits }
     {
@@ -47,35 +47,35 @@ impl Draft {
         }
     }
 
-    /// The limits.
+    /// Returns the limits.
     pub fn limits(&self) -> Limits
         ensures { result ≡ self.now.register.limits }
     {
         self.register.limits()
     }
 
-    /// The register of all edits.
+    /// Returns the register of all edits.
     pub fn register(&self) -> &Register
         ensures { result.now ≡ self.now.register }
     {
         &self.register
     }
 
-    /// The pending edits.
+    /// Returns the pending edits.
     pub fn pending(&self) -> &Vec<Edit>
         ensures { result.now.items ≡ self.now.pending }
     {
         &self.pending
     }
 
-    /// The number of editions.
+    /// Returns the number of editions.
     pub fn edition(&self) -> u32
         ensures { result ≡ self.now.editions }
     {
         self.editions
     }
 
-    /// How many edits would be pending if this one were staged now.
+    /// Returns how many edits would be pending if this one were staged now.
     ///
     /// # Errors
     ///
@@ -91,11 +91,11 @@ impl Draft {
         Ok(self.pending.len() as u32 + 1)
     }
 
-    /// Stages an edit that `check` has let in, and answers how many are pending then.
+    /// Stages an edit that `check` has let in, and returns how many are pending then.
     ///
     /// # Errors
     ///
-    /// Only where no memory is found. Nothing has changed then.
+    /// If memory runs out. On an error nothing has changed.
     pub fn admit(&mut self, edit: Edit) -> Result<u32, AllocError>
         requires { edit_refusal self.old edit ≡ None }
         ensures ok { OnOk result (self.new ≡ draft_with_edit self.old edit) }
@@ -112,7 +112,7 @@ impl Draft {
         Ok(self.pending.len() as u32)
     }
 
-    /// The edition that a publish would make now.
+    /// Returns the edition that a publish would make now.
     ///
     /// # Errors
     ///

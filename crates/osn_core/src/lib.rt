@@ -1,7 +1,7 @@
 //! The sequential object over the register, and the machine that readers and one editor step over
-//! two copies of it. What the crate promises to those above: over every list of steps, all are told
-//! what the sequential object tells them. Each query is answered as at the place where its reader
-//! entered.
+//! two copies of it. What the crate promises to those above: over every list of steps, the editor
+//! and the readers get what the sequential object gives them. Each query is answered as at the
+//! place where its reader entered.
 #![tactic(auto)]
 
 mod batch;

@@ -15,9 +15,9 @@ use std::alloc::{AllocError, Global};
 use std::marker::Model;
 
 /// The batches and the pending edits, and two registers of them. The live one has the batches, and
-/// the standby all edits but the last ones of the last batch, which it lacks for a while.
+/// the standby all edits except the last ones of the last batch, which it lacks for a while.
 ///
-/// While edits are pending the draft's register is the standby, and else it is the live one. So a
+/// While edits are pending, the draft's register is the standby; otherwise it is the live one. So a
 /// publish exchanges the two, and costs the same however large the register is.
 #[derive(Drop)]
 pub struct LiveAndStandby {
@@ -40,7 +40,7 @@ impl Model for LiveAndStandby {
 }
 
 impl LiveAndStandby {
-    /// Two registers with no territory, no batch and nothing pending.
+    /// Returns two registers with no territory, no batch and nothing pending.
     pub fn new(alloc: Global, limits: Limits) -> LiveAndStandby
         ensures { result ≡ first_copies limits }
     {
@@ -52,7 +52,7 @@ impl LiveAndStandby {
         }
     }
 
-    /// The register of the batches.
+    /// Returns the register of the batches.
     pub fn live(&self) -> &Register
         ensures lands { result.now.lands
             ≡ lands_of newest_rules self.now.object.limits self.now.object.batches }
@@ -65,7 +65,7 @@ impl LiveAndStandby {
         }
     }
 
-    /// The register of all edits but those that it lacks.
+    /// Returns the register of all edits except those that it lacks.
     pub fn standby(&self) -> &Register
         ensures lands { result.now.lands ≡ lagging_lands newest_rules self.now }
         ensures limits { result.now.limits ≡ self.now.object.limits }
@@ -77,14 +77,14 @@ impl LiveAndStandby {
         }
     }
 
-    /// How many edits of the last batch the standby lacks.
+    /// Returns how many edits of the last batch the standby lacks.
     pub fn lag(&self) -> usize
         ensures { result ≡ self.now.lag }
     {
         self.lag
     }
 
-    /// The batches, each an edition.
+    /// Returns the batches, each an edition.
     pub fn batches(&self) -> &[Batch]
         ensures value { result.now ≡ self.now.object.batches }
         ensures sound { IsSound newest_rules self.now.object }
@@ -92,21 +92,21 @@ impl LiveAndStandby {
         self.batches.as_slice()
     }
 
-    /// The pending edits.
+    /// Returns the pending edits.
     pub fn pending(&self) -> &[Edit]
         ensures { result.now ≡ self.now.object.pending }
     {
         self.draft.pending().as_slice()
     }
 
-    /// The number of batches.
+    /// Returns the number of batches.
     pub fn edition(&self) -> u32
         ensures { result ≡ length self.now.object.batches }
     {
         self.draft.edition()
     }
 
-    /// How many edits would be pending if this one were staged now, or the first refusal.
+    /// Returns how many edits would be pending if this one were staged now, or the first refusal.
     pub fn check(&self, edit: &Edit) -> Result<u32, Refusal>
         ensures test { IsTestOf (stage_refusal newest_rules self.now.object edit.now) result }
         ensures count { IfOk result (λ n. n ≡ length self.now.object.pending + 1) }
@@ -114,12 +114,12 @@ impl LiveAndStandby {
         self.draft.check(edit)
     }
 
-    /// Stages an edit that `check` has let in, in a standby that lacks nothing, and answers how
+    /// Stages an edit that `check` has let in, in a standby that lacks nothing, and returns how
     /// many are pending then.
     ///
     /// # Errors
     ///
-    /// Only where no memory is found. Nothing has changed then.
+    /// If memory runs out. On an error nothing has changed.
     pub fn admit(&mut self, edit: Edit) -> Result<u32, AllocError>
         requires lag { self.old.lag ≡ 0 }
         requires lawful { stage_refusal newest_rules self.old.object edit ≡ None }
@@ -133,7 +133,7 @@ impl LiveAndStandby {
         Ok(self.draft.admit(edit)?)
     }
 
-    /// Makes the standby the draft's register. Where that is the live one still, both are equal.
+    /// Makes the standby the draft's register. If that is still the live one, both are equal.
     fn take_standby(&mut self)
         requires { self.old.lag ≡ 0 }
         ensures { self.new ≡ self.old }
@@ -143,7 +143,7 @@ impl LiveAndStandby {
         }
     }
 
-    /// The edition that a publish would make now, or the first refusal.
+    /// Returns the edition that a publish would make now, or the first refusal.
     pub fn check_publish(&self) -> Result<u32, Refusal>
         ensures test { IsTestOf (publish_refusal self.now.object) result }
         ensures edition { IfOk result (λ n. n ≡ length self.now.object.batches + 1) }
@@ -152,11 +152,11 @@ impl LiveAndStandby {
     }
 
     /// Makes the standby the live register, with the pending edits as the next batch, which the
-    /// other one lacks then, and answers the number of batches.
+    /// other one then lacks, and returns the number of batches.
     ///
     /// # Errors
     ///
-    /// Only where no memory is found. Nothing has changed then.
+    /// If memory runs out. On an error nothing has changed.
     pub fn make_edition(&mut self) -> Result<u32, AllocError>
         requires { publish_refusal self.old.object ≡ None }
         ensures ok { OnOk result (self.new ≡ record {
@@ -178,7 +178,7 @@ impl LiveAndStandby {
     ///
     /// # Errors
     ///
-    /// Only where no memory is found. Nothing has changed then.
+    /// If memory runs out. On an error nothing has changed.
     pub fn absorb(&mut self) -> Result<(), AllocError>
         requires { 0 < self.old.lag }
         ensures ok { OnOk result (self.new ≡ record self.old { lag = self.old.lag - 1 }) }
@@ -193,7 +193,7 @@ impl LiveAndStandby {
     ///
     /// # Errors
     ///
-    /// Only where no memory is found. The standby has some of the edits then.
+    /// If memory runs out. Then the standby has some of the edits.
     pub fn catch_up(&mut self) -> Result<(), AllocError>
         ensures object { self.new.object ≡ self.old.object }
         ensures all { OnOk result (self.new.lag ≡ 0) }
@@ -205,7 +205,7 @@ impl LiveAndStandby {
     }
 }
 
-/// The edit of the last batch with which the last ones begin, as many as the lag.
+/// Returns the edit of the last batch with which the last ones begin, as many as the lag.
 fn next_edit(batches: &[Batch], lag: usize) -> &Edit
     requires some { 0 < lag }
     requires of_last { lag ≤ length (last_batch batches.now) }

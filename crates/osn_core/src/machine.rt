@@ -45,11 +45,11 @@ impl Model for Core {
 }
 
 impl Core {
-    /// A core with nothing staged and that many idle readers, 1 to 64.
+    /// Returns a core with nothing staged and that many idle readers, 1 to 64.
     ///
     /// # Errors
     ///
-    /// `BadCount` for another number of readers, and else `NoMemory` where none is found.
+    /// `BadCount` for another number of readers. Otherwise `NoMemory` if memory runs out.
     pub fn new(alloc: Global, limits: Limits, readers: u32) -> Result<Core, Refusal>
         ensures lawful { OnOk result (readers_refusal readers ≡ None) }
         ensures ok { IfOk result (λ c. c ≡ first_core limits readers) }
@@ -67,7 +67,7 @@ impl Core {
         })
     }
 
-    /// The copy of a side, 0 or 1.
+    /// Returns the copy of a side, 0 or 1.
     pub fn side(&self, side: u8) -> &Register
         requires { side < 2 }
         ensures lands { result.now.lands ≡ side_lands newest_rules self.now side }
@@ -86,8 +86,8 @@ impl Core {
     ///
     /// # Errors
     ///
-    /// Only where no memory is found. Pins, checks, leaves and claims take none. Neither does a
-    /// step that is not enabled, a refusal, or a query of the figures of a year.
+    /// If memory runs out. Pins, checks, leaves and claims need none. Neither does a step that is
+    /// not enabled, a refusal, or a query of the figures of a year.
     pub fn step(&mut self, step: &Step) -> Result<Out, AllocError>
         ensures out { IfOk result (λ o. o ≡ out_of newest_rules self.old step.now) }
         ensures ok { OnOk result (self.new ≡ core_after newest_rules self.old step.now) }

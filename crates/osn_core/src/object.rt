@@ -33,7 +33,7 @@ impl Model for Object {
 }
 
 impl Object {
-    /// An object with no batch and nothing pending.
+    /// Returns an object with no batch and nothing pending.
     pub fn new(alloc: Global, limits: Limits) -> Object
         ensures { result ≡ opened limits }
     {
@@ -42,7 +42,7 @@ impl Object {
         }
     }
 
-    /// The published register.
+    /// Returns the published register.
     pub fn register(&self) -> &Register
         ensures lands { result.now.lands ≡ lands_of newest_rules self.now.limits self.now.batches }
         ensures limits { result.now.limits ≡ self.now.limits }
@@ -50,7 +50,7 @@ impl Object {
         self.copies.live()
     }
 
-    /// The batches, each an edition.
+    /// Returns the batches, each an edition.
     pub fn batches(&self) -> &[Batch]
         ensures value { result.now ≡ self.now.batches }
         ensures sound { IsSound newest_rules self.now }
@@ -58,23 +58,23 @@ impl Object {
         self.copies.batches()
     }
 
-    /// The pending edits.
+    /// Returns the pending edits.
     pub fn pending(&self) -> &[Edit]
         ensures { result.now ≡ self.now.pending }
     {
         self.copies.pending()
     }
 
-    /// What a query is told of the published register.
+    /// Returns the reply to a query of the published register.
     ///
     /// # Errors
     ///
-    /// Only where no memory is found, of which a refused query, the figures of a year and an empty
-    /// list of territories take none.
+    /// If memory runs out. A refused query, the figures of a year and an empty list of territories
+    /// need none.
     pub fn ask(&self, query: &Query) -> Result<Reply, AllocError>
         ensures value { IfOk result
             (λ r. r ≡ reply_at newest_rules self.now.limits self.now.batches query.now) }
-        // as a law: nothing but the definition's refusals refuses a query
+        // as a law: only the definition's refusals refuse a query
         ensures refused { IfOk result (λ r. refusal_in r.answer
             ≡ query_refusal newest_rules
             (lands_of newest_rules self.now.limits self.now.batches) query.now) }
@@ -84,7 +84,7 @@ impl Object {
         self.ask_borrowed(query.borrowed())
     }
 
-    /// What `ask` says to the query that this one stands for.
+    /// Answers a query with borrowed texts as `ask` does.
     ///
     /// # Errors
     ///
@@ -107,7 +107,7 @@ impl Object {
 }
 
 impl Object {
-    /// How many edits would be pending if this one were staged now.
+    /// Returns how many edits would be pending if this one were staged now.
     ///
     /// # Errors
     ///
@@ -119,12 +119,12 @@ impl Object {
         self.copies.check(edit)
     }
 
-    /// Stages an edit, and answers how many are pending then.
+    /// Stages an edit, and returns how many are pending then.
     ///
     /// # Errors
     ///
-    /// The first refusal that applies, and else `NoMemory` where none is found. Nothing has changed
-    /// then.
+    /// The first refusal that applies. Otherwise `NoMemory` if memory runs out. On an error nothing
+    /// has changed.
     pub fn stage(&mut self, edit: &Edit) -> Result<u32, Refusal>
         ensures lawful { OnOk result (stage_refusal newest_rules self.old edit.now ≡ None) }
         ensures ok { OnOk result (self.new ≡ with_pending self.old edit.now) }
@@ -137,11 +137,11 @@ impl Object {
         Ok(self.admit(edit.copy()?)?)
     }
 
-    /// Stages an edit that `check` has let in, and answers how many are pending then.
+    /// Stages an edit that `check` has let in, and returns how many are pending then.
     ///
     /// # Errors
     ///
-    /// Only where no memory is found. Nothing has changed then.
+    /// If memory runs out. On an error nothing has changed.
     pub fn admit(&mut self, edit: Edit) -> Result<u32, AllocError>
         requires { stage_refusal newest_rules self.old edit ≡ None }
         ensures ok { OnOk result (self.new ≡ with_pending self.old edit) }
@@ -154,7 +154,7 @@ impl Object {
         self.copies.admit(edit)
     }
 
-    /// The edition that a publish would make now.
+    /// Returns the edition that a publish would make now.
     ///
     /// # Errors
     ///
@@ -166,12 +166,12 @@ impl Object {
         self.copies.check_publish()
     }
 
-    /// Publishes the pending edits as the next edition, and answers its number.
+    /// Publishes the pending edits as the next edition, and returns its number.
     ///
     /// # Errors
     ///
-    /// The first refusal that applies, and else `NoMemory` where none is found. Nothing has changed
-    /// then.
+    /// The first refusal that applies. Otherwise `NoMemory` if memory runs out. On an error nothing
+    /// has changed.
     pub fn publish(&mut self) -> Result<u32, Refusal>
         ensures lawful { OnOk result (publish_refusal self.old ≡ None) }
         ensures ok { OnOk result (self.new ≡ with_edition self.old) }
@@ -184,11 +184,11 @@ impl Object {
     }
 
     /// Publishes the pending edits, which `check_publish` has let through, as the next edition, and
-    /// answers its number.
+    /// returns its number.
     ///
     /// # Errors
     ///
-    /// Only where no memory is found. Nothing has changed then.
+    /// If memory runs out. On an error nothing has changed.
     pub fn make_edition(&mut self) -> Result<u32, AllocError>
         requires { publish_refusal self.old ≡ None }
         ensures ok { OnOk result (self.new ≡ with_edition self.old) }

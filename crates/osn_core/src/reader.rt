@@ -1,4 +1,4 @@
-//! Where a reader stands, and how its steps move it.
+//! The state of a reader, and how its steps change it.
 ghost use Rattle.std.specs.Prelude.{◌≡◌, ◌==◌, true, IfOk, OnOk, OnErr};
 ghost use Rattle.osn_register.specs.Query.{names_land};
 ghost use Rattle.osn_core.specs.Control.{look, pin, entering, check, leave, marks};
@@ -7,10 +7,10 @@ use crate::step::Out;
 use osn_register::Query;
 use std::alloc::AllocError;
 
-/// Where a reader stands. A side is 0 or 1.
+/// The state of a reader. A side is 0 or 1.
 #[derive(Drop)]
 pub enum ReaderState {
-    /// It has looked for nothing that it was not told.
+    /// It has no open query, and marks no side.
     Idle,
     /// It has looked for this while this side was live.
     Noted {
@@ -40,7 +40,7 @@ impl ReaderState {
     ///
     /// # Errors
     ///
-    /// Only where no memory is found.
+    /// If memory runs out.
     pub fn look(&mut self, query: &Query, live: u8) -> Result<Out, AllocError>
         ensures out { IfOk result (λ o. o ≡ (look live query.now self.old).out) }
         ensures ok { OnOk result (self.new ≡ (look live query.now self.old).at) }
@@ -78,7 +78,7 @@ impl ReaderState {
     }
 
     /// Enters the side that was marked, if it is still the live one, which has that many editions.
-    /// Else it notes the live side.
+    /// Otherwise it notes the live side.
     pub fn check(&mut self, live: u8, edition: u32) -> Out
         ensures out { result ≡ (check live edition self.old).out }
         ensures after { self.new ≡ (check live edition self.old).at }
@@ -92,7 +92,7 @@ impl ReaderState {
         }
     }
 
-    /// Enters a side that was marked, if that one is live, and else notes the live side.
+    /// Enters a side that was marked, if that one is live; otherwise notes the live side.
     fn enter(&mut self, query: Query, side: u8, live: u8, edition: u32) -> Out
         ensures out { result ≡ (entering (side == live) live edition query side).out }
         ensures after { self.new ≡ (entering (side == live) live edition query side).at }
@@ -131,7 +131,7 @@ impl ReaderState {
         *self = state;
     }
 
-    /// Whether it marks a side.
+    /// Returns whether it marks a side.
     pub fn marks(&self, other: u8) -> bool
         ensures { result ≡ marks other self.now }
     {

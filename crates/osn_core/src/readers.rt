@@ -1,4 +1,4 @@
-//! Where all readers of a core stand.
+//! The states of all readers of a core.
 ghost use Rattle.std.specs.Prelude.{◌≡◌, ◌+◌, ◌<◌, ◌≤◌, length, true, None, IfOk, OnOk, OnErr};
 ghost use Rattle.std.specs.Prelude.{MatchOption, option_map};
 ghost use Rattle.osn_core.specs.Control.{all_idle, reader_at, look, pin, check, leave, out_at};
@@ -27,7 +27,7 @@ impl Model for Readers {
 }
 
 impl Readers {
-    /// This many idle readers.
+    /// Returns this many idle readers.
     pub fn new(alloc: Global, readers: u32) -> Result<Readers, AllocError>
         ensures { IfOk result (λ r. r ≡ all_idle readers) }
     {
@@ -38,7 +38,7 @@ impl Readers {
         Ok(Readers { states })
     }
 
-    /// The place of a reader in the list, where there is such a reader.
+    /// Returns the place of a reader in the list, if there is such a reader.
     fn place(&self, reader: u32) -> Option<usize>
         ensures { MatchOption result (reader_at self.now reader ≡ None)
             (λ i. (reader ≡ i + 1) × (i < length self.now)) }
@@ -54,7 +54,7 @@ impl Readers {
         }
     }
 
-    /// Where a reader stands, if there is such a reader.
+    /// Returns the state of a reader, if there is such a reader.
     pub fn get(&self, reader: u32) -> Option<&ReaderState>
         ensures { option_map (λ r. r.now) result ≡ reader_at self.now reader }
     {
@@ -62,7 +62,7 @@ impl Readers {
         self.states.get(place)
     }
 
-    /// Puts a reader, which is there, elsewhere.
+    /// Puts a reader, which must be in the list, in another state.
     pub fn set(&mut self, reader: u32, state: ReaderState)
         requires one { 0 < reader }
         requires there { reader ≤ length self.old }
@@ -71,11 +71,11 @@ impl Readers {
         self.states[(reader - 1) as usize].put(state);
     }
 
-    /// Has a reader look, while this side is live.
+    /// Takes a reader's step `Look`, while this side is live.
     ///
     /// # Errors
     ///
-    /// Only where no memory is found. Nothing has changed then.
+    /// If memory runs out. On an error nothing has changed.
     pub fn look(&mut self, reader: u32, query: &Query, live: u8) -> Result<Out, AllocError>
         ensures out { IfOk result
             (λ o. o ≡ out_at (look live query.now) (reader_at self.old reader)) }
@@ -91,7 +91,7 @@ impl Readers {
         }
     }
 
-    /// Has a reader pin the side that it noted.
+    /// Takes a reader's step `Pin`, of the side that it noted.
     pub fn pin(&mut self, reader: u32) -> Out
         ensures out { result ≡ out_at pin (reader_at self.old reader) }
         ensures after { self.new ≡ readers_after pin (reader_at self.old reader) self.old reader }
@@ -102,7 +102,7 @@ impl Readers {
         }
     }
 
-    /// Has a reader check, while this side is live and has that many editions.
+    /// Takes a reader's step `Check`, while this side is live and has that many editions.
     pub fn check(&mut self, reader: u32, live: u8, edition: u32) -> Out
         ensures out { result ≡ out_at (check live edition) (reader_at self.old reader) }
         ensures after { self.new
@@ -114,7 +114,7 @@ impl Readers {
         }
     }
 
-    /// Has a reader leave its side.
+    /// Takes a reader's step `Leave`.
     pub fn leave(&mut self, reader: u32) -> Out
         ensures out { result ≡ out_at leave (reader_at self.old reader) }
         ensures after { self.new ≡ readers_after leave (reader_at self.old reader) self.old reader }
@@ -125,7 +125,7 @@ impl Readers {
         }
     }
 
-    /// Whether a reader marks a side.
+    /// Returns whether a reader marks a side.
     pub fn marks(&self, side: u8) -> bool
         ensures { result ≡ is_marked side self.now }
     {

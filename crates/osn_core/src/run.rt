@@ -13,16 +13,16 @@ use crate::step::{Out, Step};
 use osn_register::{Limits, Refusal};
 use std::alloc::{AllocError, Global};
 
-/// Takes a list of steps from the first state, enabled or not, and answers what each gives.
+/// Takes a list of steps from the first state, enabled or not, and returns what each gives.
 ///
-/// Whatever the steps, the sequential object is run on their history from the empty state. It tells
-/// the editor what the editor was told, and its replies to a reader begin with those that the
-/// reader was told. Each is the reply at the check by which its reader entered. The editions that
-/// one reader is given never fall.
+/// Whatever the steps, the sequential object is run on their history from the empty state. It gives
+/// the editor what the editor got, and its replies to a reader begin with those that the reader
+/// got. Each is the reply at the check by which its reader entered. The editions that one reader
+/// gets never fall.
 ///
 /// # Errors
 ///
-/// `BadCount` where the readers are not 1 to 64, and else `NoMemory` where none is found.
+/// `BadCount` if the readers are not 1 to 64. Otherwise `NoMemory` if memory runs out.
 pub fn replay(
     alloc: Global,
     limits: Limits,
@@ -44,7 +44,7 @@ pub fn replay(
     run_steps(alloc, &mut core, steps)
 }
 
-/// What each step gives, from a state of the core on, or `NoMemory`.
+/// Returns what each step gives, from a state of the core on, or `NoMemory`.
 fn run_steps(alloc: Global, core: &mut Core, steps: &[Step]) -> Result<Vec<Out>, Refusal>
     ensures outs { IfOk result (λ outs. outs.items ≡ outs_of newest_rules core.old steps.now) }
     ensures refused { IfErr result (λ f. f ≡ NoMemory) }

@@ -1,7 +1,7 @@
 //! The steps of the editor and of the readers, and what each gives.
 use osn_register::{Answer, Edit, Query, Refusal};
 
-/// What a query is told: the edition that was read, and its answer.
+/// The reply to a query: the edition that was read, and its answer.
 #[derive(Debug, Drop)]
 pub struct Reply {
     pub edition: u32,
@@ -15,10 +15,10 @@ pub enum Step {
     Look { reader: u32, query: Query },
     /// A reader marks the side that it noted.
     Pin { reader: u32 },
-    /// A reader enters the side that it marked where that one is still live, and else gives the
+    /// A reader enters the side that it marked, if that one is still live. Otherwise it gives the
     /// mark up and notes the live side.
     Check { reader: u32 },
-    /// A reader is told the answer of the side that it entered.
+    /// A reader gets the answer of the side that it entered.
     Answer { reader: u32 },
     /// A reader that was answered gives its mark up.
     Leave { reader: u32 },
@@ -28,7 +28,7 @@ pub enum Step {
     Publish,
     /// The editor takes the standby, which no reader marks.
     Claim,
-    /// The standby takes in the next edit that it lacks, or is ready where it lacks none.
+    /// The standby takes in the next edit that it lacks, or is ready if it lacks none.
     Absorb,
 }
 
@@ -51,6 +51,6 @@ pub enum Out {
     Published { edition: u32 },
     /// The edit or the publish was refused. Nothing has changed.
     Refused(Refusal),
-    /// The reader was told this.
+    /// The reader got this reply.
     Replied { reader: u32, reply: Reply },
 }

@@ -25,7 +25,7 @@ pub chain-suc : (c : Calendar) (n : ℕ) → chain c (suc n) ≡ next c (chain c
 unfolding chain
 chain-suc c n = refl
 
--- in the calendars that go by the lengths of the months
+-- in the calendars that follow the lengths of the months
 pub next_is : (c : Calendar) (d : Date) → c ≢ Swedish → next c d ≡ next_by_months c d
 next_is Julian d h = refl
 next_is Gregorian d h = refl

@@ -1,5 +1,5 @@
--- A count of days that goes up by one at each step of a chain finds the place of a date on it. This
--- is of the calendars that go by the lengths of the months.
+-- A count of days that goes up by one at each step of a chain finds the place of a date on it, in
+-- the calendars that follow the lengths of the months.
 use Rattle.std.proofs.Common.{◌≡◌, ◌≢◌, ◌↔◌, ℕ, ℤ, [], ◌∷◌, zero, suc, ◌+◌, ◌-◌, ◌*◌, ◌<◌, ◌≤◌, inl}
 use Rattle.std.proofs.Common.{inr, nat_lt, refl, sym, ap, arith, pos, ◌+ℤ◌, ◌*ℤ◌, ◌<ℤ◌, ◌≤ℤ◌}
 use Rattle.std.proofs.Common.{Option, None, Some, IsSome, IfSome}
@@ -194,7 +194,7 @@ days_not p c d h none =
     (λ is. let same = same_date_is (date_of c n) d is in
     none n on (rw same at (chain_real c (n - 1) h)) same)))
 
--- the day of a number that a count gives, where the number is on the line
+-- the day of a number that a count gives, if the number is on the line
 pub days_at_count : (p : Profile) (c : Calendar) (count : Date → ℕ) → IsCount c count → (d : Date)
     (z : ℤ) → (pos 1 ≤ℤ z → IsReal c d) → (z +ℤ pos (count (first_date c))) ≡ pos (count d + 1)
     → (day : Option ℕ) → (IsSome day ↔ IsOnLine p z) → IfSome day (λ n. pos n ≡ z)

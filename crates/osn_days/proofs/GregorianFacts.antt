@@ -91,7 +91,7 @@ gregorian_last_year d s high =
     )))
     (λ le. le)
 
--- a date that `jiff_core` has is real where its count is not below that of day 1
+-- a date that `jiff_core` has is real if its count is not below that of day 1
 pub gregorian_real : (d : Date) → IsCivilDate d.year d.month d.day → 3_652_791 ≤ gregorian_count d
     → IsReal Gregorian d
 gregorian_real d h low =

@@ -133,7 +133,7 @@ pub late_day : (y : ℤ) (n : ℕ) → ((5 * n + 2) / 153 + 3) ≤ 12
     → (5 * n + 2) % 153 / 5 + 1 ≤ month_length Julian y (((5 * n + 2) / 153 + 3))
 late_day y n h = grind (arith, nat_tests)
 
--- January has it too, and February where the year has that many days
+-- January has it too, and February if the year has that many days
 pub early_day : (y : ℕ) (n : ℕ) → 12 < ((5 * n + 2) / 153 + 3) → n < 365 + cond (y % 4 == 0) 1 0
     → (5 * n + 2) % 153 / 5 + 1 ≤ month_length Julian (pos y) (((5 * n + 2) / 153 + 3) - 12)
 early_day y n h k = grind (arith, nat_tests)

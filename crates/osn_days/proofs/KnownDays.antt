@@ -1,4 +1,4 @@
--- Days that are known from elsewhere, as the definitions have them.
+-- The definitions give days that are known from elsewhere.
 use Rattle.std.proofs.Common.{◌≡◌, ℕ, ◌+◌, ◌≤◌, refl, arith, pos}
 use Rattle.std.proofs.lemmas.Int.{ints}
 use Rattle.jiff_core.proofs.MarchLemmas.{day_count-early, day_count-late}

@@ -34,7 +34,7 @@ range_join a b e low high =
     ap (range_with_len a) all ∙ range_split a (b - a) (e - b)
     ∙ ap (λ k. range_with_len a (b - a) ++ range_with_len k (e - b)) next
 
--- a filter goes by what its test says within the row
+-- a filter depends only on what its test says within the row
 
 pub filter_same : (f g : ℕ → Bool) (a n : ℕ) → ((d : ℕ) → a ≤ d → d < a + n → f d ≡ g d) →
     filter f (range_with_len a n) ≡ filter g (range_with_len a n)
@@ -135,7 +135,7 @@ filter_within h f high first last low some most inside before after =
     (λ d from until. ap (λ b. f d && b) (inside d from (omega arith)) ∙ and-true (f d))
     (λ d from until. and_right (f d) (h d) (after d (omega arith)))
 
--- the numbers up to one that pass, where another test says which and none passes after it
+-- the numbers up to one that pass, if another test says which and none passes after it
 pub filter_until : (f g : ℕ → Bool) (low high : ℕ) → low ≤ high →
     ((d : ℕ) → 1 ≤ d → d ≤ low → f d ≡ g d) → ((d : ℕ) → low < d → f d ≡ false) →
     filter f (range_with_len 1 high) ≡ filter g (range_with_len 1 low)
@@ -280,7 +280,7 @@ filter_is f a n d is =
     let here : e.0 ≡ d = eqb-true e.0 d e.1.tested in
     (omega (arith, here, e.1.low), omega (arith, here, e.1.high), ap f (sym here) ∙ e.1.passes)
 
--- no other number passes then, and none where the filter passes nothing
+-- no other number passes then, and none if the filter passes nothing
 pub passes_one : (f : ℕ → Bool) (a n c d : ℕ) → c ∷ [] ≡ filter f (range_with_len a n) → a ≤ d →
     d < a + n → f d ≡ true → c ≡ d
 passes_one f a n c d only low high passes =
@@ -323,7 +323,7 @@ find_first test a (suc n) d low high is before =
       | inr (inr gt) ↦ absurd (omega arith)
     ]
 
--- a search through another row from the same number on finds it too, where that row reaches it
+-- a search through another row from the same number on finds it too, if that row reaches it
 
 other_step : (here : Bool) (a d : ℕ) (long short : Option ℕ) → (long ≡ Some d → short ≡ Some d) →
     (if here then Some a else long) ≡ Some d → (if here then Some a else short) ≡ Some d
@@ -352,7 +352,7 @@ pub find_on_both : (p q : Profile) (test : ℕ → Bool) (d : ℕ) → find test
 unfolding line
 find_on_both p q test d found within = find_other test 1 p.high q.high d found (omega arith)
 
--- a search finds a number where some number passes
+-- a search finds a number if some number passes
 
 any_found : (here : Bool) (a : ℕ) (found : Option ℕ) (rest : Bool) → is_some found ≡ rest →
     is_some (if here then Some a else found) ≡ (here || rest)

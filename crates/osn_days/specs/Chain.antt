@@ -11,8 +11,8 @@ use Rattle.osn_days.specs.declared.calendar.Calendar.TheVariants.{Julian, Gregor
 use Rattle.osn_days.specs.Profile.{Profile}
 use Rattle.osn_days.specs.Line.{line}
 
--- every fourth year, and in the Gregorian calendar of the centuries only every fourth. The Swedish
--- calendar has the Julian months, but for the three successors below
+-- every fourth year; in the Gregorian calendar only every fourth of the centuries. The Swedish
+-- calendar has the Julian months, except for the three successors below
 abbrev pub is_leap : Calendar → ℤ → Bool
 is_leap Julian y = unsigned_abs y % 4 == 0
 is_leap Gregorian y =

@@ -44,8 +44,8 @@ impl Keyword for Calendar {
     }
 }
 
-/// The date of a day in a calendar: in the Gregorian by *Calendrical Calculations*, chapter 2, in
-/// the Julian by chapter 3. Its year is from 1 to 9999.
+/// Returns the date of a day in a calendar: in the Gregorian by *Calendrical Calculations*, chapter
+/// 2, in the Julian by chapter 3. Its year is from 1 to 9999.
 pub fn date_of(calendar: Calendar, day: Day) -> Date
     ensures value { result ≡ chain.date_of calendar day }
     ensures year { IsYearNumber newest_rules result.year }
@@ -57,7 +57,7 @@ pub fn date_of(calendar: Calendar, day: Day) -> Date
     }
 }
 
-/// The one day that has the date, or `None` where no day of the line has it.
+/// Returns the one day that has the date, or `None` if no day of the line has it.
 pub fn day_of(calendar: Calendar, date: Date) -> Option<Day>
     ensures { option_to_list result ≡ chain.days_with_date newest_rules calendar date }
 {

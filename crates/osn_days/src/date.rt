@@ -13,12 +13,12 @@ pub struct Date {
     pub day: u8,
 }
 
-/// The date with its year in at least four digits, its month in two and its day in two, as
-/// `1582-10-04`. No year is negative.
+/// Returns the date with its year in at least four digits, its month in two and its day in two,
+/// such as `1582-10-04`. No year is negative.
 ///
 /// # Errors
 ///
-/// Want of memory, and nothing else.
+/// If memory runs out, and in no other case.
 pub fn date_text(alloc: Global, year: i32, month: u8, day: u8) -> Result<String, AllocError>
     ensures { IfOk result (λ s. string_bytes s ≡ spec.date_text year month day) }
 {
@@ -32,7 +32,8 @@ fn digit(number: u32) -> u8
     b'0' + number as u8
 }
 
-/// The bytes of the same text, of numbers that have no more digits than these: it takes no memory.
+/// Returns the bytes of the same text, of numbers that have no more digits than these: it takes no
+/// memory.
 pub fn date_digits(year: u32, month: u32, day: u32) -> [u8; 10]
     requires year { year < 10_000 }
     requires month { month < 100 }

@@ -42,7 +42,7 @@ impl Day {
     /// The last day of the line.
     pub const LAST: Day = Day { number: HIGH };
 
-    /// The day of that number, or `None` off the line.
+    /// Returns the day of that number, or `None` off the line.
     pub fn new(number: i64) -> Option<Day>
         ensures on_line { IsSome result ↔ IsOnLine newest_rules number }
         ensures value { IfSome result (λ d. pos d ≡ number) }
@@ -53,7 +53,8 @@ impl Day {
         Some(Day::on_line(number))
     }
 
-    /// The day of that number, for callers who know that it is on the line: `new` is the test.
+    /// Returns the day of that number, for callers who know that it is on the line: `new` is the
+    /// test.
     pub fn on_line(number: i64) -> Day
         requires { IsOnLine newest_rules number }
         ensures { pos result ≡ number }
@@ -63,7 +64,7 @@ impl Day {
         }
     }
 
-    /// The number, from 1.
+    /// Returns the number, from 1.
     pub fn number(self) -> u32
         ensures value { result ≡ self }
         ensures on_line { IsDay newest_rules result }
@@ -71,15 +72,15 @@ impl Day {
         self.number
     }
 
-    /// The Julian day number of astronomers, at noon of the day: *Calendrical Calculations*,
-    /// chapter 1.
+    /// Returns the Julian day number of astronomers, at noon of the day: *Calendrical
+    /// Calculations*, chapter 1.
     pub fn julian_day_number(self) -> u32
         ensures { result ≡ julian_day self }
     {
         self.number + JULIAN_DAY_OFFSET
     }
 
-    /// The day of the week.
+    /// Returns the day of the week.
     #[tactic(auto, unfolding(crate::specs::Weekday::weekday_numbered))]
     pub fn weekday(self) -> Weekday
         ensures { result ≡ weekday_numbered (weekday self) }
@@ -95,8 +96,8 @@ impl Day {
         }
     }
 
-    /// The day that many days later, or earlier for a negative number, or `None` where that is off
-    /// the line.
+    /// Returns the day that many days later, or earlier for a negative number, or `None` if that is
+    /// off the line.
     pub fn plus(self, days: i32) -> Option<Day>
         ensures on_line { IsSome result ↔ IsOnLine newest_rules (pos self +ℤ days) }
         ensures value { IfSome result (λ d. pos d ≡ pos self +ℤ days) }

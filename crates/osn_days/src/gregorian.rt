@@ -16,7 +16,7 @@ use jiff::civil;
 /// plain dates count.
 const DAYS_BEFORE: u32 = 3_652_424;
 
-/// The date of a day.
+/// Returns the date of a day.
 pub fn date_of(day: Day) -> Date
     ensures value { result ≡ chain.date_of Gregorian day }
     ensures year { IsYearNumber newest_rules result.year }
@@ -29,7 +29,7 @@ pub fn date_of(day: Day) -> Date
     }
 }
 
-/// The date as `jiff` makes it, or `None` where the calendar lacks it or `jiff` its year.
+/// Returns the date as `jiff` makes it, or `None` if the calendar lacks it or `jiff` its year.
 fn civil_date(date: Date) -> Option<civil::Date>
     ensures value { IfSome result (IsYmd date.year (pos date.month) (pos date.day)) }
     ensures exists { IsSome result ↔ IsDate date.year (pos date.month) (pos date.day) }
@@ -40,7 +40,7 @@ fn civil_date(date: Date) -> Option<civil::Date>
     civil::Date::new(year, month, day).ok()
 }
 
-/// The one day that has the date, or `None` where no day of the line has it.
+/// Returns the one day that has the date, or `None` if no day of the line has it.
 pub fn day_of(date: Date) -> Option<Day>
     ensures { option_to_list result ≡ chain.days_with_date newest_rules Gregorian date }
 {

@@ -22,7 +22,7 @@ const FIVE_MONTHS: u32 = 153;
 /// The days from 1 March of year 0 to the day before day 1.
 const DAYS_BEFORE: u32 = 308;
 
-/// The date of a day.
+/// Returns the date of a day.
 pub fn date_of(day: Day) -> Date
     ensures value { result ≡ chain.date_of Julian day }
     ensures year { IsYearNumber newest_rules result.year }
@@ -49,7 +49,7 @@ pub fn date_of(day: Day) -> Date
     }
 }
 
-/// The one day that has the date, or `None` where no day of the line has it.
+/// Returns the one day that has the date, or `None` if no day of the line has it.
 pub fn day_of(date: Date) -> Option<Day>
     ensures { option_to_list result ≡ chain.days_with_date newest_rules Julian date }
 {

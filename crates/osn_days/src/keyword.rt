@@ -9,11 +9,11 @@ pub trait Keyword {
     // What a word means, if anything.
     ghost meaning: { List ℕ → Option Self };
 
-    /// The word of the value.
+    /// Returns the word of the value.
     fn word(self) -> &'static str
         ensures { result.now ≡ word_of self };
 
-    /// The value of a word, if it is one of the words.
+    /// Returns the value of a word, if it is one of the words.
     fn from_word(word: &str) -> Option<Self>
         ensures { result ≡ meaning word.now };
 }

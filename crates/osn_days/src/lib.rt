@@ -1,7 +1,7 @@
 //! The line of days and the calendars on it. The line is the fixed dates of Reingold and
 //! Dershowitz, *Calendrical Calculations* (chapter 1). The Gregorian (chapter 2), the Julian
 //! (chapter 3) and the Swedish calendar are chains of dates. The words of calendars and the texts
-//! of dates stand here too. What the crate promises to those above is `date_of` and `day_of`: a
+//! of dates are here too. What the crate promises to those above is `date_of` and `day_of`: a
 //! calendar's chain, both ways.
 #![tactic(auto)]
 

@@ -2,7 +2,7 @@
 ghost use Rattle.std.specs.Prelude.{◌≡◌};
 ghost use Rattle.osn_days.specs.Month as spec;
 
-/// The English name of a month from 1 to 12. Any other number is taken for 12.
+/// Returns the English name of a month from 1 to 12. Any other number is taken for 12.
 pub fn month_name(month: u8) -> &'static str
     ensures { result.now ≡ spec.month_name month }
 {
@@ -22,14 +22,14 @@ pub fn month_name(month: u8) -> &'static str
     }
 }
 
-/// Whether the month has the English name, whose letters may be capital or small.
+/// Returns whether the month has the English name, whose letters may be capital or small.
 fn has_name(name: &str, month: u8) -> bool
     ensures { result ≡ spec.has_name name.now month }
 {
     month_name(month).eq_ignore_ascii_case(name)
 }
 
-/// The month of an English name, 1 to 12. Its letters may be capital or small.
+/// Returns the month of an English name, 1 to 12. Its letters may be capital or small.
 pub fn month_named(name: &str) -> Option<u8>
     ensures { result ≡ spec.month_named name.now }
 {

@@ -18,7 +18,7 @@ const MARCH_1_1700: u32 = 620_617;
 /// The day of 30 February 1712, which is 29 February in the Julian calendar.
 const FEBRUARY_30_1712: u32 = 625_000;
 
-/// The date of a day.
+/// Returns the date of a day.
 pub fn date_of(day: Day) -> Date
     ensures value { result ≡ chain.date_of Swedish day }
     ensures year { IsYearNumber newest_rules result.year }
@@ -37,7 +37,7 @@ pub fn date_of(day: Day) -> Date
     julian::date_of(day)
 }
 
-/// The one day that has the date, or `None` where no day of the line has it.
+/// Returns the one day that has the date, or `None` if no day of the line has it.
 pub fn day_of(date: Date) -> Option<Day>
     ensures { option_to_list result ≡ chain.days_with_date newest_rules Swedish date }
 {

@@ -15,7 +15,7 @@ pub enum Weekday {
 }
 
 impl Weekday {
-    /// The English name.
+    /// Returns the English name.
     pub fn name(self) -> &'static str
         ensures { result.now ≡ weekday_name self }
     {
@@ -30,7 +30,7 @@ impl Weekday {
         }
     }
 
-    /// The weekday of an English name, as `Sunday`.
+    /// Returns the weekday of an English name, such as `Sunday`.
     pub fn from_name(name: &str) -> Option<Weekday>
         ensures { result ≡ weekday_named name.now }
     {

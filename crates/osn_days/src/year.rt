@@ -32,7 +32,7 @@ impl Year {
     /// The last year, whose 31 December Gregorian is the last day of the line.
     pub const LAST: Year = Year { number: 9_999 };
 
-    /// The year of that number, or `None` outside the range.
+    /// Returns the year of that number, or `None` outside the range.
     pub fn new(number: i64) -> Option<Year>
         ensures in_range { IsSome result ↔ IsYearNumber newest_rules number }
         ensures value { IfSome result (λ y. pos y ≡ number) }
@@ -43,7 +43,8 @@ impl Year {
         Some(Year::in_range(number))
     }
 
-    /// The year of that number, for callers who know that it is in the range: `new` is the test.
+    /// Returns the year of that number, for callers who know that it is in the range: `new` is the
+    /// test.
     pub fn in_range(number: i64) -> Year
         requires { IsYearNumber newest_rules number }
         ensures { pos result ≡ number }
@@ -53,7 +54,7 @@ impl Year {
         }
     }
 
-    /// The number, from 1.
+    /// Returns the number, from 1.
     pub fn number(self) -> u32
         ensures value { result ≡ self }
         ensures in_range { IsYear newest_rules result }

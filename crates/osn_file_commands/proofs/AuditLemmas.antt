@@ -1,4 +1,4 @@
--- What a command says of two files is what their audit says.
+-- What a command says about two files is what their audit says.
 use Rattle.std.proofs.Common.{◌≡◌, inl, inr, ℕ, Bool, List, Option, Ok, Err, subst}
 use Rattle.osn_register.specs.declared.limits.Limits.{Limits}
 use Rattle.osn_lines.specs.Streams.{input_of}

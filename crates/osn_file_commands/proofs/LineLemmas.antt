@@ -28,7 +28,7 @@ next_line f now new piece line xs i x low so_far pushed shown made is =
     ∙ ap (λ t. flat_map f (take i xs) ++ t) (shown ∙ made ∙ ap f is)
     ∙ sym (flat_map_next f xs i x low)
 
--- a text that goes on by a piece, which is the front of the remaining text
+-- a text is continued by a piece, which begins the remaining text
 pub next_piece : (before now new piece line rest all left : List ℕ)
     → now ++ left ≡ before ++ all → left ≡ line ++ rest → new ≡ now ++ piece → piece ≡ line
     → new ++ rest ≡ before ++ all
@@ -83,6 +83,6 @@ pub same_lines : (reader : ℕ) (qs questions : List Query) (rs replies : List R
     → reader_lines reader qs rs ≡ reader_lines reader questions replies
 same_lines reader qs questions rs replies e k = rw (e, k) refl
 
--- what is well is no fault
+-- what is well is not a fault
 pub not_both : {T E : Type 0} (r : Result T E) (x : T) (e : E) → r ≡ Ok x → r ≡ Err e → ⊥
 not_both r x e is other = cc

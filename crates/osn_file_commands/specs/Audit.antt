@@ -22,8 +22,8 @@ Agree limits journal transcript n =
     (s : ObjectState) × MakesObject limits journal.bytes s
     × Makes (agreed_lines s) transcript.bytes n
 
--- why nothing is said of the two files: nothing is made of the journal, which is read first, or a
--- line of the transcript does not agree with its object
+-- why the two files are not audited: nothing is made of the journal, which is read first, or a line
+-- of the transcript does not agree with its object
 abbrev pub IsNotAudited : Limits → Input → Input → FileFault → Type 0
 IsNotAudited limits journal transcript fault =
     MakesNoObject limits journal fault
@@ -35,7 +35,7 @@ abbrev pub Audits : Limits → Input → Input → List ℕ → Type 0
 Audits limits journal transcript text =
     (n : ℕ) × Agree limits journal transcript n × (text ≡ audit_line n)
 
--- why there is none: nothing is said of the two files, or there was no memory for the text
+-- why there is none: the two files are not audited, or there was no memory for the text
 abbrev pub AuditFails : Limits → Input → Input → CommandFault → Type 0
 AuditFails limits journal transcript fault =
     ((why : FileFault) × IsNotAudited limits journal transcript why × (fault ≡ File why))

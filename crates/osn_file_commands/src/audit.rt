@@ -9,21 +9,21 @@ use osn_register::Limits;
 use osn_report::CommandFault;
 use std::alloc::{AllocError, Global};
 
-/// The line on this many replies.
+/// Returns the line on this many replies.
 fn agreed_line(alloc: Global, replies: u64) -> Result<String, AllocError>
     ensures { IfOk result (λ text. string_bytes text ≡ audit_line replies) }
 {
     format!(in alloc; "audit: {replies} replies agree\n")
 }
 
-/// The command `audit`: compares a transcript with what a journal published under these limits. The
-/// text is how many replies it has, which all agree. The journal is read whole before the
-/// transcript.
+/// Runs the command `audit`: compares a transcript with what a journal published under these
+/// limits. The text is how many replies it has, which all agree. The journal is read whole before
+/// the transcript.
 ///
 /// # Errors
 ///
-/// The first line that is refused, as that of a reply that the journal does not give, or why a file
-/// could not be read.
+/// The first line that is refused, such as that of a reply that the journal does not give, or why a
+/// file could not be read.
 pub fn audit_command<J: Source, K: Source>(
     alloc: Global,
     limits: Limits,

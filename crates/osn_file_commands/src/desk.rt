@@ -15,7 +15,7 @@ use std::alloc::Global;
 use std::sync::Wait;
 use std::thread::Threads;
 
-/// The commands of the editor, and then the questions of each reader.
+/// Reads the commands of the editor, and then the questions of each reader.
 fn desk_files<J: Source, K: Source>(
     alloc: Global,
     script: &mut J,
@@ -33,7 +33,7 @@ fn desk_files<J: Source, K: Source>(
     Ok((commands, lists))
 }
 
-/// What a desk tells the readers, while its editor works through commands.
+/// Returns the replies of a desk to the readers, while its editor works through commands.
 fn desk_text<R: Threads + Wait + AllocGlobal>(
     rt: &R,
     limits: Limits,
@@ -51,10 +51,10 @@ fn desk_text<R: Threads + Wait + AllocGlobal>(
     }
 }
 
-/// The command `desk`: an editor works through the commands of a script, under these limits, while
-/// readers ask the questions of a question file, each in its own thread. The text is what each
-/// reader asked with the reply to it, a line for each, by reader and then by place. A command of
-/// the editor that is refused is passed over. The script is read whole before the questions, and
+/// Runs the command `desk`: an editor works through the commands of a script, under these limits,
+/// while readers ask the questions of a question file, each in its own thread. The text is what
+/// each reader asked with the reply to it, a line for each, by reader and then by place. A command
+/// of the editor that is refused is skipped. The script is read whole before the questions, and
 /// both before a thread is started.
 ///
 /// # Errors

@@ -73,8 +73,8 @@ pub fn desk_in_folder<'a, F: Threads + Wait + AllocGlobal, D: Folder>(
     }
 }
 
-/// Opens a journal and then a transcript, and does what `audit_command` does. A terminal, where
-/// there is one, is told how much of the transcript was read.
+/// Opens a journal and then a transcript, and does what `audit_command` does. A terminal, if there
+/// is one, shows how much of the transcript was read.
 ///
 /// # Errors
 ///

@@ -1,5 +1,5 @@
 //! The commands over files of lines: `audit`, `replay` and `desk`. What the crate promises to those
-//! above: a command makes the text that its definition says of what it reads, or answers why it
+//! above: a command makes the text that its definition says for what it reads, or returns why it
 //! makes none, and at which file.
 #![tactic(auto)]
 

@@ -13,7 +13,7 @@ use osn_reply::out_text;
 use osn_report::CommandFault;
 use std::alloc::{AllocError, Global};
 
-/// The lines of what steps gave, one for each.
+/// Returns the lines of what steps gave, one for each.
 fn out_lines(alloc: Global, outs: &[Out]) -> Result<String, AllocError>
     ensures { IfOk result (λ text. string_bytes text ≡ flat_map out_line outs.now) }
 {
@@ -25,7 +25,7 @@ fn out_lines(alloc: Global, outs: &[Out]) -> Result<String, AllocError>
     Ok(text)
 }
 
-/// What steps give from the first state on.
+/// Returns what steps give from the first state on.
 fn steps_text(
     alloc: Global,
     limits: Limits,
@@ -41,8 +41,8 @@ fn steps_text(
     }
 }
 
-/// The command `replay`: takes the steps of a schedule, of one editor and this many readers, from
-/// the first state on under these limits. The text is a line for what each of them gives. The
+/// Runs the command `replay`: takes the steps of a schedule, of one editor and this many readers,
+/// from the first state on under these limits. The text is a line for what each of them gives. The
 /// schedule is read whole before a step is taken.
 ///
 /// # Errors

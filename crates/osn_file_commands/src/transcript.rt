@@ -1,4 +1,4 @@
-//! The lines of what readers asked and were told.
+//! The lines of the questions of readers and of the replies to them.
 ghost use Rattle.std.specs.Prelude.{◌≡◌, ◌≤◌, ◌++◌, length, IfOk, OnOk, string_bytes};
 ghost use Rattle.osn_file_commands.specs.Transcript as spec;
 
@@ -25,7 +25,7 @@ fn push_reader(
     Ok(())
 }
 
-/// The lines of all readers, from reader 1 on.
+/// Returns the lines of all readers, from reader 1 on.
 pub(crate) fn transcript(
     alloc: Global,
     lists: &[Vec<Query>],

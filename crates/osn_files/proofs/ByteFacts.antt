@@ -28,7 +28,7 @@ HasNoFeed-test [] e = tt
 HasNoFeed-test (b ∷ bs) e =
     let p = and_parts _ _ e in (negated (b == 10) p.0, HasNoFeed-test bs p.1)
 
--- what stands for a byte has six bytes at most, and no line feed
+-- the text of a byte has six bytes at most, and no line feed
 abbrev is_fine : List ℕ → Bool
 is_fine bs = nat_le (length bs) 6 && has_no_feed bs
 

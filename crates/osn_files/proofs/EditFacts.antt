@@ -140,7 +140,7 @@ Fits-source source h =
     let utf8 = IsUtf8-from_is_utf8 source (and_parts _ _ p.1).1 in
     Fits-wider _ _ _ (Fits-string source utf8) (omega arith)
 
--- a source before other members, where one is given
+-- a source before other members, if one is given
 pub Fit-source : (source : Option (List ℕ)) (ms : Members) (n : ℕ) → IsGiven source → Fit ms n
     → Fit (source_member source ms) (6042 + n)
 Fit-source None ms n given rest = Fit-wider ms n (6042 + n) rest (omega arith)

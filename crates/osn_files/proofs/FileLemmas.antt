@@ -133,7 +133,7 @@ some_spared rule None first = tt
 some_spared rule (Some bytes) first =
     IfErr-weaker (rule (lines bytes)) _ _ (λ e lt. omega (arith, lt)) (first (lines bytes))
 
--- where nothing was read, no line has ended
+-- if nothing was read, no line has ended
 pub spares_nothing : {A : Type 0} (rule : Rule A) (input : Option (List ℕ)) (most : ℕ)
     → ((ls : List (List ℕ)) → IfErr (rule ls) (λ e. 0 < e.0)) → SparesRead rule input input most
 spares_nothing rule input most first = record {
@@ -144,7 +144,7 @@ spares_nothing rule input most first = record {
   spared = some_spared rule input first;
 }
 
--- the fault that another rule gives, where it gives each fault so
+-- the fault by another rule, if both rules have the same faults
 pub ReadsFile-err : {A B T U S : Type 0} {role : Role} {rule : Rule A} {rule_too : Rule B}
     {view : T → A} {view_too : U → B} {fault : FileFault} {result : Result U FileFault}
     {remaining : S → Option (List ℕ)} {has_failed : S → Bool} {old new : S}

@@ -27,7 +27,7 @@ first_consumed (Some xs) (Some ys) part rest limit n fits within room read end =
       λ none some. ap (take (limit - n)) (end none (room some)) ∙ take_all (limit - n) [] zero-le,
     )
 
--- none was read
+-- nothing was read
 pub first_kept : (a b : Option (List ℕ)) (limit : ℕ) → Keeps a b
     → Keeps (option_map (take limit) a) (option_map (take limit) b)
 first_kept None b limit h = tt

@@ -61,7 +61,7 @@ module _ (p : Profile) {limits greater : Limits} (more : AreGreater limits great
   abbrev IsLawful : ObjectState → Type 0
   IsLawful s = AreLawful p limits [] (edits_of s)
 
-  -- the object that is made under limits, and under greater ones, is the same but for its limits
+  -- the object that is made under limits, and under greater ones, is the same except its limits
   record IsSameUnderBoth {F : Type 0} (r q : Result ObjectState F) : Type 0 where
     now : ObjectState
     is : r ≡ Ok (smaller now)

@@ -1,4 +1,4 @@
--- What limits don't refuse, greater ones don't refuse either, and edits that they let in make the
+-- What limits don't refuse, greater ones don't refuse either, and edits that they allow make the
 -- same territories under both.
 use Rattle.std.proofs.Common.{◌≡◌, ℕ, suc, ◌≤◌, ◌<◌, ◌==◌, Bool, true, false, not, cond, nat_le}
 use Rattle.std.proofs.Common.{nat_lt, ℤ, List, [], ◌∷◌, length, Option, Some, None, is_some}
@@ -24,7 +24,7 @@ use Rattle.osn_core.proofs.Lawful.{applied-lawful}
 use Rattle.osn_files.specs.GreaterLimits.{AreGreater}
 use Rattle.osn_files.proofs.CommandFacts.{next_test, both_none}
 
--- a limit that a count has not reached is not reached where it is greater
+-- a limit that a count has not reached is not reached if it is greater
 not_reached : (limit greater count : ℕ) → limit ≤ greater → nat_le limit count ≡ false
     → nat_le greater count ≡ false
 not_reached limit greater count more h =
@@ -41,7 +41,7 @@ room_by : (b : Bool) (f : Refusal) → cond b None (Some f) ≡ None → b ≡ t
 room_by true f h = refl
 room_by false f h = absurd (false≢true (sym (ap is_some h)))
 
--- where there is room below a limit, there is below a greater one
+-- if there is room below a limit, there is below a greater one
 pub room_passes : (limit greater count : ℕ) (f : Refusal) → limit ≤ greater
     → cond (nat_lt count limit) None (Some f) ≡ None
     → cond (nat_lt count greater) None (Some f) ≡ None

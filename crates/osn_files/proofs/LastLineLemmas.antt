@@ -1,4 +1,4 @@
--- The front of a line that is kept while the line is read by pieces, and what it says of the last
+-- The first bytes of a line, kept while the line is read in pieces, and what they say of the last
 -- line.
 use Rattle.std.proofs.Common.{◌≡◌, ◌-◌, ◌≤◌, ◌<◌, ◌==◌, ◌&&◌, ℕ, zero, suc, Bool, true, false, List}
 use Rattle.std.proofs.Common.{[], ◌∷◌, ◌++◌, Result, Ok, Err, OnOk, length, take, refl, sym, ap}
@@ -15,7 +15,7 @@ use Rattle.osn_files.specs.Version.{head_data}
 use Rattle.osn_files.specs.declared.last_line.LastLine.{LastLine}
 use Rattle.osn_files.specs.declared.last_line.LastLine.TheVariants.{Ended, LacksFeed, Unfinished}
 
--- more bytes were put after the front of a line
+-- more bytes were put after the first bytes of a line
 pub front_added : (n : ℕ) (line more : List ℕ)
     → take n line ++ take (min (n - length (take n line)) (length more)) more
     ≡ take n (line ++ more)
@@ -28,7 +28,7 @@ front_added (suc n) (x ∷ xs) more =
     ap (λ k. x ∷ (take n xs ++ take (min k (length more)) more)) room
     ∙ ap (λ l. x ∷ l) (front_added n xs more)
 
--- the front is kept, where there was memory for it
+-- the first bytes are kept, if there was memory for them
 pub front_kept : {E : Type 0} (n : ℕ) (r : Result (Unit {0}) E) (old new more : List ℕ) (room : ℕ)
     → new ≡ (if is_ok r then old ++ take room more else old)
     → room ≡ min (n - length old) (length more)
@@ -39,7 +39,7 @@ front_kept n (Ok u) old new more room is size = λ line known.
     ∙ ap (λ l. l ++ take (min (n - length l) (length more)) more) known
     ∙ front_added n line more
 
--- a line whose front is empty has no byte, so no line stands there
+-- a line without first bytes has no byte, so there is no line
 pub none_ended : (front line : List ℕ) (n : ℕ) → length front ≡ 0 → front ≡ take 65537 line
     → Ended ≡ last_line n line
 none_ended front [] n none known = refl
@@ -54,7 +54,7 @@ long_is_finished zero line long =
 long_is_finished (suc n) line long =
     ap (λ t. if t then false else not (is_some (value_of line))) long
 
--- a line whose front is longer than a line has at most lacks its line feed
+-- a line with more first bytes than a line has at most lacks its line feed
 pub long_lacks : (front line : List ℕ) (n : ℕ) → 65536 < length front → front ≡ take 65537 line
     → LacksFeed ≡ last_line n line
 long_lacks front [] n long known = absurd (omega (arith, long, ap length known))
@@ -64,7 +64,7 @@ long_lacks front (b ∷ bs) n long known =
     (sym (long_is_finished n (b ∷ bs)
     (lt-ltb 65536 (length (b ∷ bs)) (omega (arith, long, ap length known, size)))))
 
--- any other one stands as was found
+-- any other line is as was found
 pub found_last : (front line : List ℕ) (n size : ℕ) (t : Bool) (last : LastLine)
     → size ≡ length front → (size == 0) ≡ false → length front ≤ 65536
     → t ≡ is_unfinished n front → last ≡ (if t then Unfinished else LacksFeed)

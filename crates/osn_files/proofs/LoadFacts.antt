@@ -81,7 +81,7 @@ IsOfVersion-more : (version : Version) (ls : List (List ℕ)) (line : List ℕ)
 IsOfVersion-more version [] line h = absurd h
 IsOfVersion-more version (l ∷ ls) line h = h
 
--- a line ends with a line feed, whatever stands before it
+-- a line ends with a line feed, after any text
 ends_line : (text : List ℕ) (d : Data) → EndsWithFeed (text ++ line_text d)
 unfolding line_text
 ends_line text d =

@@ -1,4 +1,4 @@
--- What stands after the last line feed of bytes that were read piece by piece.
+-- The bytes after the last line feed of bytes that were read piece by piece.
 use Rattle.std.proofs.Common.{◌≡◌, ◌+◌, ◌-◌, ◌≤◌, ℕ, zero, suc, List}
 use Rattle.std.proofs.Common.{◌++◌, length, take, drop, refl, sym, ap, ◌∙◌, arith}
 use Rattle.std.proofs.Common.{take_all}
@@ -7,7 +7,7 @@ use Rattle.std.proofs.Math.Seq.{drop-append-add}
 use Rattle.osn_lines.specs.Ended.{ended_length, unended_bytes}
 use Rattle.osn_lines.proofs.EndedLemmas.{ended-before, ended-within, ended-le}
 
--- a piece with no line feed goes after what stood after the last line feed
+-- a piece without a line feed follows the bytes after the last line feed
 pub piece_after : (before piece : List ℕ) → ended_length (before ++ piece) ≤ length before
     → unended_bytes (before ++ piece) ≡ unended_bytes before ++ piece
 piece_after before piece low = without_feed (ended_length piece) refl
@@ -19,7 +19,7 @@ piece_after before piece low = without_feed (ended_length piece) refl
         ∙ drop-append-le (ended_length before) before piece (ended-le before)
     without_feed (suc k) some = absurd (omega (arith, low, ended-within before piece k some))
 
--- where a piece has a line feed, the end of the piece stands after the last one
+-- if a piece has a line feed, its end has the bytes after the last one
 pub piece_end : (before piece : List ℕ) (n : ℕ)
     → n ≡ ended_length (before ++ piece) - length before
     → length before ≤ ended_length (before ++ piece)

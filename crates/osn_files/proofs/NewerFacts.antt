@@ -51,7 +51,7 @@ and_false : (b : Bool) → (b && false) ≡ false
 and_false true = refl
 and_false false = refl
 
--- a year that begins on the same date goes with every calendar and rule
+-- a year that begins on the same date is allowed with every calendar and rule
 style_passes : (q : Profile) (r : Regime) → IsFixed r → plain.is_style_refused q r ≡ false
 style_passes q r fixed =
     ap (λ easter. q.tests_style && (easter && not (is_julian r.calendar r.rule))) fixed

@@ -35,7 +35,7 @@ use Rattle.osn_files.specs.Commands.{command_by, command_in}
 abbrev pub IsFixed : Regime → Type 0
 IsFixed r = is_from_easter r.style ≡ false
 
--- so does that of an edit's regime, where the edit has one
+-- so does that of an edit's regime, if the edit has one
 abbrev pub HasFixed : Edit → Type 0
 HasFixed (AddLand code name regime source) = IsFixed regime
 HasFixed (AddChange code day regime source) = IsFixed regime

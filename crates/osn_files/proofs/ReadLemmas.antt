@@ -1,4 +1,4 @@
--- What comes of a file that is being read, by its lines and at their end.
+-- The result of a file that is being read, by its lines and at their end.
 use Rattle.std.proofs.Common.{◌≡◌, ℕ, ◌+◌, ◌<◌, List, [], ◌∷◌, ◌++◌, length, take, drop, zero, suc}
 use Rattle.std.proofs.Common.{Option, Some, None, Result, Ok, Err, IfSome, IfErr, refl, sym, ap}
 use Rattle.std.proofs.Common.{unwrap_or, Bool, true, false, ◌∙◌, arith, append-nil, append_assoc}
@@ -76,7 +76,7 @@ in_turn-line {A = A} step n (Some version) a line more =
       | Err f ↦ refl
     ]
 
--- the version that comes of a line, if there is one
+-- the version after a line, if it is known
 abbrev version_read : {A : Type 0} → Result (Option Version × A) LineFault → Option Version
 version_read (Ok t) = t.0
 version_read (Err f) = None
@@ -233,7 +233,7 @@ begun_so : {S A : Type 0} (step : Rule S A) (state : S → A) (begun : Reading S
 begun_so step state begun =
     (λ more. refl, λ none. subst (IsKnownOf []) (sym none) refl, stays_so begun.version)
 
--- where all lines were taken, what comes of them is what comes of no lines after them
+-- if all lines were taken, their result is that of no lines after them
 ended : {S A : Type 0} (step : Rule S A) (state : S → A) (begun now : Reading S)
     (input : Option (List ℕ)) (n : ℕ) (r : Result A (ℕ × LineFault))
     → TakesAll (Reads step state) begun now input n
@@ -261,7 +261,7 @@ no-head step state begun now input n none h =
     ended step state begun now input n (Err (1, Wire BadHead)) h
     (λ k. ap (λ v. in_turn (step now.fold) k v (state now.fold) []) none)
 
--- the version is the one that the first line says, where none was given
+-- the version is the one that the first line says, unless one was given
 pub first_version : {S A : Type 0} (step : Rule S A) (state : S → A) (begun now : Reading S)
     (input : Option (List ℕ)) (n : ℕ) (version : Version) → now.version ≡ Some version
     → TakesAll (Reads step state) begun now input n → begun.version ≡ None
@@ -322,7 +322,7 @@ spared_first step state begun input n taken spares count first =
     (λ x. length taken < x.0)) all (spares rest)))
     first
 
--- where the lines ended early, the file has the fault that is told
+-- if the lines ended early, the file has the fault that is returned
 pub interrupted : {F A T S : Type 0} (step : Rule F A) (state : F → A) (begun now : Reading F)
     (view : T → A) (role : Role) (n : ℕ) (cause : TakeFault LineStop)
     (remaining : S → Option (List ℕ)) (has_failed : S → Bool) (old new : S)

@@ -121,7 +121,7 @@ IsOld-edition limits s old =
       fixed = subst HaveFixed are old.fixed;
     }
 
--- an edit that the first rules let in
+-- an edit that the first rules allow
 stage_goes : (limits : Limits) (s made : ObjectState) (e : Edit) → IsOld limits s → HasFixed e
     → after_command first_rules s (Stage e) ≡ Ok made
     → Goes limits (after_command newest_rules s (Stage e)) made

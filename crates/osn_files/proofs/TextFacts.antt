@@ -30,8 +30,8 @@ use Rattle.osn_files.specs.JournalText.{line_text}
 use Rattle.osn_files.proofs.ByteFacts.{length-quoted, HasNoFeed-quoted, HasNoFeed-decimal}
 use Rattle.osn_files.proofs.ByteFacts.{IsUtf8-decimal, length-decimal}
 
--- what a value's text needs to stand in a line: at most this many bytes, UTF-8 and no line feed. To
--- be read it needs numbers that are numbers, and no depth
+-- what a value's text needs as a line: at most this many bytes, UTF-8 and no line feed. To be read
+-- it needs numbers that are numbers, and no depth
 pub record Fits (d : Data) (room : ℕ) : Type 0 where
   pub short : length (compact_text d) ≤ room
   pub utf8 : IsUtf8 (compact_text d)

@@ -29,7 +29,7 @@ headed step a (head ∷ rest) =
     later_by 1 (on_read (version_of head) Ok) (λ version. in_turn step 2 (Some version) a rest)
     (λ version. later step 2 version a rest)
 
--- where no version is known no line was taken
+-- if no version is known no line was taken
 pub faults_after : {A : Type 0} (step : Version → A → Data → Result A LineFault) (n : ℕ)
     (version : Option Version) (a : A) (ls : List (List ℕ)) → (version ≡ None → n ≡ 0)
     → IfErr (in_turn step (n + 1) version a ls) (λ e. n < e.0)

@@ -82,7 +82,7 @@ newest_edit (DropChange code day) = tt
 newest_edit (AddException code year day source) = newest_source source
 newest_edit (DropException code year) = tt
 
--- where no source is given, each version has it
+-- if no source is given, each version has it
 no_source : (version : Version) (source : Option (List ℕ)) → is_some source ≡ false
     → HasSource version source
 no_source version None h = tt
@@ -114,7 +114,7 @@ newest_edits : (es : List Edit) → All (HasEdit newest_version) es
 newest_edits [] = All-nil (HasEdit newest_version)
 newest_edits (e ∷ es) = All-cons (HasEdit newest_version) e es (newest_edit e) (newest_edits es)
 
--- edits of batches give a source where a batch does
+-- edits of batches give a source if a batch does
 joined_gives : (bs : List (List Edit)) → list_any give_source bs ≡ give_source (joined bs)
 joined_gives [] = refl
 joined_gives (b ∷ bs) =
@@ -135,7 +135,7 @@ has_own_edits s =
 
 -- ---- what is read of an edit's object
 
--- the style of a word, where rules have it
+-- the style of a word, if rules have it
 abbrev style_if : Style → Bool → Result Style WireFault
 style_if style has = or_fault (BadField members.Style) (if has then Some style else None)
 

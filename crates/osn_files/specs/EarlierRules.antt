@@ -1,5 +1,5 @@
--- What the first version promised stays: a journal that says it keeps its editions under the newest
--- rules. This project's profile.
+-- What the first version guarantees is kept: a journal of that version has the same editions under
+-- the newest rules. This project's profile.
 use Rattle.std.specs.Prelude.{◌≡◌, ℕ, List, [], ◌∷◌, ◌++◌, take, Ok}
 use Rattle.osn_days.specs.Profile.{first_rules, newest_rules}
 use Rattle.osn_register.specs.declared.edit.Edit.{Edit}

@@ -1,4 +1,4 @@
--- The faults of a file's line by number and name, and what holds where a file gave nothing, by the
+-- The faults of a file's line by number and name, and what holds if a file gave nothing, by the
 -- reason.
 use Rattle.std.specs.Prelude.{◌≡◌, ℕ, Bool, List, Option}
 use Rattle.osn_lines.specs.Faults.{IsReadFault}
@@ -24,8 +24,8 @@ MatchFileFault NoMemory P Q R = P
 MatchFileFault ReadFault P Q R = Q
 MatchFileFault (BadLine role line fault) P Q R = R role line fault
 
--- the source failed where a read fault says so, or gives no end in 4,294,967,295 reads, and nowhere
--- else
+-- after a read fault the source failed, or gives no end in 4,294,967,295 reads; otherwise it is as
+-- it was
 abbrev pub FailsByFault : Bool → Bool → Option (List ℕ) → FileFault → Type 0
 FailsByFault old new input fault =
     MatchFileFault fault (new ≡ old) (IsReadFault new input) (λ _ _ _. new ≡ old)

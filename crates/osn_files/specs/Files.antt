@@ -20,8 +20,8 @@ pub record SparesRead {A : Type 0} (rule : List (List ℕ) → Result A (ℕ × 
       length (lines (earlier ++ 10 ∷ [])) ≤ refused.0))
 
 -- A file of this role is read by a rule, which says what lines make, or the first fault and the
--- number of its line, counted from 1. The value that they make has this view. The source stood so
--- before, and stands so now. What it still has is said only where that is known.
+-- number of its line, counted from 1. The value that they make has this view. The source was `old`
+-- before, and is `new` now. Its remaining bytes are described only if they are known.
 pub record ReadsFile {A T S : Type 0} (role : Role)
     (rule : List (List ℕ) → Result A (ℕ × LineFault)) (view : T → A) (result : Result T FileFault)
     (remaining : S → Option (List ℕ)) (has_failed : S → Bool) (old new : S) : Type 0 where
@@ -31,14 +31,14 @@ pub record ReadsFile {A T S : Type 0} (role : Role)
   -- all of the source was read, and it didn't fail
   pub end : OnOk result (IsAtEnd (remaining new))
   pub sound : OnOk result (has_failed new ≡ has_failed old)
-  -- a line that is told is one of this file, and the first that the rule refuses, with its fault. A
-  -- read fault is told only where no line that had ended is refused. Want of memory is told only
-  -- where no line is refused that had ended before the last 65,536 bytes were read
+  -- a line that is returned is one of this file, and the first that the rule refuses, with its
+  -- fault. A read fault is returned only if no line that had ended is refused. NoMemory is returned
+  -- only if no line is refused that had ended before the last 65,536 bytes were read
   pub fault : IfErr result (λ fault. MatchFileFault fault
       (SparesRead rule (remaining old) (remaining new) 65536)
       (SparesRead rule (remaining old) (remaining new) 0) (λ named line why.
       (named ≡ role)
       × IfSome (remaining old) (λ input. rule (lines input) ≡ Err (line, why))))
-  -- the source failed where a read fault says so, or gave no end in 4,294,967,295 reads, and
-  -- nowhere else
+  -- after a read fault the source failed, or gave no end in 4,294,967,295 reads; otherwise it is as
+  -- it was
   pub reason : IfErr result (FailsByFault (has_failed old) (has_failed new) (remaining old))

@@ -26,9 +26,9 @@ MakeSameLands limits greater es =
     applied_all newest_rules limits [] es ≡ applied_all newest_rules greater [] es
 
 -- Lines that are loaded as an object under limits are loaded under greater ones as the same object
--- but for its limits. Its batches and its pending edits are the same. Each of its editions, which
--- is that of the first batches, has the same territories under both limits. So have all its edits,
--- the pending ones included.
+-- except its limits. Its batches and its pending edits are the same. Each of its editions, which is
+-- that of the first batches, has the same territories under both limits. So have all its edits, the
+-- pending ones included.
 unfoldable pub LoadsUnderGreater : Limits → List (List ℕ) → Type 0
 LoadsUnderGreater limits lines =
     (greater : Limits) → AreGreater limits greater → (object : ObjectState)

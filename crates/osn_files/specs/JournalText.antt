@@ -1,6 +1,6 @@
 -- The text of a journal: a head, the edits of each batch with a publish after them, and then the
--- pending edits, a line each. The members of a line stand in ascending order of their names. A
--- source has a member where one is given, and there alone. This project's profile.
+-- pending edits, a line each. The members of a line are in ascending order of their names. A source
+-- has a member if one is given, and only then. This project's profile.
 use Rattle.std.specs.Prelude.{ℕ, ℤ, Bool, ◌||◌, if◌then◌else◌, List, [], ◌∷◌, ◌++◌, codes}
 use Rattle.std.specs.Prelude.{Option, is_some}
 use Rattle.std.specs.List.{flat_map, list_any}
@@ -102,7 +102,8 @@ give_source = list_any gives_source
 abbrev pub gives_any_source : ObjectState → Bool
 gives_any_source s = list_any give_source s.batches || give_source s.pending
 
--- the version that a journal's head says: the fourth where an edit gives a source, and nowhere else
+-- the version that a journal's head says: the fourth if an edit gives a source, otherwise the plain
+-- one
 abbrev pub version_for : ObjectState → Version
 version_for s = if gives_any_source s then Fourth else plain_version
 

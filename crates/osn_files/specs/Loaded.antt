@@ -26,13 +26,13 @@ use Rattle.osn_files.specs.Version.{version_of}
 abbrev pub HasStyle : Version → Regime → Type 0
 HasStyle version regime = has_style (rules_of version) regime.style ≡ true
 
--- a version has the source of an edit, where one is given
+-- a version has the source of an edit, if one is given
 abbrev pub HasSource : Version → Option (List ℕ) → Type 0
 HasSource version None = ⊤
 HasSource version (Some source) = has_sources version ≡ true
 
--- A version has an edit: its style, where it has one, and its source, where it gives one. All else
--- is the same in every version.
+-- A version has an edit: its style, if it has one, and its source, if it gives one. All else is the
+-- same in every version.
 abbrev pub HasEdit : Version → Edit → Type 0
 HasEdit version (AddLand code name regime source) =
     HasStyle version regime × HasSource version source

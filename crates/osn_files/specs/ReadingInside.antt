@@ -25,12 +25,12 @@ after_line step None a d =
     on_read (or_fault BadHead (version_in d)) (λ version. Ok (Some version, a))
 after_line step (Some version) a d = with_version version (step version a d)
 
--- what comes of the file by these lines, where the first has this number
+-- what these lines give for the file, if the first has this number
 abbrev pub goes_on : {S A : Type 0} → (S → Version → A → Data → Result A LineFault) → (S → A)
     → Reading S → ℕ → List (List ℕ) → Result A (ℕ × LineFault)
 goes_on step state r n lines = in_turn (step r.fold) n r.version (state r.fold) lines
 
--- none is known where there is no line, and else the one that the first line says
+-- the version is unknown without a line, and otherwise the one that the first line says
 abbrev pub IsKnownOf : List (List ℕ) → Option Version → Type 0
 IsKnownOf lines None = lines ≡ []
 IsKnownOf lines (Some version) = IsOfVersion version lines
@@ -40,8 +40,8 @@ abbrev pub StaysKnown : Option Version → Option Version → Type 0
 StaysKnown None now = Unit {0}
 StaysKnown (Some version) now = now ≡ Some version
 
--- the reading that was begun is this one, once it took these lines: the same comes of both by
--- whatever stands after them. The version is known where it wasn't, and stays where it was
+-- the reading that was begun is this one, once it took these lines: both give the same for any
+-- lines after them. A version that was unknown is that of the lines, and a known one stays
 abbrev pub Reads : {S A : Type 0} → (S → Version → A → Data → Result A LineFault) → (S → A)
     → Reading S → List (List ℕ) → Reading S → Type 0
 Reads step state begun lines now =
@@ -50,8 +50,7 @@ Reads step state begun lines now =
     × (begun.version ≡ None → IsKnownOf lines now.version)
     × StaysKnown begun.version now.version
 
--- the reading that was begun took these lines and found a fault at the next, whatever stands after
--- it
+-- the reading that was begun took these lines and found a fault at the next, whatever follows it
 abbrev pub Faults : {S A : Type 0} → (S → Version → A → Data → Result A LineFault) → (S → A)
     → Reading S → List (List ℕ) → Option (List ℕ) → LineFault → Type 0
 Faults step state begun lines None f = ⊥
@@ -59,14 +58,14 @@ Faults step state begun lines (Some line) f =
     (more : List (List ℕ))
     → goes_on step state begun 1 (lines ++ line ∷ more) ≡ Err (length lines + 1, f)
 
--- the reading that was begun has no fault in these lines, whatever stands after them
+-- the reading that was begun has no fault in these lines, whatever follows them
 abbrev pub Spares : {S A : Type 0} → (S → Version → A → Data → Result A LineFault) → (S → A)
     → Reading S → List (List ℕ) → Type 0
 Spares step state begun lines =
     (more : List (List ℕ))
     → IfErr (goes_on step state begun 1 (lines ++ more)) (λ e. length lines < e.0)
 
--- where memory ran out the lines that were taken have no fault. A fault is that of the next
+-- if memory ran out the lines that were taken have no fault. A fault is that of the next
 abbrev pub StopsReading : {S A : Type 0} → (S → Version → A → Data → Result A LineFault)
     → (S → A) → Reading S → List (List ℕ) → Option (List ℕ) → LineStop → Type 0
 StopsReading step state begun lines at NoMemory = Spares step state begun lines

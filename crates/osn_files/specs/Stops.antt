@@ -16,7 +16,7 @@ abbrev pub stop_of : RequestError → LineStop
 stop_of errors.NoMemory = NoMemory
 stop_of (errors.Fault f) = Fault (Wire f)
 
--- a stop says the fault that is said; want of memory says nothing
+-- a stop has the given fault; NoMemory says nothing
 abbrev pub Stops : {A : Type 0} → Result A LineFault → LineStop → Type 0
 Stops said NoMemory = Unit {0}
 Stops said (Fault f) = said ≡ Err f

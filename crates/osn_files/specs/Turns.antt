@@ -23,8 +23,8 @@ go_on n (Ok t) next = next t
 go_on n (Err f) next = Err (n, f)
 
 -- What lines make of a value, each by its object and by the rules of a version, or the first fault
--- and the number of its line. The first line has this number. Where no version is known, the first
--- line is a head that says it. Line 1 has a fault where there is no line.
+-- and the number of its line. The first line has this number. If no version is known, the first
+-- line is a head that says it, and without a line, line 1 has a fault.
 abbrev pub in_turn : {S : Type 0} → (Version → S → Data → Result S LineFault) → ℕ
     → Option Version → S → List (List ℕ) → Result S (ℕ × LineFault)
 in_turn step n None s [] = Err (1, Wire BadHead)

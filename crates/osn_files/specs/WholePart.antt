@@ -15,7 +15,7 @@ ended_count = count_by (λ b. b == 10)
 
 -- ---- the lines that count
 
--- how the last line stands
+-- the state of the last line
 abbrev pub last_line_of : List ℕ → LastLine
 last_line_of input = last_line (ended_count input) (unended_bytes input)
 
@@ -37,7 +37,7 @@ whole_bytes input = take (whole_length input) input
 abbrev pub whole_count : List ℕ → ℕ
 whole_count input = by_last (last_line_of input) (ended_count input) (ended_count input + 1)
 
--- this part of this input counts, and its last line stands as the part says
+-- this part of this input counts, and the state of its last line is that of the part
 pub record IsWholePart (part : WholePart) (input : List ℕ) : Type 0 where
   pub bytes : part.bytes ≡ whole_length input
   pub lines : part.lines ≡ whole_count input

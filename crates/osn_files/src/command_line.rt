@@ -8,10 +8,10 @@ use osn_format::{Version, WireFault};
 use osn_request::{LineObject, Op, RequestError, edit_of, op_of};
 use std::alloc::Global;
 
-/// The command of a line's object by the rules of a version.
+/// Returns the command of a line's object by the rules of a version.
 ///
 /// # Errors
-/// The first fault of the object; want of memory, once nothing was found at fault.
+/// Returns the first fault of the object, or `NoMemory` for an object without a fault.
 pub(crate) fn command_in(
     alloc: Global,
     version: Version,

@@ -31,7 +31,7 @@ pub enum LineFault {
 }
 
 impl LineFault {
-    /// The number that stands for the fault, as in a reply.
+    /// Returns the number of the fault, as in a reply.
     pub fn number(self) -> u8
         ensures { result ≡ line_fault_number self }
     {
@@ -41,7 +41,7 @@ impl LineFault {
         }
     }
 
-    /// The name that stands for the fault, as in a reply.
+    /// Returns the name of the fault, as in a reply.
     pub fn name(self) -> &'static str
         ensures { result.now ≡ line_fault_name self }
     {

@@ -18,17 +18,17 @@ use osn_lines::Source;
 use osn_register::Limits;
 use std::alloc::Global;
 
-/// The object of a journal, which is a head and then edits and publishes, a line each. They are
-/// read in the form of the head's version, and run in turn, by the newest rules, on a new object of
-/// these limits. Edits after the last publish are pending.
+/// Loads the object of a journal, which is a head and then edits and publishes, a line each. They
+/// are read in the form of the head's version, and run in turn, by the newest rules, on a new
+/// object of these limits. Edits after the last publish are pending.
 ///
-/// Besides the object, memory holds what `take_lines` has, and the value of one line.
+/// Besides the object, memory contains what `take_lines` has, and the value of one line.
 ///
 /// # Errors
 ///
-/// `BadLine` for the first line that is refused, or for line 1 where there is no line. `ReadFault`
-/// where the source failed, or gave no end within 4,294,967,295 reads. `NoMemory` where memory ran
-/// out.
+/// Returns `BadLine` for the first line that is refused, or for line 1 if there is no line. Returns
+/// `ReadFault` if the source failed, or didn't end within 4,294,967,295 reads, and `NoMemory` if
+/// memory ran out.
 #[tactic(auto, using(crate::proofs::RuleFacts::keeps_editions, crate::proofs::Greater::loads_same))]
 pub fn load_journal<R: Source>(
     alloc: Global,
@@ -43,14 +43,14 @@ pub fn load_journal<R: Source>(
     ensures earlier_rules { (journal : List (List ℕ)) → KeepsEditions limits journal }
 
     // Whatever the lines: a journal that these limits load, greater ones load too, as the same
-    // object but for its limits. Each of its editions has the same territories under both.
+    // object except its limits. Each of its editions has the same territories under both.
     ensures greater { (journal : List (List ℕ)) → LoadsUnderGreater limits journal }
 {
     let (object, _) = load_with_version(alloc, limits, source)?;
     Ok(object)
 }
 
-/// The object of a journal, as for `load_journal`, and the version that its head says.
+/// Returns the object of a journal, as for `load_journal`, and the version that its head says.
 ///
 /// # Errors
 ///
@@ -80,7 +80,7 @@ pub struct JournalPart {
     pub lines: u64,
 }
 
-/// The object that further lines of a journal make of this one. Where no version is given, the
+/// Returns the object that more lines of a journal make of this one. If no version is given, the
 /// first of them is the head.
 ///
 /// # Errors

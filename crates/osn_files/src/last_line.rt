@@ -1,4 +1,4 @@
-//! How the last line of a file stands: whether its line feed is there, or it was not finished.
+//! The state of a file's last line: whether its line feed is there, or it was not finished.
 ghost use Rattle.std.specs.Prelude.{◌≡◌, ◌≤◌, ℕ, List, [], ◌++◌, IfOk, OnOk, length, nat_eq};
 ghost use Rattle.std.specs.List.{starts_with};
 ghost use Rattle.osn_format.specs.Version.{plain_version};
@@ -17,7 +17,7 @@ use std::alloc::{AllocError, Global};
 /// The room that a head gets at first.
 const HEAD_ROOM: usize = 32;
 
-/// How the last line of a file stands.
+/// The state of a file's last line.
 #[derive(Clone, Copy, Debug, PartialEq, Eq)]
 pub enum LastLine {
     /// Its line feed is there, or there is no line.
@@ -28,7 +28,7 @@ pub enum LastLine {
     Unfinished,
 }
 
-/// Whether a line is no JSON text.
+/// Returns whether a line is not JSON text.
 fn is_no_json(alloc: Global, line: &[u8]) -> Result<bool, AllocError>
     requires { length line.now ≤ LONGEST_LINE }
     ensures { IfOk result (λ no. no ≡ spec.is_no_json line.now) }
@@ -41,7 +41,7 @@ fn is_no_json(alloc: Global, line: &[u8]) -> Result<bool, AllocError>
     }
 }
 
-/// Whether bytes are a front of the head that a new journal gets.
+/// Returns whether bytes are a prefix of the head of a new journal.
 fn is_head_front(alloc: Global, bytes: &[u8]) -> Result<bool, AllocError>
     ensures { IfOk result (λ is.
         is ≡ starts_with nat_eq (line_text (head_data plain_version)) bytes.now) }
@@ -50,7 +50,7 @@ fn is_head_front(alloc: Global, bytes: &[u8]) -> Result<bool, AllocError>
     Ok(head.starts_with(bytes))
 }
 
-/// Whether bytes after this many lines are a line that was not finished.
+/// Returns whether bytes after this many lines are a line that was not finished.
 fn is_unfinished(alloc: Global, lines: u64, bytes: &[u8]) -> Result<bool, AllocError>
     requires { length bytes.now ≤ LONGEST_LINE }
     ensures { IfOk result (λ is. is ≡ spec.is_unfinished lines bytes.now) }
@@ -61,15 +61,15 @@ fn is_unfinished(alloc: Global, lines: u64, bytes: &[u8]) -> Result<bool, AllocE
     is_no_json(alloc, bytes)
 }
 
-/// What stands after the last line feed: its first bytes, as many as a line has at most and one
-/// more. No more are needed to say how the last line stands.
+/// The first bytes after the last line feed, as many as a line has at most and one more. No more
+/// are needed for the state of the last line.
 #[derive(Drop)]
 pub(crate) struct LineFront {
     bytes: Vec<u8>,
 }
 
 impl LineFront {
-    /// Nothing stands there.
+    /// Returns one without bytes.
     pub(crate) fn new(alloc: Global) -> LineFront
         ensures { IsFrontOf result [] }
     {
@@ -78,7 +78,7 @@ impl LineFront {
         }
     }
 
-    /// Adds what stands next.
+    /// Adds the next bytes.
     pub(crate) fn add(&mut self, more: &[u8]) -> Result<(), AllocError>
         ensures { OnOk result ((line : List ℕ) → IsFrontOf self.old line →
             IsFrontOf self.new (line ++ more.now)) }
@@ -87,14 +87,14 @@ impl LineFront {
         self.bytes.extend_from_slice(&more[..room.min(more.len())])
     }
 
-    /// Clears the bytes that stand there.
+    /// Clears the bytes.
     pub(crate) fn clear(&mut self)
         ensures { IsFrontOf self.new [] }
     {
         self.bytes.clear();
     }
 
-    /// How the last line stands, after this many lines.
+    /// Returns the state of the last line, after this many lines.
     pub(crate) fn last_line(&self, alloc: Global, lines: u64) -> Result<LastLine, AllocError>
         ensures { IfOk result (λ last. (line : List ℕ) → IsFrontOf self.now line →
             last ≡ spec.last_line lines line) }

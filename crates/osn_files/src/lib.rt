@@ -1,9 +1,9 @@
 //! Files of lines. A journal, which keeps an object, is read and written. Scripts, question files
-//! and schedules are read, and what else a `LineFold` makes of lines. What the crate promises to
-//! those above: each call that reads gives what the definition makes of the lines, however the
-//! bytes come, or the first fault with its line. What `journal_text` writes of an object is loaded
-//! as that object again, its pending edits included. `head_line`, `with_edit`, `with_edits` and
-//! `with_publish` write the lines of which that text consists.
+//! and schedules are read, and what else a `LineFold` makes of lines. The crate guarantees that
+//! each call that reads returns what the definition makes of the lines, however the bytes come, or
+//! the first fault with its line. What `journal_text` writes of an object is loaded as that object
+//! again, its pending edits included. `head_line`, `with_edit`, `with_edits` and `with_publish`
+//! write the lines of which that text consists.
 #![tactic(auto)]
 
 mod command_line;

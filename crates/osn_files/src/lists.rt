@@ -28,7 +28,7 @@ impl Model for Lists {
 }
 
 impl Lists {
-    /// A list for no reader yet.
+    /// Returns lists for no reader.
     pub(crate) fn new(alloc: Global) -> Lists
         ensures { result ≡ [] }
     {
@@ -37,7 +37,7 @@ impl Lists {
         }
     }
 
-    /// The list of each reader.
+    /// Returns the list of each reader.
     pub(crate) fn into_inner(self) -> Vec<Vec<Query>>
         ensures { map (λ qs. qs.items) result.items ≡ self }
     {
@@ -59,7 +59,7 @@ impl Lists {
     /// Puts a query after those of its reader.
     ///
     /// # Errors
-    /// Only where no memory is found.
+    /// Returns `AllocError` if memory runs out.
     pub(crate) fn put(&mut self, alloc: Global, reader: u32, query: Query) -> Result<(), AllocError>
         requires { 0 < reader }
         ensures { OnOk result (self.new ≡ with_query self.old reader query) }

@@ -10,12 +10,12 @@ use osn_register::Query;
 use osn_request::{JsonObject, LineQuery, Op, RequestError, line_query_of, op_of};
 use std::alloc::Global;
 
-/// The reader who asks, from 1 to 64, and the query, of the object of a request, whose texts
-/// stay where they are in the object.
+/// Returns the reader who asks, from 1 to 64, and the query, of the object of a request, with texts
+/// borrowed from the object.
 ///
 /// # Errors
-/// The first fault of the object, which is that of a request, and `NotAQuery` for an edit or a
-/// publish.
+/// Returns the first fault of the object, which is that of a request, or `NotAQuery` for an edit or
+/// a publish.
 pub fn line_question_in<O: JsonObject>(object: &O) -> Result<(u32, LineQuery<'_>), WireFault>
     ensures question { MatchResult result
         (λ asked. spec.question_in (O.value object.now) ≡ Ok (asked.0, line_query asked.1))
@@ -28,10 +28,10 @@ pub fn line_question_in<O: JsonObject>(object: &O) -> Result<(u32, LineQuery<'_>
     }
 }
 
-/// The reader who asks, from 1 to 64, and the query, of the object of a request.
+/// Returns the reader who asks, from 1 to 64, and the query, of the object of a request.
 ///
 /// # Errors
-/// As `line_question_in`; want of memory, once nothing was found at fault.
+/// Returns the errors of `line_question_in`, or `NoMemory` for an object without a fault.
 pub fn question_in<O: JsonObject>(alloc: Global, object: &O) -> Result<(u32, Query), RequestError>
     ensures question { GivesLast result (spec.question_in (O.value object.now)) }
     ensures among { IfOk result (λ asked. (1 ≤ asked.0) × (asked.0 ≤ MOST_READERS)) }

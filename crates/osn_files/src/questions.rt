@@ -12,13 +12,13 @@ use osn_lines::Source;
 use osn_register::Query;
 use std::alloc::Global;
 
-/// The questions of a file, a query a line, each with its reader, who is 1 to 64. There is a list
-/// for each reader from 1 to the greatest that is named, in the order of the lines.
+/// Reads the questions of a file, a query a line, each with its reader, who is 1 to 64. There is a
+/// list for each reader from 1 to the greatest that is named, in the order of the lines.
 ///
 /// # Errors
 ///
-/// `BadLine` for the first line that is no query. `ReadFault` where the source failed, or gave no
-/// end within 4,294,967,295 reads. `NoMemory` where memory ran out.
+/// Returns `BadLine` for the first line that is not a query, `ReadFault` if the source failed or
+/// didn't end within 4,294,967,295 reads, and `NoMemory` if memory ran out.
 pub fn read_questions<R: Source>(
     alloc: Global,
     source: &mut R,

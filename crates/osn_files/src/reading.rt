@@ -35,15 +35,15 @@ pub trait LineFold {
     // What the object of a line makes of that by the rules of a version, or the line's fault.
     ghost step: { Self → LineVersion → State → Data → Result State Fault };
 
-    // Whether the object of a line has what is asked of it before memory is taken.
+    // Whether the object of a line has what is required of it before memory is taken.
     ghost is_formed: { Self → LineVersion → Data → Bool };
 
     /// Takes the object of a line, which is read by the rules of a version.
     ///
     /// # Errors
     ///
-    /// The line's fault, or want of memory where the object has what is asked of it before memory
-    /// is taken. No further line is given to it then.
+    /// Returns the line's fault, or `NoMemory` for an object that has what is required of it before
+    /// memory is taken. No other line is given to it then.
     fn take_object(
         &mut self,
         alloc: Global,
@@ -60,12 +60,12 @@ pub trait LineFold {
         // The rule stays the same.
         ensures same { OnOk result (step self.new ≡ step self.old) };
 
-    /// Takes a line by its text, with no object of it, where it can tell what the object gives, and
-    /// answers whether it did.
+    /// Takes a line by its text, without its object, if it knows what the object gives. Returns
+    /// whether it did.
     ///
     /// # Errors
     ///
-    /// Want of memory. No further line is given to it then.
+    /// Returns `AllocError` if memory runs out. No other line is given to it then.
     fn take_text(
         &mut self,
         _alloc: Global,
@@ -98,7 +98,7 @@ pub(crate) struct Reading<F> {
 impl<F: LineFold> Reading<F> {
     ghost use Rattle.osn_files.specs.ReadingInside.{after_line};
 
-    /// Takes the object of a line: it says the version, where none is known.
+    /// Takes the object of a line: it says the version, if that isn't known.
     fn take_object(
         alloc: Global,
         version: &mut Option<Version>,
@@ -120,7 +120,7 @@ impl<F: LineFold> Reading<F> {
         }
     }
 
-    /// Whether a line was taken by its text, which is tried once a version is known.
+    /// Returns whether a line was taken by its text, which is tried once a version is known.
     fn is_taken(
         alloc: Global,
         scratch: &mut Scratch,
@@ -208,7 +208,7 @@ impl<F: LineFold> LineTaker for Reading<F> {
     }
 }
 
-/// Why a file of this role gave nothing, where the reading of its lines ended early.
+/// Returns the fault of a file of this role, if the reading of its lines ended early.
 fn fault_of(role: Role, end: Interrupted<TakeFault<LineStop>>) -> FileFault
     requires { end.lines < 2 ^ 63 }
     ensures { result ≡ file_fault role end.lines end.cause }
@@ -235,8 +235,8 @@ pub(crate) struct FileRead<F> {
     pub(crate) version: Version,
 }
 
-/// What the lines of a file of this role make, as for `read_lines`, and the version by which they
-/// were read.
+/// Returns what the lines of a file of this role make, as for `read_lines`, and the version by
+/// which they were read.
 pub(crate) fn read_file<F: LineFold + Drop, R: Source>(
     alloc: Global,
     role: Role,
@@ -275,14 +275,15 @@ pub(crate) fn read_file<F: LineFold + Drop, R: Source>(
     }
 }
 
-/// What the lines of a file of this role make, from what was begun, and their number. They are read
-/// by the rules of the version. Where no version is given, the first line is a head that says it.
+/// Returns what the lines of a file of this role make, from what was begun, and their number. They
+/// are read by the rules of the version. If no version is given, the first line is a head that says
+/// it.
 ///
 /// # Errors
 ///
-/// `BadLine` for the first line that has a fault, or for line 1 where it is to be a head and there
-/// is no line. `ReadFault` where the source failed, or gave no end within 4,294,967,295 reads.
-/// `NoMemory` where memory ran out.
+/// Returns `BadLine` for the first line that has a fault, or for line 1 if it must be a head and
+/// there is no line. Returns `ReadFault` if the source failed, or didn't end within 4,294,967,295
+/// reads, and `NoMemory` if memory ran out.
 pub fn read_lines<F: LineFold + Drop, R: Source>(
     alloc: Global,
     role: Role,

@@ -38,7 +38,7 @@ fn publish(object: &mut Object) -> Result<(), LineStop>
     Ok(())
 }
 
-/// Runs a command on the object. It wants memory only where the command is not refused.
+/// Runs a command on the object. It needs memory only if the command is not refused.
 fn run(object: &mut Object, command: Command) -> Result<(), LineStop>
     ensures ok { OnOk result (after_command newest_rules object.old command ≡ Ok object.new) }
     ensures err { IfErr result (Stops (after_command newest_rules object.old command)) }

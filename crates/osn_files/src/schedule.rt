@@ -47,12 +47,12 @@ impl LineFold for Steps {
     }
 }
 
-/// The steps of a schedule, a line each, of one editor and this many readers.
+/// Reads the steps of a schedule, a line each, of one editor and this many readers.
 ///
 /// # Errors
 ///
-/// `BadLine` for the first line that is no step. `ReadFault` where the source failed, or gave no
-/// end within 4,294,967,295 reads. `NoMemory` where memory ran out.
+/// Returns `BadLine` for the first line that is not a step, `ReadFault` if the source failed or
+/// didn't end within 4,294,967,295 reads, and `NoMemory` if memory ran out.
 pub fn read_schedule<R: Source>(
     alloc: Global,
     readers: u32,

@@ -41,12 +41,12 @@ impl LineFold for Vec<Command> {
     }
 }
 
-/// The commands of a script, which has the form of a journal. They are read, in the form of the
-/// head's version, and not run, so a line is refused for its form alone.
+/// Reads the commands of a script, which has the form of a journal. They are read, in the form of
+/// the head's version, and not run, so a line is refused for its form alone.
 ///
 /// # Errors
 ///
-/// As `load_journal`, but for refusals of an edit or a publish.
+/// As `load_journal`, except for refusals of an edit or a publish.
 pub fn read_script<R: Source>(alloc: Global, source: &mut R) -> Result<Vec<Command>, FileFault>
     ensures { ReadsFile Script script (λ commands. commands.items) result
         R.remaining R.has_failed source.old source.new }

@@ -78,7 +78,7 @@ fn stage_of(alloc: Global, version: Version, object: &LineObject<'_>) -> Result<
     }
 }
 
-/// The step of a line's object that is of this kind.
+/// Returns the step of a line's object, which is of this kind.
 fn step_by(
     alloc: Global,
     version: Version,
@@ -110,10 +110,10 @@ fn step_by(
     }
 }
 
-/// The step of a line's object by the rules of a version, where there are this many readers.
+/// Returns the step of a line's object by the rules of a version, with this many readers.
 ///
 /// # Errors
-/// The first fault of the object; want of memory, once nothing was found at fault.
+/// Returns the first fault of the object, or `NoMemory` for an object without a fault.
 pub(crate) fn step_in(
     alloc: Global,
     version: Version,

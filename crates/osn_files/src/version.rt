@@ -8,14 +8,14 @@ ghost use Rattle.osn_files.specs.Version as spec;
 use osn_format::{Member, Version, WireFault};
 use osn_request::{JsonObject, LineObject};
 
-/// The version that the object of a head says, if it says one.
+/// Returns the version that the object of a head says, if it says one.
 fn version_in(object: &LineObject<'_>) -> Option<Version>
     ensures { result ≡ spec.version_in (line_data object.now) }
 {
     Version::numbered(object.whole(Member::Journal.name())?)
 }
 
-/// The version of a head's object, or its fault.
+/// Returns the version of a head's object, or its fault.
 pub(crate) fn version_of(object: &LineObject<'_>) -> Result<Version, WireFault>
     ensures { result ≡ or_fault BadHead (spec.version_in (line_data object.now)) }
 {

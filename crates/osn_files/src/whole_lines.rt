@@ -16,11 +16,11 @@ use std::alloc::{AllocError, Global};
 /// that was not finished.
 #[derive(Clone, Copy, Debug, PartialEq, Eq)]
 pub struct WholePart {
-    /// How many bytes the lines have that count.
+    /// How many bytes the lines that count have.
     pub bytes: u64,
     /// How many lines count.
     pub lines: u64,
-    /// How the last line stands.
+    /// The state of the last line.
     pub last: LastLine,
 }
 
@@ -39,11 +39,11 @@ struct Count {
 #[derive(Drop)]
 struct Measure {
     count: Count,
-    /// What stands after the last line feed.
+    /// The bytes after the last line feed.
     front: LineFront,
 }
 
-/// The count with the next byte of the file.
+/// Returns the count with the next byte of the file.
 fn count_byte(count: Count, byte: u8) -> Count
     requires fits { count.read + 1 < 2 ^ 64 }
     requires few { count.lines ≤ count.read }
@@ -69,7 +69,7 @@ fn count_byte(count: Count, byte: u8) -> Count
     }
 }
 
-/// The count with the next bytes of the file.
+/// Returns the count with the next bytes of the file.
 fn count_piece(count: Count, piece: &[u8]) -> Count
     requires fits { count.read + length piece.now < 2 ^ 64 }
     requires few { count.lines ≤ count.read }
@@ -111,7 +111,7 @@ fn measure_piece(measure: &mut Measure, piece: &[u8]) -> Result<(), AllocError>
         .add(&piece[(more.ended - count.read) as usize..])
 }
 
-/// How much of a file counts that was measured to its end.
+/// Returns how much counts of a file that was measured to its end.
 fn part_of(alloc: Global, measure: &Measure) -> Result<WholePart, AllocError>
     requires { measure.now.count.lines < 2 ^ 62 }
     ensures part { IfOk result (λ part. (input : List ℕ) → IsMeasureOf measure.now input →
@@ -134,17 +134,17 @@ fn part_of(alloc: Global, measure: &Measure) -> Result<WholePart, AllocError>
     })
 }
 
-/// Reads a source to its end, and says how much of it counts. Memory holds one read of at most
-/// 65,536 bytes, at most the first 65,537 bytes after the last line feed, and the value of that
-/// line.
+/// Reads a source to its end, and returns how much of it counts. Memory contains one read of at
+/// most 65,536 bytes, at most the first 65,537 bytes after the last line feed, and the value of
+/// that line.
 ///
 /// # Errors
 ///
-/// `ReadFault` where the source failed, or gave no end within 4,294,967,295 reads. `NoMemory` where
-/// memory ran out.
+/// Returns `ReadFault` if the source failed, or didn't end within 4,294,967,295 reads, and
+/// `NoMemory` if memory ran out.
 pub fn whole_part<R: Source>(alloc: Global, source: &mut R) -> Result<WholePart, FileFault>
     ensures ok { IfOk result (λ part. IfSome (R.remaining source.old) (IsWholePart part)) }
-    // A further line can be counted.
+    // Another line can be counted.
     ensures few { IfOk result (λ part. part.lines < 2 ^ 63) }
     ensures end { OnOk result (IsAtEnd (R.remaining source.new)) }
     ensures sound { OnOk result (R.has_failed source.new ≡ R.has_failed source.old) }

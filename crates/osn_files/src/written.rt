@@ -24,7 +24,7 @@ use std::alloc::{AllocError, Global};
 /// The room that a journal gets at first.
 const ROOM: usize = 65_536;
 
-/// Writes the member of a source, where one is given.
+/// Writes the member of a source, if one is given.
 fn write_source(out: &mut Writer, source: &Option<Source>) -> Result<(), AllocError>
     ensures tokens { OnOk result (out.new.tokens ≡ out.old.tokens ++ source_tokens source.now) }
     ensures before { out.new.before ≡ out.old.before }
@@ -190,7 +190,7 @@ fn end_line(out: Writer) -> Result<Vec<u8>, AllocError>
     Ok(bytes)
 }
 
-/// The bytes of a head that says this version, with this room at first.
+/// Returns the bytes of a head that says this version, with this room at first.
 fn head_of(alloc: Global, version: Version, room: usize) -> Result<Vec<u8>, AllocError>
     ensures { IfOk result (λ bytes. bytes.items ≡ spec.line_text (head_data version)) }
 {
@@ -199,12 +199,12 @@ fn head_of(alloc: Global, version: Version, room: usize) -> Result<Vec<u8>, Allo
     end_line(out)
 }
 
-/// The bytes of the first line of a new journal: a head of the plain version. They get this room at
-/// first, so that more can be put after them.
+/// Returns the bytes of the first line of a new journal: a head of the plain version. They get this
+/// room at first, so that more can be put after them.
 ///
 /// # Errors
 ///
-/// Only where no memory is found.
+/// Returns `AllocError` if memory runs out.
 pub fn head_line(alloc: Global, room: usize) -> Result<Vec<u8>, AllocError>
     ensures { IfOk result (λ bytes.
         bytes.items ≡ spec.line_text (head_data plain_version)) }
@@ -212,11 +212,11 @@ pub fn head_line(alloc: Global, room: usize) -> Result<Vec<u8>, AllocError>
     head_of(alloc, Version::plain(), room)
 }
 
-/// The bytes, and after them an edit as a line of a journal.
+/// Returns the bytes, and after them an edit as a line of a journal.
 ///
 /// # Errors
 ///
-/// Only where no memory is found. The bytes are dropped then.
+/// Returns `AllocError` if memory runs out. The bytes are dropped then.
 pub fn with_edit(bytes: Vec<u8>, edit: &Edit) -> Result<Vec<u8>, AllocError>
     ensures { IfOk result (λ more.
         more.items ≡ bytes.items ++ spec.line_text (spec.edit_data edit.now)) }
@@ -226,11 +226,11 @@ pub fn with_edit(bytes: Vec<u8>, edit: &Edit) -> Result<Vec<u8>, AllocError>
     end_line(out)
 }
 
-/// The bytes, and after them a publish as a line of a journal.
+/// Returns the bytes, and after them a publish as a line of a journal.
 ///
 /// # Errors
 ///
-/// Only where no memory is found. The bytes are dropped then.
+/// Returns `AllocError` if memory runs out. The bytes are dropped then.
 pub fn with_publish(bytes: Vec<u8>) -> Result<Vec<u8>, AllocError>
     ensures { IfOk result (λ more.
         more.items ≡ bytes.items ++ spec.line_text spec.publish_data) }
@@ -240,11 +240,11 @@ pub fn with_publish(bytes: Vec<u8>) -> Result<Vec<u8>, AllocError>
     end_line(out)
 }
 
-/// The bytes, and edits after them, each as a line of a journal.
+/// Returns the bytes, and edits after them, each as a line of a journal.
 ///
 /// # Errors
 ///
-/// Only where no memory is found. The bytes are dropped then.
+/// Returns `AllocError` if memory runs out. The bytes are dropped then.
 pub fn with_edits(bytes: Vec<u8>, edits: &[Edit]) -> Result<Vec<u8>, AllocError>
     ensures { IfOk result (λ more. more.items ≡ bytes.items ++ spec.edits_text edits.now) }
 {
@@ -255,7 +255,7 @@ pub fn with_edits(bytes: Vec<u8>, edits: &[Edit]) -> Result<Vec<u8>, AllocError>
     Ok(more)
 }
 
-/// The bytes, and batches after them, each with its publish.
+/// Returns the bytes, and batches after them, each with its publish.
 fn with_batches(bytes: Vec<u8>, batches: &[Batch]) -> Result<Vec<u8>, AllocError>
     ensures { IfOk result (λ more. more.items ≡ bytes.items ++ spec.batches_text batches.now) }
 {
@@ -266,28 +266,28 @@ fn with_batches(bytes: Vec<u8>, batches: &[Batch]) -> Result<Vec<u8>, AllocError
     Ok(more)
 }
 
-/// Whether one of some edits gives a source, so that their journal is of version 4.
+/// Returns whether one of some edits gives a source, so that their journal is of version 4.
 pub fn give_source(edits: &[Edit]) -> bool
     ensures { result ≡ spec.give_source edits.now }
 {
     edits.iter().any(|edit| edit.source().is_some())
 }
 
-/// Whether an edit of one of some batches gives a source.
+/// Returns whether an edit of one of some batches gives a source.
 fn batches_give_source(batches: &[Batch]) -> bool
     ensures { result ≡ list_any spec.give_source batches.now }
 {
     batches.iter().any(|batch| give_source(batch.edits()))
 }
 
-/// Whether an edit of an object gives a source, published or pending.
+/// Returns whether an edit of an object gives a source, published or pending.
 fn gives_any_source(object: &Object) -> bool
     ensures { result ≡ spec.gives_any_source object.now }
 {
     batches_give_source(object.batches()) || give_source(object.pending())
 }
 
-/// The version that the head of an object's journal says.
+/// Returns the version that the head of an object's journal says.
 fn version_for(object: &Object) -> Version
     ensures { result ≡ spec.version_for object.now }
 {
@@ -298,7 +298,7 @@ fn version_for(object: &Object) -> Version
     }
 }
 
-/// The bytes of the journal of an object, with a head that says this version.
+/// Returns the bytes of the journal of an object, with a head that says this version.
 fn journal_bytes(alloc: Global, version: Version, object: &Object) -> Result<Vec<u8>, AllocError>
     ensures text { IfOk result (λ bytes. bytes.items ≡ spec.journal_text_of version object.now) }
     ensures sound { IsSound newest_rules object.now }
@@ -309,12 +309,12 @@ fn journal_bytes(alloc: Global, version: Version, object: &Object) -> Result<Vec
     with_edits(published, object.pending())
 }
 
-/// The journal of an object, as `journal_text`, with a head that says this version. Where the
+/// Returns the journal of an object, as `journal_text`, with a head that says this version. If the
 /// version has each edit of the object, what is loaded from it is that object again.
 ///
 /// # Errors
 ///
-/// Only where no memory is found.
+/// Returns `AllocError` if memory runs out.
 pub fn journal_text_of(
     alloc: Global,
     version: Version,
@@ -330,13 +330,13 @@ pub fn journal_text_of(
     Ok(unsafe { String::from_utf8_unchecked(bytes) })
 }
 
-/// The journal of an object: a head, the edits of each batch with a publish after them, and then
-/// the pending edits. The head says version 4 where an edit gives a source, else the plain
-/// one. What is loaded from it under the object's limits is that object again.
+/// Returns the journal of an object: a head, the edits of each batch with a publish after them, and
+/// then the pending edits. The head says version 4 if an edit gives a source, and otherwise the
+/// plain one. What is loaded from it under the object's limits is that object again.
 ///
 /// # Errors
 ///
-/// Only where no memory is found.
+/// Returns `AllocError` if memory runs out.
 pub fn journal_text(alloc: Global, object: &Object) -> Result<String, AllocError>
     ensures text { IfOk result (λ text. string_bytes text ≡ spec.journal_text object.now) }
     ensures law { load newest_rules object.now.limits (lines (spec.journal_text object.now))

@@ -19,7 +19,7 @@ LeavesAllSafe k n =
     (n.may_leave ≡ k.may_leave) × (n.might_have_left ≡ k.might_have_left)
     × (n.is_whole ≡ k.is_whole)
 
--- so it is at each path but this one
+-- so it is at each path except this one
 abbrev pub LeavesOthersSafe : List ℕ → Known → Known → Type 0
 LeavesOthersSafe path k n = (other : List ℕ) → other ≢ path → LeavesSafe other k n
 
@@ -28,15 +28,15 @@ LeavesOthersSafe path k n = (other : List ℕ) → other ≢ path → LeavesSafe
 abbrev pub WritesWhole : List ℕ → List ℕ → Known → Known → Type 0
 WritesWhole place path k n = LeavesSafe place k n × (n.is_whole path ≡ true)
 
--- a file was put at another path. Where it was whole, a crash leaves it there, or what it might
--- have left there before
+-- a file was put at another path. If it was whole, a crash leaves it there, or what it might have
+-- left there before
 abbrev pub MovesWhole : List ℕ → List ℕ → Known → Known → Type 0
 MovesWhole from to k n =
     from ≢ to → k.is_whole from ≡ true
     → (n.is_whole to ≡ true) × (n.may_leave to ≡ k.may_leave to ++ k.at from ∷ [])
     × (n.might_have_left to ≡ k.might_have_left to ++ k.at from ∷ [])
 
--- the name of the file at this path is on the disk. Where the file is whole, a crash leaves it
+-- the name of the file at this path is on the disk. If the file is whole, a crash leaves it
 abbrev pub SyncsName : List ℕ → Known → Known → Type 0
 SyncsName path k n =
     (n.might_have_left path ≡ k.might_have_left path)
@@ -52,7 +52,7 @@ StaysSure path k n =
     IsSure path k → (n.at path ≡ k.at path) × IsSure path n
     × (n.might_have_left path ≡ k.might_have_left path)
 
--- so it is at each path where a file was
+-- so it is at each path of a file
 abbrev pub AllStaySure : Known → Known → Type 0
 AllStaySure k n = (other : List ℕ) → k.at other ≢ None → StaysSure other k n
 
@@ -66,7 +66,7 @@ abbrev pub OthersOfTwoStaySure : List ℕ → List ℕ → Known → Known → T
 OthersOfTwoStaySure from to k n = (other : List ℕ) → other ≢ from → other ≢ to
     → k.at other ≢ None → StaysSure other k n
 
--- except at this one, where it is a file
+-- except at this one, if it is a file
 abbrev pub OthersOfFileStaySure : List ℕ → Known → Known → Type 0
 OthersOfFileStaySure path k n = k.paths.is_stream path ≡ false → OthersStaySure path k n
 
@@ -83,8 +83,8 @@ abbrev pub IsSafelySavedAt : List ℕ → List ℕ → Known → Known → Type 
 IsSafelySavedAt place text k n =
     k.paths.is_stream place ≡ false → LeavesText place text k n
 
--- the same where the save failed for this reason: the text may be left only where it stands there
--- and its name is not synced
+-- the same if the save failed by this fault: a crash may leave the text only if it is there and its
+-- name is not synced
 abbrev pub IsSafelyLeft : List ℕ → List ℕ → SaveFault → Known → Known → Type 0
 IsSafelyLeft place text saves.NoMemory k n = LeavesSafe place k n
 IsSafelyLeft place text (saves.WriteFault cause) k n = LeavesSafe place k n
@@ -97,21 +97,21 @@ abbrev pub IsSafelyLeftAt : List ℕ → List ℕ → SaveFault → Known → Kn
 IsSafelyLeftAt place text fault k n =
     k.paths.is_stream place ≡ false → IsSafelyLeft place text fault k n
 
--- the same of the place where a path leads
+-- the same of the place that a path leads to
 abbrev pub IsSafelySaved : List ℕ → List ℕ → Known → Known → Type 0
 IsSafelySaved path text k n = IsSafelySavedAt (k.paths.place path) text k n
 
 abbrev pub CannotSafelySave : List ℕ → List ℕ → SaveFault → Known → Known → Type 0
 CannotSafelySave path text fault k n = IsSafelyLeftAt (k.paths.place path) text fault k n
 
--- ---- of a save where a folder may not be known
+-- ---- of a save, whose folder may not be known
 
--- the text was saved where the path leads, and a crash leaves what is told of it
+-- the text was saved at the place that the path leads to, and a crash leaves what is said here
 abbrev pub SavesSafely : List ℕ → Option (List ℕ) → List ℕ → Option Known → Option Known → Type 0
 SavesSafely path loaded text old new =
     Changes (Saves path loaded text) old new × Changes (IsSafelySaved path text) old new
 
--- it was not for this reason, and a crash left the old file or the text, whole
+-- it was not, by this fault, and a crash left the old file or the text, whole
 abbrev pub CannotSaveSafely : List ℕ → Option (List ℕ) → List ℕ → SaveFault → Option Known
     → Option Known → Type 0
 CannotSaveSafely path loaded text fault old new =
@@ -120,15 +120,15 @@ CannotSaveSafely path loaded text fault old new =
 
 -- ---- of a save that keeps the old file too
 
--- the file at this place is at another path too, where a crash leaves it. At the place a crash leaves
--- what it might have left before
+-- the file at this place is at another path too, and a crash leaves it there. At the place a crash
+-- leaves what it might have left before
 abbrev pub BacksUpSafely : List ℕ → List ℕ → Known → Known → Type 0
 BacksUpSafely place backup k n =
     BacksUp place backup k n × LeavesSafe place k n × IsSure backup n
 
 -- The text was saved at this place, and what was there is at another path. Until a moment a crash
--- left at the place what it might have left before. From that moment on it left the old file, if one
--- was there, at the other path.
+-- left at the place what it might have left before. From that moment on it left the old file, if
+-- one was there, at the other path.
 pub record SavesBesideAt (place backup text : List ℕ) (k n : Known) : Type 0 where
   pub moment : Known
   pub backs_up : BacksUpSafely place backup k moment
@@ -136,7 +136,7 @@ pub record SavesBesideAt (place backup text : List ℕ) (k n : Known) : Type 0 w
   pub crash : IsSafelySavedAt place text moment n
   pub stays : k.paths.is_stream place ≡ false → k.at place ≢ None → StaysSure backup moment n
 
--- a backup is taken away where the text doesn't stand at its place
+-- a backup is removed if the text isn't at its place
 abbrev pub GivesUp : List ℕ → SaveFault → Known → Known → Type 0
 GivesUp backup saves.NotSynced k n = n ≡ k
 GivesUp backup saves.NoMemory k n = Becomes backup None k n × LeavesOthersSafe backup k n
@@ -145,7 +145,7 @@ GivesUp backup (saves.WriteFault cause) k n =
 GivesUp backup (saves.Changed unfinished) k n =
     Becomes backup None k n × LeavesOthersSafe backup k n
 
--- The old file was at another path, and then the text was not saved for sure, for this reason.
+-- The old file was at another path, and then it isn't sure that the text was saved, by this fault.
 pub record LeavesBesideAt (place text : List ℕ) (fault : SaveFault) (k n : Known) : Type 0 where
   pub backup : List ℕ
   pub moment : Known
@@ -156,13 +156,13 @@ pub record LeavesBesideAt (place text : List ℕ) (fault : SaveFault) (k n : Kno
   pub stays : k.paths.is_stream place ≡ false → k.at place ≢ None → StaysSure backup moment after
   pub ended : GivesUp backup fault after n
 
--- the text was not saved for sure: the old file could not be put at another path, and nothing was
--- changed; or it was
+-- it isn't sure that the text was saved: the old file could not be put at another path, and nothing
+-- was changed; or it was
 abbrev pub CannotSaveBesideAt : List ℕ → List ℕ → SaveFault → Known → Known → Type 0
 CannotSaveBesideAt place text fault k n =
     (LeavesAll fault k n × LeavesSafe place k n) ⊎ LeavesBesideAt place text fault k n
 
--- the same of the place where a path leads
+-- the same of the place that a path leads to
 abbrev pub SavesBeside : List ℕ → List ℕ → List ℕ → Known → Known → Type 0
 SavesBeside path backup text k n = SavesBesideAt (k.paths.place path) backup text k n
 

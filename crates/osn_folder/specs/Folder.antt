@@ -11,10 +11,10 @@ use Rattle.osn_folder.specs.declared.fault.MoveFault.TheVariants as moves
 use Rattle.osn_folder.specs.declared.fault.SaveFault.{SaveFault}
 use Rattle.osn_folder.specs.declared.fault.SaveFault.TheVariants as saves
 
--- what no call changes of paths: where a path leads, through links, and whether something is there
--- that is no file, as a pipe. Also why nothing is opened there where no file is, and whether another
--- run of the program keeps the file of it, or saves to it. And whether anyone else puts another file
--- there, or takes it away, while this run is at work
+-- what no call changes of paths: the place that a path leads to, through links, and whether
+-- something is there that is not a file, such as a pipe. Also why nothing is opened there if there
+-- is no file, and whether another run of the program keeps the file of it, or saves to it. And
+-- whether anyone else puts another file there, or removes it, during this run
 pub record Paths : Type 0 where
   pub place : List ℕ → List ℕ
   pub is_stream : List ℕ → Bool
@@ -22,7 +22,7 @@ pub record Paths : Type 0 where
   pub is_held : List ℕ → Bool
   pub is_changed : List ℕ → Bool
 
--- what is known of a folder: what the file of a path holds, where a file is there, and which paths
+-- what is known of a folder: what the file of a path contains, if there is one, and which paths
 -- were opened to be read, in order. Also its paths, and whether the system has ever failed to keep,
 -- lock or change a file
 pub record Known : Type 0 where
@@ -37,7 +37,7 @@ pub record Known : Type 0 where
   pub may_leave : List ℕ → List (Option (List ℕ))
   pub might_have_left : List ℕ → List (Option (List ℕ))
 
--- a change of a folder, where that is known
+-- a change of a folder, if that is known
 abbrev pub Changes : (Known → Known → Type 0) → Option Known → Option Known → Type 0
 Changes Change None new = ⊤
 Changes Change (Some k) None = ⊥
@@ -47,7 +47,7 @@ Changes Change (Some k) (Some n) = Change k n
 abbrev pub Stays : Known → Known → Type 0
 Stays k n = n ≡ k
 
--- nothing was changed but what a crash may leave
+-- nothing was changed, except what a crash may leave
 abbrev pub Syncs : Known → Known → Type 0
 Syncs k n =
     (n.at ≡ k.at) × (n.opened ≡ k.opened) × (n.paths ≡ k.paths) × (n.has_failed ≡ k.has_failed)
@@ -59,7 +59,7 @@ Fails k n =
 
 -- ---- reading
 
--- a file of this path was found, and will give what it holds
+-- a file of this path was found, and will give what it contains
 abbrev pub IsFileOf : Option Known → List ℕ → Option (List ℕ) → Type 0
 IsFileOf None path file = ⊤
 IsFileOf (Some k) path file = (file ≡ k.at path) × (is_some file ≡ true)
@@ -74,18 +74,18 @@ abbrev pub IsCauseAt : Option Known → List ℕ → OpenFailed → Type 0
 IsCauseAt None path cause = ⊤
 IsCauseAt (Some k) path cause = cause ≡ k.paths.cause path
 
--- nothing was changed but that these paths were opened, in order
+-- nothing was changed, except that these paths were opened, in order
 abbrev pub Opens : List (List ℕ) → Known → Known → Type 0
 Opens paths k n =
     (n.opened ≡ k.opened ++ paths) × (n.at ≡ k.at)
     × (n.paths ≡ k.paths) × (n.has_failed ≡ k.has_failed)
 
--- those of these paths that are opened where the first of them ends it that has no file
+-- those of these paths that are opened if the first one without a file is the last
 abbrev pub tried : (List ℕ → Option (List ℕ)) → List (List ℕ) → List (List ℕ)
 tried at [] = []
 tried at (path ∷ paths) = path ∷ (if is_some (at path) then tried at paths else [])
 
--- one of these paths has no file, and none was opened after the first such
+-- one of these paths has no file, and no path was opened after the first such
 abbrev pub Misses : List (List ℕ) → Known → Known → Type 0
 Misses paths k n =
     (list_all (λ path. is_some (k.at path)) paths ≡ false) × Opens (tried k.at paths) k n
@@ -108,7 +108,7 @@ abbrev pub IsFirstMissed : List (List ℕ) → List ℕ → Option Known → Typ
 IsFirstMissed paths path None = IsOneOf paths path
 IsFirstMissed paths path (Some k) = first_missed k.at paths ≡ Some path
 
--- the file of this path, the first of these that has none, could not be opened, for this reason
+-- the file of this path, the first of these that has none, could not be opened, by this cause
 abbrev pub IsUnopened : List (List ℕ) → List ℕ → OpenFailed → Option Known → Option Known → Type 0
 IsUnopened paths path cause old new =
     CannotOpen paths old new × IsFirstMissed paths path old × IsCauseAt old path cause
@@ -118,7 +118,7 @@ abbrev pub path_if : Option (List ℕ) → List (List ℕ)
 path_if None = []
 path_if (Some path) = path ∷ []
 
--- the file of such a path, and none where there is no path
+-- the file of such a path, and none if there is no path
 abbrev pub IsFileIf : Option Known → Option (List ℕ) → Option (Option (List ℕ)) → Type 0
 IsFileIf known None found = found ≡ None
 IsFileIf known (Some path) found =
@@ -131,29 +131,29 @@ module _ {S : Type 0} where
 
 -- ---- keeping
 
--- of all paths but this one, what they hold is as it was
+-- all paths except this one contain what they did
 abbrev pub KeepsOthers : List ℕ → Known → Known → Type 0
 KeepsOthers path k n =
     (n.opened ≡ k.opened) × (n.paths ≡ k.paths)
     × ((other : List ℕ) → other ≢ path → n.at other ≡ k.at other)
 
--- the file of this path holds this now, or was taken away, and nothing else was changed
+-- the file of this path contains this now, or was removed, and nothing else was changed
 abbrev pub Becomes : List ℕ → Option (List ℕ) → Known → Known → Type 0
 Becomes path file k n =
     KeepsOthers path k n × (n.at path ≡ file) × (n.has_failed ≡ k.has_failed)
 
--- what the file of this path holds, or nothing where no file is there
+-- what the file of this path contains, or nothing if there is no file
 abbrev pub held_at : Known → List ℕ → List ℕ
 held_at k path = unwrap_or (k.at path) []
 
--- the file of this path, which no other run has, is there with what it held, or empty where no file
--- was, and nothing else was changed
+-- the file of this path, which no other run has, is there with what it contained, or empty if there
+-- was no file, and nothing else was changed
 abbrev pub Keeps : List ℕ → Known → Known → Type 0
 Keeps path k n =
     Becomes path (Some (held_at k path)) k n
     × (k.paths.is_stream path ≡ false) × (k.paths.is_held path ≡ false)
 
--- a file that is kept holds what that of this path did, or nothing where no file was
+-- a file that is kept contains what that of this path did, or nothing if there was no file
 abbrev pub IsKeptAt : Option Known → List ℕ → Option (List ℕ) → Type 0
 IsKeptAt None path contents = ⊤
 IsKeptAt (Some k) path contents = contents ≡ Some (held_at k path)
@@ -163,7 +163,7 @@ abbrev pub CannotKeep : List ℕ → KeepFault → Known → Known → Type 0
 CannotKeep path Held k n = Stays k n × (k.paths.is_held path ≡ true)
 CannotKeep path (NotOpened cause) k n = Fails k n ⊎ (Stays k n × (k.paths.is_stream path ≡ true))
 
--- the file of this path holds this from now on, where that is known, and nothing else was changed
+-- the file of this path contains this from now on, if that is known, and nothing else was changed
 abbrev pub Leaves : List ℕ → Option (List ℕ) → Known → Known → Type 0
 Leaves path contents k n =
     KeepsOthers path k n × (n.has_failed ≡ k.has_failed)
@@ -171,7 +171,7 @@ Leaves path contents k n =
 
 -- ---- saving
 
--- the file of this path, or the name where no file is, is locked, and no other run has it
+-- the file of this path, or the name if there is no file, is locked, and no other run has it
 abbrev pub Locks : List ℕ → Known → Known → Type 0
 Locks path k n =
     Stays k n × (k.paths.is_stream path ≡ false → k.paths.is_held path ≡ false)
@@ -196,22 +196,22 @@ LeavesAll (saves.Changed unfinished) k n = ⊥
 abbrev pub Spoils : List ℕ → Known → Known → Type 0
 Spoils path k n = KeepsOthers path k n × (n.has_failed ≡ true)
 
--- a text stands at a path beside this place, at which nothing was, and nothing else was changed
+-- a text is at a path beside this place, at which nothing was, and nothing else was changed
 abbrev pub WritesBeside : List ℕ → List ℕ → List ℕ → Known → Known → Type 0
 WritesBeside place text path k n =
     (path ≢ place) × (k.at path ≡ None) × Becomes path (Some text) k n
 
--- what the file at this place holds is at another path too, at which nothing was, and nothing else
--- was changed
+-- what the file at this place contains is at another path too, at which nothing was, and nothing
+-- else was changed
 abbrev pub BacksUp : List ℕ → List ℕ → Known → Known → Type 0
 BacksUp place path k n =
     (path ≢ place) × (k.at path ≡ None) × Becomes path (k.at place) k n
 
--- whether the file of this path holds exactly these bytes was found, and nothing was changed
+-- it was found whether the file of this path contains exactly these bytes, and nothing was changed
 abbrev pub Compares : List ℕ → List ℕ → Bool → Known → Known → Type 0
 Compares path bytes same k n = Stays k n × ((same ≡ true) ↔ (k.at path ≡ Some bytes))
 
--- a file was put at another path, where no one else had changed anything
+-- a file was put at another path, and no one else had changed what is there
 abbrev pub Moves : List ℕ → List ℕ → Known → Known → Type 0
 Moves from to k n =
     (n.opened ≡ k.opened) × (n.paths ≡ k.paths) × (n.has_failed ≡ k.has_failed)
@@ -225,7 +225,7 @@ CannotMove to moves.Changed k n = Stays k n × (k.paths.is_changed to ≡ true)
 CannotMove to moves.Failed k n = Fails k n
 
 -- what is at this place is what was there at first. No one else put another file there, and it
--- holds the bytes that were loaded from it, where these are given
+-- contains the bytes that were loaded from it, if these are given
 abbrev pub IsUnchanged : List ℕ → Option (List ℕ) → Known → Type 0
 IsUnchanged place loaded k =
     (k.paths.is_changed place ≡ false) × IfSome loaded (λ bytes. k.at place ≡ Some bytes)
@@ -235,14 +235,14 @@ HasChanged place loaded k =
     (k.paths.is_changed place ≡ true)
     ⊎ ((bytes : List ℕ) × (loaded ≡ Some bytes) × (k.at place ≢ Some bytes))
 
--- the text stands at this place, and all other paths are as they were. A file that it replaced was
--- what was there at first
+-- the text is at this place, and all other paths are as they were. A file that it replaced was what
+-- was there at first
 abbrev pub SavesAt : List ℕ → Option (List ℕ) → List ℕ → Known → Known → Type 0
 SavesAt place loaded text k n =
     Becomes place (Some text) k n
     × (k.paths.is_stream place ≡ false → IsUnchanged place loaded k)
 
--- the text was not saved at this place, for this reason
+-- the text was not saved at this place, by this fault
 abbrev pub CannotSaveAt : List ℕ → Option (List ℕ) → List ℕ → SaveFault → Known → Known → Type 0
 CannotSaveAt place loaded text saves.NoMemory k n = Stays k n
 CannotSaveAt place loaded text (saves.WriteFault cause) k n =
@@ -255,11 +255,11 @@ CannotSaveAt place loaded text (saves.Changed unfinished) k n =
     HasChanged place loaded k × (k.paths.is_stream place ≡ false)
     × WritesBeside place text (string_bytes unfinished) k n
 
--- the text was saved where the path leads
+-- the text was saved at the place that the path leads to
 abbrev pub Saves : List ℕ → Option (List ℕ) → List ℕ → Known → Known → Type 0
 Saves path loaded text k n = SavesAt (k.paths.place path) loaded text k n
 
--- the text was not saved where the path leads, for this reason
+-- the text was not saved at the place that the path leads to, by this fault
 abbrev pub CannotSave : List ℕ → Option (List ℕ) → List ℕ → SaveFault → Known → Known → Type 0
 CannotSave path loaded text fault k n =
     CannotSaveAt (k.paths.place path) loaded text fault k n

@@ -8,7 +8,7 @@ use Rattle.osn_folder.specs.declared.fault.MoveFault.TheVariants as moves
 use Rattle.osn_folder.specs.declared.fault.SaveFault.{SaveFault}
 use Rattle.osn_folder.specs.declared.fault.SaveFault.TheVariants as saves
 
--- the file of this path holds the bytes that were loaded from it, where these are given
+-- the file of this path contains the bytes that were loaded from it, if these are given
 abbrev pub HoldsLoaded : List ℕ → Option (List ℕ) → Known → Known → Type 0
 HoldsLoaded place loaded k n = Stays k n × IfSome loaded (λ bytes. k.at place ≡ Some bytes)
 
@@ -16,17 +16,17 @@ HoldsLoaded place loaded k n = Stays k n × IfSome loaded (λ bytes. k.at place 
 abbrev pub MovesLoaded : List ℕ → List ℕ → Option (List ℕ) → Known → Known → Type 0
 MovesLoaded from place loaded k n = Moves from place k n × IsUnchanged place loaded k
 
--- no file was put at this place, for this reason
+-- no file was put at this place, by this fault
 abbrev pub CannotMoveLoaded : List ℕ → Option (List ℕ) → MoveFault → Known → Known → Type 0
 CannotMoveLoaded place loaded moves.Changed k n = Stays k n × HasChanged place loaded k
 CannotMoveLoaded place loaded moves.Failed k n = Fails k n
 
--- the text stands in a file at this place, which was as it was at first
+-- the text is in a file at this place, which was as it was at first
 abbrev pub ReplacesAt : List ℕ → Option (List ℕ) → List ℕ → Known → Known → Type 0
 ReplacesAt place loaded text k n =
     Becomes place (Some text) k n × IsUnchanged place loaded k
 
--- the text does not stand in a file at this place for sure, for this reason
+-- it isn't sure that the text is in a file at this place, by this fault
 abbrev pub CannotReplaceAt : List ℕ → Option (List ℕ) → List ℕ → SaveFault → Known → Known
     → Type 0
 CannotReplaceAt place loaded text saves.NoMemory k n = Stays k n

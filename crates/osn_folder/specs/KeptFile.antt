@@ -2,7 +2,7 @@
 use Rattle.std.specs.Prelude.{Option, Some, Result, Ok, Err}
 use Rattle.osn_folder.specs.declared.fault.KeptFileFault.{KeptFileFault}
 
--- the fault of a file after one more change: that of the change, where it failed
+-- the fault of a file after another change: that of the change, if it failed
 abbrev pub fault_after : {A : Type 0} → Result A KeptFileFault → Option KeptFileFault
     → Option KeptFileFault
 fault_after (Ok _) fault = fault

@@ -5,7 +5,7 @@ use std::fs::Metadata;
 use std::io;
 use std::io::ErrorKind;
 
-/// Why a file that has to be there could not be opened.
+/// Returns why a file that must be there could not be opened.
 pub(crate) fn open_cause(error: &io::Error) -> OpenFailed {
     match error.kind() {
         ErrorKind::NotFound => OpenFailed::NotFound,
@@ -15,7 +15,7 @@ pub(crate) fn open_cause(error: &io::Error) -> OpenFailed {
     }
 }
 
-/// Why a file that is made where none is there could not be opened.
+/// Returns why a file that is made if there is none could not be opened.
 pub(crate) fn make_cause(error: &io::Error) -> OpenFailed {
     match open_cause(error) {
         OpenFailed::NotFound => OpenFailed::NoFolder,
@@ -23,7 +23,7 @@ pub(crate) fn make_cause(error: &io::Error) -> OpenFailed {
     }
 }
 
-/// Why what is at a path is not opened, where it is no file.
+/// Returns why what is at a path is not opened, if it is not a file.
 pub(crate) fn cause_of_kind(found: &Metadata) -> OpenFailed {
     if found.is_dir() {
         OpenFailed::IsDirectory
@@ -32,7 +32,7 @@ pub(crate) fn cause_of_kind(found: &Metadata) -> OpenFailed {
     }
 }
 
-/// Why a file could not be made or changed.
+/// Returns why a file could not be made or changed.
 pub(crate) fn change_cause(error: &io::Error) -> ChangeCause {
     match error.kind() {
         ErrorKind::NotFound => ChangeCause::NoFolder,

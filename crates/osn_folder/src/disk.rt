@@ -16,14 +16,14 @@ use std::io::ErrorKind;
 use std::rt::Files;
 use std::{fs, io};
 
-/// The files of the system. What they hold is not known beforehand.
+/// The files of the system. What they contain is not known beforehand.
 #[derive(Debug, Drop)]
 pub struct Disk<'a, R> {
     files: &'a R,
 }
 
 impl<'a, R> Disk<'a, R> {
-    /// Those that a runtime finds.
+    /// Returns the files that a runtime finds.
     pub fn new(files: &'a R) -> Disk<'a, R> {
         Disk { files }
     }
@@ -55,7 +55,7 @@ impl<'a, R: Files<File = File> + AllocGlobal> Folder for Disk<'a, R> {
         keep_file(self.files, path)
     }
 
-    // The lock goes with the file.
+    // The lock is released with the file.
     fn release(&mut self, _path: &str, _kept: DiskFile<'a, R>) {}
 
     fn follow(&mut self, alloc: Global, path: &str) -> Result<FollowedDiskFile<'a, R>, AllocError> {
@@ -125,7 +125,7 @@ impl<'a, R: Files<File = File> + AllocGlobal> Folder for Disk<'a, R> {
     }
 }
 
-/// Why it is not known where a path leads.
+/// Returns why it is not known which place a path leads to.
 fn place_fault(error: &io::Error) -> SaveFault {
     match error.kind() {
         ErrorKind::OutOfMemory => SaveFault::NoMemory,
@@ -133,8 +133,8 @@ fn place_fault(error: &io::Error) -> SaveFault {
     }
 }
 
-/// Checks that a path which has no place of its own, as that of an open pipe, is no link that leads
-/// nowhere.
+/// Checks that a path which has no place of its own, such as that of an open pipe, is not a link
+/// that leads nowhere.
 fn leads_somewhere(files: &impl Files, path: &str) -> Result<(), SaveFault> {
     let found = match fs::symlink_metadata(files, path) {
         Ok(_) => fs::metadata(files, path),

@@ -10,7 +10,7 @@ use std::rt::Files;
 use std::{fs, io};
 
 /// Leaves the file at a place at a new path beside it too, and waits until it is on the disk there.
-/// Answers the path.
+/// Returns the path.
 pub(crate) fn back_up<R: Files<File = File> + AllocGlobal>(
     files: &R,
     alloc: Global,
@@ -56,8 +56,8 @@ fn copy_new(files: &impl Files<File = File>, place: &str, path: &str) -> io::Res
     }
 }
 
-/// Waits until a file that was made, and its name, are on the disk. It is taken away again where
-/// that fails.
+/// Waits until a file that was made, and its name, are on the disk. It is removed again if that
+/// fails.
 fn sync_made<R: Files<File = File> + AllocGlobal>(files: &R, path: &str) -> Result<(), SaveFault> {
     match sync_file(files, path) {
         Ok(()) => Ok(()),

@@ -139,7 +139,7 @@ impl<R: Files> KeptFile for DiskFile<'_, R> {
     }
 }
 
-/// The result of a change of the file.
+/// Returns the result of a change of the file.
 fn made(change: io::Result<()>) -> Result<(), KeptFileFault> {
     match change {
         Ok(()) => Ok(()),
@@ -147,8 +147,8 @@ fn made(change: io::Result<()>) -> Result<(), KeptFileFault> {
     }
 }
 
-/// Opens a file to be kept, or makes it, and gives what reads it from its first byte on. One that
-/// was made and can't be kept is taken away again, where it is empty and nobody else has it.
+/// Opens a file to be kept, or makes it, and returns what reads it from its first byte on. One that
+/// was made and can't be kept is removed again, if it is empty and nobody else has it.
 pub(crate) fn keep_file<'a, R: Files<File = File> + AllocGlobal>(
     files: &'a R,
     path: &str,
@@ -159,8 +159,8 @@ pub(crate) fn keep_file<'a, R: Files<File = File> + AllocGlobal>(
     open_locked(files, path, is_new)
 }
 
-/// Whether nothing is at a path. What is there has to be a file, which a link that leads nowhere is
-/// not.
+/// Returns whether nothing is at a path. What is there must be a file, which a link that leads
+/// nowhere is not.
 fn has_no_file(files: &impl Files, path: &str) -> Result<bool, KeepFault> {
     match fs::metadata(files, path) {
         Ok(found) if found.is_file() => Ok(false),
@@ -201,18 +201,18 @@ fn open_locked<'a, R: Files<File = File> + AllocGlobal>(
     }
 }
 
-/// What is found out of a file before it is kept.
+/// What is found out about a file before it is kept.
 #[derive(Drop)]
 struct SettledFile {
     /// The path that it was opened by.
     path: String,
-    /// How many bytes it holds.
+    /// How many bytes it contains.
     length: u64,
     /// What reads it.
     source: Plain<File>,
 }
 
-/// Locks a file, and finds out what has to be known before it is kept.
+/// Locks a file, and finds out what must be known before it is kept.
 fn settle<R: Files<File = File> + AllocGlobal>(
     files: &R,
     path: &str,
@@ -228,9 +228,9 @@ fn settle<R: Files<File = File> + AllocGlobal>(
     }
 }
 
-/// What is found out of a file that was locked, if it is the one at its path, and no other was put
-/// there meanwhile. What it holds and its name are on the disk then, since the run that wrote it
-/// may not have come to that.
+/// Returns what is found out about a file that was locked, if it is the one at its path, and no
+/// other was put there meanwhile. What it contains and its name are on the disk then, since the run
+/// that wrote it may have ended before that.
 fn settle_locked<R: Files<File = File> + AllocGlobal>(
     files: &R,
     path: &str,
@@ -252,7 +252,7 @@ fn settle_locked<R: Files<File = File> + AllocGlobal>(
     }))
 }
 
-/// Takes a file that was made away again, if it is the one at its path and is empty.
+/// Removes a file that was made, if it is the one at its path and is empty.
 fn remove_made(files: &impl Files, path: &str, file: &File) {
     let is_empty = file.metadata().is_ok_and(|found| found.len() == 0);
     if is_empty && matches!(is_at(files, path, file), Ok(true)) {
@@ -260,7 +260,7 @@ fn remove_made(files: &impl Files, path: &str, file: &File) {
     }
 }
 
-/// A file that was settled, and what reads it.
+/// Returns a file that was settled, and what reads it.
 fn kept_file<'a, R: Files<File = File>>(
     files: &'a R,
     file: File,

@@ -66,7 +66,7 @@ fn open_to_lock<R: Files<File = File>>(files: &R, path: &str) -> io::Result<File
     }
 }
 
-/// Whether a path, through links, still names an open file.
+/// Returns whether a path, through links, still names an open file.
 pub(crate) fn is_at(files: &impl Files, path: &str, file: &File) -> io::Result<bool> {
     match fs::metadata(files, path) {
         Ok(found) => is_same(file, &found),
@@ -75,7 +75,8 @@ pub(crate) fn is_at(files: &impl Files, path: &str, file: &File) -> io::Result<b
     }
 }
 
-/// Whether the file that is locked holds exactly these bytes. It does not where none was there.
+/// Returns whether the file that is locked contains exactly these bytes. It does not if there was
+/// no file.
 pub(crate) fn holds_bytes(lock: &DiskLock, bytes: &[u8]) -> Result<bool, ChangeFailed> {
     match &lock.file {
         None => Ok(false),
@@ -86,7 +87,7 @@ pub(crate) fn holds_bytes(lock: &DiskLock, bytes: &[u8]) -> Result<bool, ChangeF
     }
 }
 
-/// Whether a file holds exactly these bytes, piece by piece.
+/// Returns whether a file contains exactly these bytes, piece by piece.
 fn has_bytes(file: &File, bytes: &[u8]) -> io::Result<bool> {
     let mut buffer = [0u8; PIECE];
     let mut rest = bytes;
@@ -135,8 +136,8 @@ fn rename(files: &impl Files, from: &str, place: &str) -> Result<(), MoveFault> 
 }
 
 /// Puts a file at a path at which nothing is. A second name of the file is made there, which
-/// replaces nothing, and the first is taken away. A file system that has no second names gets the
-/// file moved, after a look that nothing is there.
+/// replaces nothing, and the first is removed. A file system that has no second names gets the file
+/// moved, after a look that nothing is there.
 fn move_to_nothing(files: &impl Files, from: &str, place: &str) -> Result<(), MoveFault> {
     match fs::hard_link(files, from, place) {
         Ok(()) => {

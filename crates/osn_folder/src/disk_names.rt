@@ -12,7 +12,7 @@ use std::{fs, io};
 /// How many names are tried for a file beside a place.
 pub(crate) const MOST_NAMES: u32 = 1_000;
 
-/// Whether nothing is at a path, not even a link.
+/// Returns whether nothing is at a path, not even a link.
 pub(crate) fn has_nothing(files: &impl Files, path: &str) -> io::Result<bool> {
     match fs::symlink_metadata(files, path) {
         Ok(_) => Ok(false),
@@ -21,13 +21,13 @@ pub(crate) fn has_nothing(files: &impl Files, path: &str) -> io::Result<bool> {
     }
 }
 
-/// Whether an open file is this one.
+/// Returns whether an open file is this one.
 pub(crate) fn is_same(file: &File, found: &Metadata) -> io::Result<bool> {
     let opened = file.metadata()?;
     Ok(opened.dev() == found.dev() && opened.ino() == found.ino())
 }
 
-/// Has the names in the folder of a file on the disk.
+/// Makes sure that the names in the folder of a file are on the disk.
 pub(crate) fn sync_name<R: Files<File = File> + AllocGlobal>(
     files: &R,
     path: &str,
@@ -39,7 +39,7 @@ pub(crate) fn sync_name<R: Files<File = File> + AllocGlobal>(
     }
 }
 
-/// The name of a file beside a place, by which of the names it is, from 1 on.
+/// Returns the name of a file beside a place, by which of the names it is, from 1 on.
 fn name_beside(alloc: Global, place: &str, number: u32) -> Result<String, AllocError> {
     if number == 1 {
         format!(in alloc; "{place}.unfinished")
@@ -49,7 +49,7 @@ fn name_beside(alloc: Global, place: &str, number: u32) -> Result<String, AllocE
 }
 
 /// Writes a text to a new file beside a place, with the permissions of the file at the place, and
-/// waits until it is on the disk. Answers its path.
+/// waits until it is on the disk. Returns its path.
 pub(crate) fn write_new<R: Files<File = File>>(
     files: &R,
     alloc: Global,
@@ -74,7 +74,7 @@ pub(crate) fn write_new<R: Files<File = File>>(
     Err(SaveFault::WriteFault(ChangeCause::Other))
 }
 
-/// Writes a text to a file that was made, which is taken away again where that fails.
+/// Writes a text to a file that was made, which is removed again if that fails.
 fn write_made(
     files: &impl Files,
     file: File,
@@ -91,8 +91,8 @@ fn write_made(
     }
 }
 
-/// Writes a file, with the permissions of another one where there is one, and waits until it is on
-/// the disk.
+/// Writes a file, with the permissions of another one if there is one, and waits until it is on the
+/// disk.
 fn write_synced(files: &impl Files, mut file: File, other: &str, text: &str) -> io::Result<()> {
     match fs::metadata(files, other) {
         Ok(old) => file.set_permissions(old.permissions())?,

@@ -11,7 +11,7 @@ use std::alloc::AllocError;
 pub enum OpenFailed {
     /// Nothing is at its path.
     NotFound,
-    /// The folder of its path is not there, where the file would be made.
+    /// The folder of its path is not there, in which the file would be made.
     NoFolder,
     /// The system doesn't permit the program to read it.
     PermissionDenied,
@@ -37,7 +37,7 @@ pub enum ChangeCause {
     NoFolder,
     /// The system doesn't permit the program to write there.
     PermissionDenied,
-    /// No space is left on the device, or of what the user may take of it.
+    /// No space is left on the device, or within the user's quota.
     NoSpace,
     /// Any other cause.
     Other,
@@ -52,7 +52,7 @@ pub struct ChangeFailed;
 pub enum KeepFault {
     /// Another open of the file keeps it, or saves to it.
     Held,
-    /// It can't be opened, made or locked, or is no file, as a folder or a pipe.
+    /// It can't be opened, made or locked, or is not a file, such as a folder or a pipe.
     NotOpened(OpenFailed),
 }
 
@@ -65,14 +65,14 @@ pub enum KeptFileFault {
     Replaced,
 }
 
-/// Why it isn't known what a file has gained that is followed.
+/// Why it isn't known what a file that is followed has gained.
 #[derive(Clone, Copy, Debug, PartialEq, Eq)]
 pub enum FollowFault {
     /// Memory ran out.
     NoMemory,
-    /// It can't be opened or read, or is no file, as a folder or a pipe.
+    /// It can't be opened or read, or is not a file, such as a folder or a pipe.
     NotRead(OpenFailed),
-    /// It has fewer bytes than the lines have that were read of it.
+    /// It has fewer bytes than the lines that were read of it.
     Shorter,
     /// Its path names another file now, or none.
     Replaced,
@@ -87,7 +87,7 @@ pub enum MoveFault {
     Failed,
 }
 
-/// Why a text is not saved for sure.
+/// Why it isn't sure that a text is saved.
 #[derive(Debug, PartialEq, Eq, Drop)]
 pub enum SaveFault {
     /// Memory ran out.
@@ -95,10 +95,10 @@ pub enum SaveFault {
     /// The path leads nowhere that is known, or a write or a move failed. A file at the place is as
     /// it was.
     WriteFault(ChangeCause),
-    /// The text stands at the place, but a crash of the system may still undo that.
+    /// The text is at the place, but a crash of the system may still undo that.
     NotSynced,
-    /// What is at the place is not what was there at first, and is left as it is. The text stands
-    /// in a file beside it, of this path.
+    /// What is at the place is not what was there at first, and is left as it is. The text is in a
+    /// file beside it, of this path.
     Changed(String),
 }
 

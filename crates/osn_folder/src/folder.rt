@@ -18,7 +18,7 @@ use crate::kept_file::KeptFile;
 use osn_lines::Source;
 use std::alloc::{AllocError, Global};
 
-/// Where files are found by their paths.
+/// Finds files by their paths.
 pub trait Folder {
     /// A file that is open to be read.
     type File: Source + Drop;
@@ -33,7 +33,7 @@ pub trait Folder {
     /// A file that another run appends to.
     type Followed: FollowedFile + Drop;
 
-    // What its files hold, and which were opened, where that is known.
+    // What its files contain, and which were opened, if that is known.
     ghost known: { Self → Option Known };
 
     /// Opens a file, to be read from its first byte on.
@@ -49,15 +49,15 @@ pub trait Folder {
         ensures cause { IfErr result (IsCauseAt (known self.old) path.now) }
         ensures crash { Changes LeavesAllSafe (known self.old) (known self.new) };
 
-    /// Opens a file to be kept. It is made where no file is there, and locked, so that no other run
-    /// of the program keeps it or saves to it at the same time. What it holds is on the disk then,
-    /// at its path, whatever made it and did not come to that. The second part of the answer reads
-    /// the same open file, from its first byte on, as long as the first part has not changed it.
+    /// Opens a file to be kept. It is made if there is no file, and locked, so that no other run of
+    /// the program keeps it or saves to it at the same time. What it contains is on the disk then,
+    /// at its path, even if the run that wrote it ended before that. The second part of the result
+    /// reads the same open file, from its first byte on, as long as the first part has not changed
+    /// it.
     ///
     /// # Errors
     ///
-    /// `Held` where another open of the file keeps it or saves to it, `NotOpened` where it can't be
-    /// kept.
+    /// `Held` if another open of the file keeps it or saves to it, `NotOpened` if it can't be kept.
     fn keep(&mut self, path: &str) -> Result<(Self::Keeper, Self::File), KeepFault>
         ensures contents { IfOk result
             (λ kept. IsKeptAt (known self.old) path.now (Self.Keeper.contents kept.0)) }
@@ -71,36 +71,38 @@ pub trait Folder {
         ensures err { IfErr result
             (λ why. Changes (CannotKeep path.now why) (known self.old) (known self.new)) };
 
-    /// Gives back a file that was kept, by its path: other runs may keep it from now on.
+    /// Releases a file that was kept, by its path: other runs may keep it from now on.
     fn release(&mut self, path: &str, kept: Self::Keeper)
         ensures { Changes (Leaves path.now (Self.Keeper.contents kept))
             (known self.old) (known self.new) };
 
-    /// The file of a path, to be read while another run appends to it. It need not be there yet.
+    /// Returns the file of a path, to be read while another run appends to it. It need not be there
+    /// yet.
     ///
     /// # Errors
     ///
-    /// Want of memory, and nothing else.
+    /// Only that memory ran out.
     fn follow(&mut self, alloc: Global, path: &str) -> Result<Self::Followed, AllocError>
         ensures { Changes Stays (known self.old) (known self.new) };
 
-    /// Locks the file of a path, through links, to save a text to it later. Where nothing is there,
-    /// the lock notes that. What is no file, as a pipe, takes no lock.
+    /// Locks the file of a path, through links, to save a text to it later. If nothing is there,
+    /// the lock notes that. What is not a file, such as a pipe, takes no lock.
     ///
     /// # Errors
     ///
-    /// `Held` where another open of the file keeps it or saves to it, `NotOpened` where it can't be
+    /// `Held` if another open of the file keeps it or saves to it, `NotOpened` if it can't be
     /// locked, or a link leads nowhere.
     fn lock_to_save(&mut self, path: &str) -> Result<Self::Lock, KeepFault>
         ensures ok { OnOk result (Changes (Locks path.now) (known self.old) (known self.new)) }
         ensures err { IfErr result
             (λ why. Changes (CannotLock path.now why) (known self.old) (known self.new)) };
 
-    /// Where a path leads, through links, or the path itself where nothing is there.
+    /// Returns the place that a path leads to, through links, or the path itself if nothing is
+    /// there.
     ///
     /// # Errors
     ///
-    /// `NoMemory` where memory ran out. `WriteFault` where it isn't known, or a link leads nowhere.
+    /// `NoMemory` if memory ran out. `WriteFault` if it isn't known, or a link leads nowhere.
     fn place(&mut self, alloc: Global, path: &str) -> Result<String, SaveFault>
         ensures ok { IfOk result (λ place. Changes (IsPlaceOf path.now (string_bytes place))
             (known self.old) (known self.new)) }
@@ -108,22 +110,22 @@ pub trait Folder {
             (λ why. Changes (LeavesAll why) (known self.old) (known self.new)) }
         ensures crash { Changes LeavesAllSafe (known self.old) (known self.new) };
 
-    /// Whether something is there that is no file, as a pipe.
+    /// Returns whether something is there that is not a file, such as a pipe.
     fn is_stream(&self, path: &str) -> bool
         ensures { IfSome (known self.now) (λ k. result ≡ k.paths.is_stream path.now) };
 
-    /// Writes a text to what is there and is no file.
+    /// Writes a text to what is there and is not a file.
     fn write_stream(&mut self, path: &str, text: &str) -> Result<(), ChangeFailed>
         ensures ok { OnOk result
             (Changes (Becomes path.now (Some text.now)) (known self.old) (known self.new)) }
         ensures err { OnErr result (Changes (Spoils path.now) (known self.old) (known self.new)) };
 
     /// Writes a text to a new file beside a place, with the permissions of the file at the place,
-    /// if one is there. Answers the path of the new file, once the text is on the disk.
+    /// if one is there. Returns the path of the new file, once the text is on the disk.
     ///
     /// # Errors
     ///
-    /// `NoMemory` where memory ran out, `WriteFault` where no file could be made or a write failed.
+    /// `NoMemory` if memory ran out, `WriteFault` if no file could be made or a write failed.
     /// Nothing is left beside the place then.
     fn write_beside(&mut self, alloc: Global, place: &str, text: &str) -> Result<String, SaveFault>
         ensures ok { IfOk result (λ path.
@@ -138,13 +140,13 @@ pub trait Folder {
         ensures sure { Changes AllStaySure (known self.old) (known self.new) };
 
     /// Leaves the file at a place at a new path beside it too: the place with `.~1~` after it, or
-    /// `.~2~` and so on, the first at which nothing is. Answers that path, once what it holds is on
-    /// the disk there.
+    /// `.~2~` and so on, the first at which nothing is. Returns that path, once what the file
+    /// contains is on the disk there.
     ///
     /// # Errors
     ///
-    /// `NoMemory` where memory ran out, `WriteFault` where that could not be made or is not sure.
-    /// Nothing is left beside the place then.
+    /// `NoMemory` if memory ran out, `WriteFault` if that could not be made or is not sure. Nothing
+    /// is left beside the place then.
     fn back_up(&mut self, alloc: Global, place: &str) -> Result<String, SaveFault>
         ensures ok { IfOk result (λ path.
             Changes (BacksUpSafely place.now (string_bytes path))
@@ -154,19 +156,19 @@ pub trait Folder {
         ensures crash { OnErr result
             (Changes (LeavesSafe place.now) (known self.old) (known self.new)) };
 
-    /// Whether the file that is locked, at this place, holds exactly these bytes.
+    /// Returns whether the file that is locked, at this place, contains exactly these bytes.
     fn holds(&mut self, lock: &Self::Lock, place: &str, bytes: &[u8]) -> Result<bool, ChangeFailed>
         ensures ok { IfOk result (λ same. Changes (Compares place.now bytes.now same)
             (known self.old) (known self.new)) }
         ensures err { OnErr result (Changes Fails (known self.old) (known self.new)) }
         ensures crash { Changes LeavesAllSafe (known self.old) (known self.new) };
 
-    /// Puts a file at a place, if that still names the file that is locked, or still nothing where
-    /// nothing was. A reader finds the place as it was or as it is then.
+    /// Puts a file at a place, if that still names the file that is locked, or still nothing if
+    /// nothing was there. A reader finds the place as it was or as it is then.
     ///
     /// # Errors
     ///
-    /// `Changed` where it does not, `Failed` where the file could not be moved. Nothing is changed
+    /// `Changed` if the place does not, `Failed` if the file could not be moved. Nothing is changed
     /// then.
     fn replace(&mut self, lock: Self::Lock, from: &str, place: &str) -> Result<(), MoveFault>
         ensures ok { OnOk result
@@ -180,7 +182,7 @@ pub trait Folder {
         ensures sure { Changes (OthersOfTwoStaySure from.now place.now)
             (known self.old) (known self.new) };
 
-    /// Answers once it is on the disk which file is at a path.
+    /// Returns once it is on the disk which file is at a path.
     fn sync_name(&mut self, path: &str) -> Result<(), ChangeFailed>
         ensures ok { OnOk result (Changes Syncs (known self.old) (known self.new)) }
         ensures err { OnErr result (Changes Fails (known self.old) (known self.new)) }
@@ -190,7 +192,7 @@ pub trait Folder {
             (Changes LeavesAllSafe (known self.old) (known self.new)) }
         ensures sure { Changes AllStaySure (known self.old) (known self.new) };
 
-    /// Takes a file away, where it can be.
+    /// Removes a file, if it can.
     fn remove(&mut self, path: &str)
         ensures becomes { Changes (Becomes path.now None) (known self.old) (known self.new) }
         ensures crash { Changes (LeavesOthersSafe path.now) (known self.old) (known self.new) };

@@ -36,7 +36,7 @@ pub struct FollowedDiskFile<'a, R> {
     length: u64,
 }
 
-/// Why a file could not be read.
+/// Returns why a file could not be read.
 fn read_fault(error: &io::Error) -> FollowFault {
     match error.kind() {
         ErrorKind::NotFound => FollowFault::Replaced,
@@ -45,9 +45,9 @@ fn read_fault(error: &io::Error) -> FollowFault {
     }
 }
 
-/// Reads from a place up to the end of the file or of the buffer, and tells how many bytes came.
+/// Reads from a place up to the end of the file or of the buffer, and returns how many bytes came.
 ///
-/// The file may have become shorter since its length was asked, where its last line was cut off.
+/// The file may have become shorter since its length was asked, if its last line was cut off.
 fn read_on(file: &File, buffer: &mut [u8], place: u64) -> io::Result<usize> {
     let mut count = 0;
     for _call in 0..u32::MAX {
@@ -62,7 +62,7 @@ fn read_on(file: &File, buffer: &mut [u8], place: u64) -> io::Result<usize> {
 }
 
 impl<'a, R: Files<File = File>> FollowedDiskFile<'a, R> {
-    /// The file of a path, of which nothing was read yet.
+    /// Returns the file of a path, of which nothing was read yet.
     pub(crate) fn new(files: &'a R, path: String) -> FollowedDiskFile<'a, R> {
         FollowedDiskFile {
             files,
@@ -83,7 +83,7 @@ impl<'a, R: Files<File = File>> FollowedDiskFile<'a, R> {
         })
     }
 
-    /// How long the file is that is at the path, once one is.
+    /// Returns how long the file is that is at the path, once one is.
     fn find(&mut self) -> Result<Option<u64>, FollowFault> {
         match fs::metadata(self.files, self.path.as_str()) {
             Ok(found) => {
@@ -116,7 +116,7 @@ impl<'a, R: Files<File = File>> FollowedDiskFile<'a, R> {
         }
     }
 
-    /// The lines that end between what was read and this place.
+    /// Returns the lines that end between what was read and this place.
     fn read_lines(&mut self, alloc: Global, end: u64) -> Result<Vec<u8>, FollowFault>
         ensures lines { IfOk result (λ gained. IsOfWholeLines gained.items) }
         ensures few { IfOk result (λ gained. length gained.items < 4294967295) }

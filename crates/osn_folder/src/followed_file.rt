@@ -8,17 +8,17 @@ use std::alloc::Global;
 
 /// A file that another run appends to, as far as its lines have come whole.
 pub trait FollowedFile {
-    // The lines that were read of it so far, where they are known.
+    // The lines that were read of it so far, if they are known.
     ghost contents: { Self → Option (List ℕ) };
 
-    /// The lines that the file holds now after those that it held at the look before. There are
-    /// none where no file has been there yet. A last line without its line feed waits. At most
-    /// 1,073,741,824 bytes are read at a look.
+    /// Returns the lines that the file contains now after those that it contained at the look
+    /// before. There are none if there has been no file yet. A last line without its line feed
+    /// waits. At most 1,073,741,824 bytes are read at a look.
     ///
     /// # Errors
     ///
-    /// `NoMemory` where memory ran out, `NotRead` where the file can't be read. `Shorter` where it
-    /// holds less than those lines, `Replaced` where the path names another file, or none.
+    /// `NoMemory` if memory ran out, `NotRead` if the file can't be read. `Shorter` if it is
+    /// shorter than those lines, `Replaced` if the path names another file, or none.
     fn look(&mut self, alloc: Global) -> Result<Vec<u8>, FollowFault>
         ensures lines { IfOk result (λ gained. IsOfWholeLines gained.items) }
         ensures few { IfOk result (λ gained. length gained.items < 4294967295) }

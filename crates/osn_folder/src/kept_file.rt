@@ -7,15 +7,15 @@ ghost use Rattle.osn_folder.specs.declared.fault.KeptFileFault.{KeptFileFault};
 
 use crate::fault::{ChangeFailed, KeptFileFault};
 
-/// A file that is kept: what is appended to it stands after what it holds.
+/// A file that is kept: what is appended to it comes after what it contains.
 pub trait KeptFile {
-    // What it holds, where that is known.
+    // What it contains, if that is known.
     ghost contents: { Self → Option (List ℕ) };
 
-    // What is on the disk for sure, where that is known.
+    // What is surely on the disk, if that is known.
     ghost synced: { Self → Option (List ℕ) };
 
-    // Why the last change that failed did so, where one did.
+    // Why the last change that failed did so, if one did.
     ghost fault: { Self → Option KeptFileFault };
 
     // Whether a cut back may fail.
@@ -25,7 +25,7 @@ pub trait KeptFile {
     ///
     /// # Errors
     ///
-    /// Where a write failed. The first of the bytes may stand in the file then.
+    /// If a write failed. The first of the bytes may be in the file then.
     fn append(&mut self, bytes: &[u8]) -> Result<(), KeptFileFault>
         ensures ok { OnOk result (Appends (contents self.old) (contents self.new) bytes.now) }
         ensures err { OnErr result ((n : ℕ)
@@ -37,7 +37,7 @@ pub trait KeptFile {
     ///
     /// # Errors
     ///
-    /// Where it could not be cut.
+    /// If it could not be cut.
     fn cut(&mut self, length: u64) -> Result<(), KeptFileFault>
         ensures ok { OnOk result
             (contents self.new ≡ option_map (take length) (contents self.old)) }
@@ -46,11 +46,11 @@ pub trait KeptFile {
         ensures fault { fault self.new ≡ fault_after result (fault self.old) };
 
     /// Cuts it back to its first bytes after a change of it has failed. One that has no more is
-    /// left as it is. The fault stays noted: no further change is made.
+    /// left as it is. The fault is kept, and no change is made after it.
     ///
     /// # Errors
     ///
-    /// Where it could not be cut, or someone else has changed it.
+    /// If it could not be cut, or someone else has changed it.
     fn cut_back(&mut self, length: u64) -> Result<(), ChangeFailed>
         ensures ok { OnOk result
             (contents self.new ≡ option_map (take length) (contents self.old)) }
@@ -58,13 +58,13 @@ pub trait KeptFile {
             × (cut_back_may_fail self.old ≡ true)) }
         ensures fault { fault self.new ≡ fault self.old };
 
-    /// Answers once all that it holds is on the disk, at the path that it was opened by.
+    /// Returns once all that it contains is on the disk, at the path that it was opened by.
     ///
     /// # Errors
     ///
-    /// `ChangeFailed` where it isn't sure that all is on the disk. What was there before still is.
-    /// `Replaced` where the path names another file now, or none, or the file is not as long as
-    /// what it was given.
+    /// `ChangeFailed` if it isn't sure that all is on the disk. What was there before still is.
+    /// `Replaced` if the path names another file now, or none, or the file is not as long as what
+    /// it was given.
     fn sync(&mut self) -> Result<(), KeptFileFault>
         ensures same { contents self.new ≡ contents self.old }
         ensures ok { OnOk result (synced self.new ≡ contents self.new) }

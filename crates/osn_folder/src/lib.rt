@@ -1,10 +1,10 @@
 //! Files by their paths: those that are opened to be read, in order, those that a text is saved to,
-//! and those that are kept. What the crate promises to those above, of a folder that is known:
-//! `open_file`, `open_named`, `open_both` and `open_if` open the files that are named and no others. `save_file`
-//! puts a text in the place of a file that was locked, whole or not at all, and of none that anyone
-//! else has changed. A crash of the machine leaves the file that was there, or the text. A file may
-//! also be kept, to be appended to while a program runs, or followed, to be read while another run
-//! appends to it.
+//! and those that are kept. What the crate promises to those above, of a folder that is known: the
+//! functions `open_file`, `open_named`, `open_both` and `open_if` open the files that are named and
+//! no others. `save_file` puts a text in the place of a file that was locked, whole or not at all,
+//! and of none that anyone else has changed. A crash of the machine leaves the file that was there,
+//! or the text. A file may also be kept, to be appended to while a program runs, or followed, to be
+//! read while another run appends to it.
 #![tactic(auto)]
 
 mod cause;

@@ -25,7 +25,7 @@ pub fn open_file<D: Folder>(folder: &mut D, path: &str) -> Result<D::File, OpenF
     folder.open(path)
 }
 
-/// Opens a file as `open_file` does, and names its path where that fails.
+/// Opens a file as `open_file` does, and names its path if that fails.
 ///
 /// # Errors
 ///
@@ -49,7 +49,7 @@ pub fn open_named<'a, D: Folder>(folder: &mut D, path: &'a str) -> Result<D::Fil
 ///
 /// # Errors
 ///
-/// The path of one of them, and why it could not be opened. The second is not tried where the first
+/// The path of one of them, and why it could not be opened. The second is not tried if the first
 /// could not be.
 pub fn open_both<'a, D: Folder>(
     folder: &mut D,
@@ -71,7 +71,7 @@ pub fn open_both<'a, D: Folder>(
     Ok((one, other))
 }
 
-/// Opens a file, where there is a path.
+/// Opens a file, if there is a path.
 ///
 /// # Errors
 ///

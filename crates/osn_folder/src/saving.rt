@@ -18,17 +18,17 @@ use std::alloc::Global;
 /// Puts a text in place of the file that was locked, which a reader finds as it was or as it is
 /// then, and never in part. The text is written to a new file beside it first, with the permissions
 /// of the one that it replaces. A link stays one, and one that leads nowhere takes nothing. What is
-/// no file, as a pipe, is written as it is.
+/// not a file, such as a pipe, is written as it is.
 ///
-/// Where `loaded` is given, the file has to hold exactly these bytes.
+/// If `loaded` is given, the file must contain exactly these bytes.
 ///
 /// # Errors
 ///
-/// `NoMemory` where memory ran out, `WriteFault` where a step failed. The file is as it was then,
-/// and nothing is left beside it. `NotSynced` where the text stands there, and it isn't sure that
-/// this is on the disk. `Changed` where the path leads to another file now, or to one where nothing
-/// was, or the file holds anything but the bytes that are given. All is left as it is then, and the
-/// text stands in the file beside it.
+/// `NoMemory` if memory ran out, `WriteFault` if a step failed. The file is as it was then, and
+/// nothing is left beside it. `NotSynced` if the text is there, and it isn't sure that this is on
+/// the disk. `Changed` if the path leads to another file now, or to a file and nothing was there
+/// before, or if the file contains other bytes than those that are given. All is left as it is
+/// then, and the text is in the file beside it.
 pub fn save_file<D: Folder>(
     folder: &mut D,
     alloc: Global,
@@ -52,7 +52,7 @@ pub fn save_file<D: Folder>(
     save_at(folder, alloc, lock, place.as_str(), loaded, text)
 }
 
-/// Puts a text in place of what stands at a path that is no link.
+/// Puts a text in place of what is at a path that is not a link.
 pub(crate) fn save_at<D: Folder>(
     folder: &mut D,
     alloc: Global,
@@ -113,7 +113,7 @@ fn save_as_file<D: Folder>(
     }
 }
 
-/// Has it on the disk which file is at a place.
+/// Makes sure that it is on the disk which file is at a place.
 fn sync_saved<D: Folder>(folder: &mut D, place: &str) -> Result<(), SaveFault>
     ensures ok { OnOk result (Changes Syncs (D.known folder.old) (D.known folder.new)) }
     ensures err { IfErr result (λ why. (why ≡ SaveFault.NotSynced)
@@ -130,7 +130,7 @@ fn sync_saved<D: Folder>(folder: &mut D, place: &str) -> Result<(), SaveFault>
     }
 }
 
-/// Checks that the file which is locked holds exactly the bytes that are given, if any are.
+/// Checks that the file which is locked contains exactly the bytes that are given, if any are.
 fn check_loaded<D: Folder>(
     folder: &mut D,
     lock: &D::Lock,
@@ -150,7 +150,7 @@ fn check_loaded<D: Folder>(
     }
 }
 
-/// Checks that the file which is locked holds exactly these bytes.
+/// Checks that the file which is locked contains exactly these bytes.
 fn check_bytes<D: Folder>(
     folder: &mut D,
     lock: &D::Lock,
@@ -170,7 +170,7 @@ fn check_bytes<D: Folder>(
     }
 }
 
-/// Puts a file at a place, if that holds what was loaded from it, where this is given.
+/// Puts a file at a place, if that contains what was loaded from it, if this is given.
 fn move_loaded<D: Folder>(
     folder: &mut D,
     lock: D::Lock,

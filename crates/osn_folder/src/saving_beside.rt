@@ -9,8 +9,8 @@ use crate::saving::save_at;
 use std::alloc::Global;
 
 /// Puts a text in place of the file that was locked, as `save_file` does, and leaves that file at a
-/// new path beside it. Answers this path. Whenever the machine crashes, the old file is at its path
-/// still; or the text is there, whole, and the old file beside it.
+/// new path beside it. Returns this path. Whenever the machine crashes, the old file is still at
+/// its path; or the text is there, whole, and the old file beside it.
 ///
 /// # Errors
 ///
@@ -40,7 +40,7 @@ pub fn save_beside<D: Folder>(
     }
 }
 
-/// Takes a backup away again, where the text doesn't stand at its place.
+/// Removes a backup again, if the text isn't at its place.
 fn give_up<D: Folder>(folder: &mut D, backup: &str, fault: &SaveFault)
     ensures { Changes (GivesUp backup.now fault.now) (D.known folder.old) (D.known folder.new) }
 {

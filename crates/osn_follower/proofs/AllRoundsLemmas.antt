@@ -79,7 +79,7 @@ look_failed-after f front before mid after lines (File why) read h = (
   Arrive-then before mid after (arrival_of read.bytes ∷ []) [] read.arrive h,
 )
 
--- lines have come, and the follower stands so once they are answered
+-- lines have come, and this is the state of the follower once they are answered
 pub Round-come : (rules : ServeRules) (f m g : Follower) (before after : Option (List Arrival))
     (lines : RequestLines) (h : Comes f m before after lines) → g.journal ≡ m.journal
     → g.requests ≡ m.requests → Round rules f g h.bytes h.gained lines.text.items
@@ -129,7 +129,7 @@ module _ (rules : ServeRules) (f m g : Follower) (before after : Option (List Ar
         ),
       )
 
-  -- no more are to be answered
+  -- no more lines must be answered
   pub IsOver-round : (done.refused ≡ false → is_end h.bytes ≡ true)
       → Answers rules m.journal.object lines.text.items old now (Ok done)
       → IsOver rules before after old now f
@@ -234,7 +234,7 @@ Follows-none rules limits before o same = record {
   };
 }
 
--- what holds after one round more
+-- what holds after another round
 pub next_invariant : (rules : ServeRules) (before mid after : Option (List Arrival))
     (begun old now : Option (List ℕ)) (f g : Follower) (arrivals : List Arrival)
     (all : List Outcome) → Arrive before mid arrivals

@@ -61,7 +61,7 @@ module _ (rules : ServeRules) (s : ObjectState) (reads : rules.read_only ≡ tru
   abbrev line_outcomes : List (List ℕ) → List Outcome
   line_outcomes ls = map (line_outcome rules s) ls
 
-  -- the output is the text of what each line is told
+  -- the output is the text of the replies to the lines
   output : (ls : List (List ℕ)) → outputs rules s ls ≡ texts (line_outcomes ls)
   output [] = refl
   output (l ∷ ls) =
@@ -135,7 +135,7 @@ module _ (rules : ServeRules) (s : ObjectState) (reads : rules.read_only ≡ tru
     of_text : (P : List ℕ → Type 0) → IfSome i.bytes P → P text
     of_text P h = subst (λ (b : Option (List ℕ)). IfSome b P) known h
 
-    -- ---- the object stays, and what was written is what is told
+    -- ---- the object stays, and the replies were written
 
     pub same_ok : (done : Served) → ServesStore {F = Infallible} rules s t i o (Ok done) → t ≡ s
     same_ok done h = by_end done.refused h

@@ -1,4 +1,4 @@
--- What becomes of the front of a line by the bytes that are added to it.
+-- What becomes of the beginning of a line by the bytes that are added to it.
 use Rattle.std.proofs.Common.{◌≡◌, ◌<◌, ◌≤◌, ℕ, zero, suc, List, [], ◌∷◌, ◌++◌, length}
 use Rattle.std.proofs.Common.{◌==◌, Result, Ok, Err, false}
 use Rattle.std.proofs.Common.{IfOk, OnOk, refl, sym, ap, subst, arith, length-append, ⊎_elim}

@@ -1,4 +1,4 @@
--- What further lines make of a journal that is followed.
+-- What more lines make of a journal that is followed.
 use Rattle.std.proofs.Common.{◌≡◌, ◌∙◌, ◌+◌, ◌<◌, ◌==◌, ℕ, zero, suc, Bool, true, false, List}
 use Rattle.std.proofs.Common.{[], ◌∷◌, ◌++◌, length, cond, Option, Some, None, Result, Ok, Err}
 use Rattle.std.proofs.Common.{IfSome}
@@ -47,7 +47,7 @@ pub goes : {S T : Type 0} (n : ℕ) (r : Result S LineFault) (next : S → Resul
 goes n (Ok s) next t h = record { now = s; is = refl; rest = h }
 goes n (Err f) next t h = absurd (cc)
 
--- a fault of a line this many further on
+-- a fault of a line this many lines later
 abbrev further : {T : Type 0} → ℕ → Result T (ℕ × LineFault) → Result T (ℕ × LineFault)
 further d (Ok t) = Ok t
 further d (Err e) = Err (e.0 + d, e.1)
@@ -60,7 +60,7 @@ shift_line d m e (Ok s) next more each h = each s h
 shift_line d m e (Err f) next more each h = ap (further d) h
 
 module _ {S : Type 0} (step : Version → S → Data → Result S LineFault) where
-  -- further lines go on from what the lines before them made, however lines are counted
+  -- more lines continue from what the lines before them made, however lines are counted
   pub goes_on_from : (m n : ℕ) (version : Version) (s t : S) (xs ys : List (List ℕ))
       → in_turn step m (Some version) s xs ≡ Ok t
       → in_turn step n (Some version) s (xs ++ ys)
@@ -77,7 +77,7 @@ module _ {S : Type 0} (step : Version → S → Data → Result S LineFault) whe
       ∙ (goes_on_from (m + 1) (n + 1) version first.now t xs ys first.rest
       ∙ ap (λ k. in_turn step k (Some version) t ys) (omega arith))
 
-  -- a fault is at a later line where more lines come before
+  -- a fault is at a later line if more lines come before
   pub refused_later : (d m : ℕ) (version : Version) (s : S) (xs : List (List ℕ))
       (e : ℕ × LineFault) → in_turn step m (Some version) s xs ≡ Err e
       → in_turn step (m + d) (Some version) s xs ≡ Err (e.0 + d, e.1)
@@ -127,7 +127,7 @@ whole-append xs (y ∷ ys) whole more =
     ended-within xs (y ∷ ys) (length ys) more
     ∙ omega (arith, length-append xs (y ∷ ys))
 
--- there is one, where there are bytes
+-- there is one, if there are bytes
 record Some_lines (ls : List (List ℕ)) : Type 0 where
   head : List ℕ
   rest : List (List ℕ)
@@ -177,7 +177,7 @@ IsJournalOf-none limits j version lines object = record {
   count = lines;
 }
 
--- what comes next goes on from further lines
+-- what comes next continues from more lines
 next_from : (limits : Limits) (file gained : List ℕ) (j : FollowedJournal) (part : JournalPart)
     → IsJournalOf limits file j → Some_lines (lines gained)
     → in_turn (after_object newest_rules) 1 j.version j.object (lines gained) ≡ Ok part.object
@@ -232,7 +232,7 @@ next_from limits file gained j part h some made head same more =
         (length (lines file) + length (lines gained) + 1) (Some w)
         part.object more) (sym same))
 
--- further lines were loaded
+-- more lines were loaded
 pub IsJournalOf-more : (limits : Limits) (file gained : List ℕ) (j : FollowedJournal)
     (part : JournalPart) → IsJournalOf limits file j → IsOfWholeLines gained → 0 < length gained
     → in_turn (after_object newest_rules) 1 j.version j.object (lines gained) ≡ Ok part.object
@@ -304,7 +304,7 @@ IsRefused-more limits file gained j line why h some refused =
         ∙ refused_later (after_object newest_rules) (length (lines file)) 1 v j.object
         (lines gained) (line, why) refused
 
--- the fault that is told is that of a line, where there was memory
+-- the fault is that of a line, if there was memory
 pub refused_by : (limits : Limits) (file gained : List ℕ) (j : FollowedJournal) (fault : FileFault)
     (P Q : Type 0) → IsJournalOf limits file j → 0 < length gained → (fault ≡ ReadFault → ⊥)
     → MatchFileFault fault P Q (λ role line why. (role ≡ Journal)

@@ -36,7 +36,7 @@ then s t u h k = record {
       ∙ (ap (λ l. l ++ k.later) h.batches ∙ append_assoc s.batches h.later k.later);
 }
 
--- a result that begins with an object, where it is one
+-- a result that begins with an object, if it is one
 abbrev AllBegin : ObjectState → Result ObjectState LineFault → Type 0
 AllBegin s (Ok t) = BeginsWith s t
 AllBegin s (Err f) = Unit {0}
@@ -65,7 +65,7 @@ by_line : (version : Version) (s : ObjectState) (r : Result Data WireFault)
 by_line version s (Ok d) = by_read s (command_in version d)
 by_line version s (Err f) = tt
 
--- further lines keep the batches
+-- more lines keep the batches
 by_lines : (n : ℕ) (version : Version) (s t : ObjectState) (ls : List (List ℕ))
     → in_turn (after_object newest_rules) n (Some version) s ls ≡ Ok t → BeginsWith s t
 by_lines n version s t [] h =

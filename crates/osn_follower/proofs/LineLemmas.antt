@@ -47,7 +47,7 @@ lines-feed (b ∷ bs) rest h =
     ap (λ t. cond t ([] ∷ more) (onto_first b more)) parts.0
     ∙ ap (onto_first b) (lines-feed bs rest parts.1)
 
--- what stands after the last line feed has no line
+-- what comes after the last line feed has no line
 pub unended-none : (bytes : List ℕ) → HasNoLine (unended_bytes bytes)
 unended-none [] = refl
 unended-none (b ∷ bs) = by_rest (ended_length bs) refl (unended-none bs)
@@ -99,7 +99,7 @@ too_long rules s line long =
     rules.readers)))
     (lt-ltb longest_line (length line) long)
 
--- two such lines are told the same
+-- two such lines get the same reply
 same_outcome : (rules : ServeRules) (s : ObjectState) (x y : List ℕ) → IsLong x → IsLong y
     → line_outcome rules s x ≡ line_outcome rules s y
 same_outcome rules s x y long other = too_long rules s x long ∙ sym (too_long rules s y other)
@@ -170,9 +170,9 @@ alike (b ∷ bs) x y none_x none_y long_x long_y =
               one.is);
         }
 
--- ---- the front of a line
+-- ---- the beginning of a line
 
--- bytes were added to a front, and to what waits
+-- bytes were added to a beginning, and to what waits
 pub lines-add : (waiting bytes : List ℕ) (old : LineFront) → StandsFor waiting old
     → StandsForLines (ended_bytes (old.bytes.items ++ bytes)) (ended_bytes (waiting ++ bytes))
 lines-add waiting bytes old h = by_front h.is
@@ -203,7 +203,7 @@ rest-add waiting bytes old new h is = record {
     by_front (inr long) =
         (alike bytes old.bytes.items waiting h.none_here h.none long.0 long.1).is
 
--- bytes of a line that is too long were passed over
+-- bytes of a line that is too long were skipped
 still_none : (waiting bytes : List ℕ) → HasNoLine waiting → HasNoLine bytes
     → HasNoLine (waiting ++ bytes)
 still_none waiting bytes none more = ended-before waiting bytes more ∙ none
@@ -231,7 +231,7 @@ rest-pass waiting bytes old h more long =
     waits (inl same) = subst IsLong same long
     waits (inr both) = both.1
 
--- the line was ended, where there is one
+-- the line was ended, if there is one
 some_feed : (waiting : List ℕ) → 0 < length waiting → missing_feed waiting ≡ 10 ∷ []
 some_feed [] h = absurd (omega (arith, h))
 some_feed (b ∷ bs) h = refl
@@ -269,7 +269,7 @@ pub ended-length : (bytes : List ℕ) → length (ended_bytes bytes) ≤ length 
 ended-length bytes =
     omega (arith, length-take-le (ended_length bytes) bytes (ended-le bytes), ended-le bytes)
 
--- where a line of the last bytes has ended, no more stands after it than those
+-- if a line of the last bytes has ended, no more is after it than those
 pub unended-last : (front bytes : List ℕ) → (ended_length bytes ≡ 0 → ⊥)
     → length (unended_bytes (front ++ bytes)) ≤ length bytes
 unended-last front bytes some = by_end (ended_length bytes) refl

@@ -1,4 +1,4 @@
--- What a round adds to what a follower has told.
+-- What a round adds to the replies of a follower.
 use Rattle.std.proofs.Common.{◌≡◌, ◌∙◌, ◌+◌, ℕ, true, false, List, [], ◌∷◌}
 use Rattle.std.proofs.Common.{◌++◌}
 use Rattle.std.proofs.Common.{length, Option, Ok, Err, refl, sym, ap}
@@ -38,7 +38,7 @@ use Rattle.osn_follower.proofs.OutcomeLemmas.{first-after, in_part-after, first_
 
 -- ---- a round
 
--- a round whose lines were answered, with what it has told
+-- a round whose lines were answered, with its replies
 pub record Round (rules : ServeRules) (f g : Follower) (bytes gained : List ℕ) (text : List ℕ) :
     Type 0
   where
@@ -194,7 +194,7 @@ module _ (rules : ServeRules) (f : Follower) (old : Option (List ℕ)) where
 
   module _ (begun : Option (List ℕ)) (arrivals : List Arrival) (all : List Outcome)
       (h : IsFollowing rules its_limits begun arrivals all f old) where
-    -- nothing more is told by what arrived
+    -- what arrived adds no reply
     abbrev IsSilent : List Arrival → Type 0
     IsSilent next = outcomes_of rules its_limits [] [] (arrivals ++ next) ≡ all
 
@@ -217,7 +217,7 @@ module _ (rules : ServeRules) (f : Follower) (old : Option (List ℕ)) where
     wrote_all : WritesAll all begun old f.lines
     wrote_all = record { count = h.count; written = h.written }
 
-    -- of what may be told more, nothing was written
+    -- no reply that may come later was written
     wrote_first : (next : List Arrival)
         → WritesFirst (outcomes_of rules its_limits [] [] (arrivals ++ next)) begun old f.lines
     wrote_first next =
@@ -235,7 +235,7 @@ module _ (rules : ServeRules) (f : Follower) (old : Option (List ℕ)) where
     all_silent next is =
         subst (λ (l : List Outcome). WritesAll l begun old f.lines) (sym is) wrote_all
 
-  -- it ends by want of memory, or since a read failed
+  -- it ends since memory ran out, or since a read failed
   pub no_memory : (next : List Arrival)
       → EndsAfter rules old old f next
       (Err (record { lines = f.lines; cause = Serve NoMemory }))

@@ -9,12 +9,12 @@ pub data Arrival : Type 0 where
   Ended : Arrival
   Gained : List ℕ → Arrival
 
--- what a read of request bytes is: a read of none is their end
+-- what a read of request bytes is: a read of no bytes is their end
 abbrev pub arrival_of : List ℕ → Arrival
 arrival_of [] = Ended
 arrival_of (b ∷ bs) = Requests (b ∷ bs)
 
--- these have arrived after what had, where that is known
+-- these have arrived after what had, if that is known
 abbrev pub Arrive : Option (List Arrival) → Option (List Arrival) → List Arrival → Type 0
 Arrive None new more = ⊤
 Arrive (Some before) new more = new ≡ Some (before ++ more)

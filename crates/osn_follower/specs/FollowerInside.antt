@@ -38,7 +38,7 @@ pub record StandsFor (waiting : List ℕ) (front : LineFront) : Type 0 where
   pub is : (front.bytes.items ≡ waiting)
       ⊎ ((longest_line < length front.bytes.items) × (longest_line < length waiting))
 
--- the lines of two texts are told the same by every object
+-- the lines of two texts get the same replies from every object
 abbrev pub StandsForLines : List ℕ → List ℕ → Type 0
 StandsForLines given text = (rules : ServeRules) (s : ObjectState) →
     outcomes rules s given ≡ outcomes rules s text
@@ -57,8 +57,8 @@ pub record IsJournalOf (limits : Limits) (file : List ℕ) (j : FollowedJournal)
 
 -- ---- the follower
 
--- The outcomes of these arrivals are `all`, their replies were written, and the follower stands
--- where what comes next goes on.
+-- The outcomes of these arrivals are `all`, their replies were written, and what comes next
+-- continues from the state of the follower.
 pub record IsFollowing (rules : ServeRules) (limits : Limits) (old : Option (List ℕ))
     (arrivals : List Arrival) (all : List Outcome) (f : Follower) (now : Option (List ℕ)) : Type 0
   where

@@ -1,4 +1,4 @@
--- What a follower has done where it ended.
+-- What a follower has done when it ended.
 use Rattle.std.specs.Prelude.{◌≡◌, ◌≤◌, ◌<◌, ◌+◌, ℕ, true, false, List, [], ◌∷◌, ◌++◌}
 use Rattle.std.specs.Prelude.{take, length, Option, Result, Ok, Err, min}
 use Rattle.std.specs.List.{All}
@@ -35,7 +35,7 @@ pub record WritesAll (all : List Outcome) (old new : Option (List ℕ)) (n : ℕ
   pub count : n ≡ length all
   pub written : Appends old new (texts all)
 
--- a front of all replies was written, with those to n outcomes whole and no more
+-- a prefix of all replies was written, with those to n outcomes whole and no more
 pub record WritesInPart (all : List Outcome) (old new : Option (List ℕ)) (n : ℕ) : Type 0 where
   pub bytes : ℕ
   pub enough : n ≤ length all
@@ -53,13 +53,13 @@ pub record IsFirstRefused (all : List Outcome) (n : ℕ) : Type 0 where
   pub none : All (λ outcome. is_refused outcome ≡ false) before
   pub refused : is_refused last ≡ true
 
--- the input has ended, and the file was looked at once more after that
+-- the input has ended, and the file was looked at another time after that
 abbrev pub IsAtEnd : List Arrival → Type 0
 IsAtEnd arrivals =
     (before : List Arrival) × (bytes : List ℕ) × (arrivals ≡ before ++ Ended ∷ Gained bytes ∷ [])
 
 -- why the journal of a file is not loaded: its first line that is refused, by its number, or by the
--- greatest number that is told
+-- greatest number that can be given
 abbrev pub IsRefused : Limits → List ℕ → FileFault → Type 0
 IsRefused limits file fault =
     MatchFileFault fault ⊥ ⊥ (λ role line why.
@@ -73,12 +73,12 @@ MatchFollower (Serve fault) P Q R = P fault
 MatchFollower (Refused fault) P Q R = Q fault
 MatchFollower (File fault) P Q R = R fault
 
--- none of these is refused, where a refusal is to be the end
+-- none of these is refused, if a refusal ends the service
 abbrev pub HasNoRefusal : ServeRules → List Outcome → Type 0
 HasNoRefusal rules all =
     rules.stop_at_refusal ≡ true → All (λ outcome. is_refused outcome ≡ false) all
 
--- what was done where it ended early, after n lines
+-- what was done if it ended early, after n lines
 abbrev pub EndsEarly : Limits → List Arrival → List Outcome → Option (List ℕ) → Option (List ℕ)
     → ℕ → FollowerFault → Type 0
 EndsEarly limits arrivals all old new n cause = MatchFollower cause
@@ -87,8 +87,8 @@ EndsEarly limits arrivals all old new n cause = MatchFollower cause
     (λ fault. WritesAll all old new n × IsRefused limits (file_of arrivals) fault)
     (λ fault. WritesAll all old new n)
 
--- what was done by the end. All lines were answered, and none is refused that was to be the last;
--- or the last one is refused, and a refusal is to be the end.
+-- what was done by the end. All lines were answered, and no line is refused if a refusal ends the
+-- service; or the last one is refused, and a refusal ends the service.
 abbrev pub Ends : ServeRules → Limits → List Arrival → List Outcome → Option (List ℕ)
     → Option (List ℕ) → Result Served (Interrupted FollowerFault) → Type 0
 Ends rules limits arrivals all old new (Ok served) =
@@ -99,8 +99,8 @@ Ends rules limits arrivals all old new (Ok served) =
 Ends rules limits arrivals all old new (Err end) =
     EndsEarly limits arrivals all old new end.lines end.cause
 
--- A follower was at work by these rules. What arrived, in order, is `arrivals`, and exactly the
--- outcomes of that were written.
+-- A follower ran by these rules. What arrived, in order, is `arrivals`, and exactly the outcomes of
+-- that were written.
 pub record Follows (rules : ServeRules) (limits : Limits) (before after : Option (List Arrival))
     (o : Output) (result : Result Served (Interrupted FollowerFault)) : Type 0 where
   pub arrivals : List Arrival

@@ -5,7 +5,7 @@ use Rattle.osn_files.specs.declared.fault.FileFault.TheVariants.{NoMemory, ReadF
 use Rattle.osn_files.specs.declared.journal.JournalPart.{JournalPart}
 use Rattle.osn_follower.specs.declared.journal.FollowedJournal.{FollowedJournal}
 
--- numbers are told up to this one
+-- numbers are given up to this one
 abbrev pub up_to_most : ℕ → ℕ
 up_to_most n = min n 18446744073709551615
 

@@ -27,7 +27,7 @@ pub record IsBetween (limits : Limits) (left : List ℕ) (s t : ObjectState) : T
   pub no_more : BeginsWith object t
 
 -- so it is with what was synced of a journal, which is of whole lines, and what has been appended
--- since: where a crash of the machine leaves a front of that, its whole lines are loaded, and show
+-- since: if a crash of the machine leaves a prefix of that, its whole lines are loaded, and show
 -- each edition that was synced
 unfoldable pub DoSyncedEditionsStay : Type 0
 DoSyncedEditionsStay =

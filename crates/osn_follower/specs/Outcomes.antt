@@ -1,5 +1,5 @@
 -- The outcomes of a follower: at each look at the file, the lines that have come whole since the
--- look before are answered from the journal that the file then holds.
+-- look before are answered from the journal that the file then contains.
 use Rattle.std.specs.Prelude.{ℕ, true, Bool, List, [], ◌∷◌, ◌++◌, take, map}
 use Rattle.std.specs.Prelude.{Result, Ok, Err}
 use Rattle.std.specs.List.{flat_map}
@@ -18,7 +18,7 @@ use Rattle.osn_follower.specs.Arrivals.{Arrival, Requests, Ended, Gained}
 
 -- ---- the lines of the input
 
--- a line feed, where some bytes of a line stand after the last one
+-- a line feed, if some bytes of a line are after the last one
 abbrev pub missing_feed : List ℕ → List ℕ
 missing_feed [] = []
 missing_feed (b ∷ bs) = 10 ∷ []
@@ -27,14 +27,14 @@ missing_feed (b ∷ bs) = 10 ∷ []
 abbrev pub with_feed : List ℕ → List ℕ
 with_feed bytes = bytes ++ missing_feed (unended_bytes bytes)
 
--- ---- the journal that a file holds
+-- ---- the journal that a file contains
 
--- the object of a journal of these lines: an empty one where it has none yet
+-- the object of a journal of these lines: an empty one if it has none yet
 abbrev pub object_of : Limits → List (List ℕ) → Result ObjectState (ℕ × LineFault)
 object_of limits [] = Ok (opened limits)
 object_of limits (head ∷ rest) = load newest_rules limits (head ∷ rest)
 
--- the object of a file which holds these whole lines, or the first that is refused
+-- the object of a file of these whole lines, or the first that is refused
 abbrev pub journal_object : Limits → List ℕ → Result ObjectState (ℕ × LineFault)
 journal_object limits file = object_of limits (lines file)
 
@@ -53,13 +53,13 @@ following readers stop = record {
 abbrev pub outcomes : ServeRules → ObjectState → List ℕ → List Outcome
 outcomes rules s text = map (line_outcome rules s) (lines text)
 
--- the outcomes of a text, and then the rest; none where the journal has a line that is refused
+-- the outcomes of a text, and then the rest; empty if the journal has a line that is refused
 abbrev pub outcomes_then : ServeRules → Result ObjectState (ℕ × LineFault) → List ℕ → List Outcome
     → List Outcome
 outcomes_then rules (Ok s) text rest = outcomes rules s text ++ rest
 outcomes_then rules (Err refused) text rest = []
 
--- the outcomes of arrivals, where the file held these bytes before, and these bytes of request
+-- the outcomes of arrivals, if the file contained these bytes before, and these bytes of request
 -- lines wait
 abbrev pub outcomes_of : ServeRules → Limits → List ℕ → List ℕ → List Arrival → List Outcome
 outcomes_of rules limits file waiting [] = []

@@ -83,7 +83,7 @@ LoadsNot old before after fault = MatchFollower fault
     × RefusesLine old gained fault)
     (λ fault. Arrive before after [])
 
--- want of memory is told as that, and each other fault of the journal as it is
+-- NoMemory is reported as that, and each other fault of the journal as it is
 abbrev pub IsUnloaded : FileFault → FollowerFault → Type 0
 IsUnloaded files.NoMemory fault = fault ≡ Serve NoMemory
 IsUnloaded files.ReadFault fault = fault ≡ Journal files.ReadFault
@@ -107,7 +107,7 @@ pub record Comes (old new : Follower) (before after : Option (List Arrival))
   pub journal : (file : List ℕ) → IsJournalOf old.journal.limits file old.journal
       → IsJournalOf old.journal.limits (file ++ gained) new.journal
 
--- what arrived where no line is answered: a read or none, and a look or none
+-- what arrived if no line is answered: at most a read, and at most a look
 abbrev pub ArrivesInPart : Option (List Arrival) → Option (List Arrival) → Type 0
 ArrivesInPart before after =
     Arrive before after []
@@ -141,7 +141,7 @@ Answers rules s text old new (Err end) =
 
 -- ---- a round
 
--- whatever was told before, more was told now, and more may come
+-- whatever the replies before were, more were added now, and more may come
 abbrev pub GoesOn : ServeRules → Option (List Arrival) → Option (List Arrival) → Option (List ℕ)
     → Option (List ℕ) → Follower → Follower → Type 0
 GoesOn rules before after old new f g =
@@ -151,7 +151,7 @@ GoesOn rules before after old new f g =
     → (more : List Outcome)
     × IsFollowing rules f.journal.limits begun (arrivals ++ next) more g new)
 
--- it ended so, whatever was told before
+-- it ended so, whatever the replies before were
 abbrev pub EndsAfter : ServeRules → Option (List ℕ) → Option (List ℕ) → Follower
     → List Arrival → Result Served (Interrupted FollowerFault) → Type 0
 EndsAfter rules old new f next result =
@@ -160,7 +160,7 @@ EndsAfter rules old new f next result =
     → Ends rules f.journal.limits (arrivals ++ next)
     (outcomes_of rules f.journal.limits [] [] (arrivals ++ next)) begun new result
 
--- all lines were answered, or one was refused that was to be the last
+-- all lines were answered, or one was refused and ended the service
 abbrev pub IsOver : ServeRules → Option (List Arrival) → Option (List Arrival) → Option (List ℕ)
     → Option (List ℕ) → Follower → Served → Type 0
 IsOver rules before after old new f served =

@@ -13,17 +13,17 @@ use std::alloc::Global;
 /// Request lines, and a file to which another run appends meanwhile. One value has both, so that it
 /// can be known in which order they came.
 pub trait Arrivals {
-    // What has arrived so far, in order, where that is known.
+    // What has arrived so far, in order, if that is known.
     ghost arrived: { Self → Option (List Arrival) };
 
-    // The bytes of request lines that reads will give from here on, where they are known.
+    // The bytes of request lines that reads will give from here on, if they are known.
     ghost remaining: { Self → Option (List ℕ) } = { λ _. None };
 
-    // The lines of the file that looks have given so far, where they are known.
+    // The lines of the file that looks have given so far, if they are known.
     ghost contents: { Self → Option (List ℕ) } = { λ _. None };
 
-    /// Reads bytes of request lines once: `Ok(n)` for n bytes at the front of `buffer`, and `Ok(0)`
-    /// for a buffer with room at the end of the input.
+    /// Reads bytes of request lines once: `Ok(n)` for n bytes at the beginning of `buffer`, and
+    /// `Ok(0)` for a buffer with room at the end of the input.
     fn read(&mut self, buffer: &mut [u8]) -> Result<usize, ReadFailed>
         ensures bound { ReadsAtMost result buffer.new }
         ensures ok { IfOk result (λ n. Arrive (arrived self.old) (arrived self.new)
@@ -32,9 +32,9 @@ pub trait Arrivals {
         ensures bytes { ReadConsumes (remaining self.old) (remaining self.new) result buffer.new }
         ensures unlooked { contents self.new ≡ contents self.old };
 
-    /// Lines that the file holds now after those of the looks before, in order. There are none
-    /// where no file has been there yet. A last line without its line feed waits, and so may what
-    /// is more than a look reads.
+    /// Returns the lines that the file contains now after those of the looks before, in order.
+    /// There are none if there has been no file yet. A last line without its line feed waits, and
+    /// so may what is more than a look reads.
     ///
     /// # Errors
     ///
@@ -59,7 +59,7 @@ pub struct Feed<'a, R, F> {
 }
 
 impl<'a, R, F> Feed<'a, R, F> {
-    /// This source and this file.
+    /// Returns the arrivals of this source and this file.
     pub fn new(requests: &'a mut R, file: F) -> Feed<'a, R, F> {
         Feed { requests, file }
     }

@@ -6,7 +6,7 @@ use osn_files::FileFault;
 use osn_folder::FollowFault;
 use osn_service::ServeFault;
 
-/// Why a follower answered no further line. The number of lines beside it counts those whose reply
+/// Why a follower answered no more lines. The number of lines beside it counts those whose reply
 /// was written whole.
 #[derive(Debug, Drop)]
 pub enum FollowerFault {

@@ -1,5 +1,5 @@
 //! The follower: at each look at the file, the lines that have come since are answered from the
-//! journal that it holds then.
+//! journal that it contains then.
 ghost use Rattle.std.specs.Prelude.{◌≡◌, ◌≤◌, ◌<◌, ◌+◌, ◌^◌, ℕ, List, [], true, false, length};
 ghost use Rattle.std.specs.Prelude.{IfOk, IfErr, MatchResult, OnOk, MatchOption};
 ghost use Rattle.osn_lines.specs.Streams.{output_of};
@@ -40,7 +40,7 @@ pub(crate) struct RequestLines {
     pub(crate) is_last: bool,
 }
 
-/// Reads once, and gives the lines that have ended by that.
+/// Reads once, and returns the lines that have ended by that.
 fn read_lines<A: Arrivals>(
     alloc: Global,
     front: &mut LineFront,
@@ -72,7 +72,7 @@ fn read_lines<A: Arrivals>(
     }
 }
 
-/// Why the journal can't be loaded.
+/// Returns why the journal can't be loaded.
 fn unloaded(fault: FileFault) -> FollowerFault
     ensures { IsUnloaded fault result }
 {
@@ -147,8 +147,8 @@ fn answer<W: Sink>(
     }
 }
 
-/// Reads once, looks once, and answers the lines that have ended. Gives how many were answered in
-/// all, once no more are to be.
+/// Reads once, looks once, and answers the lines that have ended. Returns how many were answered in
+/// all, or `None` if more may come.
 fn answer_next<A: Arrivals, W: Sink>(
     alloc: Global,
     rules: ServeRules,
@@ -205,25 +205,24 @@ fn answer_next<A: Arrivals, W: Sink>(
     }
 }
 
-/// Answers request lines up to their end from a journal that another run keeps, and answers how
+/// Answers request lines up to their end from a journal that another run keeps, and returns how
 /// many. Readers are counted from 1, and no line changes anything.
 ///
 /// After each read of the input, and before it answers a line of that, the follower looks at the
 /// file once. It takes in the whole lines that the look gives. So each line is answered from the
-/// published edits that the file held at a moment after the line was read, as far as a look reads.
-/// As the file only grows, no answer is from an earlier edition than one before it. With
+/// published edits that the file contained at a moment after the line was read, as far as a look
+/// reads. As the file only grows, no answer is from an earlier edition than one before it. With
 /// `stop_at_refusal` the first line that is refused is the last to be answered.
 ///
-/// Besides the object, memory holds what a look has found, one read and its replies, and at most
+/// Besides the object, memory contains what a look has found, one read and its replies, and at most
 /// 131,072 bytes of a line that has not ended.
 ///
 /// # Errors
 ///
-/// The number of lines whose reply was written whole, and why no more. `Journal` where a line of
-/// the file is refused, with its number, and `File` where the file can't be read or is another one.
-/// The lines that were read since the last look are not answered then. `Serve` with `NoMemory`,
-/// with `ReadFault` where the input failed or gave no end within 4,294,967,295 reads, or
-/// `WriteFault`.
+/// The number of lines whose reply was written whole, and why no more. `Journal` if a line of the
+/// file is refused, with its number, and `File` if the file can't be read or is another one. The
+/// lines that were read since the last look are not answered then. `Serve` with `NoMemory`, with
+/// `ReadFault` if the input failed or gave no end within 4,294,967,295 reads, or `WriteFault`.
 #[tactic(auto, using(crate::proofs::LawLemmas::editions_never_fall, crate::proofs::LawLemmas::synced_editions_stay))]
 pub fn follow<A: Arrivals, W: Sink>(
     alloc: Global,

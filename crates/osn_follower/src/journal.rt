@@ -26,7 +26,7 @@ pub(crate) struct FollowedJournal {
     pub(crate) object: Object,
 }
 
-/// The fault of a file, where lines came before those that were read.
+/// Returns the fault of a file, if lines came before those that were read.
 fn later(fault: FileFault, lines: u64) -> FileFault
     ensures { result ≡ spec.later fault lines }
 {
@@ -41,7 +41,7 @@ fn later(fault: FileFault, lines: u64) -> FileFault
 }
 
 impl FollowedJournal {
-    /// That of a file of which no line has come.
+    /// Returns the journal of a file of which no line has come.
     pub(crate) fn new(alloc: Global, limits: Limits) -> FollowedJournal
         ensures limits { result.limits ≡ limits }
         ensures journal { IsJournalOf limits [] result }
@@ -67,8 +67,8 @@ impl FollowedJournal {
     ///
     /// # Errors
     ///
-    /// The first of them that is refused, by its number in the file, or want of memory. Nothing is
-    /// known of the journal then.
+    /// The first of them that is refused, by its number in the file, or that memory ran out.
+    /// Nothing is known of the journal then.
     pub(crate) fn add(&mut self, alloc: Global, gained: &[u8]) -> Result<(), FileFault>
         requires lines { IsOfWholeLines gained.now }
         requires few { length gained.now < 4294967295 }

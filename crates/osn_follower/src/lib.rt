@@ -1,7 +1,7 @@
 //! A follower of a journal: request lines are answered from a file to which another run appends.
 //! What the crate promises to those above: `follow` answers each line from the journal that the
-//! file held when it was looked at, after the line was read. An edition that is told never falls,
-//! and edits that are not published yet are told to nobody.
+//! file contained when it was looked at, after the line was read. The edition in the replies never
+//! falls, and no reply shows edits that are not published yet.
 #![tactic(auto)]
 
 mod arrivals;

@@ -8,7 +8,7 @@ use osn_lines::{LONGEST_LINE, ended_length};
 use std::alloc::{AllocError, Global};
 use std::mem;
 
-/// The bytes that have come after the last line feed. Of a line that is too long they may lack
+/// The bytes that have come after the last line feed. For a line that is too long they may lack
 /// some, but are too long as well.
 #[derive(Drop)]
 pub(crate) struct LineFront {
@@ -16,7 +16,7 @@ pub(crate) struct LineFront {
 }
 
 impl LineFront {
-    /// Nothing has come.
+    /// Returns a line of which nothing has come.
     pub(crate) fn new(alloc: Global) -> LineFront
         ensures { result.bytes.items ≡ [] }
     {
@@ -25,7 +25,7 @@ impl LineFront {
         }
     }
 
-    /// Adds bytes, and gives the lines that have ended by them.
+    /// Adds bytes, and returns the lines that have ended by them.
     fn add(&mut self, more: &[u8]) -> Result<Vec<u8>, AllocError>
         ensures ended { IfOk result (λ ended.
             ended.items ≡ ended_bytes (self.old.bytes.items ++ more.now)) }
@@ -38,7 +38,7 @@ impl LineFront {
         Ok(mem::replace(&mut self.bytes, rest))
     }
 
-    /// Adds bytes that were read, and gives the lines that have ended by them. A line that is too
+    /// Adds bytes that were read, and returns the lines that have ended by them. A line that is too
     /// long already takes no more bytes before it ends.
     pub(crate) fn read(&mut self, alloc: Global, more: &[u8]) -> Result<Vec<u8>, AllocError>
         requires few { length more.now ≤ 65536 }
@@ -56,7 +56,7 @@ impl LineFront {
         self.add(more)
     }
 
-    /// Ends the last line, if there is one, and gives it with its line feed.
+    /// Ends the last line, if there is one, and returns it with its line feed.
     pub(crate) fn end(&mut self, alloc: Global) -> Result<Vec<u8>, AllocError>
         requires front { HasFew self.old }
         ensures few { OnOk result (HasFew self.new) }

@@ -17,7 +17,7 @@ pub is_taken : {T E : Type 0} (P : T → Type 0) (Q : Type 0) (R : E → Type 0)
 is_taken P Q R (Ok x) h q = refl
 is_taken P Q R (Err e) h q = absurd (h.0 q)
 
--- the tokens of a source stand before those of the other members
+-- the tokens of a source come before those of the other members
 pub source_first : (source : Option (List ℕ)) (ms : Members)
     → members_tokens (members_outline (source_member source ms))
     ≡ source_tokens source ++ members_tokens (members_outline ms)

@@ -24,12 +24,12 @@ value_tokens d = json_tokens (outline d)
 abbrev pub member_tokens : List ℕ → Data → List Token
 member_tokens name d = key name ∷ value_tokens d
 
--- members, and before them that of a source where one is given
+-- members, and before them that of a source if one is given
 abbrev pub source_member : Option (List ℕ) → Members → Members
 source_member None ms = ms
 source_member (Some source) ms = member (codes "source") (string source) ms
 
--- the tokens of the member of a source, where one is given
+-- the tokens of the member of a source, if one is given
 abbrev pub source_tokens : Option (List ℕ) → List Token
 source_tokens None = []
 source_tokens (Some source) = member_tokens (codes "source") (string source)

@@ -23,7 +23,7 @@ version_numbered (negsuc n) = None
 abbrev pub newest_version : Version
 newest_version = Fourth
 
--- the version that is written where no source is given, and that a new kept file begins with
+-- the version that is written if no source is given, and with which a new kept file begins
 abbrev pub plain_version : Version
 plain_version = Second
 

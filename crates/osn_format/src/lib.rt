@@ -1,8 +1,8 @@
-//! What lines of JSON have in common, those of requests, replies and files. Here are the versions
-//! of the rules, which words of styles each has, and whether an edit may give a source. Here are
-//! also the names of members, why a line is refused, and how a member is written, token by token.
-//! What the crate promises to those above is that a version has the words of its rules, and that
-//! the tokens of a member are its definition.
+//! What lines of JSON have in common, those of requests, replies and files: the versions of the
+//! rules, which words of styles each has, and whether an edit may give a source; the names of
+//! members, why a line is refused, and how a member is written, token by token. The crate
+//! guarantees that a version has the words of its rules, and that the tokens of a member are its
+//! definition.
 #![tactic(auto)]
 
 mod member;

@@ -17,7 +17,7 @@ pub enum Member {
     Style,
     /// The rule of Easter of a regime.
     Rule,
-    /// Where what is added or altered was found, a text.
+    /// The source of what is added or altered, a text.
     Source,
     /// The number of the reader who asks, from 1.
     Reader,
@@ -29,7 +29,7 @@ pub enum Member {
     Day,
     /// A date as it is written.
     Date,
-    /// A weekday that is given beside a date.
+    /// A weekday that is given with a date.
     Weekday,
     /// The version of a journal, in its first line.
     Journal,
@@ -37,14 +37,14 @@ pub enum Member {
     Step,
     /// The request of a query, in a line of a transcript.
     Ask,
-    /// What the query was told, in a line of a transcript.
+    /// The reply to the query, in a line of a transcript.
     Reply,
     /// The edition that a reply names.
     Edition,
 }
 
 impl Member {
-    /// The name that the member has in a line.
+    /// Returns the name that the member has in a line.
     pub fn name(self) -> &'static str
         ensures { result.now ≡ member_name self }
     {

@@ -8,31 +8,32 @@ use osn_lands::Style;
 /// A version of the rules and of the form of journals and scripts.
 #[derive(Clone, Copy, Debug, PartialEq, Eq)]
 pub enum Version {
-    /// The first version, which stays for good.
+    /// The first version, which does not change any more.
     First,
     /// The second version: two styles more.
     Second,
-    /// Version 4: an edit may give a source. No version has the number 3, which the head of a
-    /// journal is refused for.
+    /// Version 4: an edit may give a source. No version has the number 3, and a head with it is
+    /// refused.
     Fourth,
 }
 
 impl Version {
-    /// The version by which requests, questions and schedules are read.
+    /// Returns the version by which requests, questions and schedules are read.
     pub fn newest() -> Version
         ensures { result ≡ spec.newest_version }
     {
         Self::Fourth
     }
 
-    /// The version that is written where no source is given, and that a new kept file begins with.
+    /// Returns the version that is written if no source is given, and with which a new kept file
+    /// begins.
     pub fn plain() -> Version
         ensures { result ≡ spec.plain_version }
     {
         Self::Second
     }
 
-    /// The number in a head.
+    /// Returns the number in a head.
     pub fn number(self) -> u32
         ensures { result ≡ spec.version_number self }
     {
@@ -43,7 +44,7 @@ impl Version {
         }
     }
 
-    /// The version of a number, if any has it.
+    /// Returns the version of a number, if any has it.
     pub fn numbered(number: i64) -> Option<Version>
         ensures { result ≡ spec.version_numbered number }
     {
@@ -55,7 +56,7 @@ impl Version {
         }
     }
 
-    /// Whether a line may have the style's word by the rules of this version.
+    /// Returns whether a line may have the style's word by the rules of this version.
     pub fn has_style(self, style: Style) -> bool
         ensures { result ≡ has_style (spec.rules_of self) style }
     {
@@ -68,7 +69,7 @@ impl Version {
         }
     }
 
-    /// Whether an edit may give a source in a line of this version.
+    /// Returns whether an edit may give a source in a line of this version.
     pub fn has_sources(self) -> bool
         ensures { result ≡ spec.has_sources self }
     {

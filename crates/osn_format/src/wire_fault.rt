@@ -1,10 +1,10 @@
-//! Why a line is no request, or a line of a file is refused.
+//! Why a line is not a request, or a line of a file is refused.
 ghost use Rattle.std.specs.Prelude.{◌≡◌};
 ghost use Rattle.osn_format.specs.WireFault.{wire_fault_number, wire_fault_name};
 
 use crate::member::Member;
 
-/// Why a line is no request, or a line of a file is refused.
+/// Why a line is not a request, or a line of a file is refused.
 #[derive(Clone, Copy, Debug, PartialEq, Eq, Hash)]
 pub enum WireFault {
     /// A line has at most 65,536 bytes without its line feed.
@@ -25,7 +25,7 @@ pub enum WireFault {
     UnknownStep,
     /// A question is asked by a query, and by no edit or publish.
     NotAQuery,
-    /// The reply is not what the query is told at the edition that the reply names.
+    /// The reply is not that to the query at the edition that it names.
     WrongReply,
     /// The journal does not have the edition that the reply names.
     UnknownEdition,
@@ -38,7 +38,7 @@ pub enum WireFault {
 }
 
 impl WireFault {
-    /// The number that a reply gives.
+    /// Returns the number that a reply gives.
     pub fn number(self) -> u8
         ensures { result ≡ wire_fault_number self }
     {
@@ -60,7 +60,7 @@ impl WireFault {
         }
     }
 
-    /// The name that a reply gives.
+    /// Returns the name that a reply gives.
     pub fn name(self) -> &'static str
         ensures { result.now ≡ wire_fault_name self }
     {

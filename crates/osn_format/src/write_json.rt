@@ -10,7 +10,7 @@ use std::alloc::AllocError;
 ///
 /// # Errors
 ///
-/// Want of memory, and nothing else.
+/// Returns `AllocError` if memory runs out.
 pub fn write_number(out: &mut Writer, name: &str, number: u32) -> Result<(), AllocError>
     ensures tokens { OnOk result (out.new.tokens
         ≡ out.old.tokens ++ member_tokens name.now (whole number)) }
@@ -24,7 +24,7 @@ pub fn write_number(out: &mut Writer, name: &str, number: u32) -> Result<(), All
 ///
 /// # Errors
 ///
-/// Want of memory, and nothing else.
+/// Returns `AllocError` if memory runs out.
 pub fn write_signed(out: &mut Writer, name: &str, number: i64) -> Result<(), AllocError>
     ensures tokens { OnOk result (out.new.tokens
         ≡ out.old.tokens ++ member_tokens name.now (signed number)) }
@@ -38,7 +38,7 @@ pub fn write_signed(out: &mut Writer, name: &str, number: i64) -> Result<(), All
 ///
 /// # Errors
 ///
-/// Want of memory, and nothing else.
+/// Returns `AllocError` if memory runs out.
 pub fn write_text(out: &mut Writer, name: &str, text: &str) -> Result<(), AllocError>
     ensures tokens { OnOk result (out.new.tokens
         ≡ out.old.tokens ++ member_tokens name.now (string text.now)) }

@@ -132,7 +132,7 @@ sign_says false true = part_adds Doubt refl nothing_says
 sign_says true false = part_adds About refl nothing_says
 sign_says true true = part_adds AboutAndDoubt refl nothing_says
 
--- a sign, where none came after it
+-- a sign, if none came after it
 sign_before : {ps ts : List Part} (a u : Bool) → Say ps ts None None false false false
     → Say (sign_parts a u ++ ps) ts None None a u false
 sign_before false false rest_says = rest_says

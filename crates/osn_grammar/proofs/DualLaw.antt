@@ -32,7 +32,7 @@ use Rattle.osn_grammar.proofs.WordsLaw.{day_written}
 
 -- ---- years
 
--- where the style's year is before the year counted from 1 January, it is the one before
+-- if the style's year is before the year counted from 1 January, it is one year before
 abbrev IsNext : ℤ → ℤ → Type 0
 IsNext y z = y <ℤ z → z ≡ y +ℤ pos 1
 

@@ -107,7 +107,7 @@ month_is month first (Some later) year read is = record {
 
 -- ---- a year
 
--- where the last date is not in digits, the reading that comes next counts, whatever the first is
+-- if the last date is not in digits, the next reading counts, whatever the first is
 after_digits : (first : Result SimpleDate DateFault) (e : Extent)
     → first_read (Err faults.Malformed)
     (first_read (first >>= λ start. Err faults.Malformed) (Ok e)) ≡ Ok e

@@ -96,7 +96,7 @@ later_number (suc most) e l within below small =
 
 -- ---- numbers of at least three digits
 
--- digits of a number, at least so many of them
+-- the digits of a number, at least that many of them
 pub record IsLongNumber (least n : ℕ) (word : List ℕ) : Type 0 where
   pub digits : all_ascii_digits word ≡ true
   pub value : digits_value 10 word ≡ n

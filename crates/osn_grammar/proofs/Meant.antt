@@ -1,4 +1,4 @@
--- A date with the label of a day, and with both of its years where there are two, means that day.
+-- A date with the label of a day, and with both of its years if there are two, means that day.
 use Rattle.std.proofs.Common.{◌≡◌, ◌≤◌, ◌<◌, ℕ, zero, suc, ◌+◌, ◌-◌, Bool, true, false, not, cond}
 use Rattle.std.proofs.Common.{if◌then◌else◌, List, [], ◌∷◌, ◌++◌, map, filter, refl, ap}
 use Rattle.std.proofs.Common.{arith, ◌∙◌, sym, subst, ◌⊎◌, inl, inr, pos, Option}

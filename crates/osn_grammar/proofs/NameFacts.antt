@@ -1,4 +1,4 @@
--- What the table of names has, and that no name stands twice in it.
+-- What the table of names has, and that it has no name twice.
 use Rattle.std.proofs.Common.{refl}
 use Rattle.osn_days.specs.Weekday.{weekday_numbered}
 use Rattle.osn_grammar.specs.Laws.{AreEnglishNamesKnown, AreCountedNamesKnown}

@@ -28,8 +28,8 @@ with_later found None = Ok found
 with_later None (Some x) = Ok (Some x)
 with_later (Some y) (Some x) = Err faults.Malformed
 
--- the parts name this weekday and this calendar, say about, doubt and bracket or not, and those
--- that tell the time are these
+-- the parts name this weekday and this calendar, say about, doubt and bracket or not, and these of
+-- them say which day is meant
 pub record Say (parts told : List Part) (w : Option Weekday) (r : Option Reckoning)
     (a u s : Bool) : Type 0 where
   pub weekday : (found : Option Weekday) → weekday_after found parts ≡ with_later found w
@@ -170,7 +170,7 @@ reckoning_adds {ps} v rest_says = record {
   timed = rest_says.timed;
 }
 
--- parts that only add what tells the time
+-- parts that only add some that say which day is meant
 abbrev pub Adds : List Part → Type 0
 Adds ps =
     (rest ts : List Part) (w : Option Weekday) (r : Option Reckoning) (a u s : Bool)
@@ -213,7 +213,7 @@ parts_read {ts} {w} {r} (p ∷ ps) o e read dated sure is =
 
 -- ---- a text
 
--- the parts of the text say this, and these of them tell the time
+-- the parts of the text say this, and these of them say which day is meant
 pub record TextSays (text : List ℕ) (timed : List Part) (w : Option Weekday) (r : Option Reckoning)
     (a u s : Bool) : Type 0 where
   pub parts : List Part

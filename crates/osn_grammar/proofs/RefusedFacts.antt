@@ -61,7 +61,7 @@ dashed_refused : (belongs none : Bool) (whole : Result SimpleDate DateFault) (be
 dashed_refused true none whole beginning last wrong = refl
 dashed_refused false none whole beginning last wrong = range_refused none whole beginning last wrong
 
--- after a month and a day these parts are no date, nor a range
+-- after a month and a day these parts are neither a date nor a range
 record AreNoDate (more : List Part) : Type 0 where
   month : (o : DateOrder) (m d : ℕ)
       → is_err (simple_date o (Number (record { value = m; digits = 2 }) ∷ Dash
@@ -106,7 +106,7 @@ day_refused {more} y m d none o before =
     (simple_date o (day ∷ more)) (none.day o d))
     (both_err (Err faults.Malformed) end refl (none.range o at_end)))))
 
--- the parts of days that tell the time, one after another
+-- the parts of days that say which day is meant, one after another
 abbrev pub timed : List Days → List Part
 timed [] = []
 timed ((d, None) ∷ rest) = parts_of_date d ++ timed rest

@@ -1,4 +1,4 @@
--- One more character of a text, taken where the parts so far are known.
+-- One more character of a text is taken, when the parts so far are known.
 use Rattle.std.proofs.Common.{◌≡◌, ◌<◌, ℕ, suc, ◌+◌, ◌-◌, List, ◌∷◌, ◌++◌, Result, Ok, Err, OnOk}
 use Rattle.std.proofs.Common.{length, get_or, take, drop}
 use Rattle.std.proofs.Common.{refl, ap, ◌∙◌, sym, arith, append_assoc, drop-cons}
@@ -25,8 +25,7 @@ from_here s k c low is =
 pub slice_left : (s : List ℕ) (j : ℕ) → take (length s - j) (drop j s) ≡ drop j s
 slice_left s j = ap (λ n. take n (drop j s)) (sym (length-drop j s)) ∙ take-length (drop j s)
 
--- where the character at a place was taken, the parts so far and those of what is left are as
--- before
+-- if the character at a place was taken, the parts so far and those of what is left are as before
 pub one_taken : {T E : Type 0} (r : Result T E) (s rest : List ℕ) (k c : ℕ)
     (before now : List Part) (word word_now : List ℕ) → k < length s → c ≡ get_or s k c
     → rest ≡ drop (k + 1) s → OnOk r (now ≡ before ++ parts_ended word c rest)

@@ -1,4 +1,4 @@
--- What stands inside the brackets of a set, in the words of the calls that find it.
+-- What is inside the brackets of a set, in the words of the calls that find it.
 use Rattle.std.proofs.Common.{◌≡◌, ℕ, List, [], ◌∷◌, ◌++◌, Option, Some, None, Bor, MatchOption}
 use Rattle.std.proofs.Common.{Result, Ok, Err}
 use Rattle.std.proofs.Common.{option_map, refl, ap, ◌∙◌, sym, append_assoc}
@@ -21,7 +21,7 @@ pub first_stripped : (bs : List ℕ) (r : Option (Bor (List ℕ)))
 first_stripped bs None none = sym (no_first bs none)
 first_stripped bs (Some x) found = sym (ap (without_first 91) found)
 
--- what stands before a bracket at the end
+-- what comes before a bracket at the end
 pub last_without : (front : List ℕ) → without_last 93 (front ++ 93 ∷ []) ≡ Some front
 last_without [] = refl
 last_without (b ∷ []) = refl

@@ -153,7 +153,7 @@ day_is false true d h = rw (h.year_high, h.month_low, h.month_high, h.day_low, h
 day_is true false d h = rw (h.year_high, h.month_low, h.month_high, h.day_low, h.day_high) refl
 day_is true true d h = rw (h.year_high, h.month_low, h.month_high, h.day_low, h.day_high) refl
 
--- the signs of days are no part of what tells the time
+-- the signs of days do not say which day is meant
 days_are : (a u : Bool) (d e : Date) → filter (λ p. not (is_sign p)) (days_parts a u (d, Some e))
     ≡ parts_of_date d ++ Open ∷ parts_of_date e
 days_are false false d e = refl

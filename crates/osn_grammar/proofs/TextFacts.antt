@@ -213,7 +213,7 @@ pub record Closes (text : List ℕ) (parts : List Part) : Type 0 where
   pub ends : Ends text
   pub is : parts_after [] text ≡ parts
 
--- so no letter stands alone in front of it
+-- so no single letter comes next
 pub no_letter_alone : (text : List ℕ) → next_is is_letter (first_of text) ≡ false
     → is_letter_alone text ≡ false
 no_letter_alone [] none = refl

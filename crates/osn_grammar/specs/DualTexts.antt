@@ -17,7 +17,7 @@ use Rattle.osn_written.specs.declared.written_date.WrittenDate.{WrittenDate}
 use Rattle.osn_grammar.specs.ReadDate.{written_date}
 use Rattle.osn_written.specs.Meaning.{label_of, meaning}
 
--- the text is a date with the label and that weekday. It is a double date where the label's year is
+-- the text is a date with the label and that weekday. It is a double date if the label's year is
 -- before the year counted from 1 January, which is then its later year
 pub record IsWritten (dated : Label) (january_year : ℤ) (named : Option Weekday) (text : List ℕ)
     : Type 0 where
@@ -29,7 +29,7 @@ pub record IsWritten (dated : Label) (january_year : ℤ) (named : Option Weekda
   pub weekday : date.weekday ≡ named
 
 -- so is the dual text of each day of the line, under each regime, from the year 100 on: a shorter
--- year has its zeros where it is read
+-- year must have its zeros to be read
 unfoldable pub AreDualTextsWritten : Profile → Type 0
 AreDualTextsWritten p =
     (r : Regime) (d : ℕ) → IsDay p d → pos 100 ≤ℤ (local_label p r d).year

@@ -23,8 +23,8 @@ use Rattle.osn_grammar.specs.Simple.{◌>>=◌, is_long, month_in, day_in, date_
 
 -- ---- ranges
 
--- what the first date of a range says by itself: `3`, `28 February`, `February 28`, `28.2`,
--- `March`, and else a whole date
+-- what the first date of a range says on its own: `3`, `28 February`, `February 28`, `28.2`,
+-- `March`, or otherwise a whole date
 abbrev pub lone_day : Numeral → Beginning
 lone_day d = if is_long d then begins.Whole else begins.Day d.value
 
@@ -49,7 +49,7 @@ first_date whole (begins.DayOfMonth m d) (date.Day year month day) = day_in year
 first_date whole (begins.Month m) (date.Month year month) = month_in year m
 first_date whole beginning last = whole
 
--- there is no range where the first date has no form, by itself or as a beginning
+-- there is no range if the first date has no form, on its own or as a beginning
 abbrev pub has_no_form : Result SimpleDate DateFault → Beginning → Bool
 has_no_form (Err faults.Malformed) begins.Whole = true
 has_no_form whole beginning = false
@@ -122,7 +122,7 @@ joined o joins.To first Dash last = dashed_range o first last
 joined o joins.And first And last = range o first last
 joined o joining first part last = Err faults.Malformed
 
--- the first of two readings that is one, or else the first fault other than want of a form
+-- the first of two readings that succeeds, or else the first fault other than Malformed
 abbrev pub first_read : Result Extent DateFault → Result Extent DateFault
     → Result Extent DateFault
 first_read (Ok e) other = Ok e
@@ -152,7 +152,7 @@ range_unless o parts (Err faults.LaterYear) =
     or_fault faults.LaterYear (range_after o joins.Any [] parts)
 range_unless o parts (Err f) = Err f
 
--- a text that has no form of one date may be a range, and so may 1640/1645, which is no double year
+-- a text that is not one date may be a range, and so may 1640/1645, which is not a double year
 unfoldable pub date_or_range : DateOrder → List Part → Result Extent DateFault
 date_or_range o parts = range_unless o parts (simple_date o parts)
 

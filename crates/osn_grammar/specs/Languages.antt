@@ -118,7 +118,7 @@ pub record AreWeekdaysKnown : Type 0 where
   pub swedish : AreWeekdays (codes "söndag måndag tisdag onsdag torsdag fredag lördag")
   pub danish : AreWeekdays (codes "søndag mandag tirsdag onsdag torsdag fredag lørdag")
 
--- further names of each weekday
+-- other names of each weekday
 pub record AreOtherWeekdaysKnown : Type 0 where
   pub sunday : Reads (codes "dim Son zon dom sondag sön søn") (times 7 (part.Weekday Sunday))
   pub monday : Reads (codes "lun maa mån man") (times 4 (part.Weekday Monday))

@@ -25,12 +25,12 @@ names = map (λ e. (e.0.now, e.1)) NAMES
 abbrev pub part_named : List ℕ → Option Part
 part_named word = first_named names word
 
--- no name stands before itself
+-- no name is listed twice
 abbrev pub are_distinct : List (List ℕ × Part) → Bool
 are_distinct [] = true
 are_distinct (entry ∷ rest) =
     not (list_any (λ (other : List ℕ × Part). bytes_eq other.0 entry.0) rest) && are_distinct rest
 
--- as a law: no name stands twice, so none is of two months, nor of a month and a weekday
+-- as a law: no name is listed twice, so no name is that of two months, or of a month and a weekday
 unfoldable pub AreNamesDistinct : Type 0
 AreNamesDistinct = are_distinct names ≡ true

@@ -52,7 +52,7 @@ is_open_year (a ∷ b ∷ c ∷ d ∷ []) =
     all_ascii_digits (a ∷ []) && (is_place b && (is_place c && is_gap d))
 is_open_year _ = false
 
--- a word that is no number
+-- a word that is not a number
 abbrev pub part_of_name : List ℕ → Option Part → Part
 part_of_name word (Some p) = p
 part_of_name word None =

@@ -14,14 +14,14 @@ use Rattle.osn_written.specs.PlainDay.{plain_day}
 
 -- ---- the date that a query asks about
 
--- the date, the set of these dates, or why the text is no date
+-- the date, the set of these dates, or why the text is not a date
 abbrev pub reading_by : List AnyDate → Result Written DateFault → DateReading
 reading_by ws (Ok (say.Date w)) = readings.Date w
 reading_by ws (Ok say.Set) = readings.Set ws
 reading_by ws (Ok say.NoDate) = readings.Fault faults.NoDate
 reading_by ws (Err fault) = readings.Fault fault
 
--- the date that a text is, where a number may be a day or a month if it is either
+-- the date that a text is, if nothing says whether the day or the month comes first
 unfoldable pub date_reading : List ℕ → DateReading
 date_reading text = reading_by (members text) (read_date Unknown text)
 

@@ -1,4 +1,4 @@
--- What a text says of a date, and why a text is no date. This project's profile.
+-- What a text says of a date, and why a text is not a date. This project's profile.
 use Rattle.std.specs.Prelude.{ℕ, Bool, true, false, not, ◌&&◌, ◌||◌, ◌==◌, ◌-◌, nat_le, if◌then◌else◌, List, [], ◌∷◌}
 use Rattle.std.specs.Prelude.{length, drop, filter, Option, Some, None, Result, Ok, Err}
 use Rattle.std.specs.List.{list_any}
@@ -28,7 +28,7 @@ with_weekday (Some v) (part.Weekday w) = Err faults.Malformed
 with_weekday None (part.Weekday w) = Ok (Some w)
 with_weekday found p = Ok found
 
--- the weekday of some parts, where this one, if any, was named before them
+-- the weekday of some parts, after the one that was named before them, if any
 abbrev pub weekday_after : Option Weekday → List Part → Result (Option Weekday) DateFault
 weekday_after found [] = Ok found
 weekday_after found (p ∷ rest) = with_weekday found p >>= (λ next. weekday_after next rest)
@@ -72,7 +72,7 @@ abbrev pub is_open_year : Part → Bool
 is_open_year part.OpenYear = true
 is_open_year _ = false
 
--- a feast, a Roman numeral and a year with an open digit are told and not read
+-- the fault of a feast, a Roman numeral or a year with an open digit
 abbrev pub unread : List Part → Option DateFault
 unread parts =
     if list_any is_feast parts then Some faults.Feast
@@ -80,13 +80,13 @@ unread parts =
     else (if list_any is_open_year parts then Some faults.OpenYear
     else None))
 
--- a year of three digits lacks its last one, perhaps, where it is in doubt or in brackets
+-- a year of three digits may lack its last one, if it is in doubt or in brackets
 abbrev pub unless_open : AnyDate → Result AnyDate DateFault
 unless_open w =
     if has_three_digits w.extent && (w.is_uncertain || w.is_supplied) then Err faults.OpenYear
     else Ok w
 
--- a date, by all parts and by those that tell its time
+-- a date, by all parts and by those that say which day is meant
 abbrev pub date_of : DateOrder → List Part → List Part → Result AnyDate DateFault
 date_of o parts timed = do
   weekday ← weekday_after None parts
@@ -116,7 +116,7 @@ is_open_end _ = false
 abbrev pub ends_open : List Part → Bool
 ends_open parts = nat_le 2 (length parts) && is_open_end (drop (length parts - 2) parts)
 
--- why parts of no form are no date
+-- why parts without a form are not a date
 abbrev pub or_open : List Part → Result AnyDate DateFault → Result AnyDate DateFault
 or_open timed (Err faults.Malformed) =
     Err (if ends_open timed then faults.OpenYear else faults.Malformed)
@@ -154,14 +154,14 @@ member_by parts days = do
   extent ← days
   Ok (with_signs parts extent)
 
--- the member that parts are, or why they are none
+-- the member that parts are, or why they are not one
 abbrev pub member_of : List Part → Result AnyDate DateFault
 member_of parts = member_by parts (days_in_digits (filter (λ p. not (is_sign p)) parts))
 
 abbrev pub member_in : List ℕ → Result AnyDate DateFault
 member_in text = member_of (parts_in text)
 
--- the members that texts are, or why the first one that is none is none
+-- the members that texts are, or why the first wrong one is not a member
 abbrev pub all_members : List (List ℕ) → Result (List AnyDate) DateFault
 all_members [] = Ok []
 all_members (text ∷ texts) = do
@@ -169,7 +169,7 @@ all_members (text ∷ texts) = do
   ws ← all_members texts
   Ok (w ∷ ws)
 
--- the members of the set that a text is, or why it is no set
+-- the members of the set that a text is, or why it is not a set
 abbrev pub set_inside : Option (List ℕ) → Result (List AnyDate) DateFault
 set_inside None = Err faults.Malformed
 set_inside (Some inside) = all_members (between_commas inside)
@@ -177,12 +177,12 @@ set_inside (Some inside) = all_members (between_commas inside)
 unfoldable pub set_in : List ℕ → Result (List AnyDate) DateFault
 set_in text = set_inside (inside_brackets text)
 
--- the members of the set that a text is: none where it is no set
+-- the members of the set that a text is; empty if the text is not a set
 abbrev pub members : List ℕ → List AnyDate
 members text = unwrap_or (result_ok (set_in text)) []
 
--- a text that says nothing else of a date may be a set. Where it has the form of one, the reason is
--- that of its first member that is no day
+-- a text that says nothing else of a date may be a set. If it has the form of a set, the reason is
+-- that of its first member that is not a day
 abbrev pub or_set : Result (List AnyDate) DateFault → Result Written DateFault
     → Result Written DateFault
 or_set set (Ok w) = Ok w
@@ -190,7 +190,7 @@ or_set (Ok ws) (Err fault) = Ok say.Set
 or_set (Err faults.Malformed) (Err fault) = Err fault
 or_set (Err reason) (Err fault) = Err reason
 
--- what a text says of a date, or why it is none
+-- what a text says of a date, or why it is not a date
 unfoldable pub read_date : DateOrder → List ℕ → Result Written DateFault
 read_date o text =
     or_set (set_in text) (reading_of_parts o (parts_in text) (filter tells_time (parts_in text)))

@@ -1,5 +1,5 @@
--- How a text is cut into its parts: words, which are runs of letters and digits, and marks. It is
--- told by its characters. This project's profile.
+-- How a text is cut, by its characters, into its parts: words, which are runs of letters and
+-- digits, and marks. This project's profile.
 use Rattle.std.specs.Prelude.{ℕ, Bool, true, false, not, ◌&&◌, ◌||◌, nat_le, nat_lt, ◌==◌, ◌+◌}
 use Rattle.std.specs.Prelude.{if◌then◌else◌, List, [], ◌∷◌, ◌++◌, Option, Some, None, length}
 use Rattle.std.specs.Prelude.{chars, encode_utf8}
@@ -25,7 +25,7 @@ is_dash c = c == 45 || (is_from_to 8208 8209 c || (is_from_to 8211 8212 c || c =
 abbrev pub is_blank : ℕ → Bool
 is_blank c = c == 32 || (c == 9 || (c == 160 || (c == 8201 || c == 8239)))
 
--- a letter: of ASCII, `_`, or any other character beyond it but such a dash or blank
+-- a letter: of ASCII, `_`, or any other character beyond it except such a dash or blank
 abbrev pub is_letter : ℕ → Bool
 is_letter c =
     is_from_to 65 90 c
@@ -35,12 +35,12 @@ is_letter c =
 abbrev pub small : ℕ → ℕ
 small c = if is_from_to 65 90 c || is_from_to 192 222 c then c + 32 else c
 
--- the next character, where there is one that passes
+-- there is a next character, and it passes the test
 abbrev pub next_is : (ℕ → Bool) → Option ℕ → Bool
 next_is test None = false
 next_is test (Some c) = test c
 
--- a word that is no number and is not empty
+-- a word that is not a number and is not empty
 abbrev pub is_name : List ℕ → Bool
 is_name word = not (all_ascii_digits word)
 
@@ -53,12 +53,12 @@ abbrev pub first_of : List ℕ → Option ℕ
 first_of [] = None
 first_of (c ∷ rest) = Some c
 
--- no letter stands right after the digits at the front
+-- no letter comes directly after the digits at the beginning
 abbrev pub are_digits_alone : List ℕ → Bool
 are_digits_alone [] = true
 are_digits_alone (c ∷ rest) = if is_digit c then are_digits_alone rest else not (is_letter c)
 
--- a number comes next, after any blanks: `8bris` is no number
+-- a number comes next, after any blanks: `8bris` is not a number
 abbrev pub is_number_next : List ℕ → Bool
 is_number_next [] = false
 is_number_next (c ∷ rest) =
@@ -71,7 +71,7 @@ mark_of_stop word rest =
     else (if is_number word && is_number_next rest then Some part.Dot else None)
 
 -- the mark that a character is, after a word and before the rest of the text. Blanks, commas and
--- round brackets are none
+-- round brackets are not marks
 abbrev pub mark_of : List ℕ → ℕ → List ℕ → Option Part
 mark_of word c rest =
     if is_dash c then Some part.Dash
@@ -94,7 +94,7 @@ is_letter_alone [] = false
 is_letter_alone (c ∷ rest) =
     is_letter c && not (next_is (λ d. is_letter d || is_digit d) (first_of rest))
 
--- a full stop between two letters that stand alone is passed over: `O.S.` is `OS`
+-- a full stop between two single letters is ignored: `O.S.` is `OS`
 abbrev pub is_passed_over : List ℕ → ℕ → List ℕ → Bool
 is_passed_over word c rest =
     c == 46 && (is_letter_alone rest && (length word == 1 && is_name word))

@@ -16,12 +16,12 @@ use Rattle.osn_grammar.specs.Simple.{◌>>=◌, one, day_in_digits}
 
 -- ---- the text between the brackets
 
--- what stands after the first character of a text, where it is this one
+-- what comes after the first character of a text, if it is this one
 abbrev pub without_first : ℕ → List ℕ → Option (List ℕ)
 without_first c [] = None
 without_first c (b ∷ rest) = if b == c then Some rest else None
 
--- what stands before the last one
+-- what comes before the last one
 abbrev pub without_last : ℕ → List ℕ → Option (List ℕ)
 without_last c [] = None
 without_last c (b ∷ []) = if b == c then Some [] else None

@@ -15,7 +15,7 @@ use Rattle.osn_written.specs.declared.any_date.SimpleDate.{SimpleDate}
 use Rattle.osn_written.specs.declared.any_date.SimpleDate.TheVariants as date
 use Rattle.osn_written.specs.declared.any_date.Year.{Year}
 
--- one reading after another, where the first one is there
+-- one reading after another, if the first one succeeds
 infixl 10 ◌>>=◌
 abbrev pub ◌>>=◌ : {A B E : Type 0} → Result A E → (A → Result B E) → Result B E
 (Ok x) >>= f = f x
@@ -38,7 +38,7 @@ is_long n = nat_le 3 n.digits
 abbrev pub lacks_digit : Numeral → Bool
 lacks_digit n = n.digits == 3 && nat_le 100 n.value
 
--- the last digits of the year that follows: one digit or more, and zeros may stand before all of it
+-- the last digits of the next year: one digit or more, or the whole year with zeros before it
 abbrev pub ends_next_year : ℕ → Numeral → Bool
 ends_next_year year later = later.value == (year + 1) % 10 ^ later.digits
 
@@ -115,7 +115,7 @@ by_order order.Unknown a b year = Err faults.DayOrMonth
 by_order order.DayMonth a b year = day_in_digits (one year) b a
 by_order order.MonthDay a b year = day_in_digits (one year) a b
 
--- they end with the year where that is long and the first one is not
+-- they end with the year if that is long and the first one is not
 abbrev pub in_order : DateOrder → Numeral → Numeral → Numeral → Result SimpleDate DateFault
 in_order order a b c =
     if is_long c && not (is_long a) then by_order order a b c else day_in_digits (one a) b c
@@ -135,7 +135,7 @@ order_of order a b = order
 abbrev pub three_numbers : DateOrder → Numeral → Numeral → Numeral → Result SimpleDate DateFault
 three_numbers order a b c = in_order (order_of order a.value b.value) a b c
 
--- `11/2 1731` ends with its year, and `1731/2 11` is no date
+-- `11/2 1731` ends with its year, and `1731/2 11` is not a date
 abbrev pub year_last : DateOrder → Numeral → Numeral → Numeral → Result SimpleDate DateFault
 year_last order a b year =
     if is_long year && not (is_long a) then three_numbers order a b year else Err faults.Malformed
@@ -145,7 +145,7 @@ abbrev pub around_month : Numeral → ℕ → Numeral → Result SimpleDate Date
 around_month a month b =
     if is_long a then day_of_month (one a) month b else day_of_month (one b) month a
 
--- `1640-11` is a month, `1640-1645` and `1731-2` are none
+-- `1640-11` is a month; `1640-1645` and `1731-2` are not
 abbrev pub year_and_month : Numeral → Numeral → Result SimpleDate DateFault
 year_and_month year month =
     if month.digits == 2 then month_of (one year) month.value else Err faults.Malformed
@@ -187,9 +187,9 @@ day_in_numbers o (Number d ∷ Dot ∷ Number m ∷ Dot ∷ Number y ∷ Slash �
     day_in_digits (two y l) m d
 day_in_numbers o _ = Err faults.Malformed
 
--- a day with its month's name: 11 February 1731, 11-Feb-1731, 11/Feb/1731, 1731 February 11, 1731 11 February,
--- February 11 1731, February 11. 1731, and with 1731/2. 24 Dec 1640/3 Jan 1641 is the day by both
--- calendars
+-- a day with its month's name: 11 February 1731, 11-Feb-1731, 11/Feb/1731, 1731 February 11, 1731
+-- 11 February, February 11 1731, February 11. 1731, and with 1731/2. 24 Dec 1640/3 Jan 1641 is the
+-- day by both calendars
 abbrev pub day_in_words : List Part → Result SimpleDate DateFault
 day_in_words (Number a ∷ Month m ∷ Number b ∷ []) = around_month a m b
 day_in_words (Number a ∷ Dash ∷ Month m ∷ Dash ∷ Number b ∷ []) = around_month a m b
@@ -230,7 +230,7 @@ date_in_digits (Number y ∷ Dash ∷ Number m ∷ []) = year_and_month y m
 date_in_digits (Number y ∷ []) = whole_year (one y)
 date_in_digits _ = Err faults.Malformed
 
--- a reading, or where it has no form another one
+-- a reading, or another one if it has no form
 abbrev pub or_else : Result SimpleDate DateFault → Result SimpleDate DateFault
     → Result SimpleDate DateFault
 or_else (Err faults.Malformed) other = other

@@ -12,12 +12,12 @@ use crate::written::{DateOrder, Written};
 use osn_written::{DateFault, DateReading, Listing, WrittenDate, plain_day};
 use std::alloc::{AllocError, Global};
 
-/// The date that a text is, or why it is none, for what is told of it in a territory: the date or
-/// the set of dates of `read_date`.
+/// Returns the date that a text is, or why it is not a date, for a query in a territory: the date
+/// or the set of dates of `read_date`.
 ///
 /// # Errors
 ///
-/// Want of memory.
+/// If memory runs out.
 #[tactic(auto, unfolding(crate::specs::ReadDate::date_reading))]
 pub fn date_reading(alloc: Global, text: &str) -> Result<DateReading, AllocError>
     ensures { IfOk result (λ date. date ≡ spec.date_reading text.now) }
@@ -30,7 +30,7 @@ pub fn date_reading(alloc: Global, text: &str) -> Result<DateReading, AllocError
     }
 }
 
-/// The date of one day that was read, or why no such date was read.
+/// Returns the date of one day that was read, or why no such date was read.
 fn day_read(read: Result<Written, DateFault>) -> Result<WrittenDate, DateFault>
     ensures { result ≡ spec.day_read read }
 {
@@ -42,18 +42,18 @@ fn day_read(read: Result<Written, DateFault>) -> Result<WrittenDate, DateFault>
     }
 }
 
-/// The date of one day that a text is: `1731-02-11`, `11 February 1731/2`,
-/// `Friday 11 February 1731`, `11 Feb. 1731/32`, `Feb 11, 1731`. `docs/DATES.md` has all forms.
-/// Where the text is no such date, the result within has the fault.
+/// Returns the date of one day that a text is, such as `1731-02-11`, `11 February 1731/2`,
+/// `Friday 11 February 1731`, `11 Feb. 1731/32` or `Feb 11, 1731`. `docs/DATES.md` has all forms.
+/// If the text is not such a date, the inner result has the fault.
 ///
 /// # Errors
 ///
-/// Want of memory.
+/// If memory runs out.
 #[tactic(auto, using(crate::proofs::DualLaw::dual_laws, crate::proofs::Meant::texts_meant), unfolding(crate::specs::ReadDate::written_date))]
 pub fn parse_day(alloc: Global, text: &str) -> Result<Result<WrittenDate, DateFault>, AllocError>
     ensures value { IfOk result (λ date. date ≡ spec.written_date text.now) }
-    // as a law: the dual text of each day of the line, under each regime, is a date with the
-    // label of the day, from the year 100 on. It is a double one where the day has both years
+    // as a law: the dual text of each day of the line, under each regime, is a date with the label
+    // of the day, from the year 100 on. It is a double one if the day has both years
     ensures dual { AreDualTextsWritten newest_rules }
     // as a law: so it is with the day's weekday before it, which is then the date's
     ensures named { AreNamedDaysWritten newest_rules }

@@ -21,7 +21,7 @@ enum Joining {
     And,
 }
 
-/// What the first date of a range says by itself.
+/// What the first date of a range says on its own.
 #[derive(Clone, Copy, Debug, PartialEq, Eq)]
 enum Beginning {
     Day(u32),
@@ -31,7 +31,7 @@ enum Beginning {
     Whole,
 }
 
-/// A day, or of a number that can only be a year a whole date.
+/// Returns a day, or a whole date for a number that can only be a year.
 fn lone_day(day: Numeral) -> Beginning
     ensures { result ≡ spec.lone_day day }
 {
@@ -42,7 +42,7 @@ fn lone_day(day: Numeral) -> Beginning
     }
 }
 
-/// A day of a month, or of a number that can only be a year a whole date.
+/// Returns a day of a month, or a whole date for a number that can only be a year.
 fn day_of_month(month: u32, day: Numeral) -> Beginning
     ensures { result ≡ spec.day_of_month month day }
 {
@@ -56,7 +56,7 @@ fn day_of_month(month: u32, day: Numeral) -> Beginning
     }
 }
 
-/// What the first date of a range says by itself.
+/// Returns what the first date of a range says on its own.
 fn beginning_of(parts: &[Part]) -> Beginning
     ensures { result ≡ spec.beginning_of parts.now }
 {
@@ -70,7 +70,7 @@ fn beginning_of(parts: &[Part]) -> Beginning
     }
 }
 
-/// The first date of a range, which gets what it lacks from the last one.
+/// Returns the first date of a range, which gets what it lacks from the last one.
 fn first_date(
     whole: Result<SimpleDate, DateFault>,
     beginning: Beginning,
@@ -92,7 +92,7 @@ fn first_date(
     }
 }
 
-/// Whether the first date of a range has no form, by itself or as a beginning.
+/// Returns whether the first date of a range has no form, on its own or as a beginning.
 fn has_no_form(whole: Result<SimpleDate, DateFault>, beginning: Beginning) -> bool
     ensures { result ≡ spec.has_no_form whole beginning }
 {
@@ -102,7 +102,7 @@ fn has_no_form(whole: Result<SimpleDate, DateFault>, beginning: Beginning) -> bo
     )
 }
 
-/// The range of two dates.
+/// Returns the range of two dates.
 fn range(order: DateOrder, first: &[Part], last: &[Part]) -> Result<Extent, DateFault>
     ensures { result ≡ spec.range order first.now last.now }
 {
@@ -115,28 +115,28 @@ fn range(order: DateOrder, first: &[Part], last: &[Part]) -> Result<Extent, Date
     Ok(Extent::FromTo(first_date(whole, beginning, last)?, last))
 }
 
-/// Whether parts are an open end.
+/// Returns whether parts are an open end.
 fn is_open(parts: &[Part]) -> bool
     ensures { result ≡ spec.is_open parts.now }
 {
     matches!(parts, [Open])
 }
 
-/// A date that is the last possible one.
+/// Returns a date that is the last possible one.
 fn not_after(order: DateOrder, last: &[Part]) -> Result<Extent, DateFault>
     ensures { result ≡ spec.not_after order last.now }
 {
     Ok(Extent::NotAfter(simple_date(order, last)?))
 }
 
-/// A date that is the first possible one.
+/// Returns a date that is the first possible one.
 fn not_before(order: DateOrder, first: &[Part]) -> Result<Extent, DateFault>
     ensures { result ≡ spec.not_before order first.now }
 {
     Ok(Extent::NotBefore(simple_date(order, first)?))
 }
 
-/// The range of two dates in digits.
+/// Returns the range of two dates in digits.
 fn range_in_digits(first: &[Part], last: &[Part]) -> Result<Extent, DateFault>
     ensures { result ≡ spec.range_in_digits first.now last.now }
 {
@@ -144,7 +144,7 @@ fn range_in_digits(first: &[Part], last: &[Part]) -> Result<Extent, DateFault>
     Ok(Extent::FromTo(first, date_in_digits(last)?))
 }
 
-/// The range of two dates with a `/` between them. Either end may be open.
+/// Returns the range of two dates with a `/` between them. Either end may be open.
 fn slashed_range(order: DateOrder, first: &[Part], last: &[Part]) -> Result<Extent, DateFault>
     ensures { result ≡ spec.slashed_range order first.now last.now }
 {
@@ -157,7 +157,7 @@ fn slashed_range(order: DateOrder, first: &[Part], last: &[Part]) -> Result<Exte
     }
 }
 
-/// Whether parts are a year alone.
+/// Returns whether parts are a year alone.
 fn is_whole_year(first: &[Part]) -> bool
     ensures { result ≡ spec.is_whole_year first.now }
 {
@@ -167,8 +167,8 @@ fn is_whole_year(first: &[Part]) -> bool
     }
 }
 
-/// Whether parts begin with a number that a dash before it makes a part of the year's date, as in
-/// `1698-07-25 - 1699` and `1640-05/1641`.
+/// Returns whether parts begin with a number that a dash before it makes a part of the year's date,
+/// as in `1698-07-25 - 1699` and `1640-05/1641`.
 fn begins_short(last: &[Part]) -> bool
     ensures { result ≡ spec.begins_short last.now }
 {
@@ -178,7 +178,7 @@ fn begins_short(last: &[Part]) -> bool
     }
 }
 
-/// The range of two dates with a dash between them.
+/// Returns the range of two dates with a dash between them.
 fn dashed_range(order: DateOrder, first: &[Part], last: &[Part]) -> Result<Extent, DateFault>
     ensures { result ≡ spec.dashed_range order first.now last.now }
 {
@@ -188,7 +188,7 @@ fn dashed_range(order: DateOrder, first: &[Part], last: &[Part]) -> Result<Exten
     range(order, first, last)
 }
 
-/// The range that a part joins, if it is one that joins.
+/// Returns the range that a part joins, if it is one that joins.
 fn joined(
     order: DateOrder,
     joining: Joining,
@@ -208,7 +208,7 @@ fn joined(
     }
 }
 
-/// The first of two readings that is one, or else the first fault other than want of a form.
+/// Returns the first of two readings that succeeds, or else the first fault other than `Malformed`.
 fn first_read(
     first: Result<Extent, DateFault>,
     other: Result<Extent, DateFault>,
@@ -223,7 +223,7 @@ fn first_read(
     }
 }
 
-/// The range that parts are, at the first part that joins two dates.
+/// Returns the range that parts are, at the first part that joins two dates.
 fn range_in(order: DateOrder, joining: Joining, parts: &[Part]) -> Result<Extent, DateFault>
     ensures { result ≡ spec.range_after order joining [] parts.now }
 {
@@ -240,7 +240,7 @@ fn range_in(order: DateOrder, joining: Joining, parts: &[Part]) -> Result<Extent
     read
 }
 
-/// A reading, or else this fault.
+/// Returns a reading, or else this fault.
 fn or_fault(fault: DateFault, read: Result<Extent, DateFault>) -> Result<Extent, DateFault>
     ensures { result ≡ spec.or_fault fault read }
 {
@@ -250,7 +250,7 @@ fn or_fault(fault: DateFault, read: Result<Extent, DateFault>) -> Result<Extent,
     }
 }
 
-/// One date, or a range of two.
+/// Returns one date, or a range of two.
 #[tactic(auto, unfolding(crate::specs::Extent::date_or_range))]
 fn date_or_range(order: DateOrder, parts: &[Part]) -> Result<Extent, DateFault>
     ensures { result ≡ spec.date_or_range order parts.now }
@@ -265,7 +265,7 @@ fn date_or_range(order: DateOrder, parts: &[Part]) -> Result<Extent, DateFault>
     }
 }
 
-/// From when to when parts say that a date may be.
+/// Returns from when to when parts say that a date may be.
 pub fn extent_of(order: DateOrder, parts: &[Part]) -> Result<Extent, DateFault>
     ensures { result ≡ spec.extent_of order parts.now }
 {

@@ -721,7 +721,7 @@ pub const NAMES: [(&str, Part); 483] = [
     ),
 ];
 
-/// The part of the first such name.
+/// Returns the part of the first such name.
 fn first_named(names: &[(&'static str, Part)], word: &str) -> Option<Part>
     ensures { result ≡ spec.first_named (spec.plain names.now) word.now }
 {
@@ -733,7 +733,7 @@ fn first_named(names: &[(&'static str, Part)], word: &str) -> Option<Part>
     None
 }
 
-/// The part that a name in small letters is, if it is one.
+/// Returns the part that a name in small letters is, if it is one.
 pub fn part_named(word: &str) -> Option<Part>
     ensures { result ≡ spec.part_named word.now }
 {

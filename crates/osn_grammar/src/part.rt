@@ -46,18 +46,18 @@ pub enum Part {
     AboutAndDoubt,
     /// A square bracket, of what an editor supplied.
     Bracket,
-    /// A word that says nothing of the day, as `of`.
+    /// A word that says nothing of the day, such as `of`.
     Filler,
     Undated,
     Feast,
     RomanNumeral,
-    /// A year whose last digits are open, as `173x`.
+    /// A year whose last digits are open, such as `173x`.
     OpenYear,
     Unknown,
 }
 
 impl Part {
-    /// Whether the part says which day is meant.
+    /// Returns whether the part says which day is meant.
     pub fn tells_time(&self) -> bool
         ensures { result ≡ spec.tells_time self.now }
     {
@@ -74,7 +74,7 @@ impl Part {
     }
 }
 
-/// Whether each byte is a digit.
+/// Returns whether each byte is a digit.
 pub fn are_digits(word: &[u8]) -> bool
     ensures { result ≡ all_ascii_digits word.now }
 {
@@ -86,7 +86,7 @@ pub fn are_digits(word: &[u8]) -> bool
     true
 }
 
-/// The value of a word of 1 to 9 digits, if it is one.
+/// Returns the value of a word of 1 to 9 digits, if it is one.
 fn value_of(word: &str) -> Option<u32>
     ensures value { result ≡ spec.value_of word.now }
     ensures short { IfSome result (λ _. length word.now ≤ 9) }
@@ -98,7 +98,7 @@ fn value_of(word: &str) -> Option<u32>
     word.parse::<u32>().ok()
 }
 
-/// The number that a word is, of 1 to 9 digits, if it is one.
+/// Returns the number that a word is, of 1 to 9 digits, if it is one.
 fn numeral_of(word: &str) -> Option<Numeral>
     ensures { result ≡ spec.numeral_of word.now }
 {
@@ -109,14 +109,14 @@ fn numeral_of(word: &str) -> Option<Numeral>
     })
 }
 
-/// Whether a byte is a small letter of Roman numerals.
+/// Returns whether a byte is a small letter of Roman numerals.
 fn is_roman(byte: u8) -> bool
     ensures { result ≡ spec.is_roman byte }
 {
     matches!(byte, b'i' | b'j' | b'v' | b'x' | b'l' | b'c' | b'd' | b'm')
 }
 
-/// Whether each byte is such a letter.
+/// Returns whether each byte is such a letter.
 fn are_roman(word: &[u8]) -> bool
     ensures { result ≡ list_all spec.is_roman word.now }
 {
@@ -128,21 +128,21 @@ fn are_roman(word: &[u8]) -> bool
     true
 }
 
-/// Whether a byte is `x` or `_`, for a digit that is open.
+/// Returns whether a byte is `x` or `_`, for a digit that is open.
 fn is_gap(byte: u8) -> bool
     ensures { result ≡ spec.is_gap byte }
 {
     byte == b'x' || byte == b'_'
 }
 
-/// Whether a byte is a digit, or stands for one that is open.
+/// Returns whether a byte is a digit, or `x` or `_` for an open one.
 fn is_place(byte: u8) -> bool
     ensures { result ≡ spec.is_place byte }
 {
     byte.is_ascii_digit() || is_gap(byte)
 }
 
-/// Whether a word is a year whose last digits are open.
+/// Returns whether a word is a year whose last digits are open.
 fn is_open_year(word: &[u8]) -> bool
     ensures { result ≡ spec.is_open_year word.now }
 {
@@ -152,7 +152,7 @@ fn is_open_year(word: &[u8]) -> bool
     }
 }
 
-/// The part that a word in small letters is.
+/// Returns the part that a word in small letters is.
 pub fn part_of(word: &str) -> Part
     ensures { result ≡ spec.part_of word.now }
 {

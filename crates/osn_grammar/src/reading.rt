@@ -1,4 +1,4 @@
-//! A text is read: what it says of a date, or why it is none.
+//! A text is read: what it says of a date, or why it is not a date.
 ghost use Rattle.std.specs.Prelude.{◌≡◌, None, Err, IfOk};
 ghost use Rattle.std.specs.List.{list_any};
 ghost use Rattle.osn_grammar.specs.InDigits.{AreDigitsRead};
@@ -18,7 +18,7 @@ use osn_days::Weekday;
 use osn_written::{AnyDate, DateFault, Reckoning};
 use std::alloc::{AllocError, Global};
 
-/// The weekday so far, with that of one more part. No two may be named.
+/// Returns the weekday so far, with that of one more part. No two may be named.
 fn with_weekday(found: Option<Weekday>, part: Part) -> Result<Option<Weekday>, DateFault>
     ensures { result ≡ spec.with_weekday found part }
 {
@@ -29,7 +29,7 @@ fn with_weekday(found: Option<Weekday>, part: Part) -> Result<Option<Weekday>, D
     }
 }
 
-/// The weekday that parts name, if one does.
+/// Returns the weekday that parts name, if one does.
 fn weekday_of(parts: &[Part]) -> Result<Option<Weekday>, DateFault>
     ensures { result ≡ spec.weekday_after None parts.now }
 {
@@ -40,7 +40,7 @@ fn weekday_of(parts: &[Part]) -> Result<Option<Weekday>, DateFault>
     Ok(found)
 }
 
-/// The calendar so far, with that of one more part. No two may be named.
+/// Returns the calendar so far, with that of one more part. No two may be named.
 fn with_reckoning(found: Option<Reckoning>, part: Part) -> Result<Option<Reckoning>, DateFault>
     ensures { result ≡ spec.with_reckoning found part }
 {
@@ -51,7 +51,7 @@ fn with_reckoning(found: Option<Reckoning>, part: Part) -> Result<Option<Reckoni
     }
 }
 
-/// The calendar that parts name, if one does.
+/// Returns the calendar that parts name, if one does.
 fn reckoning_of(parts: &[Part]) -> Result<Option<Reckoning>, DateFault>
     ensures { result ≡ spec.reckoning_after None parts.now }
 {
@@ -62,7 +62,7 @@ fn reckoning_of(parts: &[Part]) -> Result<Option<Reckoning>, DateFault>
     Ok(found)
 }
 
-/// Whether a part says that a date is approximate.
+/// Returns whether a part says that a date is approximate.
 pub fn is_approximate(parts: &[Part]) -> bool
     ensures { result ≡ list_any spec.is_about parts.now }
 {
@@ -71,7 +71,7 @@ pub fn is_approximate(parts: &[Part]) -> bool
         .any(|part| matches!(part, Part::About | Part::AboutAndDoubt))
 }
 
-/// Whether a part says that a date is in doubt.
+/// Returns whether a part says that a date is in doubt.
 pub fn is_uncertain(parts: &[Part]) -> bool
     ensures { result ≡ list_any spec.is_doubt parts.now }
 {
@@ -80,35 +80,35 @@ pub fn is_uncertain(parts: &[Part]) -> bool
         .any(|part| matches!(part, Part::Doubt | Part::AboutAndDoubt))
 }
 
-/// Whether a part says that an editor supplied a date.
+/// Returns whether a part says that an editor supplied a date.
 fn is_supplied(parts: &[Part]) -> bool
     ensures { result ≡ list_any spec.is_bracket parts.now }
 {
     parts.iter().any(|part| matches!(part, Part::Bracket))
 }
 
-/// Whether a part names a feast.
+/// Returns whether a part names a feast.
 fn has_feast(parts: &[Part]) -> bool
     ensures { result ≡ list_any spec.is_feast parts.now }
 {
     parts.iter().any(|part| matches!(part, Part::Feast))
 }
 
-/// Whether a part is a Roman numeral.
+/// Returns whether a part is a Roman numeral.
 fn has_roman_numeral(parts: &[Part]) -> bool
     ensures { result ≡ list_any spec.is_roman_numeral parts.now }
 {
     parts.iter().any(|part| matches!(part, Part::RomanNumeral))
 }
 
-/// Whether a part is a year with an open digit.
+/// Returns whether a part is a year with an open digit.
 fn has_open_year(parts: &[Part]) -> bool
     ensures { result ≡ list_any spec.is_open_year parts.now }
 {
     parts.iter().any(|part| matches!(part, Part::OpenYear))
 }
 
-/// The fault of a part that is told and not read, if there is one.
+/// Returns the fault of a feast, a Roman numeral or a year with an open digit, if there is one.
 fn unread(parts: &[Part]) -> Option<DateFault>
     ensures { result ≡ spec.unread parts.now }
 {
@@ -123,7 +123,7 @@ fn unread(parts: &[Part]) -> Option<DateFault>
     }
 }
 
-/// The date, unless a year of it may lack a digit: one of three digits that is in doubt or stands
+/// Returns the date, unless a year of it may lack a digit: one of three digits that is in doubt or
 /// in brackets.
 fn unless_open(date: AnyDate) -> Result<AnyDate, DateFault>
     ensures { result ≡ spec.unless_open date }
@@ -135,7 +135,7 @@ fn unless_open(date: AnyDate) -> Result<AnyDate, DateFault>
     }
 }
 
-/// The date that parts say, of which some tell the time.
+/// Returns the date that parts say. The parts `timed` are those that say which day is meant.
 fn date_of(order: DateOrder, parts: &[Part], timed: &[Part]) -> Result<AnyDate, DateFault>
     ensures { result ≡ spec.date_of order parts.now timed.now }
 {
@@ -152,7 +152,7 @@ fn date_of(order: DateOrder, parts: &[Part], timed: &[Part]) -> Result<AnyDate, 
     })
 }
 
-/// Whether parts are a year of three digits with a dash or two full stops after it.
+/// Returns whether parts are a year of three digits with a dash or two full stops after it.
 fn is_open_end(timed: &[Part]) -> bool
     ensures { result ≡ spec.is_open_end timed.now }
 {
@@ -162,14 +162,14 @@ fn is_open_end(timed: &[Part]) -> bool
     }
 }
 
-/// Whether parts end with such a year.
+/// Returns whether parts end with such a year.
 fn ends_open(timed: &[Part]) -> bool
     ensures { result ≡ spec.ends_open timed.now }
 {
     timed.len() >= 2 && is_open_end(&timed[timed.len() - 2..])
 }
 
-/// A date that was read, or why parts of no form are no date.
+/// Returns a date that was read, or why parts without a form are not a date.
 fn or_open(timed: &[Part], read: Result<AnyDate, DateFault>) -> Result<AnyDate, DateFault>
     ensures { result ≡ spec.or_open timed.now read }
 {
@@ -179,14 +179,14 @@ fn or_open(timed: &[Part], read: Result<AnyDate, DateFault>) -> Result<AnyDate, 
     }
 }
 
-/// Whether parts say that a text is undated, as `n.d.` does.
+/// Returns whether parts say that a text is undated, as `n.d.` does.
 fn is_undated(timed: &[Part]) -> bool
     ensures { result ≡ spec.is_undated timed.now }
 {
     matches!(timed, [Part::Undated])
 }
 
-/// What parts say, of which some tell the time.
+/// Returns what parts say. The parts `timed` are those that say which day is meant.
 fn reading_of_parts(order: DateOrder, parts: &[Part], timed: &[Part]) -> Result<Written, DateFault>
     ensures { result ≡ spec.reading_of_parts order parts.now timed.now }
 {
@@ -199,7 +199,8 @@ fn reading_of_parts(order: DateOrder, parts: &[Part], timed: &[Part]) -> Result<
     Ok(Written::Date(or_open(timed, date_of(order, parts, timed))?))
 }
 
-/// That a text is a set of dates, or else why its first wrong member is none, or this fault of it.
+/// Returns that a text is a set of dates, or why its first wrong member is not one, or otherwise
+/// this fault.
 fn or_set(
     alloc: Global,
     text: &str,
@@ -214,11 +215,11 @@ fn or_set(
     }
 }
 
-/// What a text says of a date, in one of the forms that `docs/DATES.md` tells.
+/// Returns what a text says of a date, in one of the forms of `docs/DATES.md`.
 ///
 /// # Errors
 ///
-/// Want of memory. What is wrong with a text that is no date is the result within.
+/// If memory runs out. If the text is not a date, the inner result has the fault.
 #[tactic(auto, using(crate::proofs::NameFacts::name_laws, crate::proofs::DigitLaw::digits_law, crate::proofs::SetLaw::sets_law), unfolding(crate::specs::Reading::read_date))]
 pub fn read_date(
     alloc: Global,
@@ -226,7 +227,7 @@ pub fn read_date(
     order: DateOrder,
 ) -> Result<Result<Written, DateFault>, AllocError>
     ensures value { IfOk result (λ read. read ≡ spec.read_date order text.now) }
-    // as a law: no name stands twice in the table of names
+    // as a law: no name is twice in the table of names
     ensures names { AreNamesDistinct }
     // as a law: it has the English months and weekdays
     ensures english { AreEnglishNamesKnown }

@@ -7,14 +7,14 @@ ghost use Rattle.osn_grammar.specs.Scan as spec;
 use crate::part::{Part, are_digits, part_of};
 use std::alloc::{AllocError, Global};
 
-/// Whether a character is a digit.
+/// Returns whether a character is a digit.
 fn is_digit(character: char) -> bool
     ensures { result ≡ spec.is_digit character }
 {
     matches!(character, '0'..='9')
 }
 
-/// Whether a character is a dash: a hyphen, a dash or a minus sign.
+/// Returns whether a character is a dash: a hyphen, a dash or a minus sign.
 fn is_dash(character: char) -> bool
     ensures { result ≡ spec.is_dash character }
 {
@@ -24,14 +24,16 @@ fn is_dash(character: char) -> bool
     )
 }
 
-/// Whether a character is a blank: a space, a tab, or a space that doesn't break or is thin.
+/// Returns whether a character is a blank: a space, a tab, or a space that doesn't break or is
+/// thin.
 fn is_blank(character: char) -> bool
     ensures { result ≡ spec.is_blank character }
 {
     matches!(character, ' ' | '\t' | '\u{a0}' | '\u{2009}' | '\u{202f}')
 }
 
-/// Whether a character is a letter: of ASCII, `_`, or any other beyond ASCII but a dash or a blank.
+/// Returns whether a character is a letter: of ASCII, `_`, or any other beyond ASCII except a dash
+/// or a blank.
 fn is_letter(character: char) -> bool
     ensures { result ≡ spec.is_letter character }
 {
@@ -39,7 +41,7 @@ fn is_letter(character: char) -> bool
         || (character > '\u{7f}' && !(is_dash(character) || is_blank(character)))
 }
 
-/// The small letter of a capital one, up to U+00DE.
+/// Returns the small letter of a capital one, up to U+00DE.
 fn small(character: char) -> char
     ensures { result ≡ spec.small character }
 {
@@ -50,14 +52,14 @@ fn small(character: char) -> char
     }
 }
 
-/// Whether a word has digits, and nothing else.
+/// Returns whether a word has digits, and nothing else.
 fn is_number(word: &str) -> bool
     ensures { result ≡ spec.is_number word.now }
 {
     !word.is_empty() && are_digits(word.as_bytes())
 }
 
-/// Whether the next character belongs to a word.
+/// Returns whether the next character belongs to a word.
 fn is_word_next(next: Option<char>) -> bool
     ensures { result ≡ spec.next_is (λ d. spec.is_letter d || spec.is_digit d) next }
 {
@@ -67,7 +69,7 @@ fn is_word_next(next: Option<char>) -> bool
     }
 }
 
-/// The first character.
+/// Returns the first character.
 fn first_of(characters: &[char]) -> Option<char>
     ensures { result ≡ spec.first_of characters.now }
 {
@@ -77,7 +79,7 @@ fn first_of(characters: &[char]) -> Option<char>
     }
 }
 
-/// Whether one letter alone comes next.
+/// Returns whether one letter alone comes next.
 fn is_letter_alone(rest: &[char]) -> bool
     ensures { result ≡ spec.is_letter_alone rest.now }
 {
@@ -87,7 +89,7 @@ fn is_letter_alone(rest: &[char]) -> bool
     }
 }
 
-/// Whether no letter stands right after the digits at the front.
+/// Returns whether no letter comes directly after the digits at the beginning.
 fn are_digits_alone(characters: &[char]) -> bool
     ensures { result ≡ spec.are_digits_alone characters.now }
 {
@@ -99,7 +101,7 @@ fn are_digits_alone(characters: &[char]) -> bool
     true
 }
 
-/// Whether a number comes next, after any blanks.
+/// Returns whether a number comes next, after any blanks.
 fn is_number_next(rest: &[char]) -> bool
     ensures { result ≡ spec.is_number_next rest.now }
 {
@@ -113,7 +115,7 @@ fn is_number_next(rest: &[char]) -> bool
     false
 }
 
-/// The mark that a full stop is, after a word and before the rest of the text.
+/// Returns the mark that a full stop is, after a word and before the rest of the text.
 fn mark_of_stop(word: &str, rest: &[char]) -> Option<Part>
     ensures { result ≡ spec.mark_of_stop word.now rest.now }
 {
@@ -126,7 +128,7 @@ fn mark_of_stop(word: &str, rest: &[char]) -> Option<Part>
     }
 }
 
-/// The mark that a character is, after a word and before the rest of the text.
+/// Returns the mark that a character is, after a word and before the rest of the text.
 fn mark_of(word: &str, character: char, rest: &[char]) -> Option<Part>
     ensures { result ≡ spec.mark_of word.now character rest.now }
 {
@@ -148,7 +150,7 @@ fn mark_of(word: &str, character: char, rest: &[char]) -> Option<Part>
     }
 }
 
-/// The part of a word, if it is not empty.
+/// Returns the part of a word, if it is not empty.
 fn part_of_run(word: &str) -> Option<Part>
     ensures { result ≡ spec.part_of_run word.now }
 {
@@ -159,7 +161,7 @@ fn part_of_run(word: &str) -> Option<Part>
     }
 }
 
-/// Puts a part at the end, if there is one.
+/// Appends a part, if there is one.
 fn push_some(parts: &mut Vec<Part>, part: Option<Part>) -> Result<(), AllocError>
     ensures { OnOk result (parts.new.items ≡ parts.old.items ++ option_to_list part) }
 {
@@ -169,7 +171,7 @@ fn push_some(parts: &mut Vec<Part>, part: Option<Part>) -> Result<(), AllocError
     Ok(())
 }
 
-/// Whether a full stop after a word is passed over, since it stands between two single letters.
+/// Returns whether a full stop after a word is ignored, since it is between two single letters.
 fn is_passed_over(word: &str, character: char, rest: &[char]) -> bool
     ensures { result ≡ spec.is_passed_over word.now character rest.now }
 {
@@ -218,7 +220,7 @@ fn take_at(
     take(parts, word, characters[place], &characters[place + 1..])
 }
 
-/// The parts of these characters.
+/// Returns the parts of these characters.
 fn parts_of(alloc: Global, characters: &[char]) -> Result<Vec<Part>, AllocError>
     ensures { IfOk result (λ parts. parts.items ≡ spec.parts_after [] characters.now) }
 {
@@ -233,7 +235,7 @@ fn parts_of(alloc: Global, characters: &[char]) -> Result<Vec<Part>, AllocError>
     Ok(parts)
 }
 
-/// The parts of a text.
+/// Returns the parts of a text.
 pub fn parts_in(alloc: Global, text: &str) -> Result<Vec<Part>, AllocError>
     ensures { IfOk result (λ parts. parts.items ≡ spec.parts_in text.now) }
 {

@@ -11,28 +11,28 @@ use crate::simple::{day_in_digits, one};
 use osn_written::{AnyDate, DateFault, Extent};
 use std::alloc::{AllocError, Global};
 
-/// What stands after the opening bracket of a text, if it begins with one.
+/// Returns what comes after the opening bracket of a text, if it begins with one.
 fn after_bracket(text: &str) -> Option<&str>
     ensures { option_map (λ rest. rest.now) result ≡ spec.without_first 91 text.now }
 {
     text.strip_prefix('[')
 }
 
-/// What stands before the closing bracket of a text, if it ends with one.
+/// Returns what comes before the closing bracket of a text, if it ends with one.
 fn before_bracket(text: &str) -> Option<&str>
     ensures { option_map (λ front. front.now) result ≡ spec.without_last 93 text.now }
 {
     text.strip_suffix(']')
 }
 
-/// The text between square brackets, if it stands in them.
+/// Returns the text between square brackets, if a text is in brackets.
 fn inside_brackets(text: &str) -> Option<&str>
     ensures { option_map (λ inside. inside.now) result ≡ spec.inside_brackets text.now }
 {
     before_bracket(after_bracket(text)?)
 }
 
-/// A day in digits, or the first and the last one with `..` between them.
+/// Returns a day in digits, or the first and the last one with `..` between them.
 fn days_in_digits(parts: &[Part]) -> Result<Extent, DateFault>
     ensures { result ≡ spec.days_in_digits parts.now }
 {
@@ -60,7 +60,8 @@ fn days_in_digits(parts: &[Part]) -> Result<Extent, DateFault>
     }
 }
 
-/// The member of a set that parts are, of which some are no signs, or why they are none.
+/// Returns the member of a set that parts are, or why they are not one. The parts `unsigned` are
+/// those without the signs.
 fn member_of(parts: &[Part], unsigned: &[Part]) -> Result<AnyDate, DateFault>
     ensures { result ≡ reading.member_by parts.now (spec.days_in_digits unsigned.now) }
 {
@@ -75,7 +76,7 @@ fn member_of(parts: &[Part], unsigned: &[Part]) -> Result<AnyDate, DateFault>
     })
 }
 
-/// The member of a set that a text is, or why it is none.
+/// Returns the member of a set that a text is, or why it is not one.
 fn member_in(alloc: Global, text: &str) -> Result<Result<AnyDate, DateFault>, AllocError>
     ensures { IfOk result (λ member. member ≡ reading.member_in text.now) }
 {
@@ -88,10 +89,10 @@ fn member_in(alloc: Global, text: &str) -> Result<Result<AnyDate, DateFault>, Al
     Ok(member_of(parts.as_slice(), unsigned.as_slice()))
 }
 
-/// The members of a set, or why it is none.
+/// The members of a set, or why the text is not a set.
 type Members = Result<Vec<AnyDate>, DateFault>;
 
-/// The members of a set that texts are, or why the first one that is none is none.
+/// Returns the members of a set that texts are, or why the first wrong one is not a member.
 fn all_members(alloc: Global, texts: &[&str]) -> Result<Members, AllocError>
     ensures { IfOk result (λ members. result_map_both (λ members. members.items) (λ fault. fault) members
         ≡ reading.all_members (map (λ text. text.now) texts.now)) }
@@ -106,7 +107,7 @@ fn all_members(alloc: Global, texts: &[&str]) -> Result<Members, AllocError>
     Ok(Ok(members))
 }
 
-/// The texts between the commas of a text.
+/// Returns the texts between the commas of a text.
 fn between_commas(alloc: Global, text: &str) -> Result<Vec<&str>, AllocError>
     ensures { IfOk result (λ texts.
         map (λ text. text.now) texts.items ≡ spec.between_commas text.now) }
@@ -114,7 +115,7 @@ fn between_commas(alloc: Global, text: &str) -> Result<Vec<&str>, AllocError>
     text.split(',').collect(alloc)
 }
 
-/// The members of the set that stands in brackets, or why it is none.
+/// Returns the members of the set with this text in its brackets, or why it is not a set.
 fn members_inside(alloc: Global, inside: &str) -> Result<Members, AllocError>
     ensures { IfOk result (λ members. result_map_both (λ members. members.items) (λ fault. fault) members
         ≡ reading.all_members (spec.between_commas inside.now)) }
@@ -123,7 +124,7 @@ fn members_inside(alloc: Global, inside: &str) -> Result<Members, AllocError>
     all_members(alloc, texts.as_slice())
 }
 
-/// The members of the set that a text is, or why it is none.
+/// Returns the members of the set that a text is, or why it is not a set.
 #[tactic(auto, unfolding(crate::specs::Reading::set_in))]
 pub fn set_in(alloc: Global, text: &str) -> Result<Members, AllocError>
     ensures { IfOk result (λ members. result_map_both (λ members. members.items) (λ fault. fault) members
@@ -135,13 +136,13 @@ pub fn set_in(alloc: Global, text: &str) -> Result<Members, AllocError>
     }
 }
 
-/// The dates of a set of EDTF, of which one is meant, as `[1543-04-11,1544-04-11]`: those of a text
-/// that `read_date` returns as `Written::Set`. Each is a day or a range, and has its own signs. Of a text
-/// that has not the form of a set there is none.
+/// Returns the dates of a set of EDTF, of which one is meant, such as `[1543-04-11,1544-04-11]`:
+/// those of a text that `read_date` returns as `Written::Set`. Each is a day or a range, and has
+/// its own signs. The list is empty if the text is not a set.
 ///
 /// # Errors
 ///
-/// Want of memory.
+/// If memory runs out.
 pub fn members_of(alloc: Global, text: &str) -> Result<Vec<AnyDate>, AllocError>
     ensures { IfOk result (λ members. members.items ≡ reading.members text.now) }
 {

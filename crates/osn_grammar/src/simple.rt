@@ -8,21 +8,21 @@ use crate::part::Part::{self, Blank, Dash, Dot, Month, Number, Slash};
 use crate::written::DateOrder;
 use osn_written::{DateFault, SimpleDate, Year};
 
-/// The numbers of a year: its own, and what stands after a `/`.
+/// The numbers of a year: its own, and the one after a `/`.
 #[derive(Clone, Copy, Debug, PartialEq, Eq)]
 pub struct YearNumbers {
     first: Numeral,
     later: Option<Numeral>,
 }
 
-/// A year of one number.
+/// Returns a year of one number.
 pub fn one(first: Numeral) -> YearNumbers
     ensures { result ≡ spec.one first }
 {
     YearNumbers { first, later: None }
 }
 
-/// A year of two numbers.
+/// Returns a year of two numbers.
 fn two(first: Numeral, later: Numeral) -> YearNumbers
     ensures { result ≡ spec.two first later }
 {
@@ -32,21 +32,22 @@ fn two(first: Numeral, later: Numeral) -> YearNumbers
     }
 }
 
-/// Whether a number can only be a year: it has three digits or more.
+/// Returns whether a number can only be a year: it has three digits or more.
 pub fn is_long(number: Numeral) -> bool
     ensures { result ≡ spec.is_long number }
 {
     number.digits >= 3
 }
 
-/// Whether a year has three digits and no zero before them, so that it may lack its last one.
+/// Returns whether a year has three digits and no zero before them, so that it may lack its last
+/// one.
 pub fn lacks_digit(year: Numeral) -> bool
     ensures { result ≡ spec.lacks_digit year }
 {
     year.digits == 3 && year.value >= 100
 }
 
-/// Whether `later` is the last `digits` digits of the year that follows.
+/// Returns whether `later` is the last `digits` digits of the year that follows.
 fn ends_next_year(year: u32, later: u32, digits: u32) -> bool
     requires { year ≤ 10000 }
     ensures { result ≡ (later == (year + 1) % 10 ^ digits) }
@@ -54,7 +55,7 @@ fn ends_next_year(year: u32, later: u32, digits: u32) -> bool
     later == (year + 1) % 10u32.pow(digits.min(5))
 }
 
-/// Whether the number after the `/` belongs there, if there is one.
+/// Returns whether the number after the `/` belongs there, if there is one.
 fn has_its_later_year(years: YearNumbers) -> bool
     requires { years.first.value ≤ 10000 }
     ensures { result ≡ spec.has_its_later_year years }
@@ -65,7 +66,7 @@ fn has_its_later_year(years: YearNumbers) -> bool
     }
 }
 
-/// The year of these numbers.
+/// Returns the year of these numbers.
 fn year_of(years: YearNumbers) -> Result<Year, DateFault>
     ensures { result ≡ spec.year_of years }
 {
@@ -85,7 +86,7 @@ fn year_of(years: YearNumbers) -> Result<Year, DateFault>
     })
 }
 
-/// The month of a number in a year.
+/// Returns the month of a number in a year.
 pub fn month_in(year: Year, month: u32) -> Result<SimpleDate, DateFault>
     ensures { result ≡ spec.month_in year month }
 {
@@ -98,7 +99,7 @@ pub fn month_in(year: Year, month: u32) -> Result<SimpleDate, DateFault>
     })
 }
 
-/// The day of these numbers in a year.
+/// Returns the day of these numbers in a year.
 pub fn day_in(year: Year, month: u32, day: u32) -> Result<SimpleDate, DateFault>
     ensures { result ≡ spec.day_in year month day }
 {
@@ -115,28 +116,28 @@ pub fn day_in(year: Year, month: u32, day: u32) -> Result<SimpleDate, DateFault>
     })
 }
 
-/// The date that is a year.
+/// Returns the date that is a year.
 fn whole_year(years: YearNumbers) -> Result<SimpleDate, DateFault>
     ensures { result ≡ spec.whole_year years }
 {
     Ok(SimpleDate::Year(year_of(years)?))
 }
 
-/// The date that is a month.
+/// Returns the date that is a month.
 fn month_of(years: YearNumbers, month: u32) -> Result<SimpleDate, DateFault>
     ensures { result ≡ spec.month_of years month }
 {
     month_in(year_of(years)?, month)
 }
 
-/// The date that is a day.
+/// Returns the date that is a day.
 fn day_of(years: YearNumbers, month: u32, day: u32) -> Result<SimpleDate, DateFault>
     ensures { result ≡ spec.day_of years month day }
 {
     day_in(year_of(years)?, month, day)
 }
 
-/// The day of a number in a month of a year, where it has one or two digits.
+/// Returns the day of a number in a month of a year, if it has one or two digits.
 fn day_of_month(years: YearNumbers, month: u8, day: Numeral) -> Result<SimpleDate, DateFault>
     ensures { result ≡ spec.day_of_month years month day }
 {
@@ -147,7 +148,7 @@ fn day_of_month(years: YearNumbers, month: u8, day: Numeral) -> Result<SimpleDat
     }
 }
 
-/// The month of a number in digits, where it has one or two of them.
+/// Returns the month of a number in digits, if it has one or two of them.
 fn month_in_digits(years: YearNumbers, month: Numeral) -> Result<SimpleDate, DateFault>
     ensures { result ≡ spec.month_in_digits years month }
 {
@@ -158,7 +159,7 @@ fn month_in_digits(years: YearNumbers, month: Numeral) -> Result<SimpleDate, Dat
     }
 }
 
-/// The day of two numbers in digits, where each has one or two of them.
+/// Returns the day of two numbers in digits, if each has one or two of them.
 pub fn day_in_digits(
     years: YearNumbers,
     month: Numeral,
@@ -173,7 +174,7 @@ pub fn day_in_digits(
     }
 }
 
-/// The date of three numbers that ends with its year.
+/// Returns the date of three numbers that ends with its year.
 fn by_order(
     order: DateOrder,
     first: Numeral,
@@ -189,7 +190,7 @@ fn by_order(
     }
 }
 
-/// The date of three numbers, which begins with its year or ends with it.
+/// Returns the date of three numbers, which begins with its year or ends with it.
 fn in_order(
     order: DateOrder,
     first: Numeral,
@@ -205,7 +206,7 @@ fn in_order(
     }
 }
 
-/// The date of three numbers with dashes, slashes or blanks between them.
+/// Returns the date of three numbers with dashes, slashes or blanks between them.
 fn three_numbers(
     order: DateOrder,
     first: Numeral,
@@ -222,7 +223,7 @@ fn three_numbers(
     )
 }
 
-/// The date of two numbers with a `/` between them and a year after them.
+/// Returns the date of two numbers with a `/` between them and a year after them.
 fn year_last(
     order: DateOrder,
     first: Numeral,
@@ -238,7 +239,7 @@ fn year_last(
     }
 }
 
-/// The date of a month's name between two numbers, of which one is the year.
+/// Returns the date of a month's name between two numbers, of which one is the year.
 fn around_month(first: Numeral, month: u8, last: Numeral) -> Result<SimpleDate, DateFault>
     ensures { result ≡ spec.around_month first month last }
 {
@@ -249,7 +250,7 @@ fn around_month(first: Numeral, month: u8, last: Numeral) -> Result<SimpleDate, 
     }
 }
 
-/// The month of a year, where the month has two digits.
+/// Returns the month of a year, if the month has two digits.
 fn year_and_month(year: Numeral, month: Numeral) -> Result<SimpleDate, DateFault>
     ensures { result ≡ spec.year_and_month year month }
 {
@@ -260,7 +261,7 @@ fn year_and_month(year: Numeral, month: Numeral) -> Result<SimpleDate, DateFault
     }
 }
 
-/// The date of a year and the name of a month after it.
+/// Returns the date of a year and the name of a month after it.
 fn year_and_name(year: Numeral, month: u8) -> Result<SimpleDate, DateFault>
     ensures { result ≡ spec.year_and_name year month }
 {
@@ -271,7 +272,7 @@ fn year_and_name(year: Numeral, month: u8) -> Result<SimpleDate, DateFault>
     }
 }
 
-/// The date of two numbers with a `/` between them: a month and its year, or a double year.
+/// Returns the date of two numbers with a `/` between them: a month and its year, or a double year.
 fn month_or_double_year(first: Numeral, second: Numeral) -> Result<SimpleDate, DateFault>
     ensures { result ≡ spec.month_or_double_year first second }
 {
@@ -282,7 +283,7 @@ fn month_or_double_year(first: Numeral, second: Numeral) -> Result<SimpleDate, D
     }
 }
 
-/// The date of a year, a day and the name of a month after them.
+/// Returns the date of a year, a day and the name of a month after them.
 fn year_and_day(year: Numeral, day: Numeral, month: u8) -> Result<SimpleDate, DateFault>
     ensures { result ≡ spec.year_and_day year day month }
 {
@@ -293,8 +294,8 @@ fn year_and_day(year: Numeral, day: Numeral, month: u8) -> Result<SimpleDate, Da
     }
 }
 
-/// The date of two numbers with a `/` between them before a month: they are a double year, or two
-/// days.
+/// Returns the date of two numbers with a `/` between them before a month: they are a double year,
+/// or two days.
 fn double_year_or_days(
     first: Numeral,
     second: Numeral,
@@ -310,7 +311,7 @@ fn double_year_or_days(
     }
 }
 
-/// A day in a form of numbers alone.
+/// Returns a day in a form of numbers alone.
 fn day_in_numbers(order: DateOrder, parts: &[Part]) -> Result<SimpleDate, DateFault>
     ensures { result ≡ spec.day_in_numbers order parts.now }
 {
@@ -336,7 +337,7 @@ fn day_in_numbers(order: DateOrder, parts: &[Part]) -> Result<SimpleDate, DateFa
     }
 }
 
-/// A day in a form with the name of its month.
+/// Returns a day in a form with the name of its month.
 fn day_in_words(parts: &[Part]) -> Result<SimpleDate, DateFault>
     ensures { result ≡ spec.day_in_words parts.now }
 {
@@ -378,7 +379,7 @@ fn day_in_words(parts: &[Part]) -> Result<SimpleDate, DateFault>
     }
 }
 
-/// A month or a year.
+/// Returns a month or a year.
 fn month_or_year(parts: &[Part]) -> Result<SimpleDate, DateFault>
     ensures { result ≡ spec.month_or_year parts.now }
 {
@@ -397,7 +398,7 @@ fn month_or_year(parts: &[Part]) -> Result<SimpleDate, DateFault>
     }
 }
 
-/// A date in digits with its year first: a day, a month or a year.
+/// Returns a date in digits with its year first: a day, a month or a year.
 pub fn date_in_digits(parts: &[Part]) -> Result<SimpleDate, DateFault>
     ensures { result ≡ spec.date_in_digits parts.now }
 {
@@ -409,7 +410,7 @@ pub fn date_in_digits(parts: &[Part]) -> Result<SimpleDate, DateFault>
     }
 }
 
-/// The date of parts that are one date.
+/// Returns the date of parts that are one date.
 pub fn simple_date(order: DateOrder, parts: &[Part]) -> Result<SimpleDate, DateFault>
     ensures { result ≡ spec.simple_date order parts.now }
 {

@@ -6,21 +6,21 @@ ghost use Rattle.osn_grammar.specs.WordsRead.{AreWordsRead};
 
 use osn_written::{AnyDate, Extent, SimpleDate, Year};
 
-/// Whether a number is from a least to a greatest one.
+/// Returns whether a number is from a least to a greatest one.
 fn is_between(low: u8, high: u8, number: u8) -> bool
     ensures { result ≡ simple.is_between low high number }
 {
     low <= number && number <= high
 }
 
-/// Whether the words of a year are read back.
+/// Returns whether the words of a year are read back.
 fn is_writable_year(year: Year) -> bool
     ensures { result ≡ spec.is_writable_year year }
 {
     year.first <= 10000 && !year.has_three_digits
 }
 
-/// Whether the words of a day, a month or a year are read back.
+/// Returns whether the words of a day, a month or a year are read back.
 fn is_writable_date(date: SimpleDate) -> bool
     ensures { result ≡ spec.is_writable_date date }
 {
@@ -33,9 +33,9 @@ fn is_writable_date(date: SimpleDate) -> bool
     }
 }
 
-/// Whether each year of a date is at most 10000 and none is written with three digits, each month
-/// is 1 to 12 and each day 1 to 31. Then `read_date` reads the words of the date as that
-/// very date, in each order of day and month.
+/// Returns whether each year of a date is at most 10000 and is not written with three digits, each
+/// month is 1 to 12 and each day 1 to 31. Then `read_date` reads the words of the date as that
+/// date, in each order of day and month.
 #[tactic(auto, using(crate::proofs::WordsLaw::words_law))]
 pub fn is_writable(date: AnyDate) -> bool
     ensures value { result ≡ spec.is_writable date }

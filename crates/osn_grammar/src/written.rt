@@ -8,7 +8,7 @@ pub enum Written {
     /// That it is undated, as `n.d.` does, or nothing.
     NoDate,
     Date(AnyDate),
-    /// One of several dates, as `[1543-04-11,1544-04-11]`: those of `members_of`.
+    /// One of several dates, such as `[1543-04-11,1544-04-11]`: those of `members_of`.
     Set,
 }
 

@@ -31,7 +31,7 @@ numeral_from ds e =
     let inner = both _ _ outer.0 in
     ((ltb-true _ _ inner.0, digits_from ds inner.1), outer.1)
 
--- a text that is read as a number, and as another one where it is none
+-- a text that is read as a number, or as another number if it is not one
 pub number_read : {E : Type 0} (G : Text → Result ℕ E → Type 0)
     → ((t : Text) (x : Result ℕ E) → G t x → ParsesUnsigned 32 10 t x)
     → (other : ℕ) (text : Text) (r : Option ℕ) → ReadsOne G text r

@@ -193,12 +193,12 @@ abbrev pub other_commands : List App
 other_commands =
     replay_grammar ∷ desk_grammar ∷ almanac_grammar ∷ audit_grammar ∷ completions_grammar ∷ []
 
--- a program with these commands after what it has
+-- a program with these commands added
 abbrev pub with_all : App → List App → App
 with_all program commands = fold with_command program commands
 
--- the command line: the program with its commands, and what each grammar has by itself, `--help`
--- and `help COMMAND`
+-- the command line: the program with its commands, and `--help` and `help COMMAND`, which every
+-- grammar has
 abbrev pub command_line : App
 command_line =
     with_all (with_all (with_all program_grammar date_commands) table_commands) other_commands
@@ -212,12 +212,12 @@ abbrev pub IsCommand : App → Command → Type 0
 IsCommand grammar command =
     (app_of command ≡ grammar) × ((out-Command command).has_globals ≡ false)
 
--- the new command is the old one with these arguments after what it has
+-- the new command is the old one with these arguments added
 abbrev pub HasArguments : Command → List Argument → Command → Type 0
 HasArguments old arguments new = (out-Command old).has_globals ≡ false
     → IsCommand (fold with_argument (app_of old) arguments) new
 
--- the new program is the old one with these commands after what it has
+-- the new program is the old one with these commands added
 abbrev pub HasCommands : Command → List App → Command → Type 0
 HasCommands old commands new = (out-Command old).has_globals ≡ false
     → IsCommand (with_all (app_of old) commands) new

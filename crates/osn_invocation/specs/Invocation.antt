@@ -34,27 +34,27 @@ pub data PageWordsModel : Type 0 where
   year_words : Text → Text → PageWordsModel
   territory_words : Option Text → PageWordsModel
 
--- what the service is asked for beside files: whether a journal that is kept is saved anew first,
--- how many readers ask, and whether edits and publishes are refused. It says whether the first line
--- that is refused is the last to be answered
+-- what the service is asked for besides files: whether a journal that is kept is first upgraded,
+-- how many readers ask, whether edits and publishes are refused, and whether the first line that is
+-- refused is the last to be answered
 pub record ServiceModel : Type 0 where
   pub upgrade : Bool
   pub readers : ℕ
   pub read_only : Bool
   pub stop_at_refusal : Bool
 
--- the names of the columns that say the date, where they are named: that of whole dates, and those
--- of years, months and days
+-- the names of the columns that say the date, if they are named: that of whole dates, and those of
+-- years, months and days
 pub record DateModel : Type 0 where
   pub date : Option Text
   pub year : Option Text
   pub month : Option Text
   pub day : Option Text
 
--- what the letters of a table are asked for. There are the names of the columns of places and of
--- the date, and that of the weekdays, if it is named. There are the file of the table of places,
--- what separates the fields, and the order of a date's three numbers, where these are named. And it
--- is said whether a remark is a refusal, and whether it is told at the end how many rows have each
+-- what is asked for the letters of a table: the names of the columns of places, of the date and of
+-- weekdays, if one is named; the file of the table of places, the separator of fields and the order
+-- of a date's three numbers, if these are named; whether a remark is a refusal; and whether the
+-- number of rows with each remark is printed at the end
 pub record LettersModel : Type 0 where
   pub place : Text
   pub date : DateModel
@@ -95,17 +95,17 @@ is_number digits = nat_lt 0 (length digits)
     && list_all (λ digit. nat_lt (digit_value digit) 10) digits
     && nat_lt (digits_value 10 digits) 4294967296
 
--- the number that a text is, after a plus or none, and `other` where it is none
+-- the number of a text, after an optional plus, or `other` if it is not a number
 abbrev pub number_or : ℕ → Text → ℕ
 number_or other text =
     if is_number (without_leading_plus text) then digits_value 10 (without_leading_plus text)
     else other
 
--- the number that was given, and `other` where none was
+-- the number that was given, or `other`
 abbrev pub number_of : ℕ → Text → List Row → ℕ
 number_of other name given = option_map_or (number_or other) (one_of name given) other
 
--- the text of an argument that has to stand, and the empty one where it does not
+-- the text of a required argument, or empty without it
 abbrev pub text_of : Text → List Row → Text
 text_of name given = unwrap_or (first_of name given) []
 
@@ -153,7 +153,7 @@ publish_command given =
     publishing (text_of (codes "journal") given) (text_of (codes "text") given)
     (is_given (codes "onto-newest") given)
 
--- the name of a column, which is that of its option where none is given
+-- the name of a column, or that of its option if no name is given
 abbrev pub column_of : Text → List Row → Text
 column_of name given = unwrap_or (first_of name given) name
 
@@ -205,7 +205,7 @@ year_page given = year_words (text_of (codes "code") given) (text_of (codes "yea
 abbrev pub territory_page : List Row → PageWordsModel
 territory_page given = territory_words (first_of (codes "code") given)
 
--- which page a command asks for, by its name, and what it asks for where it prints none
+-- which page a command asks for, by its name, and what it asks for if it prints no page
 abbrev pub page_or_serve : Text → List Row → CommandModel
 page_or_serve name given =
     if bytes_eq name (codes "almanac") then page_command given (almanac_page given)
@@ -240,7 +240,7 @@ abbrev pub with_limits : List Row → CommandModel → InvocationModel
 with_limits given command =
     record { limits = first_of (codes "limits") given; command = command }
 
--- of no command, what `serve` asks for
+-- without a command, what `serve` asks for
 abbrev pub invocation_by : List Row → Option (Text × List Row) → InvocationModel
 invocation_by given None = with_limits given (serve_command given)
 invocation_by given (Some command) = with_limits command.1 (command_by command.0 command.1)

@@ -9,11 +9,11 @@ use std::alloc::Global;
 /// An argument of a command: its name, how help shows its value, and what help says of it.
 #[derive(Clone, Copy, Debug)]
 pub(crate) enum Argument {
-    /// A word that is required, such as JOURNAL.
+    /// A required argument, such as JOURNAL.
     Required(&'static str, &'static str, &'static str),
-    /// A word that may be left out, such as CODE.
+    /// An optional argument, such as CODE.
     Optional(&'static str, &'static str, &'static str),
-    /// The required word YEAR, 0 to 4294967295.
+    /// The required argument YEAR, 0 to 4294967295.
     Year(&'static str),
     /// An option with a value, such as `--journal FILE`.
     Valued(&'static str, &'static str, &'static str),
@@ -25,7 +25,7 @@ pub(crate) enum Argument {
     RequiredReaders(&'static str),
 }
 
-/// The option `--readers`.
+/// Returns the option `--readers`.
 fn readers_of<'a>(alloc: Global) -> Arg<'a>
     ensures { IsArg readers_option result }
 {
@@ -35,14 +35,14 @@ fn readers_of<'a>(alloc: Global) -> Arg<'a>
         .value_parser(value_parser!(u32).range(1..65))
 }
 
-/// A word that is required.
+/// Returns an argument that is required.
 fn required_of<'a>(alloc: Global, id: &'a str, shown: &'a str) -> Arg<'a>
     ensures { IsArg (required_arg id.now) result }
 {
     Arg::new(alloc, id).value_name(shown).required(true)
 }
 
-/// An argument as `clap` has it.
+/// Returns an argument for `clap`.
 pub(crate) fn arg_of<'a>(alloc: Global, argument: Argument) -> Arg<'a>
     ensures { IsArg (rule_of_argument argument) result }
 {

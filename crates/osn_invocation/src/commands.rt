@@ -11,7 +11,7 @@ pub(crate) struct CommandRow {
     pub(crate) name: &'static str,
     /// What it does, in one line.
     pub(crate) about: &'static str,
-    /// Examples, and what else is to be known.
+    /// Examples, and other notes.
     pub(crate) examples: &'static str,
     /// Its arguments, in order.
     pub(crate) arguments: &'static [Argument],

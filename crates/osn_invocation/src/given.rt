@@ -5,7 +5,7 @@ ghost use Rattle.osn_invocation.specs.Invocation.{is_given, number_of, text_of};
 
 use clap::ArgMatches;
 
-/// The text of a word that may stand, if any.
+/// Returns the text of an argument, if it is given.
 pub(crate) fn value_of<'a>(given: &ArgMatches<'a>, id: &str) -> Option<&'a str>
     ensures { option_map (λ text. text.now) result
         ≡ first_of id.now (rows_of (found_of given.now)) }
@@ -13,21 +13,21 @@ pub(crate) fn value_of<'a>(given: &ArgMatches<'a>, id: &str) -> Option<&'a str>
     given.get_str(id)
 }
 
-/// The text of a word that has to stand.
+/// Returns the text of a required argument.
 pub(crate) fn text_of<'a>(given: &ArgMatches<'a>, id: &str) -> &'a str
     ensures { result.now ≡ text_of id.now (rows_of (found_of given.now)) }
 {
     given.get_str(id).unwrap_or_default()
 }
 
-/// Whether an option without a value was given.
+/// Returns whether an option without a value was given.
 pub(crate) fn is_given(given: &ArgMatches<'_>, id: &str) -> bool
     ensures { result ≡ is_given id.now (rows_of (found_of given.now)) }
 {
     given.get_count(id) > 0
 }
 
-/// The number that a word is, or the other one where it doesn't stand.
+/// Returns the number of an argument, or the other one if it isn't given.
 pub(crate) fn number_of(given: &ArgMatches<'_>, id: &str, other: u32) -> u32
     ensures { result ≡ number_of other id.now (rows_of (found_of given.now)) }
 {

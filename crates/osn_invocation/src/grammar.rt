@@ -21,7 +21,7 @@ const STATUSES: &str = "Statuses:
   4  memory ran out
 If the status is not 0, standard error says what was refused or failed.";
 
-/// A command with these arguments after what it has.
+/// Returns a command with these arguments added.
 fn with_arguments<'a>(
     alloc: Global,
     command: Command<'a>,
@@ -36,7 +36,7 @@ fn with_arguments<'a>(
     Ok(command)
 }
 
-/// The command of a row.
+/// Returns the command of a row.
 fn command_of<'a>(alloc: Global, row: &CommandRow) -> Result<Command<'a>, AllocError>
     ensures { IfOk result (IsCommand (command_of_row row.now)) }
 {
@@ -46,7 +46,7 @@ fn command_of<'a>(alloc: Global, row: &CommandRow) -> Result<Command<'a>, AllocE
     with_arguments(alloc, command, row.arguments)
 }
 
-/// A program with the commands of these rows after what it has.
+/// Returns a program with the commands of these rows added.
 fn with_commands<'a>(
     alloc: Global,
     program: Command<'a>,
@@ -61,32 +61,32 @@ fn with_commands<'a>(
     Ok(program)
 }
 
-/// A program with the commands that say what a date means.
+/// Returns the program, with the commands that say what a date means.
 fn with_dates<'a>(alloc: Global, program: Command<'a>) -> Result<Command<'a>, AllocError>
     ensures { IfOk result (HasCommands program.entry date_commands) }
 {
     with_commands(alloc, program, &DATES)
 }
 
-/// A program with the commands for tables, the service and the register as a text.
+/// Returns the program, with the commands for tables, the service and the register as a text.
 fn with_tables<'a>(alloc: Global, program: Command<'a>) -> Result<Command<'a>, AllocError>
     ensures { IfOk result (HasCommands program.entry table_commands) }
 {
     with_commands(alloc, program, &TABLES)
 }
 
-/// A program with the other commands.
+/// Returns the program, with the other commands.
 fn with_others<'a>(alloc: Global, program: Command<'a>) -> Result<Command<'a>, AllocError>
     ensures { IfOk result (HasCommands program.entry other_commands) }
 {
     with_commands(alloc, program, &OTHERS)
 }
 
-/// The program with all its commands.
+/// Returns the program with all its commands.
 ///
 /// # Errors
 ///
-/// Want of memory, and nothing else.
+/// Returns `AllocError` if memory runs out.
 pub fn command_line<'a>(alloc: Global) -> Result<Command<'a>, AllocError>
     ensures { IfOk result (IsCommand command_line) }
 {

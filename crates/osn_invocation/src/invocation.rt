@@ -21,7 +21,7 @@ use clap::{ArgMatches, Error};
 use std::alloc::Global;
 use std::convert::AsStr;
 
-/// The readers of the service where no number is given.
+/// The number of readers of the service, if no number is given.
 const READERS: u32 = 8;
 
 /// The options of the service. Files are named by their paths; the readers are 1 to 64.
@@ -29,11 +29,11 @@ const READERS: u32 = 8;
 pub struct ServeOptions<'a> {
     /// The journal to begin with, if any.
     pub journal: Option<&'a str>,
-    /// Where the journal is saved in the end, if anywhere.
+    /// The file to which the journal is saved in the end, if any.
     pub save: Option<&'a str>,
-    /// Where the journal is kept while the service runs, if anywhere.
+    /// The file in which the journal is kept while the service runs, if any.
     pub keep: Option<&'a str>,
-    /// Whether the journal that is kept is saved anew first, where it is of an earlier version.
+    /// Whether the journal that is kept is first upgraded, if it is of an earlier version.
     pub upgrade: bool,
     /// The journal that another run keeps and this one follows, if any.
     pub follow: Option<&'a str>,
@@ -45,7 +45,7 @@ pub struct ServeOptions<'a> {
     pub stop_at_refusal: bool,
 }
 
-/// A page of what a journal published, by the words of the command line.
+/// A page of what a journal published, by its arguments.
 #[derive(Clone, Copy, Debug, PartialEq, Eq)]
 pub enum PageWords<'a> {
     /// The almanac of a territory and year.
@@ -59,7 +59,7 @@ pub enum PageWords<'a> {
     Read {
         /// The code of the territory.
         code: &'a str,
-        /// The date, as in the document.
+        /// The date as written in the document.
         date: &'a str,
         /// The name of the weekday that the document has, if any.
         weekday: Option<&'a str>,
@@ -110,7 +110,7 @@ pub enum CommandWords<'a> {
         /// The file of the steps.
         schedule: &'a str,
     },
-    /// To print what readers are told while an editor works through a script.
+    /// To print the replies to readers while an editor works through a script.
     Desk {
         /// The file of what the editor does.
         script: &'a str,
@@ -124,11 +124,11 @@ pub enum CommandWords<'a> {
         /// Which page.
         page: PageWords<'a>,
     },
-    /// To hold a transcript against a journal.
+    /// To compare a transcript with a journal.
     Audit {
         /// The file of the journal.
         journal: &'a str,
-        /// The file of the questions and replies of readers.
+        /// The file of what readers asked, and of the replies.
         transcript: &'a str,
     },
     /// To say of each letter of a table which day its date means.
@@ -168,7 +168,7 @@ pub enum CommandWords<'a> {
         /// Whether they may change again what later editions than that of the text changed.
         onto_newest: bool,
     },
-    /// To print the text by which a shell completes the program's words.
+    /// To print the text with which a shell completes command lines.
     Completions {
         /// The word of the shell.
         shell: &'a str,
@@ -178,13 +178,13 @@ pub enum CommandWords<'a> {
 /// What a command line asks for.
 #[derive(Clone, Copy, Debug, PartialEq, Eq)]
 pub struct Invocation<'a> {
-    /// What the limits of the register are said to be, if anything.
+    /// The text of the limits of the register, if any is given.
     pub limits: Option<&'a str>,
     /// The command.
     pub command: CommandWords<'a>,
 }
 
-/// What the grammar finds in the arguments of a command line.
+/// Returns what the grammar finds in the arguments of a command line.
 fn matches_in<'a, S: AsStr>(alloc: Global, args: &'a [S]) -> Result<ArgMatches<'a>, Error>
     ensures ok { IfOk result (HasMatches (map S.text args.now)) }
     ensures err { IfErr result (λ e. takes command_line (map S.text args.now) ≡ true
@@ -194,12 +194,12 @@ fn matches_in<'a, S: AsStr>(alloc: Global, args: &'a [S]) -> Result<ArgMatches<'
     command_line(alloc)?.try_get_matches_from(args)
 }
 
-/// Reads the arguments of a command line, of which the first is the program's name.
+/// Reads the arguments of a command line. The first one is the program's name.
 ///
 /// # Errors
 ///
-/// What is shown to the user in place of a command: help or the version where they were asked for,
-/// a mistake in the arguments, or that memory ran out.
+/// Returns what is shown to the user in place of a command: help or the version if they were
+/// requested, a mistake in the arguments, or that memory ran out.
 pub fn parse_args<'a, S: AsStr>(alloc: Global, args: &'a [S]) -> Result<Invocation<'a>, Error>
     ensures ok { IfOk result (λ found. model_of found ≡ invocation_in (map S.text args.now)) }
     ensures err { IfErr result (λ e. takes command_line (map S.text args.now) ≡ true
@@ -210,7 +210,7 @@ pub fn parse_args<'a, S: AsStr>(alloc: Global, args: &'a [S]) -> Result<Invocati
     Ok(invocation_of(&found))
 }
 
-/// What was asked for by what was found; of no command, what `serve` asks for.
+/// Returns the invocation of what was found; without a command, that of `serve`.
 fn invocation_of<'a>(found: &ArgMatches<'a>) -> Invocation<'a>
     ensures { model_of result
         ≡ invocation_by (rows_of (found_of found.now)) (subcommand_rows_of found.now) }
@@ -221,7 +221,7 @@ fn invocation_of<'a>(found: &ArgMatches<'a>) -> Invocation<'a>
     }
 }
 
-/// A command, with what its limits are said to be.
+/// Returns an invocation of a command, with the text of its limits.
 fn with_limits<'a>(given: &ArgMatches<'a>, command: CommandWords<'a>) -> Invocation<'a>
     ensures { model_of result
         ≡ with_limits (rows_of (found_of given.now)) (command_model command.entry) }
@@ -232,7 +232,7 @@ fn with_limits<'a>(given: &ArgMatches<'a>, command: CommandWords<'a>) -> Invocat
     }
 }
 
-/// What a command asks for, by its name and the arguments after it.
+/// Returns what a command asks for, by its name and the arguments after it.
 fn command_of<'a>(name: &str, given: &ArgMatches<'a>) -> CommandWords<'a>
     ensures { command_model result ≡ command_by name.now (rows_of (found_of given.now)) }
 {
@@ -256,7 +256,7 @@ fn command_of<'a>(name: &str, given: &ArgMatches<'a>) -> CommandWords<'a>
     }
 }
 
-/// What the options of `serve` ask for; of none, that nothing is named.
+/// Returns what the options of `serve` ask for; without options, nothing is named.
 fn serve_of<'a>(given: &ArgMatches<'a>) -> CommandWords<'a>
     ensures { command_model result ≡ serve_command (rows_of (found_of given.now)) }
 {
@@ -272,7 +272,7 @@ fn serve_of<'a>(given: &ArgMatches<'a>) -> CommandWords<'a>
     })
 }
 
-/// What the arguments of `replay` ask for.
+/// Returns what the arguments of `replay` ask for.
 fn replay_of<'a>(given: &ArgMatches<'a>) -> CommandWords<'a>
     ensures { command_model result ≡ replay_command (rows_of (found_of given.now)) }
 {
@@ -282,7 +282,7 @@ fn replay_of<'a>(given: &ArgMatches<'a>) -> CommandWords<'a>
     }
 }
 
-/// What the arguments of `desk` ask for.
+/// Returns what the arguments of `desk` ask for.
 fn desk_of<'a>(given: &ArgMatches<'a>) -> CommandWords<'a>
     ensures { command_model result ≡ desk_command (rows_of (found_of given.now)) }
 {
@@ -292,7 +292,7 @@ fn desk_of<'a>(given: &ArgMatches<'a>) -> CommandWords<'a>
     }
 }
 
-/// What the arguments of `audit` ask for.
+/// Returns what the arguments of `audit` ask for.
 fn audit_of<'a>(given: &ArgMatches<'a>) -> CommandWords<'a>
     ensures { command_model result ≡ audit_command (rows_of (found_of given.now)) }
 {
@@ -302,7 +302,7 @@ fn audit_of<'a>(given: &ArgMatches<'a>) -> CommandWords<'a>
     }
 }
 
-/// What the arguments of `convert` ask for.
+/// Returns what the arguments of `convert` ask for.
 fn convert_of<'a>(given: &ArgMatches<'a>) -> CommandWords<'a>
     ensures { command_model result ≡ convert_command (rows_of (found_of given.now)) }
 {
@@ -312,7 +312,7 @@ fn convert_of<'a>(given: &ArgMatches<'a>) -> CommandWords<'a>
     }
 }
 
-/// What the argument of `completions` asks for.
+/// Returns what the argument of `completions` asks for.
 fn completions_of<'a>(given: &ArgMatches<'a>) -> CommandWords<'a>
     ensures { command_model result ≡ completions_command (rows_of (found_of given.now)) }
 {
@@ -321,7 +321,7 @@ fn completions_of<'a>(given: &ArgMatches<'a>) -> CommandWords<'a>
     }
 }
 
-/// What the arguments of a command ask for that prints this page.
+/// Returns what the arguments of a command that prints this page ask for.
 fn page_of<'a>(given: &ArgMatches<'a>, page: PageWords<'a>) -> CommandWords<'a>
     ensures { command_model result
         ≡ page_command (rows_of (found_of given.now)) (page_words page.entry) }
@@ -332,7 +332,7 @@ fn page_of<'a>(given: &ArgMatches<'a>, page: PageWords<'a>) -> CommandWords<'a>
     }
 }
 
-/// Which page the arguments of `almanac` ask for.
+/// Returns which page the arguments of `almanac` ask for.
 fn almanac_of<'a>(given: &ArgMatches<'a>) -> PageWords<'a>
     ensures { page_words result ≡ almanac_page (rows_of (found_of given.now)) }
 {
@@ -342,7 +342,7 @@ fn almanac_of<'a>(given: &ArgMatches<'a>) -> PageWords<'a>
     }
 }
 
-/// Which page the arguments of `read` ask for.
+/// Returns which page the arguments of `read` ask for.
 fn read_of<'a>(given: &ArgMatches<'a>) -> PageWords<'a>
     ensures { page_words result ≡ read_page (rows_of (found_of given.now)) }
 {
@@ -355,7 +355,7 @@ fn read_of<'a>(given: &ArgMatches<'a>) -> PageWords<'a>
     }
 }
 
-/// Which page the arguments of `day` ask for.
+/// Returns which page the arguments of `day` ask for.
 fn day_of<'a>(given: &ArgMatches<'a>) -> PageWords<'a>
     ensures { page_words result ≡ day_page (rows_of (found_of given.now)) }
 {
@@ -365,7 +365,7 @@ fn day_of<'a>(given: &ArgMatches<'a>) -> PageWords<'a>
     }
 }
 
-/// Which page the arguments of `month` ask for.
+/// Returns which page the arguments of `month` ask for.
 fn month_of<'a>(given: &ArgMatches<'a>) -> PageWords<'a>
     ensures { page_words result ≡ month_page (rows_of (found_of given.now)) }
 {
@@ -376,7 +376,7 @@ fn month_of<'a>(given: &ArgMatches<'a>) -> PageWords<'a>
     }
 }
 
-/// Which page the arguments of `year` ask for.
+/// Returns which page the arguments of `year` ask for.
 fn year_of<'a>(given: &ArgMatches<'a>) -> PageWords<'a>
     ensures { page_words result ≡ year_page (rows_of (found_of given.now)) }
 {
@@ -386,7 +386,7 @@ fn year_of<'a>(given: &ArgMatches<'a>) -> PageWords<'a>
     }
 }
 
-/// Which page the arguments of `territory` ask for.
+/// Returns which page the arguments of `territory` ask for.
 fn territory_of<'a>(given: &ArgMatches<'a>) -> PageWords<'a>
     ensures { page_words result ≡ territory_page (rows_of (found_of given.now)) }
 {

@@ -9,8 +9,8 @@ use crate::given::{is_given, text_of, value_of};
 use crate::invocation::CommandWords;
 use clap::ArgMatches;
 
-/// The names of the columns that say the date, where they are named. Which of them go together is
-/// for the command to say.
+/// The names of the columns that say the date, if they are named. The command checks which of them
+/// can be used together.
 #[derive(Clone, Copy, Debug, PartialEq, Eq)]
 pub struct DateOptions<'a> {
     /// The name of the column of whole dates.
@@ -40,11 +40,11 @@ pub struct LettersOptions<'a> {
     pub order: Option<&'a str>,
     /// Whether a remark is a refusal.
     pub strict: bool,
-    /// Whether it is told at the end how many rows have each remark.
+    /// Whether the number of rows with each remark is printed at the end.
     pub summary: bool,
 }
 
-/// The names of the columns that say the date.
+/// Returns the names of the columns that say the date.
 fn date_options_of<'a>(given: &ArgMatches<'a>) -> DateOptions<'a>
     ensures { date_model result ≡ date_options (rows_of (found_of given.now)) }
 {
@@ -56,7 +56,7 @@ fn date_options_of<'a>(given: &ArgMatches<'a>) -> DateOptions<'a>
     }
 }
 
-/// What the arguments of `letters` ask for.
+/// Returns what the arguments of `letters` ask for.
 pub(crate) fn letters_of<'a>(given: &ArgMatches<'a>) -> CommandWords<'a>
     ensures { command_model result ≡ letters_command (rows_of (found_of given.now)) }
 {

@@ -1,7 +1,7 @@
-//! What a command line asks for: its grammar, and the command with its files and numbers that stand
-//! in the arguments. What the crate promises to those above: `parse_args` takes what the grammar
-//! takes and answers what that finds in it. An error is of a kind that the grammar gives.
-//! `command_line` builds that very grammar.
+//! What a command line asks for: its grammar, and the command with the files and numbers of its
+//! arguments. The crate guarantees that `parse_args` takes what the grammar takes and returns what
+//! the grammar finds in it. An error is of a kind that the grammar gives. `command_line` builds
+//! exactly that grammar.
 #![tactic(auto)]
 
 mod argument;

@@ -9,7 +9,7 @@ use crate::given::{is_given, text_of, value_of};
 use crate::invocation::CommandWords;
 use clap::ArgMatches;
 
-/// What the arguments of `text` ask for.
+/// Returns what the arguments of `text` ask for.
 pub(crate) fn register_text_of<'a>(given: &ArgMatches<'a>) -> CommandWords<'a>
     ensures { command_model result ≡ text_command (rows_of (found_of given.now)) }
 {
@@ -19,7 +19,7 @@ pub(crate) fn register_text_of<'a>(given: &ArgMatches<'a>) -> CommandWords<'a>
     }
 }
 
-/// What the arguments of `plan` ask for.
+/// Returns what the arguments of `plan` ask for.
 pub(crate) fn plan_of<'a>(given: &ArgMatches<'a>) -> CommandWords<'a>
     ensures { command_model result ≡ plan_command (rows_of (found_of given.now)) }
 {
@@ -29,7 +29,7 @@ pub(crate) fn plan_of<'a>(given: &ArgMatches<'a>) -> CommandWords<'a>
     }
 }
 
-/// What the arguments of `publish` ask for.
+/// Returns what the arguments of `publish` ask for.
 pub(crate) fn publish_of<'a>(given: &ArgMatches<'a>) -> CommandWords<'a>
     ensures { command_model result ≡ publish_command (rows_of (found_of given.now)) }
 {

@@ -1,4 +1,4 @@
--- What became of a line, by what the file told.
+-- What became of a line, from the result of the file.
 use Rattle.std.proofs.Common.{◌≡◌, ◌∙◌, ℕ, List, length, take, Option, Result, Ok, Err}
 use Rattle.std.proofs.Common.{sym, subst, ap, MatchResult, OnOk, OnErr}
 use Rattle.std.proofs.Math.Seq.{take-length}
@@ -47,7 +47,7 @@ synced_or_failed line (Err why) a b c h same ok err fault = record {
   reason = fault;
 }
 
--- a change was made, and what the file told of its line is told of the store
+-- a change was made, and the file's result for its line is the store's result
 pub Keeping-result : {A : Type 0} (change : Change) (s t : ObjectState) (line : List ℕ)
     (r : Result A KeptFileFault) (told : Result A (StoreFault KeptFileFault))
     (old new : FileState) → t ≡ changed s change → GivesLawful change → line ≡ change_line change

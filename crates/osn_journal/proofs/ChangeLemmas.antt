@@ -50,7 +50,7 @@ HasEdit-last version s e h =
     (subst (All (HasEdit version)) (drop-append_seam all (e ∷ []))
     (All-drop (HasEdit version) (length all) (all ++ e ∷ []) (staged version s e h)))
 
--- a text that is loaded as an object is loaded with a change that was let in, by the line of the
+-- a text that is loaded as an object is loaded with a change that was allowed, by the line of the
 -- change
 pub loads_by_line : (version : Version) (limits : Limits) (s : ObjectState) (change : Change)
     (text : List ℕ) → change_refusal s change ≡ None → GivesLawful change

@@ -85,7 +85,7 @@ IsOnDisk-change s Publish old new h d =
       pending = refl;
     }
 
--- a change that was let in, whose line the file has
+-- a change that was allowed, whose line the file has
 pub KeepsAll-change : (s : ObjectState) (change : Change) (old new : FileState)
     → change_refusal s change ≡ None → GivesLawful change
     → HasLine change (change_line change) old new → KeepsAll s (changed s change) old new

@@ -88,21 +88,21 @@ module _ {K : Type 0} (contents synced : K → Option (List ℕ))
     begun : KeepsAll (object_of old) (object_of old) (file_at old) (file_at old)
     begun = KeepsAll-nothing (object_of old) (file_at old)
 
-    -- the file was kept from its first state on, or from any since which it was
+    -- the file was kept from its first state on, or from any state from which it was kept before
     abbrev KeepsFromFirst : Type 0
     KeepsFromFirst = KeepsAll (object_of old) (object_of new) (file_at old) (file_at new)
 
     abbrev KeepsFromAny : Type 0
     KeepsFromAny = (first : KeptObject K) → has_kept first old → has_kept first new
 
-    -- where the service ended without a fault
+    -- if the service ended without a fault
     served : (refused : Bool) (n : ℕ)
         → MatchServed refused (λ _. KeepsFromAny) (λ _. KeepsFromAny) n
         → MatchServed refused (λ _. KeepsFromFirst) (λ _. KeepsFromFirst) n
     served false n h = h old begun
     served true n h = h old begun
 
-    -- where it ended by a fault
+    -- if it ended by a fault
     ended : (n : ℕ) (cause : ServiceFault KeptFileFault)
         → KeepsStore has_kept has_lost rules (object_of old) old new i
         (Err (record { lines = n; cause = cause }))

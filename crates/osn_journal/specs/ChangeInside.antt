@@ -27,7 +27,7 @@ pub record IsAppended (line : List ℕ) (old new : FileState) : Type 0 where
   pub disk : new.synced ≡ old.synced
   pub sound : new.fault ≡ old.fault
 
--- a line was appended, and all that the file holds is on the disk
+-- a line was appended, and all that the file contains is on the disk
 pub record IsSynced (line : List ℕ) (old new : FileState) : Type 0 where
   pub journal : Appends old.contents new.contents line
   pub disk : new.synced ≡ new.contents

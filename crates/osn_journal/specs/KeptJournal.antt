@@ -1,5 +1,5 @@
--- The file that is kept while lines are served. The lines of what was changed stand after what it
--- held, and up to the last publish all of it is on the disk.
+-- The file that is kept while lines are served. The lines of changes follow what it held, and up to
+-- the last publish all of it is on the disk.
 use Rattle.std.specs.Prelude.{◌≡◌, ⊤, ℕ, false, List, ◌++◌, take, Option, Some, IfSome, Result}
 use Rattle.std.specs.Io.KnownBytes.{Appends}
 use Rattle.osn_register.specs.declared.limits.Limits.{Limits}
@@ -19,8 +19,8 @@ use Rattle.osn_service.specs.Served.{after_lines}
 
 -- ---- what becomes of the file
 
--- What a file holds is on the disk for sure, but for some of its last bytes, which are the end of
--- the lines of an object's pending edits.
+-- The contents of a file are on the disk for sure, except some of its last bytes, which are the end
+-- of the lines of an object's pending edits.
 pub record IsOnDisk (s : ObjectState) (contents synced : Option (List ℕ)) : Type 0 where
   pub on_disk : List ℕ
   pub front : List ℕ
@@ -32,19 +32,20 @@ pub record IsOnDisk (s : ObjectState) (contents synced : Option (List ℕ)) : Ty
 -- The file was kept for an object that was s and is t.
 pub record Keeps (s t : ObjectState) (old new old_synced new_synced : Option (List ℕ))
     : Type 0 where
-  -- what the journal of t has more than that of s, under a head of the same version, was appended,
-  -- where it is known what was held
+  -- the lines of t's journal after those of s, under a head of the same version, were appended, if
+  -- the old contents are known
   pub added : List ℕ
   pub grows : (version : Version) → journal_text_of version t ≡ journal_text_of version s ++ added
   pub journal : Appends old new added
-  -- after whatever is loaded as s it is loaded as t, by a version that has the edits of t
+  -- a text that is loaded as s is loaded as t with these lines, by a version that has the edits of
+  -- t
   pub loads : (version : Version) (limits : Limits) (text : List ℕ) → HasEdits version t
       → IsJournalOf version limits s text → IsJournalOf version limits t (text ++ added)
-  -- where all but lines of pending edits was on the disk, it is
+  -- if all except lines of pending edits was on the disk, it still is
   pub disk : IsOnDisk s old old_synced → IsOnDisk t new new_synced
 
 -- The file was kept for an object that was s and then u. It failed at the line of the change that
--- made it t, a front of which was appended. Up to u the file held `contents`.
+-- made it t, and a prefix of that line was appended. Up to u the file held `contents`.
 pub record KeepsInPart (s u t : ObjectState) (old new old_synced new_synced : Option (List ℕ))
     : Type 0 where
   pub contents : Option (List ℕ)
@@ -70,8 +71,8 @@ KeepsEdits rules s t =
 
 -- ---- whether the file failed
 
--- what is known of a file that is kept: what it holds, what of that is on the disk for sure, and
--- why the last change that failed did so
+-- what is known of a file that is kept: its contents, what of them is on the disk for sure, and why
+-- the last change that failed did so
 pub record FileState : Type 0 where
   pub contents : Option (List ℕ)
   pub synced : Option (List ℕ)
@@ -107,7 +108,7 @@ pub record KeepsFirst (rules : ServeRules) (s t : ObjectState) (input : Option (
   pub stands : IfSome input (λ bytes. before ≡ after_lines rules s (take n (lines bytes)))
   pub keeps : KeepsUntil s before t old new why
 
--- The state of the kept file where answering lines ended.
+-- The state of the kept file when answering lines ended.
 abbrev pub KeepsFile : ServeRules → ObjectState → ObjectState → Option (List ℕ) → FileState
     → FileState → Result Served (Interrupted (ServiceFault KeptFileFault)) → Type 0
 KeepsFile rules s t input old new result =

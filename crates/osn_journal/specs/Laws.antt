@@ -32,7 +32,7 @@ pub record JournalLaws : Type 0 where
   pub plain : (e : Edit) → source_given e ≡ None → HasEdit plain_version e
   -- the version by which the journal of an object is written has its edits
   pub own : (s : ObjectState) → HasEdits (version_for s) s
-  -- a journal of an object is loaded as that object, where its version has the edits
+  -- a journal of an object is loaded as that object, if its version has the edits
   pub written : (version : Version) (s : ObjectState) → IsSound newest_rules s
       → HasEdits version s → IsJournalOf version s.limits s (journal_text_of version s)
 

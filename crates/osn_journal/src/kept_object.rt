@@ -13,12 +13,12 @@ use osn_register::{BorrowedQuery, Edit, Refusal};
 use osn_service::{Change, Store, StoreFault};
 use std::alloc::{AllocError, Global};
 
-/// Stages an edit that was let in, and appends its line.
+/// Stages an edit, which must be allowed, and appends its line.
 ///
 /// # Errors
 ///
-/// `NoMemory` where none is found, and nothing has changed then. `NotKept` where the file failed
-/// after the object had changed.
+/// Returns `NoMemory` if memory runs out; nothing has changed then. Returns `NotKept` if the file
+/// failed after the object had changed.
 fn stage<K: KeptFile>(
     alloc: Global,
     object: &mut Object,
@@ -35,11 +35,11 @@ fn stage<K: KeptFile>(
     keeper.append(&line).map_err(StoreFault::NotKept)
 }
 
-/// Appends a line, and answers once all that the file holds is on the disk.
+/// Appends a line, and returns once all that the file contains is on the disk.
 ///
 /// # Errors
 ///
-/// Where the file failed. The first bytes of the line may stand in it then.
+/// Returns the fault of the file. The file may then contain the first bytes of the line.
 pub fn append_synced<K: KeptFile>(keeper: &mut K, line: &[u8]) -> Result<(), KeptFileFault>
     ensures { MatchResult result
         (λ _. IsSynced line.now (file_of K.contents K.synced K.fault keeper.old)
@@ -51,8 +51,8 @@ pub fn append_synced<K: KeptFile>(keeper: &mut K, line: &[u8]) -> Result<(), Kep
     keeper.sync()
 }
 
-/// Publishes the pending edits, where that was let in, and appends its line, which is on the disk
-/// then.
+/// Publishes the pending edits, which must be allowed, and appends the line of the publish, which
+/// is on the disk then.
 ///
 /// # Errors
 ///
@@ -72,8 +72,8 @@ fn publish<K: KeptFile>(
     append_synced(keeper, &line).map_err(StoreFault::NotKept)
 }
 
-/// An object, and the file that it is kept in. It owns no memory, so that what it borrows is known
-/// again once it is gone.
+/// An object, and the file in which it is kept. It owns no memory, so that what it borrows is known
+/// again after it is dropped.
 #[derive(Drop)]
 pub(crate) struct KeptObject<'a, K> {
     pub(crate) alloc: Global,

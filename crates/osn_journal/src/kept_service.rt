@@ -12,22 +12,22 @@ use osn_service::{ServeRules, Served, ServiceFault, serve_store};
 use std::alloc::Global;
 
 /// Answers every line of the source up to its end, by these rules, from the object that is given.
-/// Keeps a file, which is loaded as the object. Answers how many were answered.
+/// Keeps a file, which is loaded as the object. Returns how many lines were answered.
 ///
 /// Each edit that is taken and each publish is appended to the file, as a line of the journal,
-/// before its reply is written. A publish is also on the disk before that. What is refused appends
-/// nothing. What the file held is not read, and need not be what is written of the object. If it
-/// ends with a line feed and is loaded as the object that is given, it is loaded as what becomes of
-/// it, as long as the version that its head says has each edit. Version 4 has every one.
-/// The second has those that give no source, so the rules are to take none there. The first lacks
-/// two styles too.
+/// before its reply is written. A publish is also on the disk before that. Nothing is appended for
+/// a request that is refused. The old contents of the file are not read, and need not be what is
+/// written of the object. If they end with a line feed and are loaded as the object that is given,
+/// the new contents are loaded as the new object, as long as the version that the head says has
+/// each edit. Version 4 has every edit. The second version has those that give no source, so the
+/// rules must take no source then. The first version lacks two styles too.
 ///
 /// # Errors
 ///
-/// The number of lines whose reply was written whole, and why no more. It is `Serve` for what ends
-/// `serve_from` too, and `NotKept` where the file failed, with its fault. A front of the line of
-/// what the next request changed may stand in the file then. The object has changed, and nobody was
-/// told.
+/// Returns the number of lines whose reply was written whole, and the cause. The cause is `Serve`
+/// for what ends `serve_from` too, and `NotKept` with the fault of the file if the file failed. The
+/// file may then contain the first bytes of the line of the next change. The object has changed,
+/// but no reply was written.
 #[tactic(auto, using(crate::proofs::JournalLemmas::each_journal_grows_by_lines))]
 pub fn serve_kept<R: Source, W: Sink, K: KeptFile>(
     alloc: Global,

@@ -1,6 +1,6 @@
-//! The journal that is kept in a file while lines are answered. What the crate promises to those
-//! above: `serve_kept` answers as `serve_store` does. Before the reply to a change is written, the
-//! line of that change stands in the file, and that of a publish on the disk.
+//! Keeps the journal in a file while lines are answered. The crate guarantees that `serve_kept`
+//! answers as `serve_store` does. Before the reply to a change is written, the file contains the
+//! line of that change, and the line of a publish is on the disk.
 #![tactic(auto)]
 
 mod kept_object;

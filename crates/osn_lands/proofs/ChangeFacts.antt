@@ -1,4 +1,4 @@
--- What a change does to ascending starts, where the periods that follow from them cover the days.
+-- What a change does to ascending starts, if the periods that follow from them cover the days.
 use Rattle.std.proofs.Common.{◌≡◌, ℕ, inl, inr, ◌+◌, ◌<◌, ◌≤◌, Bool, true, false, suc, List, []}
 use Rattle.std.proofs.Common.{◌∷◌, ◌++◌, length, get_or, take, drop, set, ◌==◌, ◌||◌, not}
 use Rattle.std.proofs.Common.{if◌then◌else◌, map, filter, refl, ap, sym, subst, ◌∙◌, arith, eq-eqb}
@@ -74,7 +74,7 @@ starts_on-is (q ∷ front) rest p first last d covers low high =
     (ne_eqb q.first d (λ e. omega (arith, later, covers.1)))
     ∙ starts_on-is front rest p (q.last + 1) last d covers.2 low high
 
--- a further start, within a period
+-- another start, within a period
 pub with_start-is : (front rest : List Period) (p before after : Period) (first last d : ℕ)
     (regime : Regime) → Covers first last (front ++ p ∷ rest) → p.first < d → d ≤ p.last →
     start_of before ≡ start_of p → start_of after ≡ (d, regime) →
@@ -182,11 +182,11 @@ module _ (ps : List Period) (i last d : ℕ) (p : Period) (covers : Covers 1 las
   pub found_start : has_start d ps ≡ (p.first == d)
   found_start = starts_on-at ps i 1 last d p within is covers found_holds.0 found_holds.1
 
-  -- it starts on the day where a period does
+  -- it starts on the day if a period does
   pub found_on_start : has_start d ps ≡ true → p.first ≡ d
   found_on_start start = eqb-true p.first d (sym found_start ∙ start)
 
-  -- and before it where none does
+  -- and before it if none does
   pub found_apart : has_start d ps ≡ false → p.first < d
   found_apart apart =
       let off = eqb-false p.first d (sym found_start ∙ apart) in

@@ -137,7 +137,8 @@ no_more_than_days (p ∷ ps) first last covers =
     let more = no_more_than_days ps (p.last + 1) last covers.2 in
     omega (arith, more, covers.0, covers.1)
 
--- a day before the next period begins, or on the line where none does, is before a period's end
+-- a day before the next period begins, or on the line if no period follows, is before a period's
+-- end
 pub not_after : (ps : List Period) (i first last d : ℕ) → Covers first last ps → i < length ps →
     d ≤ last → ((q : Period) → suc i < length ps → d < (get_or ps (suc i) q).first) → (p : Period) →
     d ≤ (get_or ps i p).last

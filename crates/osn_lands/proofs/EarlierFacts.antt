@@ -1,4 +1,4 @@
--- Of two days the earlier one has the earlier date, in each calendar.
+-- The earlier one of two days has the earlier date, in each calendar.
 use Rattle.std.proofs.Common.{◌≡◌, ℕ, ◌-◌, ◌≤◌, ◌<ℤ◌, ◌≤ℤ◌, ◌≡◌, inl, inr, Bool, true, false}
 use Rattle.std.proofs.Common.{◌&&◌, ◌||◌, ◌==◌, nat_lt, int_lt, sym, ap, ◌∙◌, arith, eqb-true}
 use Rattle.std.proofs.lemmas.Bool.{and_parts, and_cases, or_cases, or_parts, cases_lt}

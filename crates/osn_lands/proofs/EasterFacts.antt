@@ -1,4 +1,4 @@
--- The Easters by both rules, each where its rule is in force, are those of the territory.
+-- The Easters by both rules, each if its rule is in force, are those of the territory.
 use Rattle.std.proofs.Common.{◌≡◌, ℕ, nat_lt, ◌<◌, ◌≤◌, inl, inr, Bool, true, false}
 use Rattle.std.proofs.Common.{◌==◌, ◌&&◌, ◌||◌, nat_le, [], ◌∷◌, ◌++◌, filter, Option, Some, None}
 use Rattle.std.proofs.Common.{if◌then◌else◌, refl, sym, ap, ◌∙◌, arith, eqb-true, IfSome}
@@ -48,7 +48,7 @@ easter_low : (p : Profile) (rule : Rule) (y : ℕ) (easter : Option ℕ) → eas
 easter_low p rule y None is = tt
 easter_low p rule y (Some e) is = (on_line p rule y e is).0
 
--- Easter is from the first day on, where it is
+-- Easter is on the first day or later, if it is on the line
 pub easter_on_line : (p : Profile) (rule : Rule) (y : ℕ) →
     IfSome (easter_of p rule y) (λ e. 1 ≤ e)
 easter_on_line p rule y = easter_low p rule y (easter_of p rule y) refl
@@ -102,7 +102,7 @@ in_order f g h n a b either first second less =
     let other = passes_one g 1 n b e second low_e high_e there in
     omega (arith, less, one, other)))
 
--- they are two where no day passes both tests
+-- they are two if no day passes both tests
 apart_days : (f g : ℕ → Bool) (n a b : ℕ) → ((d : ℕ) → f d ≡ true → g d ≡ true → ⊥) → a
     ∷ [] ≡ filter f (range_with_len 1 n) → b ∷ [] ≡ filter g (range_with_len 1 n) → a ≡ b → ⊥
 apart_days f g n a b apart first second same =
@@ -160,7 +160,7 @@ not_both : (rule : Rule) → is_rule rule Julian ≡ true → is_rule rule Grego
 not_both Julian first second = let clash : false ≡ true = second in cc
 not_both Gregorian first second = let clash : false ≡ true = first in cc
 
--- so where none is listed, the Easters are those two
+-- so the Easters are those two, if no exception is listed
 pub easters_are : (p : Profile) (t : TerritoryModel) (y : ℕ) (one other : Option ℕ) →
     exception_of t y ≡ None → option_to_list one ≡ easters_in_force p t Julian y →
     option_to_list other ≡ easters_in_force p t Gregorian y →

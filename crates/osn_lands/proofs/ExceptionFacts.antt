@@ -10,7 +10,7 @@ is_elsewhere year other apart = grind (arith, nat_tests)
 same_test : (year key : ℕ) → (year == key) ≡ is_eq (nat_cmp year key)
 same_test year key = grind (arith, nat_tests)
 
--- the map compares where the definition tests
+-- the map compares as the definition tests
 pub same_lookup : (year : ℕ) (es : List (ℕ × ℕ)) →
     lookup (λ key. year == key) es ≡ lookup (λ key. is_eq (nat_cmp year key)) es
 same_lookup year [] = refl

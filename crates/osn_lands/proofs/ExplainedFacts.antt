@@ -61,7 +61,7 @@ ahead_at_start p t label q none inside first =
           (omega (arith, d.1.low))
     ]
 
--- no day before the period, but one some
+-- no day before the period, and some day
 ahead_past : (p : Profile) (t : TerritoryModel) (label : Label) (q : Period) →
     is_empty (reading p t label) ≡ true →
     ((e : ℕ) → q.first ≤ e → e ≤ q.last → regime_at t e ≡ q.regime) →
@@ -104,7 +104,7 @@ second_or_third a b c d is_a is_d all =
       ]
     ]
 
--- where the label is not skipped at a change: the second condition fails, or it has no day under
+-- if the label is not skipped at a change, the second condition fails, or it has no day under
 -- either regime
 failed : (p : Profile) (t : TerritoryModel) (label : Label) (old new : Period) →
     is_empty (reading p t label) ≡ true → new.first ≡ old.last + 1 → IsAhead p label old →
@@ -170,8 +170,8 @@ none_here false d ds none = (refl, none)
 abbrev is_dated_among : Profile → Label → List (ℕ × Regime) → Bool
 is_dated_among p label starts = list_any (λ s. not (is_empty (days_with_label p s.1 label))) starts
 
--- no regime has the label, from a period on after which it has its days or none, where no change
--- is named
+-- no regime has the label from a period on, if the label has no day there or one after the period,
+-- and no change is named
 undated_after : (p : Profile) (t : TerritoryModel) (label : Label) (first : ℕ) (old : Period)
     (rest : List Period) → Covers first p.high (old ∷ rest) → Agrees (regime_at t) (old ∷ rest) →
     is_empty (reading p t label) ≡ true → IsAhead p label old →

@@ -79,7 +79,7 @@ style_year_range s d before n low high =
       | inr (inr less) ↦ (omega (arith, ints, less, low), omega (arith, ints, less, high))
     ]
 
--- of the date of a day the style's year goes by that date alone
+-- the style's year of a day depends on the day's date alone
 
 days_as_dates : (p : Profile) (c : Calendar) (d : ℕ) (easter : Option ℕ) → 1 ≤ d →
     IfSome easter (λ e. 1 ≤ e) → is_before d easter ≡ is_dated_before c (date_of c d) easter
@@ -159,7 +159,7 @@ later_year c d e low_d low_e later =
           ))
     ]
 
--- a day has the label where its date is in one of three years
+-- a day has the label if its date is in one of three years
 one_of_three : (a b c h : Bool) → (h ≡ true → (a ≡ true) ⊎ ((b ≡ true) ⊎ (c ≡ true))) →
     h ≡ ((a && h) || ((b && h) || (c && h)))
 one_of_three true b c true one = refl
@@ -285,7 +285,7 @@ in_year_date p r l y d low is =
       sym (year_of_day p r d low) ∙ parts.0,
     )
 
--- where the style counts that date in another year, no day of the year has the label
+-- if the style counts that date in another year, no day of the year has the label
 pub no_day_of_other_year : (p : Profile) (r : Regime) (l : Label) (y z : ℤ) → z ≡ y →
     (year_in p r (date_in z l) ≡ l.year → ⊥) → [] ≡ days_in_year p r l y
 unfolding days_in_year line
@@ -315,7 +315,7 @@ in_year_is p r l y d low counted =
           ∙ same_date_self (date_in y l),
     )
 
--- where it counts it in the label's, those are the days with the date
+-- if it counts it in the label's, those are the days with the date
 days_of_that_year : (p : Profile) (r : Regime) (l : Label) (y : ℤ) →
     year_in p r (date_in y l) ≡ l.year →
     days_with_date p r.calendar (date_in y l) ≡ days_in_year p r l y

@@ -57,7 +57,7 @@ real_1712 c e leap s =
       day_high = omega (arith, s.day_high, bound);
     }
 
--- where the Julian calendar has the date of a year, it has the month and day in 1712
+-- if the Julian calendar has the date of a year, it has the month and day in 1712
 julian_day : (e : Date) → IsReal Julian e →
     (n : ℕ) × (624000 ≤ n) × (n ≤ 630000) × (date_of Julian n ≡ in_1712 e.month e.day)
 julian_day e s =
@@ -166,7 +166,7 @@ has_on c m d n high low until month day =
     (and_from ((date_of c n).month == m) ((date_of c n).day == d)
     ((Decides-eqb (date_of c n).month m).1 month) ((Decides-eqb (date_of c n).day d).1 day))
 
--- the calendar has the month and day where it has them in 1712
+-- the calendar has the month and day if it has them in 1712
 pub found_in_1712 : (c : Calendar) (m d : ℕ) (found : Option ℕ) →
     option_to_list found ≡ days_with_date newest_rules c (in_1712 m d) →
     is_some found ≡ has_month_day newest_rules c m d

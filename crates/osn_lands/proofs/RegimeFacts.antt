@@ -13,7 +13,7 @@ use Rattle.osn_lands.specs.PeriodList.{start_of}
 use Rattle.osn_lands.proofs.CoverFacts.{at_place}
 use Rattle.osn_lands.proofs.PeriodFacts.{starts_back}
 
--- the regime on a day where these starts follow one
+-- the regime on a day if these starts follow one
 abbrev regime_after : ℕ → Regime → List (ℕ × Regime) → Regime
 regime_after d before starts = fold (λ r s. if nat_le s.0 d then s.1 else r) before starts
 

@@ -60,7 +60,7 @@ key_order m n a b small_a small_b less =
       ),
     ))
 
--- years of dates in order, of which a style takes one off or adds one where a test passes
+-- years of dates in order, of which a style subtracts one or adds one if a test passes
 abbrev InOrder : ℤ → ℤ → Type 0 → Type 0
 InOrder y z Same = (y <ℤ z) ⊎ ((y ≡ z) × Same)
 
@@ -205,8 +205,8 @@ number_rises p k d e low until =
       | inr (inr more) ↦ absurd (omega (arith, until, more))
     ]
 
--- so where a day's number is below a bound, that of each day before it is, and where one reaches
--- it, that of each later day does
+-- so if a day's number is below a bound, that of each day before it is, and if one reaches it, that
+-- of each later day does
 pub below_until : (p : Profile) (k : Key) (bound : ℤ) (e d : ℕ) → 1 ≤ d → d ≤ e →
     number_on p k e <ℤ bound → number_on p k d <ℤ bound
 below_until p k bound e d low until below =
@@ -288,7 +288,7 @@ year_part p s q b c first next last before same after =
     (λ d low high. other_year (year d) s.year (is_there d)
     (λ is. omega (arith, ints, is, after d low high)))
 
--- where no month is asked for, they are all
+-- if no month is asked for, they are all
 pub all_months : (m : Option ℕ) (c : Calendar) (a n : ℕ) → m ≡ None →
     filter (λ d. is_month m (date_of c d).month) (range_with_len a n) ≡ range_with_len a n
 all_months m c a n none =

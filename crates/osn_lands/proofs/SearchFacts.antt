@@ -1,4 +1,4 @@
--- Where no day that a search is for can lie, no period reads one, and no change is named.
+-- Outside the days among which a search looks, no period reads a day, and no change is named.
 use Rattle.std.proofs.Common.{◌≡◌, ℕ, ◌+◌, ◌-◌, ◌*◌, ◌<◌, ◌≤◌, inl, inr, Bool, true, false, not}
 use Rattle.std.proofs.Common.{◌&&◌, ◌||◌, nat_le, nat_lt, List, [], ◌∷◌, Option, Some, None, sym}
 use Rattle.std.proofs.Common.{ap}
@@ -53,7 +53,7 @@ none_before_first p l q table first last c known between from =
     let less = ltb-true e.0 c e.1.tested in
     omega (arith, inside.0, less, from))
 
--- and none is after the last one
+-- and no day is after the last one
 none_after_last : (p : Profile) (l : Label) (q : Period) (table : Option LabelTable)
     (first last c : ℕ) → IsKnown table q.regime → AreBetween p l table first last → last < c →
     list_any (λ d. nat_le c d) (days_with_label p q.regime l) ≡ false
@@ -77,7 +77,8 @@ named_third : (a b c d : Bool) → c ≡ true → false ≡ (a && (b && (not c &
 named_third a b c d is = sym (and_right a (b && (not c && not d))
     (and_right b (not c && not d) (and_left (not c) (not d) (ap not is))))
 
--- a change over which none of the days can lie is not named, where both years begin on a fixed date
+-- a change outside the first and the last of the days is not named, if both years begin on a fixed
+-- date
 pub names_none : (p : Profile) (l : Label) (old new : Period) (table : Option LabelTable)
     (first last : ℕ) → IsKnown table old.regime → IsKnown table new.regime → 1 < new.first →
     new.first ≤ p.high → AreBetween p l table first last → AllOrNone p l table first last →
@@ -140,7 +141,7 @@ pub tested_until : (t : Option LabelTable) (periods i : ℕ) → i ≤ periods �
 tested_until None periods i few = omega (arith, few)
 tested_until (Some t) periods i few = omega arith
 
--- a regime of a period is known where all are
+-- a regime of a period is known if all are
 pub known_at : (t : Option LabelTable) (ps : List Period) (i : ℕ) (q d : Period) →
     AreKnown t ps → i < length ps → get_or ps i d ≡ q → IsKnown t q.regime
 known_at t [] i q d known within at = absurd (omega (arith, within))

@@ -34,7 +34,7 @@ is_in low high d is =
     let parts = and_parts (nat_le low d) (nat_le d high) is in
     (leb-true low d parts.0, leb-true d high parts.1)
 
--- a day of the two periods is read where it has the label under the regime of its own one
+-- a day of the two periods is read if it has the label under the regime of its own one
 read_there : (f g h : ℕ → Bool) (n : ℕ) (old new : Period) → new.first ≡ old.last + 1 →
     old.first ≤ old.last → new.first ≤ new.last →
     ((d : ℕ) → old.first ≤ d → d ≤ old.last → h d ≡ f d) →

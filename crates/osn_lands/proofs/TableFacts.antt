@@ -43,7 +43,7 @@ no_date_off_the_years c l y z same off =
     let none : false ≡ true = off (rw at_z at there.0, rw at_z at there.1) in
     absurd cc)
 
--- a date without a day is no day's, however the style counts it
+-- if no day has the date, no day of the year has the label
 pub none_counted : (p : Profile) (r : Regime) (l : Label) (y : ℤ) (found : Option ℕ) →
     found ≡ None → option_to_list found ≡ days_with_date p r.calendar (date_in y l) →
     [] ≡ days_in_year p r l y
@@ -153,7 +153,7 @@ some_day p r l y d day counts =
     (any_from (λ e. true) (has_label p l r) 1 p.high d dated.0.0 (omega
     (arith, dated.0.1)) has refl)
 
--- where a calendar has all three days, each regime of it has the label whose year begins on a fixed
+-- if a calendar has all three days, each regime of it has the label whose year begins on a fixed
 -- date
 some_full : (p : Profile) (r : Regime) (l : Label) (first last : ℕ) →
     is_from_easter r.style ≡ false → IsFull p r.calendar l first last →
@@ -172,7 +172,7 @@ full_in : (p : Profile) (c : Calendar) (l : Label) (first last : ℕ) (o : Optio
 full_in p c l first last None days within some = let none : false ≡ true = some in absurd cc
 full_in p c l first last (Some f) days within some = full p c l first last f days within
 
--- where each calendar of the table has all three days
+-- if each calendar of the table has all three days
 pub between_ends : (p : Profile) (l : Label) (t : LabelTable) (first last : ℕ) → IsTable p l t →
     ((c : Calendar) → IfSome (years_of t c) (AreAllWithin first last)) →
     AreBetween p l (Some t) first last
@@ -217,7 +217,7 @@ no_days p r l (Some f) some days none =
     (none_counted p r l (l.year +ℤ pos 1) f.after each.2 days.2)
     refl refl refl
 
--- where no calendar of the table has a day
+-- if no calendar of the table has a day
 
 pub even_none : (p : Profile) (l : Label) (t : LabelTable) (first last : ℕ) → IsTable p l t →
     (are_none_in t.julian && (are_none_in t.gregorian && are_none_in t.swedish)) ≡ true →

@@ -40,7 +40,7 @@ with_start d regime [] = (d, regime) ∷ []
 with_start d regime (s ∷ rest) =
     if nat_lt d s.0 then (d, regime) ∷ s ∷ rest else s ∷ with_start d regime rest
 
--- a further regime from a day on
+-- another regime from a day on
 abbrev pub with_change : TerritoryModel → ℕ → Regime → TerritoryModel
 with_change t d regime = record t { starts = with_start d regime t.starts }
 

@@ -19,7 +19,7 @@ abbrev pub later_digits : List ℕ → List ℕ → List ℕ
 later_digits earlier later =
     if length earlier == length later then from_difference earlier later else later
 
--- a style's year and the year counted from 1 January, where that is later: 1731/2, 1699/700, 0/1
+-- a style's year and the year counted from 1 January, if that is later: 1731/2, 1699/700, 0/1
 abbrev pub year_text : ℤ → ℤ → List ℕ
 year_text style_year year =
     if int_lt style_year year then

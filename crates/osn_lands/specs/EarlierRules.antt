@@ -14,6 +14,6 @@ days_of_line p days = filter (λ d. nat_le d p.high) days
 abbrev pub KeepsReading : Profile → TerritoryModel → Label → List ℕ → Type 0
 KeepsReading p t label days = days_of_line p days ≡ reading p t label
 
--- where the rules have the year, the days are its Easters by these rules
+-- if the rules have the year, the days are its Easters by these rules
 abbrev pub KeepsEasters : Profile → TerritoryModel → ℕ → List ℕ → Type 0
 KeepsEasters p t y days = IsYear p y → days ≡ easters p t y

@@ -24,6 +24,7 @@ abbrev pub unless_listed : Option ℕ → List ℕ → List ℕ
 unless_listed None by_rule = by_rule
 unless_listed (Some d) by_rule = d ∷ []
 
--- the Easters of a year in a territory: the listed day alone where one is, else those by the rules
+-- the Easters of a year in a territory: the listed day alone if one is listed, otherwise those by
+-- the rules
 abbrev pub easters : Profile → TerritoryModel → ℕ → List ℕ
 easters p t y = unless_listed (exception_of t y) (easters_by_rule p t y)

@@ -33,7 +33,7 @@ without_exception t y = record t { exceptions = remove_entry (λ year. y == year
 abbrev pub HasAscendingYears : TerritoryModel → Type 0
 HasAscendingYears t = IsStrictlyIncreasing (keys_of t.exceptions)
 
--- every year but this one has the same exception after as before
+-- every other year has the same exception after as before
 abbrev pub KeepsOtherYears : TerritoryModel → TerritoryModel → ℕ → Type 0
 KeepsOtherYears before after y = (other : ℕ) → (other ≡ y → ⊥) →
     exception_of after other ≡ exception_of before other

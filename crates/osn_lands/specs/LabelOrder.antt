@@ -1,5 +1,5 @@
--- Where a label stands among the days of a regime, whether a day has it or not, and the changes in
--- whose gap it lies. This project's profile.
+-- The place of a label among the days of a regime, whether a day has it or not, and the changes
+-- whose gap contains it. This project's profile.
 use Rattle.std.specs.Prelude.{ℕ, ◌-◌, ◌==◌, ◌&&◌, ◌||◌, nat_lt, Bool, false, not, if◌then◌else◌}
 use Rattle.std.specs.Prelude.{ℤ, pos, ◌+ℤ◌, ◌-ℤ◌, int_lt, unsigned_abs, List, filter}
 use Rattle.std.specs.Prelude.{Option, Some, None}
@@ -78,7 +78,8 @@ is_earlier_in_style year date other_year other =
     int_lt year other_year || (int_eq year other_year && is_earlier date other)
 
 -- the label comes after the day's in the order of the regime's style. Its own year goes first, so
--- that a date which its year lacks, from Easter to Easter, comes after that year and before the next
+-- that a date which its year lacks, from Easter to Easter, comes after that year and before the
+-- next
 unfoldable pub is_after : Profile → Regime → Label → ℕ → Bool
 is_after p r l d =
     is_earlier_in_style (style_year p r d) (date_of r.calendar d) l.year (label_date p r l)
@@ -88,8 +89,8 @@ unfoldable pub is_before : Profile → Regime → Label → ℕ → Bool
 is_before p r l d =
     is_earlier_in_style l.year (label_date p r l) (style_year p r d) (date_of r.calendar d)
 
--- the label comes after the last day before a change, and before the day of the change. It lies
--- among the dates that the change passes over
+-- the label comes after the last day before a change, and before the day of the change. It is one
+-- of the dates that the change skips
 abbrev pub is_in_gap : Profile → TerritoryModel → Label → ℕ → Bool
 is_in_gap p t l f =
     nat_lt 1 f

@@ -58,7 +58,7 @@ AreInYears p c l f =
 abbrev pub days_found : ThreeDays → List ℕ
 days_found f = option_to_list f.before ++ (option_to_list f.same ++ option_to_list f.after)
 
--- no day was found, or none was looked for
+-- no day was found, or no search was made
 abbrev pub are_none_in : Option ThreeDays → Bool
 are_none_in None = true
 are_none_in (Some f) = is_empty (days_found f)
@@ -68,7 +68,7 @@ abbrev pub AreAllWithin : ℕ → ℕ → ThreeDays → Type 0
 AreAllWithin first last f =
     IsSomeAnd f.before (λ d. first ≤ d) × IsSome f.same × IsSomeAnd f.after (λ d. d ≤ last)
 
--- the days of one calendar, where the table has it
+-- the days of one calendar, if the table has it
 abbrev pub years_of : LabelTable → Calendar → Option ThreeDays
 years_of t calendars.Julian = t.julian
 years_of t calendars.Gregorian = t.gregorian
@@ -78,7 +78,7 @@ years_of t calendars.Swedish = t.swedish
 abbrev pub IsTable : Profile → Label → LabelTable → Type 0
 IsTable p l t = (c : Calendar) → IfSome (years_of t c) (AreInYears p c l)
 
--- the days of the regime can be told: there is no table, or one that has the regime's calendar
+-- the days of the regime can be found: there is no table, or one that has the regime's calendar
 abbrev pub IsKnown : Option LabelTable → Regime → Type 0
 IsKnown None r = Unit {0}
 IsKnown (Some t) r = IsSome (years_of t r.calendar)
@@ -103,7 +103,7 @@ AllOrNone p l table first last =
     ⊎ (((r : Regime) → IsKnown table r → is_empty (days_with_label p r l) ≡ true)
     ⊎ ((first ≡ 1) × (last ≡ p.high)))
 
--- where there is a table, it is that of the label
+-- if there is a table, it is that of the label
 abbrev pub IsTableIn : Profile → Label → Option LabelTable → Type 0
 IsTableIn p l None = Unit {0}
 IsTableIn p l (Some t) = IsTable p l t
@@ -146,20 +146,20 @@ is_calendar calendars.Swedish calendars.Julian = false
 is_calendar calendars.Swedish calendars.Gregorian = false
 is_calendar calendars.Swedish calendars.Swedish = true
 
--- the period goes by the calendar, and some period does
+-- the period uses the calendar, and some period does
 abbrev pub goes_by : Calendar → Period → Bool
 goes_by c q = is_calendar q.regime.calendar c
 
 abbrev pub is_used : Calendar → List Period → Bool
 is_used c qs = list_any (goes_by c) qs
 
--- three dates, where they are tested
+-- three dates, if they are tested
 abbrev pub three_if : Bool → ℕ
 three_if true = 3
 three_if false = 0
 
--- the label is skipped at the change, where the two regimes have it on these days. The fourth
--- condition asks of each regime's days only those in its own period
+-- the label is skipped at the change, if the two regimes have it on these days. The fourth
+-- condition tests only the days of each regime in its own period
 abbrev pub is_skipped_by_days : Period → Period → List ℕ → List ℕ → Bool
 is_skipped_by_days old new old_days new_days =
     (list_any (λ d. nat_le new.first d) old_days || is_empty old_days)

@@ -1,4 +1,4 @@
--- The list of periods that a territory keeps, and the starts that it stands for.
+-- The list of periods that a territory keeps, and the starts that it represents.
 use Rattle.std.specs.Prelude.{ℕ, ◌≤◌, ◌==◌, ◌&&◌, nat_le, Bool}
 use Rattle.std.specs.Prelude.{not, if◌then◌else◌, List}
 use Rattle.std.specs.Prelude.{filter, map}

@@ -37,7 +37,7 @@ january_year September y = y -ℤ pos 1
 january_year Pisan y = y -ℤ pos 1
 january_year Easter y = y
 
--- the month is that one, where one is asked for
+-- the month is that one, if one is asked for
 abbrev pub is_month : Option ℕ → ℕ → Bool
 is_month None m = true
 is_month (Some month) m = m == month

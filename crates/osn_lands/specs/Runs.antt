@@ -17,13 +17,13 @@ days_of_run r = range_with_len r.first (r.last + 1 - r.first)
 abbrev pub days_in : List Run → List ℕ
 days_in runs = flat_map days_of_run runs
 
--- the first of the runs begins after the day and each other one after the one before it ends, and
--- none is empty
+-- the first of the runs begins after the day and each other one after the one before it ends. Each
+-- has a day
 abbrev pub AreRunsAfter : ℕ → List Run → Type 0
 AreRunsAfter d [] = Unit {0}
 AreRunsAfter d (r ∷ rs) = (d < r.first) × (r.first ≤ r.last) × AreRunsAfter r.last rs
 
--- each run begins after the one before it ends, and none is empty
+-- each run begins after the one before it ends, and has a day
 abbrev pub AreRuns : List Run → Type 0
 AreRuns runs = AreRunsAfter 0 runs
 

@@ -37,7 +37,7 @@ style_written =
 abbrev pub has_style : Profile → Style → Bool
 has_style p style = list_any (bytes_eq (style_word style)) p.style_words
 
--- the style of a word, where the rules have it
+-- the style of a word, if the rules have it
 abbrev pub style_named : Profile → List ℕ → Option Style
 style_named p word =
     option_and_then (λ style. if has_style p style then Some style else None) (style_written word)

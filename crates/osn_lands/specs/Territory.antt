@@ -23,7 +23,7 @@ pub record TerritoryModel : Type 0 where
 abbrev pub opened : Regime → TerritoryModel
 opened regime = record { starts = (1, regime) ∷ []; exceptions = [] }
 
--- the regime where no start is, which no territory has
+-- the regime without any start; each territory has a start
 abbrev pub no_start : Regime
 no_start = record { calendar = Calendar.Gregorian; style = Style.January; rule = Easter.Gregorian }
 
@@ -50,7 +50,7 @@ periods_of p t = periods_from p.high t.starts
 abbrev pub Holds : ℕ → Period → Type 0
 Holds d p = (p.first ≤ d) × (d ≤ p.last)
 
--- the periods cover the days from the first to the last, each once and in order, and none is empty
+-- the periods cover the days from the first to the last, each once and in order, and each has a day
 abbrev pub Covers : ℕ → ℕ → List Period → Type 0
 Covers first last [] = first ≡ last + 1
 Covers first last (p ∷ ps) = (p.first ≡ first) × (p.first ≤ p.last) × Covers (p.last + 1) last ps
@@ -71,8 +71,8 @@ abbrev pub is_empty : List ℕ → Bool
 is_empty [] = true
 is_empty (d ∷ ds) = false
 
--- whether the label is skipped at the change from an old period to a new one, where both regimes
--- have it on these days and it is read on those
+-- whether the label is skipped at the change from an old period to a new one, if both regimes have
+-- it on these days and it is read on those
 abbrev pub is_skipped_between : Period → Period → List ℕ → List ℕ → List ℕ → Bool
 is_skipped_between old new old_days new_days read_days =
     (list_any (λ d. nat_le new.first d) old_days || is_empty old_days)

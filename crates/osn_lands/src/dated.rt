@@ -15,8 +15,8 @@ use osn_days::{Day, month_name};
 use std::fmt;
 
 /// A day as a regime dates it: the day, its label, and the year of its date counted from 1 January,
-/// which may be another one than the label's. Its text has both years where the label's is the
-/// lesser: `3 January 1700`, `11 February 1731/2`.
+/// which may be another one than the label's. Its text has both years if the label's is the lesser:
+/// `3 January 1700`, `11 February 1731/2`.
 #[derive(Clone, Copy, Debug, PartialEq, Eq)]
 pub struct DatedDay {
     pub day: Day,
@@ -24,12 +24,12 @@ pub struct DatedDay {
     pub january_year: i32,
 }
 
-/// The day as the regime dates it.
+/// Returns the day as the regime dates it.
 pub fn dated_day(regime: Regime, day: Day) -> DatedDay
     ensures value { result ≡ spec.dated_day newest_rules regime day }
     // as a law: its text is that of the day under the regime
     ensures text { spec.dated_text result ≡ dual.dual_text newest_rules regime day }
-    // as a law: where the style's years begin on a fixed date, the label reads as the day's date
+    // as a law: if the style's years begin on a fixed date, the label reads as the day's date
     ensures ordered { is_from_easter regime.style ≡ false
         → label_date newest_rules regime result.label ≡ date_of regime.calendar day }
 {
@@ -46,7 +46,7 @@ pub fn dated_day(regime: Regime, day: Day) -> DatedDay
 }
 
 /// The years of a dated day: that of its label, and after a `/` what is new in the year counted
-/// from 1 January where that is later: `1700`, `1731/2`.
+/// from 1 January, if that is later: `1700`, `1731/2`.
 #[derive(Clone, Copy, Debug, PartialEq, Eq)]
 pub struct DatedYears(pub DatedDay);
 

@@ -1,4 +1,4 @@
-//! The English text of a day under a regime, with both years where they differ.
+//! The English text of a day under a regime, with both years if they differ.
 ghost use Rattle.std.specs.Prelude.{◌≡◌, ◌<◌, ◌≤◌, ◌++◌, IfOk, OnOk, pos, codes, string_bytes};
 ghost use Rattle.std.specs.Fmt.{decimal};
 ghost use Rattle.osn_days.specs.Profile.{first_rules, newest_rules};
@@ -13,8 +13,8 @@ use std::alloc::{AllocError, Global};
 /// The room that a text is given at first: `30 September 1999/2000` needs 22 bytes.
 const ROOM: usize = 24;
 
-/// The later of two years from its first digit that differs from the earlier one's, or in full
-/// where their lengths differ. It is 2 for 1731 and 1732, 700 for 1699 and 1700, and 10 for 9 and
+/// Returns the later of two years from its first digit that differs from the earlier one's, or in
+/// full if their lengths differ. It is 2 for 1731 and 1732, 700 for 1699 and 1700, and 10 for 9 and
 /// 10.
 pub(crate) fn later_part(earlier: u32, later: u32) -> u32
     requires { earlier < later }
@@ -30,7 +30,7 @@ pub(crate) fn later_part(earlier: u32, later: u32) -> u32
     }
 }
 
-/// Writes a number after what stands before it.
+/// Appends `front` and then a number.
 fn push_number(text: &mut String, front: &str, number: u32) -> Result<(), AllocError>
     ensures { OnOk result (string_bytes text.new
         ≡ string_bytes text.old ++ (front.now ++ decimal number)) }
@@ -40,7 +40,7 @@ fn push_number(text: &mut String, front: &str, number: u32) -> Result<(), AllocE
     text.push_str(digits.format(number))
 }
 
-/// Writes a year of a style, with the year counted from 1 January where that is later.
+/// Writes a year of a style, with the year counted from 1 January if that is later.
 fn push_year(text: &mut String, style_year: u32, year: u32) -> Result<(), AllocError>
     ensures { OnOk result (string_bytes text.new
         ≡ string_bytes text.old ++ (codes " " ++ dual.year_text (pos style_year) (pos year))) }
@@ -52,12 +52,12 @@ fn push_year(text: &mut String, style_year: u32, year: u32) -> Result<(), AllocE
     Ok(())
 }
 
-/// The day as the regime dates it, in English, with both years where the style's is the lesser:
-/// `3 January 1700`, `11 February 1731/2`.
+/// Returns the day as the regime dates it, in English, with both years if the style's is the
+/// lesser: `3 January 1700`, `11 February 1731/2`.
 ///
 /// # Errors
 ///
-/// `AllocError` where there is no memory for the text.
+/// `AllocError` if there is no memory for the text.
 pub fn dual_text(alloc: Global, regime: Regime, day: Day) -> Result<String, AllocError>
     ensures value { IfOk result (λ s. string_bytes s ≡ dual.dual_text newest_rules regime day) }
     // as a law: a day of the first rules' line keeps its text

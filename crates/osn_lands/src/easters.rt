@@ -5,7 +5,7 @@ ghost use Rattle.osn_lands.specs.EasterSearch.{days_in_order};
 use osn_days::Day;
 use std::alloc::AllocError;
 
-/// Puts one day and another, where they are, in order after the days found so far.
+/// Appends one day and another, if they are there, in order to the days found so far.
 pub(crate) fn push_in_order(
     one: Option<Day>,
     other: Option<Day>,

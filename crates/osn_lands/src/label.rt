@@ -19,7 +19,7 @@ pub struct Label {
     pub day: u8,
 }
 
-/// The label of a day under a regime.
+/// Returns the label of a day under a regime.
 pub fn label_of(regime: Regime, day: Day) -> Label
     ensures value { result ≡ local_label newest_rules regime day }
     // as a law: a day of the first rules' line keeps its label
@@ -33,7 +33,7 @@ pub fn label_of(regime: Regime, day: Day) -> Label
     }
 }
 
-/// The date of the label's month and day in a year counted from 1 January.
+/// Returns the date of the label's month and day in a year counted from 1 January.
 pub(crate) fn date_in_year(label: Label, year: i64) -> Option<Date>
     ensures in_range { IsSome result ↔ IsYearNumber newest_rules year }
     ensures value { IfSome result (λ date. date ≡ date_in year label) }
@@ -46,9 +46,9 @@ pub(crate) fn date_in_year(label: Label, year: i64) -> Option<Date>
     })
 }
 
-/// The days that have the label under the regime: the least one, then the other one. Each is `None`
-/// exactly where there is no such day, so the second is there only where the first is. A year from
-/// Easter to Easter alone may have a date twice. No label has three days.
+/// Returns the days that have the label under the regime: the least one, then the other one. Each
+/// is `None` exactly if there is no such day, so the second is there only if the first is. Only a
+/// year from Easter to Easter may have a date twice. No label has three days.
 pub fn day_of_label(regime: Regime, label: Label) -> [Option<Day>; 2]
     ensures days { result ≡ first_two (days_with_label newest_rules regime label) }
     ensures no_third { length (days_with_label newest_rules regime label) ≤ 2 }

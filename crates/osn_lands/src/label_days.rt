@@ -11,8 +11,8 @@ use crate::style_year::year_of;
 use crate::three_days::ThreeDays;
 use osn_days::{Day, day_of};
 
-/// The day of a year counted from 1 January that has the label. The date is tested, and counted,
-/// before it is converted: most candidates need no conversion.
+/// Returns the day of a year counted from 1 January that has the label. The date is tested, and
+/// counted, before it is converted: most candidates need no conversion.
 fn day_in_year(regime: Regime, label: Label, year: i64, tested: &mut u32) -> Option<Day>
     requires { tested.old < 3 }
     ensures value { option_to_list result ≡ days_in_year newest_rules regime label year }
@@ -26,9 +26,9 @@ fn day_in_year(regime: Regime, label: Label, year: i64, tested: &mut u32) -> Opt
     day_of(regime.calendar, date)
 }
 
-/// The days that have the label under the regime, in order, and how many dates were tested to find
-/// them. A style's year is that counted from 1 January or next to it, so three years are tried, and
-/// each has one date of the month and day.
+/// Returns the days that have the label under the regime, in order, and how many dates were tested
+/// to find them. A style's year is that counted from 1 January or next to it, so three years are
+/// tried, and each has one date of the month and day.
 pub(crate) fn days_of_label(regime: Regime, label: Label) -> (ThreeDays, u32)
     ensures value { days_found result.0 ≡ days_with_label newest_rules regime label }
     ensures tested { result.1 ≤ 3 }

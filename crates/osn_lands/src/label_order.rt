@@ -1,4 +1,4 @@
-//! Where a label stands among the days of a regime, whether a day has it or not.
+//! The place of a label among the days of a regime, whether a day has it or not.
 ghost use Rattle.std.specs.Prelude.{◌≡◌};
 ghost use Rattle.osn_days.specs.Profile.{newest_rules};
 ghost use Rattle.osn_lands.specs.LabelOrder as order;
@@ -11,7 +11,7 @@ use crate::style_year::{
 };
 use osn_days::{Calendar, Day};
 
-/// The year whose Easter parts the dates of the label's year: of year 0, within which the line
+/// Returns the year whose Easter parts the dates of the label's year: for year 0, in which the line
 /// begins, that is year 1.
 fn parting_year(label: Label) -> i64
     ensures { result ≡ order.parting_year label }
@@ -23,7 +23,7 @@ fn parting_year(label: Label) -> i64
     }
 }
 
-/// Whether the label's month and day are before the Easter of that year by the Julian rule.
+/// Returns whether the label's month and day are before the Easter of that year by the Julian rule.
 fn is_labelled_before_easter(calendar: Calendar, label: Label) -> bool
     ensures { result ≡ order.is_labelled_before_easter newest_rules calendar label }
 {
@@ -33,7 +33,8 @@ fn is_labelled_before_easter(calendar: Calendar, label: Label) -> bool
     }
 }
 
-/// The year counted from 1 January in which the regime's style has the label's month and day.
+/// Returns the year counted from 1 January in which the regime's style has the label's month and
+/// day.
 fn counted_year(regime: Regime, label: Label) -> i64
     ensures { result ≡ (order.label_date newest_rules regime label).year }
 {
@@ -48,7 +49,8 @@ fn counted_year(regime: Regime, label: Label) -> i64
     }
 }
 
-/// Whether the label comes after the day's in the order of the regime's style, whose years go first.
+/// Returns whether the label comes after the day's in the order of the regime's style, whose years
+/// go first.
 #[tactic(auto, unfolding(crate::specs::LabelOrder::is_after))]
 pub(crate) fn is_after(regime: Regime, label: Label, day: Day) -> bool
     ensures { result ≡ order.is_after newest_rules regime label day }
@@ -60,7 +62,7 @@ pub(crate) fn is_after(regime: Regime, label: Label, day: Day) -> bool
             && (i64::from(date.year), date.month, date.day) < (year, label.month, label.day)
 }
 
-/// Whether the label comes before the day's in that order.
+/// Returns whether the label comes before the day's in that order.
 #[tactic(auto, unfolding(crate::specs::LabelOrder::is_before))]
 pub(crate) fn is_before(regime: Regime, label: Label, day: Day) -> bool
     ensures { result ≡ order.is_before newest_rules regime label day }

@@ -14,12 +14,12 @@ use crate::regime::Regime;
 use crate::three_days::ThreeDays;
 use osn_days::Day;
 
-/// From this number of periods on the days of all regimes are found at once, by three dates for
-/// each calendar. So none is tested twice where two periods meet.
+/// From this number of periods on, the days of all regimes are found together, by three dates for
+/// each calendar. So no date is tested twice for two periods.
 const PERIODS_FOR_A_TABLE: usize = 2;
 
-/// What a search in a territory goes by. Every day that has the label under some regime of the
-/// territory is from `first` to `last`.
+/// The label and the table of a search in a territory. Every day that has the label under some
+/// regime of the territory is from `first` to `last`.
 #[derive(Clone, Copy)]
 pub(crate) struct LabelSearch {
     pub label: Label,
@@ -31,7 +31,7 @@ pub(crate) struct LabelSearch {
 }
 
 impl LabelSearch {
-    /// The search for a label in a territory of these periods.
+    /// Returns the search for a label in a territory of these periods.
     pub fn new(label: Label, periods: &[Period]) -> LabelSearch
         ensures value { IsSearch newest_rules result }
         ensures label { result.label ≡ label }
@@ -54,8 +54,8 @@ impl LabelSearch {
         search
     }
 
-    /// The days that have the label under a regime of the territory, and how many dates were tested
-    /// to find them.
+    /// Returns the days that have the label under a regime of the territory, and how many dates
+    /// were tested to find them.
     pub fn days(&self, regime: Regime) -> (ThreeDays, u32)
         requires search { IsSearch newest_rules self.now }
         requires known { IsKnown self.now.table regime }
@@ -68,7 +68,7 @@ impl LabelSearch {
         }
     }
 
-    /// Whether days of the period are from the first to the last.
+    /// Returns whether days of the period are from the first to the last.
     pub fn overlaps(&self, period: &Period) -> bool
         ensures { result ≡ (nat_le self.now.first period.now.last
             && nat_le period.now.first self.now.last) }
@@ -76,7 +76,7 @@ impl LabelSearch {
         self.first <= period.last && period.first <= self.last
     }
 
-    /// Whether a change is after the first day, and not after the last.
+    /// Returns whether a change is after the first day, and not after the last.
     pub fn straddles(&self, change: Day) -> bool
         ensures { result ≡ (nat_lt self.now.first change && nat_le change self.now.last) }
     {

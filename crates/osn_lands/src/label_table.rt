@@ -1,5 +1,5 @@
-//! The days of a label by calendar, for all regimes of a territory at once. A label is one of three
-//! dates in each calendar, whatever the style.
+//! The days of a label by calendar, for all regimes of a territory together. A label is one of
+//! three dates in each calendar, whatever the style.
 ghost use Rattle.std.specs.Prelude.{◌≡◌, ◌+◌, ◌*◌, ◌≤◌, ◌&&◌, IfSome, Some, is_some, length};
 ghost use Rattle.std.specs.Option.{option_to_list};
 ghost use Rattle.osn_days.specs.Profile.{newest_rules};
@@ -18,7 +18,7 @@ use crate::style_year::year_of;
 use crate::three_days::ThreeDays;
 use osn_days::{Calendar, Day, day_of};
 
-/// The days of each calendar that some period of a territory goes by.
+/// The days of each calendar that some period of a territory uses.
 #[derive(Clone, Copy)]
 pub(crate) struct LabelTable {
     pub julian: Option<ThreeDays>,
@@ -26,8 +26,8 @@ pub(crate) struct LabelTable {
     pub swedish: Option<ThreeDays>,
 }
 
-/// The day of a calendar with the label's month and day in a year. The date is tested, and counted
-/// as one of the nine of a table.
+/// Returns the day of a calendar with the label's month and day in a year. The date is tested, and
+/// counted as one of the nine of a table.
 fn dated_day(calendar: Calendar, label: Label, year: i64, tested: &mut u32) -> Option<Day>
     requires { tested.old ≤ 8 }
     ensures value { option_to_list result
@@ -39,14 +39,14 @@ fn dated_day(calendar: Calendar, label: Label, year: i64, tested: &mut u32) -> O
     day_of(calendar, date)
 }
 
-/// Whether some period goes by the calendar.
+/// Returns whether some period uses the calendar.
 fn is_used(calendar: Calendar, periods: &[Period]) -> bool
     ensures { result ≡ is_used calendar periods.now }
 {
     periods.iter().any(|period| period.goes_by(calendar))
 }
 
-/// The days of a calendar with the label's month and day, where some period goes by it.
+/// Returns the days of a calendar with the label's month and day, if some period uses it.
 fn used_days(
     calendar: Calendar,
     label: Label,
@@ -69,7 +69,7 @@ fn used_days(
     })
 }
 
-/// The day that was found in a year, where the regime's style counts its date as the label's.
+/// Returns the day that was found in a year, if the regime's style counts its date as the label's.
 fn day_of_label_year(found: Option<Day>, regime: Regime, label: Label, year: i64) -> Option<Day>
     requires { option_to_list found
         ≡ days_with_date newest_rules regime.calendar (date_in year label) }
@@ -84,8 +84,8 @@ fn day_of_label_year(found: Option<Day>, regime: Regime, label: Label, year: i64
     }
 }
 
-/// The first and the last of days, if there are three. Where no period goes by the calendar, no day
-/// counts: the first is after all days then, and the last before them.
+/// Returns the first and the last of days, if there are three. If no period uses the calendar, no
+/// day counts: the first is then after all days, and the last before them.
 fn ends_of(days: Option<ThreeDays>) -> Option<(Day, Day)>
     ensures { IfSome result (λ e. IfSome days (AreAllWithin e.0 e.1)) }
 {
@@ -95,7 +95,7 @@ fn ends_of(days: Option<ThreeDays>) -> Option<(Day, Day)>
     }
 }
 
-/// Whether no day was found, or none was looked for.
+/// Returns whether no day was found, or no search was made.
 fn are_none(days: Option<ThreeDays>) -> bool
     ensures { result ≡ are_none_in days }
 {
@@ -105,7 +105,7 @@ fn are_none(days: Option<ThreeDays>) -> bool
     }
 }
 
-/// The earlier of two first days, and the later of two last ones.
+/// Returns the earlier of two first days, and the later of two last ones.
 fn union(one: (Day, Day), other: (Day, Day)) -> (Day, Day)
     ensures first { (result.0 ≤ one.0) × (result.0 ≤ other.0) }
     ensures last { (one.1 ≤ result.1) × (other.1 ≤ result.1) }
@@ -114,8 +114,8 @@ fn union(one: (Day, Day), other: (Day, Day)) -> (Day, Day)
 }
 
 impl LabelTable {
-    /// The table of a label for the periods of a territory. Three dates are tested for each
-    /// calendar that some period goes by.
+    /// Returns the table of a label for the periods of a territory. Three dates are tested for each
+    /// calendar that some period uses.
     pub fn new(label: Label, periods: &[Period], tested: &mut u32) -> LabelTable
         requires { tested.old ≡ 0 }
         ensures value { IsTable newest_rules label result }
@@ -129,7 +129,7 @@ impl LabelTable {
         }
     }
 
-    /// The days of one calendar, where the table has it.
+    /// Returns the days of one calendar, if the table has it.
     fn in_calendar(&self, calendar: Calendar) -> Option<ThreeDays>
         ensures { result ≡ years_of self.now calendar }
     {
@@ -140,8 +140,8 @@ impl LabelTable {
         }
     }
 
-    /// The days that have the label under a regime whose calendar the table has. No date is tested
-    /// for them.
+    /// Returns the days that have the label under a regime whose calendar the table has. No date is
+    /// tested for them.
     pub fn days(&self, regime: Regime, label: Label) -> ThreeDays
         requires table { IsTable newest_rules label self.now }
         requires known { IsKnown (Some self.now) regime }
@@ -156,7 +156,7 @@ impl LabelTable {
         }
     }
 
-    /// The first and the last of the days, where each calendar that the table has has three.
+    /// Returns the first and the last of the days, if each calendar of the table has three.
     fn ends(&self) -> Option<(Day, Day)>
         ensures { IfSome result (λ e. (c : Calendar) →
             IfSome (years_of self.now c) (AreAllWithin e.0 e.1)) }
@@ -167,7 +167,7 @@ impl LabelTable {
         Some(union(julian, union(gregorian, swedish)))
     }
 
-    /// Whether no calendar has a day.
+    /// Returns whether no calendar has a day.
     fn is_empty(&self) -> bool
         ensures { result ≡ (are_none_in self.now.julian
             && (are_none_in self.now.gregorian && are_none_in self.now.swedish)) }
@@ -175,9 +175,9 @@ impl LabelTable {
         are_none(self.julian) && are_none(self.gregorian) && are_none(self.swedish)
     }
 
-    /// Two days from one of which to the other all days lie that have the label under some regime
+    /// Returns the ends of a range that contains all days that have the label under some regime
     /// whose calendar the table has. They are the ends of the line unless every such regime whose
-    /// year begins on a fixed date has the label, or none has it.
+    /// year begins on a fixed date has the label, or no such regime has it.
     pub fn span(&self, label: Label) -> (Day, Day)
         requires { IsTable newest_rules label self.now }
         ensures between { AreBetween newest_rules label (Some self.now) result.0 result.1 }

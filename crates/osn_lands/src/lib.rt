@@ -1,8 +1,7 @@
 //! Territories on the line of days: the year a territory counts by, the label of a day under its
 //! regime, and the periods of its regimes. What the crate promises to those above is a `Territory`,
 //! a map of starts that reads labels as days and finds the Easters of a year. For one regime there
-//! are `label_of`, `day_of_label`, `dated_day` and `dual_text`. A style's word stands beside the
-//! style.
+//! are `label_of`, `day_of_label`, `dated_day` and `dual_text`. A style's word is beside the style.
 #![tactic(auto)]
 
 mod dated;

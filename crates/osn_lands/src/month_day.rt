@@ -11,7 +11,7 @@ use osn_days::{Calendar, Date, day_of};
 /// calendar has in any year it has in this one.
 const FULLEST_YEAR: i32 = 1712;
 
-/// Whether the calendar has the month and day in some year of the line.
+/// Returns whether the calendar has the month and day in some year of the line.
 fn has_month_day(calendar: Calendar, month: u8, day: u8) -> bool
     ensures { result ≡ spec.has_month_day newest_rules calendar month day }
 {
@@ -23,7 +23,7 @@ fn has_month_day(calendar: Calendar, month: u8, day: u8) -> bool
     day_of(calendar, date).is_some()
 }
 
-/// Whether some period goes by a calendar that has the month and day in some year of the line.
+/// Returns whether some period uses a calendar that has the month and day in some year of the line.
 pub(crate) fn some_has_month_day(periods: &[Period], month: u8, day: u8) -> bool
     ensures { result ≡ list_any
         (λ q. spec.has_month_day newest_rules q.regime.calendar month day) periods.now }

@@ -15,14 +15,14 @@ pub struct Period {
 }
 
 impl Period {
-    /// Whether the day is one of the period's.
+    /// Returns whether the day is one of the period's.
     pub(crate) fn holds(&self, day: Day) -> bool
         ensures { result ≡ is_held self.now day }
     {
         self.first <= day && day <= self.last
     }
 
-    /// Whether the period goes by the calendar.
+    /// Returns whether the period uses the calendar.
     pub(crate) fn goes_by(&self, calendar: Calendar) -> bool
         ensures { result ≡ goes_by calendar self.now }
     {

@@ -12,8 +12,8 @@ use crate::regime::Regime;
 use osn_days::Day;
 use std::alloc::AllocError;
 
-/// The place of the period that holds the day, and how many start days were tested: the places that
-/// are left are halved by each test.
+/// Returns the place of the period that holds the day, and how many start days were tested: the
+/// places that are left are halved by each test.
 pub(crate) fn find_period(periods: &[Period], day: Day) -> (usize, u32)
     requires { CoversLine newest_rules periods.now }
     ensures within { result.0 < length periods.now }
@@ -36,7 +36,8 @@ pub(crate) fn find_period(periods: &[Period], day: Day) -> (usize, u32)
     (low, tested)
 }
 
-/// The place of the period that starts on the day. It is not the first where the day is not day 1.
+/// Returns the place of the period that starts on the day. It is not the first if the day is not
+/// day 1.
 fn place_of_start(periods: &[Period], day: Day) -> usize
     requires covers { CoversLine newest_rules periods.now }
     requires start { has_start day periods.now ≡ true }
@@ -47,7 +48,7 @@ fn place_of_start(periods: &[Period], day: Day) -> usize
     find_period(periods, day).0
 }
 
-/// The place of the period within which the day can begin another one.
+/// Returns the place of the period within which the day can begin another one.
 fn place_to_split(periods: &[Period], day: Day) -> usize
     requires covers { CoversLine newest_rules periods.now }
     requires apart { has_start day periods.now ≡ false }
@@ -57,7 +58,7 @@ fn place_to_split(periods: &[Period], day: Day) -> usize
     find_period(periods, day).0
 }
 
-/// Whether a period starts on the day.
+/// Returns whether a period starts on the day.
 pub(crate) fn is_start(periods: &[Period], day: Day) -> bool
     requires { CoversLine newest_rules periods.now }
     ensures { result ≡ has_start day periods.now }

@@ -13,8 +13,8 @@ use crate::three_days::ThreeDays;
 use osn_days::Day;
 use std::alloc::AllocError;
 
-/// Puts the days of a period that have the label after those found so far, and tells how many dates
-/// were tested for it.
+/// Appends the days of a period that have the label to those found so far, and returns how many
+/// dates were tested for it.
 pub(crate) fn read_period(
     period: &Period,
     search: &LabelSearch,
@@ -35,9 +35,9 @@ pub(crate) fn read_period(
     Ok(tested)
 }
 
-/// Whether a label is skipped at the change from one period to the next, of whose regimes the days
-/// with the label are given. It is skipped where the old regime has it too late or never, and the
-/// new one too early or never. One of them has to have it, and neither in its own period.
+/// Returns whether a label is skipped at the change from one period to the next, from the days with
+/// the label under both regimes. It is skipped if the old regime has it too late or never, and the
+/// new one too early or never. At least one of them must have it, and neither in its own period.
 pub(crate) fn is_skipped_between(
     old: &Period,
     new: &Period,
@@ -54,7 +54,7 @@ pub(crate) fn is_skipped_between(
         && !(old_days.has_in(old) || new_days.has_in(new))
 }
 
-/// Whether the years of both periods begin on a date that is the same each year.
+/// Returns whether the years of both periods begin on a date that is the same each year.
 fn has_fixed_beginnings(old: &Period, new: &Period) -> bool
     ensures { result ≡ (not (is_from_easter old.now.regime.style)
         && not (is_from_easter new.now.regime.style)) }
@@ -62,8 +62,8 @@ fn has_fixed_beginnings(old: &Period, new: &Period) -> bool
     !old.regime.style.is_from_easter() && !new.regime.style.is_from_easter()
 }
 
-/// Whether the label is skipped at the change from one period to the next. The search has a table,
-/// so no date is tested for it.
+/// Returns whether the label is skipped at the change from one period to the next. The search has a
+/// table, so no date is tested for it.
 pub(crate) fn is_skipped_at(search: &LabelSearch, old: &Period, new: &Period) -> bool
     requires search { IsSearch newest_rules search.now }
     requires old { IsKnown search.now.table old.now.regime }

@@ -44,7 +44,7 @@ pub(crate) enum Key {
 }
 
 impl Key {
-    /// The number of a day.
+    /// Returns the number of a day.
     fn number(self, day: Day) -> i64
         ensures { result ≡ keys.number_on newest_rules self day }
     {
@@ -57,7 +57,7 @@ impl Key {
         }
     }
 
-    /// The first of some days whose number is at least the bound, or the day after them.
+    /// Returns the first of some days whose number is at least the bound, or the day after them.
     fn first_from(self, bound: i64, first: u32, end: u32) -> u32
         requires line { (1 ≤ first) × (first ≤ end) × (end ≤ newest_rules.high + 1) }
         ensures within { (first ≤ result) × (result ≤ end) }
@@ -79,7 +79,8 @@ impl Key {
         low
     }
 
-    /// The first of some days that have the number, and the day after the last one that has it.
+    /// Returns the first of some days that have the number, and the day after the last one that has
+    /// it.
     fn days_with(self, number: i64, first: u32, end: u32) -> (u32, u32)
         requires line { (1 ≤ first) × (first ≤ end) × (end ≤ newest_rules.high + 1) }
         requires room { number <ℤ i64.MAX }
@@ -96,7 +97,8 @@ impl Key {
     }
 }
 
-/// The first of the two years counted from 1 January that the days of a style's year lie in.
+/// Returns the first of the two years counted from 1 January that the days of a style's year lie
+/// in.
 fn january_year(style: Style, year: i32) -> i64
     ensures value { result ≡ keys.january_year style year }
     ensures near { ((year -ℤ pos 1) ≤ℤ result) × (result ≤ℤ year) }
@@ -107,8 +109,8 @@ fn january_year(style: Style, year: i32) -> i64
     }
 }
 
-/// The numbers of a month in the two years counted from 1 January that the days of a style's year
-/// lie in.
+/// Returns the numbers of a month in the two years counted from 1 January that the days of a
+/// style's year lie in.
 fn month_numbers(style: Style, year: i32, month: u8) -> (i64, i64)
     ensures first { result.0 ≡ keys.january_year style year *ℤ pos 256 +ℤ pos month }
     ensures second { result.1 ≡ result.0 +ℤ pos 256 }
@@ -119,7 +121,7 @@ fn month_numbers(style: Style, year: i32, month: u8) -> (i64, i64)
     (first, first + MONTH_NUMBERS)
 }
 
-/// Puts the days from the first one to the one before the end, where there are any, after the runs
+/// Appends the days from the first one to the one before the end, if there are any, to the runs
 /// found so far.
 fn push_run(first: u32, end: u32, runs: &mut Vec<Run>) -> Result<(), AllocError>
     requires line { (1 ≤ first) × (first ≤ end) × (end ≤ newest_rules.high + 1) }
@@ -138,7 +140,7 @@ fn push_run(first: u32, end: u32, runs: &mut Vec<Run>) -> Result<(), AllocError>
     Ok(())
 }
 
-/// Puts the days of a month, of some days in one year of the style, after the runs found so far.
+/// Appends the days of a month, of some days in one year of the style, to the runs found so far.
 fn push_month(
     regime: Regime,
     sought: (i32, u8),
@@ -165,7 +167,7 @@ fn push_month(
     push_run(other.0, other.1, runs)
 }
 
-/// Puts those of some days in one year of the style that are sought after the runs found so far.
+/// Appends to the runs found so far those of some days in one year of the style that are sought.
 fn push_in_year(
     regime: Regime,
     sought: Sought,
@@ -189,7 +191,7 @@ fn push_in_year(
     }
 }
 
-/// Puts the days of a period that are sought after the runs found so far.
+/// Appends to the runs found so far the days of a period that are sought.
 pub(crate) fn push_period(
     period: &Period,
     sought: Sought,

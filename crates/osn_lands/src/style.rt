@@ -1,11 +1,12 @@
-//! Where a year begins, and the words for it.
+//! The day with which a year begins, and the words for it.
 ghost use Rattle.std.specs.Prelude.{◌≡◌};
 ghost use Rattle.osn_lands.specs.Style as plain;
 ghost use Rattle.osn_lands.specs.StyleWords as words;
 
 use osn_days::Keyword;
 
-/// Where a year begins. The names are this project's, and claim no place's practice.
+/// The day with which a year begins. The names are this project's, and do not say that a place had
+/// the style.
 #[derive(Clone, Copy, Debug, PartialEq, Eq, Hash)]
 pub enum Style {
     /// On 1 January.
@@ -24,7 +25,7 @@ pub enum Style {
 }
 
 impl Style {
-    /// Whether the year goes from Easter to Easter, and begins on another date each year.
+    /// Returns whether the year goes from Easter to Easter, and begins on another date each year.
     pub(crate) fn is_from_easter(self) -> bool
         ensures { result ≡ plain.is_from_easter self }
     {
@@ -38,7 +39,7 @@ impl Style {
         }
     }
 
-    /// When its years begin, in English words.
+    /// Returns when its years begin, in English words.
     #[tactic(auto, unfolding(crate::specs::StyleWords::beginning_of_year))]
     pub fn beginning_of_year(self) -> &'static str
         ensures { result.now ≡ words.beginning_of_year self }

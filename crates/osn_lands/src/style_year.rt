@@ -12,28 +12,28 @@ use crate::style::Style;
 use osn_computus::{Rule, easter};
 use osn_days::{Calendar, Date, Day, Year, date_of};
 
-/// Whether a day of a year is before the 25 March that begins the year of the Annunciation.
+/// Returns whether a day of a year is before the 25 March that begins the year of the Annunciation.
 pub(crate) fn is_before_25_march(month: u8, day: u8) -> bool
     ensures { result ≡ plain.is_before_25_march month day }
 {
     month < 3 || month == 3 && day < 25
 }
 
-/// Whether a day of a year is in the year of the Nativity that its 25 December begins.
+/// Returns whether a day of a year is in the year of the Nativity that its 25 December begins.
 pub(crate) fn is_from_25_december(month: u8, day: u8) -> bool
     ensures { result ≡ plain.is_from_25_december month day }
 {
     month == 12 && day >= 25
 }
 
-/// Whether a month is in the year of the style that its 1 September begins.
+/// Returns whether a month is in the year of the style that its 1 September begins.
 pub(crate) fn is_from_september(month: u8) -> bool
     ensures { result ≡ plain.is_from_september month }
 {
     month >= 9
 }
 
-/// Whether a date of a calendar is before the Easter day of its year by the Julian rule.
+/// Returns whether a date of a calendar is before the Easter day of its year by the Julian rule.
 pub(crate) fn is_before_easter(calendar: Calendar, date: Date) -> bool
     requires { IsYearNumber newest_rules date.year }
     ensures { result ≡ order.is_dated_before_easter newest_rules calendar date }
@@ -42,7 +42,7 @@ pub(crate) fn is_before_easter(calendar: Calendar, date: Date) -> bool
     date < date_of(calendar, day)
 }
 
-/// The year of a date as the regime's style counts it.
+/// Returns the year of a date as the regime's style counts it.
 pub(crate) fn year_of(regime: Regime, date: Date) -> i32
     requires { IsYearNumber newest_rules date.year }
     ensures { result ≡ year_in newest_rules regime date }
@@ -58,7 +58,8 @@ pub(crate) fn year_of(regime: Regime, date: Date) -> i32
     }
 }
 
-/// The date of a day in the regime's calendar, and its year as the regime's style counts it.
+/// Returns the date of a day in the regime's calendar, and its year as the regime's style counts
+/// it.
 pub(crate) fn date_and_year(regime: Regime, day: Day) -> (Date, i32)
     ensures date { result.0 ≡ date_of regime.calendar day }
     ensures year { result.1 ≡ plain.style_year newest_rules regime day }

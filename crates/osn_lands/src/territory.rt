@@ -50,7 +50,7 @@ impl Model for Territory {
 }
 
 impl Territory {
-    /// A territory with one regime on every day of the line.
+    /// Returns a territory with one regime on every day of the line.
     ///
     /// # Errors
     ///
@@ -66,11 +66,11 @@ impl Territory {
         Ok(Territory::open(alloc, regime)?)
     }
 
-    /// A territory with one regime on every day of the line, which a territory takes.
+    /// Returns a territory with one regime on every day of the line, which a territory takes.
     ///
     /// # Errors
     ///
-    /// `AllocError` where there is no memory for the first period.
+    /// `AllocError` if there is no memory for the first period.
     pub fn open(alloc: Global, regime: Regime) -> Result<Territory, AllocError>
         requires { changes.regime_fault regime ≡ None }
         ensures { IfOk result (λ t. t ≡ plain.opened regime) }
@@ -92,7 +92,7 @@ impl Territory {
     ///
     /// # Errors
     ///
-    /// `OpeningPeriod` for day 1, then `ChangeExists` where a period starts on the day, then
+    /// `OpeningPeriod` for day 1, then `ChangeExists` if a period starts on the day, then
     /// `StyleNeedsJulian` for a regime that no territory takes, then `NoMemory`.
     pub fn add_change(&mut self, day: Day, regime: Regime) -> Result<(), LandFault>
         ensures lawful { OnOk result (changes.add_fault self.old day regime ≡ None) }
@@ -117,7 +117,7 @@ impl Territory {
     ///
     /// # Errors
     ///
-    /// `AllocError` where there is no memory for one period more; the call may be tried again.
+    /// `AllocError` if there is no memory for one period more; the call may be tried again.
     pub fn insert_change(&mut self, day: Day, regime: Regime) -> Result<(), AllocError>
         requires { changes.add_fault self.old day regime ≡ None }
         ensures ok { OnOk result (self.new ≡ changes.with_change self.old day regime) }
@@ -130,8 +130,8 @@ impl Territory {
     ///
     /// # Errors
     ///
-    /// `NoSuchChange` where no period starts on the day, then `StyleNeedsJulian` for a regime that
-    /// no territory takes.
+    /// `NoSuchChange` if no period starts on the day, then `StyleNeedsJulian` for a regime that no
+    /// territory takes.
     pub fn alter_change(&mut self, day: Day, regime: Regime) -> Result<(), LandFault>
         ensures value { IsTestOf (changes.alter_fault self.old day regime) result }
         ensures ok { OnOk result (self.new ≡ changes.with_altered self.old day regime) }
@@ -155,11 +155,11 @@ impl Territory {
         alter(&mut self.periods, day, regime);
     }
 
-    /// Drops the change on a day: the period before it goes on to where the dropped one ended.
+    /// Drops the change on a day: the period before it continues to the end of the dropped one.
     ///
     /// # Errors
     ///
-    /// `OpeningPeriod` for day 1, then `NoSuchChange` where no period starts on the day.
+    /// `OpeningPeriod` for day 1, then `NoSuchChange` if no period starts on the day.
     pub fn drop_change(&mut self, day: Day) -> Result<(), LandFault>
         ensures value { IsTestOf (changes.drop_fault self.old day) result }
         ensures ok { OnOk result (self.new ≡ changes.without_change self.old day) }
@@ -187,7 +187,7 @@ impl Territory {
     ///
     /// # Errors
     ///
-    /// `ExceptionExists` where one is listed for the year, then `NoMemory`.
+    /// `ExceptionExists` if one is listed for the year, then `NoMemory`.
     pub fn add_exception(&mut self, year: Year, day: Day) -> Result<(), LandFault>
         ensures lawful { OnOk result (exceptions.add_exception_fault self.old year ≡ None) }
         ensures ok { OnOk result (self.new ≡ exceptions.with_exception self.old year day) }
@@ -208,7 +208,7 @@ impl Territory {
     ///
     /// # Errors
     ///
-    /// `AllocError` where there is no memory for one entry more; the call may be tried again.
+    /// `AllocError` if there is no memory for one entry more; the call may be tried again.
     pub fn insert_exception(&mut self, year: Year, day: Day) -> Result<(), AllocError>
         requires { exceptions.add_exception_fault self.old year ≡ None }
         ensures ok { OnOk result (self.new ≡ exceptions.with_exception self.old year day) }
@@ -224,7 +224,7 @@ impl Territory {
     ///
     /// # Errors
     ///
-    /// `NoSuchException` where none is listed for the year.
+    /// `NoSuchException` if no exception is listed for the year.
     pub fn drop_exception(&mut self, year: Year) -> Result<(), LandFault>
         ensures value { IsTestOf (exceptions.drop_exception_fault self.old year) result }
         ensures ok { OnOk result (self.new ≡ exceptions.without_exception self.old year) }
@@ -249,15 +249,16 @@ impl Territory {
         self.exceptions.remove(&year);
     }
 
-    /// Whether a period starts on a day.
+    /// Returns whether a period starts on a day.
     pub fn starts_on(&self, day: Day) -> bool
         ensures { result ≡ changes.starts_on self.now day }
     {
         is_start(&self.periods, day)
     }
 
-    /// The place in `periods()`, from 0, of the period that holds a day, and how many start days
-    /// were tested to find it. They are at most as many as the number of periods has binary digits.
+    /// Returns the place in `periods()`, from 0, of the period that holds a day, and how many start
+    /// days were tested to find it. They are at most as many as the number of periods has binary
+    /// digits.
     pub fn period_at(&self, day: Day) -> (usize, u32)
         ensures within { result.0 < length (plain.periods_of newest_rules self.now) }
         ensures holds { HoldsAt (plain.Holds day)
@@ -268,7 +269,7 @@ impl Territory {
         find_period(&self.periods, day)
     }
 
-    /// The regime in force on a day.
+    /// Returns the regime in force on a day.
     pub fn regime_at(&self, day: Day) -> Regime
         ensures { result ≡ plain.regime_at self.now day }
     {
@@ -276,7 +277,7 @@ impl Territory {
         self.periods()[place].regime
     }
 
-    /// The periods, in order.
+    /// Returns the periods, in order.
     pub fn periods(&self) -> &[Period]
         ensures value { result.now ≡ plain.periods_of newest_rules self.now }
         ensures whole { plain.CoversLine newest_rules result.now }
@@ -284,14 +285,14 @@ impl Territory {
         self.periods.as_slice()
     }
 
-    /// The day that is listed as the Easter of a year.
+    /// Returns the day that is listed as the Easter of a year.
     pub fn exception(&self, year: Year) -> Option<Day>
         ensures { result ≡ exceptions.exception_of self.now year }
     {
         self.exceptions.get(&year).copied()
     }
 
-    /// How many years have a listed exception.
+    /// Returns how many years have a listed exception.
     pub fn exception_count(&self) -> usize
         ensures value { result ≡ length self.now.exceptions }
         ensures ascending { exceptions.HasAscendingYears self.now }
@@ -299,7 +300,7 @@ impl Territory {
         self.exceptions.len()
     }
 
-    /// Easter of a year by a rule, where that rule is in force on the day.
+    /// Returns Easter of a year by a rule, if that rule is in force on the day.
     fn easter_in_force(&self, rule: Rule, year: Year) -> Option<Day>
         ensures { option_to_list result ≡ easters_in_force newest_rules self.now rule year }
     {
@@ -311,13 +312,13 @@ impl Territory {
         }
     }
 
-    /// The days that were Easter of a year in the territory, in order. That is the listed day alone
-    /// where one is listed, else each day that is the year's Easter by the rule in force on it. So
-    /// a year may have none, one or two.
+    /// Returns the days that were Easter of a year in the territory, in order. If a day is listed,
+    /// that is this day alone. Otherwise it is each day that is the year's Easter by the rule in
+    /// force on it. So a year may have none, one or two.
     ///
     /// # Errors
     ///
-    /// `AllocError` where there is no memory for the list.
+    /// `AllocError` if there is no memory for the list.
     pub fn easters(&self, year: Year) -> Result<Vec<Day>, AllocError>
         ensures value { IfOk result (λ days.
             days.items ≡ feast.easters newest_rules self.now year) }
@@ -336,11 +337,11 @@ impl Territory {
         Ok(days)
     }
 
-    /// An equal territory.
+    /// Returns an equal territory.
     ///
     /// # Errors
     ///
-    /// `AllocError` where there is no memory for as many periods and exceptions.
+    /// `AllocError` if there is no memory for as many periods and exceptions.
     pub fn copy(&self) -> Result<Territory, AllocError>
         ensures { IfOk result (λ t. t ≡ self.now) }
     {

@@ -22,28 +22,28 @@ pub(crate) struct ThreeDays {
     pub after: Option<Day>,
 }
 
-/// Whether a day was found, and is the day or after it.
+/// Returns whether a day was found, and is the day or after it.
 fn is_from(found: Option<Day>, day: Day) -> bool
     ensures { result ≡ list_any (λ d. nat_le day d) (option_to_list found) }
 {
     found.is_some_and(|found| day <= found)
 }
 
-/// Whether a day was found, and is before the day.
+/// Returns whether a day was found, and is before the day.
 fn is_before(found: Option<Day>, day: Day) -> bool
     ensures { result ≡ list_any (λ d. nat_lt d day) (option_to_list found) }
 {
     found.is_some_and(|found| found < day)
 }
 
-/// Whether a day was found, and is in the period.
+/// Returns whether a day was found, and is in the period.
 fn is_in(found: Option<Day>, period: &Period) -> bool
     ensures { result ≡ list_any (is_held period.now) (option_to_list found) }
 {
     found.is_some_and(|found| period.holds(found))
 }
 
-/// Puts the day, if one was found and is in the period, after the days found so far.
+/// Appends the day to those found so far, if one was found and is in the period.
 fn push_if_in(found: Option<Day>, period: &Period, days: &mut Vec<Day>) -> Result<(), AllocError>
     ensures { OnOk result (days.new.items ≡ days.old.items
         ++ filter (is_held period.now) (option_to_list found)) }
@@ -55,35 +55,35 @@ fn push_if_in(found: Option<Day>, period: &Period, days: &mut Vec<Day>) -> Resul
 }
 
 impl ThreeDays {
-    /// Whether no day was found.
+    /// Returns whether no day was found.
     pub fn is_empty(&self) -> bool
         ensures { result ≡ is_empty (days_found self.now) }
     {
         self.before.is_none() && self.same.is_none() && self.after.is_none()
     }
 
-    /// Whether one of them is the day or after it.
+    /// Returns whether one of them is the day or after it.
     pub fn has_from(&self, day: Day) -> bool
         ensures { result ≡ list_any (λ d. nat_le day d) (days_found self.now) }
     {
         is_from(self.before, day) || is_from(self.same, day) || is_from(self.after, day)
     }
 
-    /// Whether one of them is before the day.
+    /// Returns whether one of them is before the day.
     pub fn has_before(&self, day: Day) -> bool
         ensures { result ≡ list_any (λ d. nat_lt d day) (days_found self.now) }
     {
         is_before(self.before, day) || is_before(self.same, day) || is_before(self.after, day)
     }
 
-    /// Whether one of them is in the period.
+    /// Returns whether one of them is in the period.
     pub fn has_in(&self, period: &Period) -> bool
         ensures { result ≡ list_any (is_held period.now) (days_found self.now) }
     {
         is_in(self.before, period) || is_in(self.same, period) || is_in(self.after, period)
     }
 
-    /// Puts those that are in the period after the days found so far.
+    /// Appends those that are in the period to the days found so far.
     pub fn push_in(&self, period: &Period, days: &mut Vec<Day>) -> Result<(), AllocError>
         ensures { OnOk result (days.new.items ≡ days.old.items
             ++ filter (is_held period.now) (days_found self.now)) }
@@ -93,7 +93,7 @@ impl ThreeDays {
         push_if_in(self.after, period, days)
     }
 
-    /// The first of them and the other one, where there are not three.
+    /// Returns the first of them and the other one, if there are not three.
     pub fn pair(&self) -> [Option<Day>; 2]
         requires { length (days_found self.now) ≤ 2 }
         ensures { result ≡ first_two (days_found self.now) }
@@ -104,7 +104,7 @@ impl ThreeDays {
             (None, None, after) => [after, None],
         }
     }
-    /// The first and the last of them, where there are three.
+    /// Returns the first and the last of them, if there are three.
     pub fn ends(&self) -> Option<(Day, Day)>
         ensures { IfSome result (λ e. AreAllWithin e.0 e.1 self.now) }
     {

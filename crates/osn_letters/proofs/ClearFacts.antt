@@ -1,4 +1,4 @@
--- Between two records nothing is at hand.
+-- Between two records there is no current record.
 use Rattle.std.proofs.Common.{◌≡◌, ◌∙◌, ℕ, ◌+◌, ◌==◌, ◌||◌, ◌⊎◌, Bool, true, false, not, List, []}
 use Rattle.std.proofs.Common.{◌∷◌, ◌++◌, Option, refl, sym, ap, if◌then◌else◌, ⊎_elim, inl}
 use Rattle.std.proofs.Common.{inr}

@@ -24,14 +24,14 @@ no_text : (bytes : List ℕ) (t : Bool) → is_utf8 bytes ≡ t → (IsUtf8 byte
 no_text bytes true is none = absurd (none (IsUtf8-from_is_utf8 bytes is))
 no_text bytes false is none = refl
 
--- the text that bytes are, where that is read
+-- the text that bytes are, if they are UTF-8
 pub text_is : {E : Type 0} (More : E → Type 0) (bytes : List ℕ) (r : Result (Bor (List ℕ)) E)
     → MatchResult r (λ s. (s.now ≡ bytes) × IsUtf8 bytes) (λ e. (IsUtf8 bytes → ⊥) × More e)
     → option_map (λ s. s.now) (result_ok r) ≡ (if is_utf8 bytes then Some bytes else None)
 text_is More bytes (Ok s) h = rw (is_utf8-from_IsUtf8 bytes h.1) (ap Some h.0)
 text_is More bytes (Err e) h = no_text bytes (is_utf8 bytes) refl h.0
 
--- of days, where there is one
+-- of days, if there are any
 some_meant : (edition : ℕ) (w : AnyDate) (day : WrittenDate) (given : Option Weekday)
     (reason : NoDay) (beside : List (Bool × Remark)) (days : List DatedDay) → (days ≡ [] → ⊥)
     → fields_of_days edition w days (remarks_on_days day given days ++ beside)
@@ -63,7 +63,7 @@ pub fields_pushed : (row one two three four five a b : List (List ℕ)) (x y z :
 fields_pushed row one two three four five a b x y z e f g h k =
     rw (k, h, g, f, e) (simp append_assoc refl)
 
--- what was appended, where there was memory for it
+-- what was appended, if there was memory for it
 pub appended : {T E : Type 0} (r : Result T E) (new text old : List ℕ)
     → new ≡ (if is_ok r then text else old) → OnOk r (new ≡ text)
 appended (Ok x) new text old h = h

@@ -19,7 +19,7 @@ use Rattle.osn_letters.proofs.LaterFacts.{later_fields, later_record}
 abbrev pub with_text : List ℕ → Option LettersFault → Written
 with_text text fault = record { text = text; fault = fault }
 
--- the same, with a fault as many lines further on
+-- the same, with a fault as many lines later
 abbrev pub later : ℕ → Written → Written
 later n w = with_text w.text (option_map (later_fault n) w.fault)
 

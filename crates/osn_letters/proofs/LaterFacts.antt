@@ -1,5 +1,5 @@
 -- What is read between two records: from there on, records do not depend on what was read before,
--- but for the numbers of their lines.
+-- except for the numbers of their lines.
 use Rattle.std.proofs.Common.{◌≡◌, ◌∙◌, ℕ, ◌+◌, ◌&&◌, Bool, true, false, not, List, [], ◌∷◌}
 use Rattle.std.proofs.Common.{Result, Ok, Err, refl, sym, ap, subst, if◌then◌else◌, arith, nat_lt}
 use Rattle.std.proofs.Common.{map}
@@ -26,13 +26,13 @@ abbrev pub later_fields : ℕ → Result (List (List ℕ)) LettersFault
 later_fields n (Ok fields) = Ok fields
 later_fields n (Err fault) = Err (later_fault n fault)
 
--- the same record as many lines further on
+-- the same record as many lines later
 abbrev pub later_record : ℕ → PlacedRecord → PlacedRecord
 later_record n r = placed (r.line + n) r.separator (later_fields n r.fields)
 
--- ---- one reading and another that stands as many lines further on
+-- ---- one reading and another that is as many lines later
 
--- every byte is read alike, and the records at hand are the same
+-- every byte is read alike, and the current records are the same
 pub record IsLater (n : ℕ) (r q : Reading) : Type 0 where
   pub steps : (b : ℕ) → read_byte q.separator q.state b ≡ read_byte r.separator r.state b
   pub separator : q.separator ≡ r.separator
@@ -125,7 +125,7 @@ pick_later n false true ends a b c d e f more x y z = ap (λ r. r ∷ []) y
 pick_later n false false true a b c d e f more x y z = ap (λ r. r ∷ map (later_record n) more) z
 pick_later n false false false a b c d e f more x y z = refl
 
--- the record at hand
+-- the current record
 fault_later : (n : ℕ) (r q : Reading) (f : ℕ → LettersFault)
     → ((line : ℕ) → f (line + n) ≡ later_fault n (f line)) → IsLater n r q
     → faulty q (f q.first_line) ≡ later_record n (faulty r (f r.first_line))

@@ -20,13 +20,13 @@ use Rattle.osn_letters.specs.Records.{records_from, separator_in}
 use Rattle.osn_letters.specs.Separators.{config_by, or_comma}
 use Rattle.osn_letters.proofs.SeparatorFacts.{found_stays, settled}
 
--- what the kit reads next is none, or the first of these rows, with the others after it
+-- what the kit reads next: nothing, or the first of these rows, with the others after it
 abbrev ReadsRows : Config → Option Read → List (List (List ℕ)) → Type 0
 ReadsRows c None rows = rows ≡ []
 ReadsRows c (Some p) rows =
     (rest : List (List (List ℕ))) × (rows ≡ p.0 ∷ rest) × AreRecords c p.1 p.2 rest
 
--- the same of a reading, which stands within a record or between two
+-- the same of a reading, within a record or between two
 abbrev Reads : Config → Reading → List ℕ → List (List (List ℕ)) → Type 0
 Reads c r bytes rows = ReadsRows c (next_record c r.state r.fields r.field bytes) rows
 

@@ -265,7 +265,7 @@ byte_stops s t u bytes i b fault low is x y more =
     (split_at bytes i b low is more)
     (wrote_stops (x (b ∷ rest)) (y rest))
 
--- nothing was written, for a fault that is none of the table
+-- nothing was written, and the fault is not one of the table
 pub nothing_written : (c : Option (List ℕ)) (w : Written) (fault : LettersFault)
     → is_of_table fault ≡ false → EndsEarly c c w fault
 nothing_written c w fault other = record {
@@ -298,7 +298,7 @@ end_waits s t (Ok x) none takes stops =
 end_waits s t (Err fault) none takes stops =
     subst (λ a. Stops a (waiting t.table.out) (text_from s []) fault) none stops
 
--- where it is known what waits, there is a rest after it
+-- if it is known what waits, there is a rest after it
 known_waits : {T : Type 0} (out : List ℕ) (r : Result T LettersFault) (w : Written)
     → is_known r ≡ true → Waits out r w → (rest : Written) × Wrote [] out w rest
 known_waits out (Ok x) w known waits = waits
@@ -391,7 +391,7 @@ passes_whole c d e {v = v} x y = (
       (Appends-then c d e x.text v.text x.appended y.1),
 )
 
--- a part of the table was written, and a fault that is none of the table ends it
+-- a part of the table was written, and a fault ends it that is not one of the table
 pub passes_ends : {c d : Option (List ℕ)} {w v : Written} (fault : LettersFault)
     → is_of_table fault ≡ false → Passes c d w v → EndsEarly c d w fault
 passes_ends {v = v} fault other x = record {

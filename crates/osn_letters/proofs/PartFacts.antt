@@ -38,7 +38,7 @@ whole_strip s (b ∷ text) more h = strip_after s.separator b text more h.ends
 
 -- ---- the parts after a header
 
--- what is written after a header, where a reading stands, and the rows of its table
+-- what is written after a header: the rows of its table, by a reading after it
 record Heads (s : TableBasis) (header : List ℕ) : Type 0 where
   heading : Heading
   reading : Reading
@@ -94,7 +94,7 @@ header_part s header part h k = record {
   whole = sym (ap (λ w. w.fault) (h.goes part)) ∙ k.whole;
 }
 
--- one part, from a reading as many lines further on, and what is written after it
+-- one part, from a reading as many lines later, and what is written after it
 part_goes : (s : TableBasis) (heading : Heading) (r q : Reading) (n : ℕ) (part more : List ℕ)
     → IsLater n r q → IsPart s heading r part
     → part_written s heading q (part ++ more)
@@ -120,7 +120,7 @@ first_written : (s : TableBasis) (heading : Heading) (x : Separator) (r : Readin
 first_written s heading x r b bytes h =
     ap (rows_written s heading) (first_records r b bytes h.clear h.between)
 
--- the same from any reading that stands between two records later on
+-- the same from any later reading between two records
 seam_goes : (s : TableBasis) (heading : Heading) (x : Separator) (r q : Reading)
     (part more : List ℕ) → Stands x r → Stands x q → IsPast r q → IsPart s heading r part
     → part_written s heading q (part ++ more)
@@ -147,7 +147,7 @@ seam_between x r q (b ∷ bytes) h k past ends =
     let on = seam_later x r q b h k past in
     (IsLater-after_all on.more (after r b) (after q b) bytes on.later).between ∙ ends
 
--- what is written of bytes that stand as many lines further on in a whole
+-- what is written of bytes that are as many lines later in a whole
 record IsWrittenLater (s : TableBasis) (heading : Heading) (r q : Reading) (text : List ℕ)
     (all last : List ℕ) : Type 0 where
   more : ℕ

@@ -1,4 +1,4 @@
--- After what was read there may stand bytes by which nothing more is written: a record that is too
+-- What was read may be followed by bytes by which nothing more is written: a record that is too
 -- long. So what was written of what was read is all that is written of some text.
 use Rattle.std.proofs.Common.{◌≡◌, ◌<◌, ◌∙◌, ℕ, zero, suc, ◌+◌, ◌-◌, ◌==◌, Bool, true, false}
 use Rattle.std.proofs.Common.{List, [], ◌∷◌, ◌++◌, length, Option, Some, None, refl, sym, ap, subst}

@@ -1,4 +1,4 @@
--- A run of bytes that only join the field at hand is read at once.
+-- A run of bytes that only join the current field is read in one step.
 use Rattle.std.proofs.Common.{◌≡◌, ◌∙◌, ◌≤◌, ℕ, suc, ◌+◌, ◌-◌, ◌==◌, Bool, true, false, not, ◌&&◌}
 use Rattle.std.proofs.Common.{if◌then◌else◌, List, [], ◌∷◌, ◌++◌, length, Some, refl, sym, ap, arith}
 use Rattle.std.proofs.Common.{append_assoc, append-nil, nat_lt, ◌||◌}
@@ -78,7 +78,7 @@ passed_on : (r : Reading) → is_between r.state ≡ false → is_stray r.state 
     → records_by r (r.state, act.Copy) more ≡ more
 passed_on r between stray room more = simp (between, stray, room) refl
 
--- a byte that only joins the field at hand
+-- a byte that only joins the current field
 one_joins : (r : Reading) (x : Separator) (end b : ℕ) → r.separator ≡ Some x
     → r.returned ≡ false → EndsRun x r.state end → joins end b ≡ true
     → nat_lt r.size longest_record ≡ true → (bytes : List ℕ)
@@ -115,7 +115,7 @@ joined_then r b run =
 pub none_joins : (r : Reading) → JoinField r []
 none_joins r more = ap (λ q. records_from q more) (sym (joined_none r))
 
--- all of them, where the record has room for them
+-- all of them, if the record has room for them
 pub run_joins : (run : List ℕ) (r : Reading) (x : Separator) (end : ℕ) → r.separator ≡ Some x
     → r.returned ≡ false → EndsRun x r.state end → list_all (joins end) run ≡ true
     → length run ≤ longest_record - r.size → JoinField r run

@@ -1,4 +1,4 @@
--- Two readings that stand between records read on alike, but for the numbers of their lines.
+-- Two readings between records read on alike, except for the numbers of their lines.
 use Rattle.std.proofs.Common.{◌≡◌, ◌≤◌, ◌∙◌, ℕ, ◌+◌, ◌-◌, ◌==◌, ◌&&◌, ◌||◌, Bool, true, false, not}
 use Rattle.std.proofs.Common.{List, [], ◌∷◌, Option, Some, refl, sym, ap, subst, if◌then◌else◌}
 use Rattle.std.proofs.Common.{arith, nat_lt}
@@ -31,7 +31,7 @@ line_after r (b ∷ bytes) =
     line_after (after r b) bytes
     ∙ end_more r.line (line_ends (b == carriage_return) bytes) (ends_line r.returned b)
 
--- one reading stands at the line of another or after it, and so after a line feed
+-- one reading is at the line of another or after it, and so after a line feed
 pub record IsPast (r q : Reading) : Type 0 where
   pub line : r.line ≤ q.line
   pub feed : r.line + (if q.returned then 1 else 0) ≤ q.line + (if r.returned then 1 else 0)
@@ -72,7 +72,7 @@ past_both i j t u false false h k = h
 
 -- ---- the first byte after a record
 
--- it ends no line unless it stands between two records itself
+-- it ends no line unless it is between two records itself
 abbrev start_step : Bool → Bool → Bool → Bool → State × Action
 start_step quote comma return feed =
     if return || feed then (st.StartRecord, act.Skip)
@@ -150,13 +150,13 @@ begun_later n i j k l false true feed u v e line x y = absurd (cc e)
 begun_later n i j k l false false true u v e line x y = absurd (cc e)
 begun_later n i j k l false false false u v e line x y = x ∙ line ∙ ap (λ m. m + n) (sym y)
 
--- a reading stands between two records of a text whose separator is found
+-- a reading is between two records of a text whose separator is found
 pub record Stands (x : Separator) (r : Reading) : Type 0 where
   pub clear : IsClear r
   pub between : is_between r.state ≡ true
   pub separator_is : r.separator ≡ Some x
 
--- from the first byte on one is as many lines further on
+-- from the first byte on, one is as many lines later
 first_later : (x : Separator) (r q : Reading) (b n : ℕ) → Stands x r → Stands x q
     → (after q b).line ≡ (after r b).line + n → IsLater n (after r b) (after q b)
 first_later x r q b n h k line =

@@ -27,7 +27,7 @@ pub ended_separator : (found : Option Separator) (b : ℕ)
 ended_separator None b = refl
 ended_separator (Some x) b = refl
 
--- ---- a byte that is no separator
+-- ---- a byte that is not a separator
 
 none_of : (t u v : Bool)
     → (if t then Some Comma else if u then Some Semicolon else if v then Some Tab else None) ≡ None

@@ -45,7 +45,7 @@ unmarked_held OneByte b h (c ∷ more) = rw (failed (b == 0xBB) TwoBytes h) refl
 unmarked_held TwoBytes b h more = rw (failed (b == 0xBF) Past h) refl
 unmarked_held Past b h more = refl
 
--- at the end of the text what is held back is no mark
+-- at the end of the text, the bytes that are held back are not a mark
 pub unmarked_end : (start : Start) → unmarked start [] ≡ held start ++ []
 unfolding strip_bom
 unmarked_end Nothing = refl

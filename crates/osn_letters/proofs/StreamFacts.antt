@@ -1,4 +1,4 @@
--- What follows for the whole input, where it is known.
+-- What follows for the whole input, if it is known.
 use Rattle.std.proofs.Common.{◌≡◌, ◌≤◌, ◌∙◌, ℕ, List, [], ◌++◌, Bool, true, false, Option, Some}
 use Rattle.std.proofs.Common.{None, IfSome, refl}
 use Rattle.std.proofs.Common.{sym, ap, subst, append_assoc, append-nil, arith, length}
@@ -15,7 +15,7 @@ use Rattle.osn_letters.specs.Table.{Written, EndsEarly, IsWhole, IsLong}
 use Rattle.osn_letters.specs.Faults.{is_of_table, is_read_fault, EndsStream}
 use Rattle.osn_letters.proofs.LetterFacts.{passes_then, passes_early, passes_whole, passes_ends}
 
--- a part of what is written of the input stands written: of what was read, whatever comes after it
+-- a part of what is written of the input was written: of what was read, whatever comes after it
 abbrev pub PassesRead : (List ℕ → Written) → (List ℕ → Written) → Option (List ℕ)
     → Option (List ℕ) → List ℕ → Type 0
 PassesRead all rest c d read = (more : List ℕ) → Passes c d (all (read ++ more)) (rest more)
@@ -129,7 +129,7 @@ ends_by_fault {T} {E} P Q r fault made h =
     let err = err_from_is_err_and r made in
     subst (λ (o : Result T E). MatchResult o (λ _. P) Q) (sym (err.1 ∙ ap Err err.2)) h
 
--- a fault that is none of the input
+-- a fault that is not one of the input
 pub unread_fault : (old new : Bool) (Long Read : Type 0) (fault : LettersFault) → new ≡ old
     → is_read_fault fault ≡ false
     → EndsStream (is_read_fault fault) old new Long × (is_read_fault fault ≡ true → Read)

@@ -1,4 +1,4 @@
--- Where the columns that are read stand in a header: this project's profile.
+-- The columns of a header that are read: this project's profile.
 use Rattle.std.specs.Prelude.{ℕ, Bool, true, false, ◌&&◌, if◌then◌else◌, List, [], ◌∷◌}
 use Rattle.std.specs.Prelude.{◌++◌, length, get_or, Option, Some, None, option_map, is_none}
 use Rattle.std.specs.Prelude.{is_some, ok_or, Result, Ok, Err, codes}
@@ -60,7 +60,7 @@ names_of n = record {
 abbrev pub is_at : List ℕ → List (List ℕ) → ℕ → Bool
 is_at name fields index = bytes_eq (get_or fields index []) name
 
--- where the first field stands that is the name
+-- the index of the first field that equals the name
 abbrev pub index_of : List ℕ → List (List ℕ) → Option ℕ
 index_of name fields = find (is_at name fields) (range_with_len 0 (length fields))
 
@@ -76,7 +76,7 @@ names_text (name ∷ names) = name ++ flat_map after_comma names
 abbrev pub lacks : ℕ → List (List ℕ) → Column → LettersFault
 lacks line header column = LacksColumn column line (utf8_lossy (names_text header))
 
--- where a column stands in a header on that line, which has to have it
+-- the index of a column in a header on that line, which must have it
 abbrev pub column_in : ℕ → List (List ℕ) → Column → List ℕ → Result ℕ LettersFault
 column_in line header column name = ok_or (index_of name header) (lacks line header column)
 
@@ -87,7 +87,7 @@ part_column_in line header column None = Ok None
 part_column_in line header column (Some name) =
     column_in line header column name >>= λ index. Ok (Some index)
 
--- where the columns of the date stand
+-- the columns of the date
 abbrev pub date_columns_in : ℕ → List (List ℕ) → DateTexts → Result DateColumns LettersFault
 date_columns_in line header (OneText name) =
     column_in line header column.Date name >>= λ index. Ok (Whole index)
@@ -97,7 +97,7 @@ date_columns_in line header (PartTexts year month day) =
     >>= λ month. part_column_in line header column.Day day
     >>= λ day. Ok (Apart year month day)
 
--- where the column of the weekdays stands, which has to be there where it is needed
+-- the index of the column of the weekdays, which must be there if it is needed
 abbrev pub weekday_at : ℕ → List (List ℕ) → Bool → Option ℕ → Result (Option ℕ) LettersFault
 weekday_at line header needs_weekday index =
     if needs_weekday && is_none index then Err (lacks line header column.Weekday) else Ok index

@@ -25,8 +25,8 @@ after_hyphen digits = if length digits == 0 then [] else codes "-" ++ two_digits
 abbrev pub before_blank : List ℕ → List ℕ
 before_blank word = if length word == 0 then [] else word ++ codes " "
 
--- a year, a month and a day, of which each may be empty: 1731/32-02-11 where the month is written
--- in digits, else 11 February 1731/32
+-- a year, a month and a day, of which each may be empty: 1731/32-02-11 if the month is written in
+-- digits, otherwise 11 February 1731/32
 abbrev pub date_of_parts : List ℕ → List ℕ → List ℕ → List ℕ
 date_of_parts year month day =
     if is_in_digits month then year ++ (after_hyphen month ++ after_hyphen day)

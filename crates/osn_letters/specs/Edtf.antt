@@ -1,5 +1,5 @@
--- Days as ISO 8601-2 writes them, its Extended Date/Time Format: at its level 1, and where there
--- are several days or runs as a set of its level 2. This project's profile.
+-- Days as ISO 8601-2 writes them, its Extended Date/Time Format: at its level 1 and, if there are
+-- several days or runs, as a set of its level 2. This project's profile.
 use Rattle.std.specs.Prelude.{ℕ, Bool, ◌==◌, if◌then◌else◌, List, [], ◌∷◌, ◌++◌}
 use Rattle.std.specs.Prelude.{Option, Some, None, codes}
 use Rattle.std.specs.List.{join_by}
@@ -25,7 +25,7 @@ sign w = sign_of w.is_uncertain w.is_approximate
 abbrev pub edtf_day : List ℕ → ℕ → List ℕ
 edtf_day sign d = text_of_date (date_of Gregorian d) ++ sign
 
--- days that follow one another, with that text between the first and the last. One day stands alone
+-- days that follow one another: the first and the last with that text between, or the one day
 abbrev pub edtf_run : List ℕ → List ℕ → Run → List ℕ
 edtf_run between sign r =
     if r.first == r.last then edtf_day sign r.first
@@ -44,7 +44,7 @@ edtf_of_days sign [] = []
 edtf_of_days sign (day ∷ []) = edtf_day sign day.day
 edtf_of_days sign (day ∷ next ∷ days) = in_brackets (days_joined sign (day ∷ next ∷ days))
 
--- the runs of a date: one run, as 1732-02-12/1732-03-11, or the set of several, as
+-- the runs of a date: one run, such as 1732-02-12/1732-03-11, or the set of several, such as
 -- [1731-04-05..1731-04-11,1732-03-12..1732-04-04]
 abbrev pub runs_joined : List ℕ → List ℕ → List Run → List ℕ
 runs_joined between sign runs = join_by (edtf_run between sign) (codes ",") runs

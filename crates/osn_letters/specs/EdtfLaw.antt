@@ -14,7 +14,7 @@ use Rattle.osn_lands.specs.declared.dated.DatedDay.{DatedDay}
 use Rattle.osn_lands.specs.declared.runs.Run.{Run}
 use Rattle.osn_letters.specs.Edtf.{edtf_of_days, edtf_of_runs, sign_of}
 
--- a run, and a day by itself
+-- a run, and a day on its own
 abbrev pub days_of_run : Run → Days
 days_of_run r = (
   date_of Gregorian r.first,

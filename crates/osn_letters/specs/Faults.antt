@@ -1,4 +1,4 @@
--- Whose faults end a table of letters: the table's own, those of a stream, or want of memory.
+-- Whose faults end a table of letters: the table's own, those of a stream, or NoMemory.
 use Rattle.std.specs.Prelude.{◌≡◌, ◌⊎◌, ℕ, ◌+◌, Bool, true, false, ◌||◌}
 use Rattle.osn_letters.specs.declared.fault.LettersFault.{LettersFault}
 use Rattle.osn_letters.specs.declared.fault.LettersFault.TheVariants.{NoHeader, LacksColumn}
@@ -33,13 +33,13 @@ is_write_fault other = false
 abbrev pub is_of_stream : LettersFault → Bool
 is_of_stream fault = is_read_fault fault || is_write_fault fault
 
--- where a table ended by the fault of a stream, the stream failed, or there was more than its calls
--- may do for; else it has not failed since
+-- if the fault of a stream ended a table, the stream failed, or there was more than its calls may
+-- do; otherwise the stream has not failed since
 abbrev pub EndsStream : Bool → Bool → Bool → Type 0 → Type 0
 EndsStream true old new Long = (new ≡ true) ⊎ Long
 EndsStream false old new Long = new ≡ old
 
--- the same fault as many lines further on
+-- the same fault as many lines later
 abbrev pub later_fault : ℕ → LettersFault → LettersFault
 later_fault n (BadRecord line) = BadRecord (line + n)
 later_fault n (TooLong line) = TooLong (line + n)

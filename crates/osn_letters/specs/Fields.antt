@@ -65,7 +65,7 @@ day_text field.JulianDayNumber dated = decimal (julian_day dated.day)
 abbrev pub days_text : List DatedDay → DayField → List ℕ
 days_text days f = join_by (day_text f) (codes "; ") days
 
--- the fields that say each day by itself, in their order
+-- the fields that contain each day on its own, in their order
 abbrev pub day_fields : List DayField
 day_fields =
     field.Number
@@ -207,7 +207,7 @@ fields_of_set_runs edition ws runs beside =
     (edtf_of_runs (sign_of (is_set_uncertain ws) (is_set_approximate ws)) runs)
     (those_that_apply beside)
 
--- where there is no day, for that reason
+-- if there is no day, for that reason
 abbrev pub fields_of_no_set : ℕ → Remark → List (Bool × Remark) → FieldsAndRemarks
 fields_of_no_set edition reason beside =
     fields_of_none edition (Some kinds.Set) ((true, reason) ∷ beside)
@@ -247,7 +247,7 @@ abbrev pub fields_of_date : Profile → ℕ → Option TerritoryModel → AnyDat
 fields_of_date p edition (Some t) w named = fields_in p edition t w named
 fields_of_date p edition None w named = fields_without_place edition w named
 
--- where no date is read
+-- if no date is read
 abbrev pub fields_without_date : ℕ → DateFault → Bool → Option (List ℕ) → FieldsAndRemarks
 fields_without_date edition fault lacks_place named =
     fields_of_none edition None
@@ -256,7 +256,7 @@ fields_without_date edition fault lacks_place named =
     ∷ (is_malformed_weekday named, remark.MalformedWeekday)
     ∷ [])
 
--- of what the field of the date says, where it is a set of these dates
+-- of what the field of the date says, which may be a set of these dates
 abbrev pub fields_of_reading : Profile → ℕ → Option TerritoryModel → Option (List ℕ) → List AnyDate
     → Result Written DateFault → FieldsAndRemarks
 fields_of_reading p edition t named ws (Ok (written.Date w)) = fields_of_date p edition t w named

@@ -18,13 +18,13 @@ abbrev pub all_fields : List PlacedRecord → List (List (List ℕ))
 all_fields [] = []
 all_fields (r ∷ rest) = fields_of_one r.fields (all_fields rest)
 
--- no record has a fault: none is too long, no quote is open, no text stands after a closing one
+-- no record has a fault: none that is too long, no open quote, no text after a closing quote
 abbrev pub AreSound : List PlacedRecord → Type 0
 AreSound [] = Unit {0}
 AreSound (r ∷ rest) = (is_ok r.fields ≡ true) × AreSound rest
 
--- where no record of a text has a fault, they are those that the kit reads, with its own settings
--- but for the separator
+-- if no record of a text has a fault, they are those that the kit reads, with its own settings
+-- except for the separator
 unfoldable pub AreKitRecords : Type 0
 AreKitRecords =
     (named : Option Separator) (text : List ℕ) → AreSound (records_of named text)

@@ -15,12 +15,12 @@ use Rattle.osn_letters.specs.TableInside.{tally_of, written_of}
 use Rattle.osn_letters.specs.Tally.{TallyModel}
 use Rattle.osn_letters.specs.WriterInside.{IsBetweenRows, waiting}
 
--- no part of a field stands in the record at hand, and what waits ends between two rows
+-- the current record has no part of a field, and what waits ends between two rows
 pub record IsReady (s : Letters) : Type 0 where
   pub partial : partial_of s.parser.fields ≡ []
   pub between : IsBetweenRows s.table.out
 
--- what is written of further bytes after the beginning, up to the end of the text
+-- what is written of more bytes after the beginning, up to the end of the text
 abbrev pub text_after : Letters → List ℕ → Written
 text_after s bytes = written_of s.table (records_from (reading_of s.parser) bytes)
 
@@ -47,8 +47,8 @@ TakesAfter old new bytes = (more : List ℕ) →
     Wrote (waiting old.table.out) (waiting new.table.out)
     (text_after old (bytes ++ more)) (text_after new more)
 
--- what waits grew by all that is written, where the fault is one of the table. Where memory ran out
--- it is not known
+-- what waits grew by all that is written, if the fault is one of the table. If memory ran out, it
+-- is not known
 pub record Stops (old new : List ℕ) (written : Written) (fault : LettersFault) : Type 0 where
   pub inner : is_of_stream fault ≡ false
   pub wrote : is_of_table fault ≡ true → Wrote old new written (ended_by fault)
@@ -63,13 +63,13 @@ abbrev pub StopsAfter : Letters → Letters → List ℕ → LettersFault → Ty
 StopsAfter old new bytes fault = (more : List ℕ) →
     Stops (waiting old.table.out) (waiting new.table.out) (text_after old (bytes ++ more)) fault
 
--- whether it is known what waits of what was taken: not where memory ran out
+-- whether it is known what waits of what was taken: it is not if memory ran out
 abbrev pub is_known : {T : Type 0} → Result T LettersFault → Bool
 is_known (Ok x) = true
 is_known (Err fault) = is_of_table fault
 
--- a first part of what is written waits, where it is known what does, and all of it where a fault
--- of the table ended it
+-- what waits is a first part of what is written, if it is known, and all of it if a fault of the
+-- table ended it
 abbrev pub Waits : {T : Type 0} → List ℕ → Result T LettersFault → Written → Type 0
 Waits out (Ok x) written = (rest : Written) × Wrote [] out written rest
 Waits out (Err fault) written = Stops [] out written fault
@@ -98,7 +98,7 @@ abbrev pub EndsBytes : Option (List ℕ) → Option (List ℕ) → Letters → L
 EndsBytes c d old bytes fault =
     (more : List ℕ) → EndsEarly c d (text_from old (bytes ++ more)) fault
 
--- whether the sink failed, where some bytes ended the table by that fault
+-- whether the sink failed, if some bytes ended the table by that fault
 abbrev pub SinkEnds : Bool → Bool → Letters → List ℕ → LettersFault → Type 0
 SinkEnds before now old bytes fault =
     EndsStream (is_write_fault fault) before now
@@ -106,8 +106,8 @@ SinkEnds before now old bytes fault =
 
 -- ---- the tally
 
--- the tally of the rows so far and of those of further bytes after the beginning, up to the end of
--- the text
+-- the tally of the rows so far and of those of more bytes after the beginning, up to the end of the
+-- text
 abbrev pub tally_after : Letters → List ℕ → TallyModel
 tally_after s bytes = tally_of s.table (records_from (reading_of s.parser) bytes)
 

@@ -7,7 +7,7 @@ use Rattle.osn_letters.specs.Records.{at_start, is_between, line_ends, reading_a
 use Rattle.osn_letters.specs.Faults.{later_fault}
 use Rattle.osn_letters.specs.Table.{TableBasis, letters_written}
 
--- the text ends between two records: it is empty, or ends with a line end that stands in no quotes
+-- the text ends between two records: it is empty, or ends with a line end that is not in quotes
 abbrev pub EndsBetweenRecords : TableBasis → List ℕ → Type 0
 EndsBetweenRecords s text =
     is_between (reading_after (at_start s.separator) (strip_bom text)).state ≡ true
@@ -28,8 +28,8 @@ lines_in text = line_ends false (strip_bom text)
 
 -- what is written of a header and of parts after it is first what is written of the header. Then
 -- come the rows that are written of each part after the header, in their order. A fault is that of
--- the last part after the header, on the line on which it stands in the whole. That is as many
--- lines further on as the whole has more
+-- the last part after the header, on its line in the whole. That line is as much later as the whole
+-- has more lines
 pub record IsWrittenInParts (s : TableBasis) (header : List ℕ) (parts : List (List ℕ))
     (last : List ℕ) : Type 0 where
   pub more : ℕ
@@ -40,8 +40,7 @@ pub record IsWrittenInParts (s : TableBasis) (header : List ℕ) (parts : List (
   pub fault : (letters_written s (header ++ (concat parts ++ last))).fault
       ≡ option_map (later_fault more) (letters_written s (header ++ last)).fault
 
--- so is every table, wherever it is cut between its records, where no part before the last one has
--- a fault
+-- so is every table that is cut between its records, if no part before the last one has a fault
 unfoldable pub MayEachTableBeCut : Type 0
 MayEachTableBeCut =
     (s : TableBasis) (header : List ℕ) (parts : List (List ℕ)) (last : List ℕ)

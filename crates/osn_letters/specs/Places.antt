@@ -24,12 +24,12 @@ use Rattle.osn_letters.specs.RowFields.{text_in_field}
 abbrev pub lacks : ℕ → List (List ℕ) → PlacesColumn → PlacesFault
 lacks line header column = LacksColumn column line (utf8_lossy (names_text header))
 
--- where a column stands
+-- the index of a column
 abbrev pub column_in : ℕ → List (List ℕ) → PlacesColumn → Result ℕ PlacesFault
 column_in line header column =
     ok_or (index_of (column_name column) header) (lacks line header column)
 
--- where both columns stand, and how many fields there are
+-- both columns, and how many fields there are
 abbrev pub columns_in : ℕ → List (List ℕ) → Result PlaceColumns PlacesFault
 columns_in line header =
     column_in line header column.Place
@@ -52,8 +52,7 @@ entry_at columns line fields =
     (text_in_field (get_or fields columns.code []))
     else Err (BadRecord line)
 
--- with an entry more, where the code is that which its place has among the entries, if it has one.
--- A place has one code
+-- with an entry more, if its place has no other code among the entries. A place has one code
 abbrev pub with_code : List PlaceEntry → ℕ → PlaceEntry → Option (List ℕ)
     → Result (List PlaceEntry) PlacesFault
 with_code entries line e None = Ok (entries ++ e ∷ [])

@@ -26,9 +26,9 @@ pub record PlacedRecord : Type 0 where
   pub separator : Separator
   pub fields : Result (List (List ℕ)) LettersFault
 
--- where a reading stands between two bytes, and which separator was found. Of the record at hand it
--- has the fields, the bytes of the last field, how many bytes it has in the text, and on which line
--- it begins. Of the next byte it has the line, and whether a carriage return stands before it
+-- the state of a reading between two bytes, and which separator was found. The current record has
+-- fields, the bytes of the last field, a number of bytes in the text, and the line on which it
+-- begins. The next byte has a line, and may have a carriage return before it
 pub record Reading : Type 0 where
   pub state : State
   pub separator : Option Separator
@@ -67,7 +67,7 @@ is_between st.AfterQuote = false
 is_between st.InEscape = false
 is_between st.InComment = false
 
--- whether a byte ends a line: a carriage return does, and a line feed that stands after none
+-- whether a byte ends a line: a carriage return does, and a line feed that is not after one
 abbrev pub ends_line : Bool → ℕ → Bool
 ends_line returned b = (b == carriage_return) || ((b == line_feed) && not returned)
 
@@ -95,7 +95,7 @@ after r b = moved r b (read_byte r.separator r.state b)
 abbrev pub reading_after : Reading → List ℕ → Reading
 reading_after = fold after
 
--- the record at hand has no room for one more byte
+-- the current record has no room for one more byte
 abbrev pub is_full : Reading → State → Bool
 is_full r s = not (is_between s) && not (nat_lt r.size longest_record)
 
@@ -109,7 +109,7 @@ abbrev pub is_open : State → Bool
 is_open st.InQuoted = true
 is_open other = false
 
--- the record at hand, ended
+-- the current record, ended
 abbrev pub ended : Reading → Action → PlacedRecord
 ended r a = record {
   line = r.first_line;
@@ -117,7 +117,7 @@ ended r a = record {
   fields = Ok (fields_after a r.fields r.field);
 }
 
--- the record at hand, which has a fault
+-- the current record, which has a fault
 abbrev pub faulty : Reading → LettersFault → PlacedRecord
 faulty r fault = record {
   line = r.first_line;
@@ -152,11 +152,11 @@ abbrev pub records_of : Option Separator → List ℕ → List PlacedRecord
 records_of named text = records_from (at_start named) (strip_bom text)
 
 -- what separates the fields of a text: what was named, or else the first comma, semicolon or tab of
--- its header that stands in no quotes, or else the comma
+-- its header that is not in quotes, or else the comma
 abbrev pub separator_in : Option Separator → List ℕ → Separator
 separator_in named text = or_comma (reading_after (at_start named) (strip_bom text)).separator
 
--- how many lines end in bytes, of which the first stands after a carriage return or not
+-- how many lines end in bytes, of which the first is after a carriage return or not
 abbrev pub line_ends : Bool → List ℕ → ℕ
 line_ends returned [] = 0
 line_ends returned (b ∷ bytes) =

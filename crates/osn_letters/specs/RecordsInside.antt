@@ -32,7 +32,7 @@ action_of effect.Copy = act.Copy
 action_of effect.EndField = act.EndField
 action_of effect.EndRecord = act.EndRecord
 
--- where the reading of a parser stands
+-- the state of the reading of a parser
 abbrev pub reading_of : RecordParser → Reading
 reading_of p = record {
   state = state_of p.state;
@@ -49,7 +49,7 @@ reading_of p = record {
 abbrev pub cleared : Reading → Reading
 cleared r = record r { fields = [] }
 
--- the record that stands in a parser, with the line on which it begins
+-- the record in a parser, with the line on which it begins
 abbrev pub record_in : RecordParser → ℕ → PlacedRecord
 record_in p line = record {
   line = line;
@@ -82,7 +82,7 @@ abbrev pub TakesRun : RecordParser → RecordParser → List ℕ → Type 0
 TakesRun p q run = (more : List ℕ) →
     records_from (reading_of p) (run ++ more) ≡ records_from (reading_of q) more
 
--- a byte was not taken, since the record at hand has that fault, or for want of memory
+-- a byte was not taken, since the current record has that fault, or because memory ran out
 abbrev pub RefusesByte : RecordParser → ℕ → LettersFault → Type 0
 RefusesByte p b fault = (is_of_stream fault ≡ false)
     × ((fault ≢ NoMemory)

@@ -45,7 +45,7 @@ abbrev pub are_on_weekday : ℕ → WrittenDate → Option Weekday → List Date
 are_on_weekday count w given days =
     is_weekday_given w.weekday given && count_by (has_weekday w given) days == count
 
--- what is said of several days: whether the weekday that is given tells one of them
+-- the remark on several days: whether the given weekday decides between them
 abbrev pub several_remark : WrittenDate → Option Weekday → List DatedDay → Remark
 several_remark w given days =
     if are_on_weekday 1 w given days then remark.ByItsWeekday else remark.SeveralDays

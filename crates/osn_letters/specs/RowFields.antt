@@ -78,7 +78,7 @@ territory_in lands places place =
 abbrev pub weekday_in : Option (List ℕ) → Option Weekday
 weekday_in named = option_and_then weekday_named (option_and_then text_in_field named)
 
--- the field has something that is no weekday's name
+-- the field is not empty and is not the name of a weekday
 abbrev pub is_malformed_weekday : Option (List ℕ) → Bool
 is_malformed_weekday None = false
 is_malformed_weekday (Some name) =

@@ -19,7 +19,7 @@ abbrev pub rows_remarks : TableBasis → Columns → List PlacedRecord → List 
 rows_remarks s columns [] = []
 rows_remarks s columns (r ∷ rest) = remarks_by s columns r.fields (rows_remarks s columns rest)
 
--- of those after a header whose columns stand there
+-- of those after a header with these columns
 abbrev pub header_remarks : TableBasis → Result Columns LettersFault → List PlacedRecord
     → List (List Remark)
 header_remarks s (Err fault) rest = []

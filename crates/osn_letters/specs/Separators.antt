@@ -35,13 +35,13 @@ abbrev pub or_comma : Option Separator → Separator
 or_comma None = Comma
 or_comma (Some separator) = separator
 
--- the separator by which a byte is read: the one that was found, or while none was, each of the
--- three
+-- the separator by which a byte is read: the one that was found, or else the byte itself, or else
+-- the comma
 abbrev pub separator_at : Option Separator → ℕ → Separator
 separator_at None b = or_comma (separator_of b)
 separator_at (Some separator) b = separator
 
--- the separator that was found after a byte: the byte that ends the first field, or the comma where
+-- the separator that was found after a byte: the byte that ends the first field, or the comma if
 -- that ends the header
 abbrev pub separator_after : Option Separator → ℕ → Action → Option Separator
 separator_after (Some separator) b a = Some separator

@@ -11,7 +11,7 @@ held OneByte = 0xEF ∷ []
 held TwoBytes = 0xEF ∷ 0xBB ∷ []
 held Past = []
 
--- the text that comes of further bytes
+-- the text that comes of more bytes
 abbrev pub unmarked : Start → List ℕ → List ℕ
 unmarked Nothing bytes = strip_bom bytes
 unmarked OneByte bytes = strip_bom (0xEF ∷ bytes)

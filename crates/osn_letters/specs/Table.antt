@@ -22,10 +22,9 @@ use Rattle.osn_letters.specs.PlaceEntries.{PlaceEntry}
 use Rattle.osn_letters.specs.Records.{PlacedRecord, records_of}
 use Rattle.osn_letters.specs.Separators.{writer_by}
 
--- by what a table is made: the rules, the territories and the number of their edition. Of the table
--- itself it has the names of the columns that are read, and what separates the fields, if it was
--- named. It has how a date is read that may begin with its day or its month, and the entries of the
--- table of places
+-- what a table is made from: the rules, the territories and the number of their edition; the names
+-- of the columns that are read, and what separates the fields, if it is named; whether a date
+-- begins with its day or its month if it may be either; and the entries of the table of places
 pub record TableBasis : Type 0 where
   pub rules : Profile
   pub lands : List LandModel
@@ -46,8 +45,8 @@ basis p lands edition settings = record {
   places = unwrap_or (option_map (λ places. places.now) settings.places) [];
 }
 
--- what the header says of the records after it: where the columns that are read stand, how many
--- fields each has, and what separates these
+-- what the header says of the records after it: the columns that are read, how many fields each
+-- has, and what separates these
 pub record Heading : Type 0 where
   pub columns : Columns
   pub width : ℕ
@@ -94,7 +93,7 @@ unfoldable pub letter_text : TableBasis → Separator → Columns → List (List
 letter_text s separator columns record_fields =
     row_text (writer_by separator) (record_fields ++ twelve_fields s columns record_fields)
 
--- what is written of a record that is no header, and then what is written of those after it
+-- what is written of a record that is not a header, and then what is written of those after it
 abbrev pub row_by : TableBasis → Heading → ℕ → Result (List (List ℕ)) LettersFault → Written
     → Written
 row_by s heading line (Err fault) more = ended_by fault
@@ -108,7 +107,7 @@ abbrev pub rows_written : TableBasis → Heading → List PlacedRecord → Writt
 rows_written s heading [] = whole
 rows_written s heading (r ∷ rest) = row_by s heading r.line r.fields (rows_written s heading rest)
 
--- what is written of a header whose columns stand there, and of the records after it
+-- what is written of a header with these columns, and of the records after it
 abbrev pub header_at : TableBasis → Result Columns LettersFault → Separator → List (List ℕ)
     → List PlacedRecord → Written
 header_at s (Err fault) separator header rest = ended_by fault
@@ -133,7 +132,7 @@ table_written s (r ∷ rest) = header_by s r.line r.separator r.fields rest
 abbrev pub letters_written : TableBasis → List ℕ → Written
 letters_written s text = table_written s (records_of s.separator text)
 
--- what is written of further records, before the header or after it
+-- what is written of more records, before the header or after it
 abbrev pub written_from : TableBasis → Option Heading → List PlacedRecord → Written
 written_from s None records = table_written s records
 written_from s (Some heading) records = rows_written s heading records
@@ -142,7 +141,7 @@ written_from s (Some heading) records = rows_written s heading records
 abbrev pub IsWhole : Option (List ℕ) → Option (List ℕ) → Written → Type 0
 IsWhole old new written = (written.fault ≡ None) × Appends old new written.text
 
--- a beginning of the text was written, and all of it where the fault is one of the table
+-- a beginning of the text was written, and all of it if the fault is one of the table
 pub record EndsEarly (old new : Option (List ℕ)) (written : Written) (fault : LettersFault)
     : Type 0 where
   pub text : List ℕ

@@ -32,7 +32,7 @@ heading_by separator (Some rows) = Some (record {
 abbrev pub heading_of : Table → Option Heading
 heading_of t = heading_by t.out.separator t.rows
 
--- what it writes of further records
+-- what it writes of more records
 abbrev pub written_of : Table → List PlacedRecord → Written
 written_of t records = written_from (source_of t) (heading_of t) records
 
@@ -44,8 +44,8 @@ pub record TakesRecords (old new : Table) (taken : List PlacedRecord) : Type 0 w
   pub goes : (more : List PlacedRecord) → written_of old (taken ++ more)
       ≡ text_before text (written_of new more)
 
--- a record was not taken, by that fault or for want of memory, and nothing was written of it. What
--- waits is not known where memory ran out
+-- a record was not taken, by that fault or because memory ran out, and nothing was written of it.
+-- If memory ran out, it is not known what waits
 abbrev pub RefusesRecord : Table → Table → PlacedRecord → LettersFault → Type 0
 RefusesRecord old new r fault = (is_of_stream fault ≡ false)
     × ((fault ≢ NoMemory)
@@ -65,7 +65,7 @@ RefusesRow old new line record_fields fault = (separator : Separator) →
 
 -- ---- remarks
 
--- the tally of the rows so far and of those of further records
+-- the tally of the rows so far and of those of more records
 abbrev pub tally_with : TableBasis → Option Rows → TallyModel → List PlacedRecord → TallyModel
 tally_with s None tally records = with_rows tally (table_remarks s records)
 tally_with s (Some rows) tally records = with_rows tally (rows_remarks s rows.columns records)

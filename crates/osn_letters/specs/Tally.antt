@@ -20,7 +20,7 @@ pub record TallyModel : Type 0 where
   pub remarked : ℕ
   pub by_remark : List (List ℕ × ℕ)
 
--- a count as it is told: one that is above 18446744073709551615 as that
+-- a count as it is printed: one that is above 18446744073709551615 as that
 abbrev pub up_to_most : ℕ → ℕ
 up_to_most n = min n 18446744073709551615
 
@@ -59,7 +59,7 @@ has_remarks tally = not (tally.remarked == 0)
 
 -- ---- as a text
 
--- a line: what stands before it, what is counted, and how many there are
+-- a line: the text before it, what is counted, and how many there are
 abbrev pub count_line : List ℕ → List ℕ → ℕ → List ℕ
 count_line front label n = front ++ (label ++ (codes ": " ++ (decimal n ++ codes "\n")))
 

@@ -30,7 +30,7 @@ abbrev pub with_remarks : List (List ℕ × ℕ) → List Remark → List (List 
 with_remarks counts [] = counts
 with_remarks counts (r ∷ rest) = with_remarks (with_words counts (remark_words r)) rest
 
--- one row more with a remark, where it has one
+-- one row more with a remark, if it has one
 abbrev pub remarked_with : ℕ → List Remark → ℕ
 remarked_with n [] = n
 remarked_with n (r ∷ rest) = up_to_most (n + 1)
@@ -47,7 +47,7 @@ with_row tally remarks = record {
   by_remark = with_remarks tally.by_remark remarks;
 }
 
--- further rows
+-- more rows
 abbrev pub with_rows : TallyModel → List (List Remark) → TallyModel
 with_rows tally [] = tally
 with_rows tally (remarks ∷ rest) = with_rows (with_row tally remarks) rest

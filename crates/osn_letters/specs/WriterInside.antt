@@ -7,7 +7,7 @@ use Rattle.osn_letters.specs.declared.csv_text.RowWriter.{RowWriter}
 use Rattle.osn_letters.specs.declared.separator.Separator.{Separator}
 use Rattle.osn_letters.specs.Separators.{writer_by}
 
--- how rows are written: by the kit's own settings but for the separator, each of any number of
+-- how rows are written: by the kit's own settings except for the separator, each with any number of
 -- fields
 abbrev pub row_setup : Separator → WriterBuilder
 row_setup separator = with_flexible (writer_by separator) true
@@ -16,7 +16,7 @@ row_setup separator = with_flexible (writer_by separator) true
 abbrev pub waiting : RowWriter → List ℕ
 waiting w = (writer_under w.out).items ++ writer_pending w.out
 
--- a writer of rows stands between two of them
+-- a writer of rows is between two of them
 pub record IsBetweenRows (w : RowWriter) : Type 0 where
   pub setup : writer_setup w.out ≡ row_setup w.separator
   pub fields : fields_written w.out ≡ 0

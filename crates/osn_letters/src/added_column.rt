@@ -27,7 +27,7 @@ pub enum AddedColumn {
     Edtf,
     /// The number of the register's edition.
     Edition,
-    /// What is said of the days, or why the date has none.
+    /// The remarks on the days, or why the date has none.
     Remark,
 }
 
@@ -48,7 +48,7 @@ pub(crate) const ADDED_COLUMNS: [AddedColumn; 12] = [
 ];
 
 impl AddedColumn {
-    /// Its name.
+    /// Returns its name.
     pub fn name(self) -> &'static str
         ensures { result.now ≡ spec.added_name self }
     {

@@ -14,7 +14,7 @@ use osn_lands::DatedDay;
 use osn_written::Kind;
 use std::alloc::{AllocError, Global};
 
-/// The fields that say each day by itself, in their order.
+/// The fields that contain each day on its own, in their order.
 const DAY_FIELDS: [DayField; 6] = [
     DayField::Number,
     DayField::Gregorian,
@@ -82,7 +82,7 @@ fn push_decimal(alloc: Global, row: &mut ByteRecord, number: u64) -> Result<(), 
     row.push_field(&text)
 }
 
-/// The field of the kind.
+/// Returns the field of the kind.
 fn kind_text(kind: Option<Kind>) -> &'static str
     ensures { result.now ≡ spec.kind_text kind }
 {
@@ -110,7 +110,7 @@ impl LetterFields {
     ///
     /// # Errors
     ///
-    /// Want of memory, and nothing else.
+    /// If memory runs out, and in no other case.
     pub fn push_to(&self, alloc: Global, row: &mut ByteRecord) -> Result<(), AllocError>
         requires { partial_of row.old ≡ [] }
         ensures fields { OnOk result (fields_of row.new

@@ -13,16 +13,16 @@ use csv::ByteRecord;
 use osn_register::Text;
 use std::alloc::{AllocError, Global};
 
-/// The name by which a header tells the column of the weekdays.
+/// The name of the column of the weekdays in a header.
 #[derive(Clone, Copy, Debug)]
 pub enum WeekdayName<'a> {
-    /// The header has to have the column.
+    /// The header must have the column.
     Required(&'a str),
     /// The header may lack the column.
     Optional(&'a str),
 }
 
-/// The names by which a header tells the columns that say the date.
+/// The names of the columns of the date in a header.
 #[derive(Clone, Copy, Debug)]
 pub enum DateNames<'a> {
     /// One column has the whole date.
@@ -35,7 +35,7 @@ pub enum DateNames<'a> {
     },
 }
 
-/// The names by which a header tells the columns that are read.
+/// The names of the columns that are read in a header.
 #[derive(Clone, Copy, Debug)]
 pub struct ColumnNames<'a> {
     pub place: &'a str,
@@ -43,7 +43,7 @@ pub struct ColumnNames<'a> {
     pub weekday: WeekdayName<'a>,
 }
 
-/// Where the columns that say the date stand, counted from 0.
+/// The columns of the date, counted from 0.
 #[derive(Clone, Copy, Debug, PartialEq, Eq)]
 pub enum DateColumns {
     /// One has the whole date.
@@ -56,7 +56,7 @@ pub enum DateColumns {
     },
 }
 
-/// Where the columns that are read stand, counted from 0.
+/// The columns that are read, counted from 0.
 #[derive(Clone, Copy, Debug, PartialEq, Eq)]
 pub struct Columns {
     pub place: usize,
@@ -64,7 +64,7 @@ pub struct Columns {
     pub weekday: Option<usize>,
 }
 
-/// The field of an index. One that the record lacks is empty.
+/// Returns the field of an index. One that the record lacks is empty.
 pub(crate) fn field_at(row: &ByteRecord, index: usize) -> &[u8]
     ensures { result.now ≡ get_or (fields_of row.now) index [] }
 {
@@ -74,14 +74,14 @@ pub(crate) fn field_at(row: &ByteRecord, index: usize) -> &[u8]
     }
 }
 
-/// Whether the field of the index is the name.
+/// Returns whether the field of the index is the name.
 fn is_at(header: &ByteRecord, name: &str, index: usize) -> bool
     ensures { result ≡ spec.is_at name.now (fields_of header.now) index }
 {
     field_at(header, index) == name.as_bytes()
 }
 
-/// Where the first field stands that is the name.
+/// Returns the index of the first field that equals the name.
 pub(crate) fn index_of(header: &ByteRecord, name: &str) -> Option<usize>
     ensures { result ≡ spec.index_of name.now (fields_of header.now) }
 {
@@ -89,7 +89,7 @@ pub(crate) fn index_of(header: &ByteRecord, name: &str) -> Option<usize>
 }
 
 impl<'a> WeekdayName<'a> {
-    /// The name.
+    /// Returns the name.
     fn name(self) -> &'a str
         ensures { result.now ≡ spec.weekday_name self.entry }
     {
@@ -98,7 +98,7 @@ impl<'a> WeekdayName<'a> {
         }
     }
 
-    /// Whether the header has to have the column.
+    /// Returns whether the header must have the column.
     fn is_required(self) -> bool
         ensures { result ≡ spec.is_required self.entry }
     {
@@ -106,7 +106,7 @@ impl<'a> WeekdayName<'a> {
     }
 }
 
-/// The names of a header, with a comma and a space between two.
+/// Returns the names of a header, with a comma and a space between two.
 fn names_text(alloc: Global, header: &ByteRecord) -> Result<Vec<u8>, AllocError>
     ensures { IfOk result (λ names. names.items ≡ spec.names_text (fields_of header.now)) }
 {
@@ -119,7 +119,7 @@ fn names_text(alloc: Global, header: &ByteRecord) -> Result<Vec<u8>, AllocError>
     Ok(names)
 }
 
-/// The same as a text. Bytes that aren't UTF-8 are replaced.
+/// Returns the same as a text. Bytes that aren't UTF-8 are replaced.
 pub(crate) fn names_found(alloc: Global, header: &ByteRecord) -> Result<Text, AllocError>
     ensures { IfOk result (λ found. found ≡ utf8_lossy (spec.names_text (fields_of header.now))) }
 {
@@ -127,7 +127,7 @@ pub(crate) fn names_found(alloc: Global, header: &ByteRecord) -> Result<Text, Al
     Ok(Text::new(String::from_utf8_lossy(alloc, &names)?))
 }
 
-/// The fault of a header that lacks a column.
+/// Returns the fault of a header that lacks a column.
 fn lacks(
     alloc: Global,
     header: &ByteRecord,
@@ -143,14 +143,14 @@ fn lacks(
     })
 }
 
-/// Whether a header has the column.
+/// Returns whether a header has the column.
 fn has_column(header: &ByteRecord, column: AddedColumn) -> bool
     ensures { result ≡ spec.has_column (fields_of header.now) column }
 {
     index_of(header, column.name()).is_some()
 }
 
-/// The first of these columns that a header has.
+/// Returns the first of these columns that a header has.
 fn column_had(header: &ByteRecord, columns: &[AddedColumn]) -> Option<AddedColumn>
     ensures { result ≡ find (spec.has_column (fields_of header.now)) columns.now }
 {
@@ -160,7 +160,7 @@ fn column_had(header: &ByteRecord, columns: &[AddedColumn]) -> Option<AddedColum
         .find(|column| has_column(header, *column))
 }
 
-/// Where a column stands in a header, which begins on the line.
+/// Returns the index of a column in a header, which begins on the line.
 fn find_column(
     alloc: Global,
     header: &ByteRecord,
@@ -180,7 +180,7 @@ fn find_column(
     }
 }
 
-/// Where a column stands that may not be named.
+/// Returns the index of a column in a header, if the column is named.
 fn find_part_column(
     alloc: Global,
     header: &ByteRecord,
@@ -201,7 +201,7 @@ fn find_part_column(
     }
 }
 
-/// Where the columns of the date stand.
+/// Returns the columns of the date.
 fn find_date_columns(
     alloc: Global,
     header: &ByteRecord,
@@ -229,15 +229,16 @@ fn find_date_columns(
     }
 }
 
-/// Where the columns of these names stand in a header, which begins on the line. The first column
-/// of a name counts. Names are compared byte by byte, spaces and capitals included.
+/// Returns the columns of these names in a header, which begins on the line. If several columns
+/// have a name, the first one counts. Names are compared byte by byte, spaces and capitals
+/// included.
 ///
 /// # Errors
 ///
-/// `HasColumn` where the header has one of the columns that are put after its own. Else
-/// `LacksColumn` for the first that is lacking: the place, then the date, then the weekday, if it
-/// has to be there. Where the parts of a date have columns, it is the first of those that are
-/// named: year, month, day. And `NoMemory`.
+/// `HasColumn` if the header has one of the columns that are added. Otherwise `LacksColumn` for the
+/// first column that is missing: the place, then the date, then the weekday, if it is required. If
+/// the parts of a date have columns, it is the first of those that are named: year, month, day. And
+/// `NoMemory`.
 pub fn find_columns(
     alloc: Global,
     header: &ByteRecord,
@@ -248,7 +249,7 @@ pub fn find_columns(
         (fields_of header.now) ≡ Ok columns) }
     ensures fault { IfErr result (λ fault. (fault ≢ NoMemory)
         → spec.columns_of (spec.names_of names.entry) line (fields_of header.now) ≡ Err fault) }
-    // as a law: it is no fault of a stream
+    // as a law: the fault is not one of a stream
     ensures inner { IfErr result (λ fault. is_of_stream fault ≡ false) }
 {
     if let Some(column) = column_had(header, &ADDED_COLUMNS) {

@@ -21,7 +21,7 @@ pub(crate) struct RowWriter {
 }
 
 impl RowWriter {
-    /// A writer that goes on after a text.
+    /// Returns a writer that goes on after a text.
     pub(crate) fn new(separator: Separator, text: Vec<u8>) -> RowWriter
         ensures separator { result.separator ≡ separator }
         ensures between { inside.IsBetweenRows result }
@@ -36,9 +36,9 @@ impl RowWriter {
         }
     }
 
-    /// Writes a row, with its line end, after the text that waits. An error of the writer is want
-    /// of memory, since nothing else fails where a text goes into memory. What waits then is not
-    /// known.
+    /// Writes a row, with its line end, after the text that waits. The writer fails only if memory
+    /// runs out, since nothing else fails when the text is written to memory. Then it is not known
+    /// what waits.
     pub(crate) fn write_row(&mut self, row: &ByteRecord) -> Result<(), AllocError>
         requires { inside.IsBetweenRows self.old }
         ensures between { OnOk result (inside.IsBetweenRows self.new) }
@@ -52,7 +52,7 @@ impl RowWriter {
         }
     }
 
-    /// Takes the text that waits, so that none waits then. An error is want of memory, as above.
+    /// Takes the text that waits, so that none waits afterwards. It fails only if memory runs out.
     pub(crate) fn take_text(&mut self, alloc: Global) -> Result<Vec<u8>, AllocError>
         ensures text { IfOk result (λ text. text.items ≡ inside.waiting self.old) }
         ensures separator { self.new.separator ≡ self.old.separator }

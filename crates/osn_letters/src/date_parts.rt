@@ -11,8 +11,8 @@ use crate::row_field::trimmed;
 use csv::ByteRecord;
 use std::alloc::{AllocError, Global};
 
-/// The field of a column without the white space around it. A column that is not named has an empty
-/// one.
+/// Returns the field of a column without the white space around it. A column that is not named has
+/// an empty one.
 fn part_in(row: &ByteRecord, column: Option<usize>) -> &[u8]
     ensures { result.now ≡ spec.part_in (fields_of row.now) column }
 {
@@ -22,14 +22,14 @@ fn part_in(row: &ByteRecord, column: Option<usize>) -> &[u8]
     }
 }
 
-/// Whether a text has digits alone.
+/// Returns whether a text has digits alone.
 fn are_digits(text: &[u8]) -> bool
     ensures { result ≡ list_all is_ascii_digit text.now }
 {
     text.iter().all(|byte| byte.is_ascii_digit())
 }
 
-/// Whether a month is written in digits only.
+/// Returns whether a month is written in digits only.
 fn is_in_digits(month: &[u8]) -> bool
     ensures { result ≡ spec.is_in_digits month.now }
 {
@@ -61,7 +61,7 @@ fn push_before_blank(text: &mut Vec<u8>, word: &[u8]) -> Result<(), AllocError>
     Ok(text.push(b' ')?)
 }
 
-/// The date of a year, a month and a day, of which each may be empty.
+/// Returns the date of a year, a month and a day, of which each may be empty.
 fn date_of_parts(
     alloc: Global,
     year: &[u8],
@@ -84,7 +84,7 @@ fn date_of_parts(
     Ok(text)
 }
 
-/// The text of a row's date, whose year, month and day stand in these columns.
+/// Returns the text of a row's date, whose year, month and day are in these columns.
 pub(crate) fn parts_text(
     alloc: Global,
     row: &ByteRecord,

@@ -5,7 +5,7 @@ ghost use Rattle.osn_days.specs.DateText.{text_of_date};
 use osn_days::Date;
 use std::fmt;
 
-/// A date as `1732-02-22`.
+/// A date, such as `1732-02-22`.
 #[derive(Clone, Copy)]
 pub(crate) struct DateText(pub(crate) Date);
 

@@ -35,7 +35,7 @@ pub(crate) fn push_number(text: &mut Vec<u8>, number: u64) -> Result<(), AllocEr
     text.extend_from_slice(digits.format(number).as_bytes())
 }
 
-/// Appends a date as `1732-02-22`.
+/// Appends a date, such as `1732-02-22`.
 pub(crate) fn push_date(alloc: Global, text: &mut Vec<u8>, date: Date) -> Result<(), AllocError>
     ensures { OnOk result (text.new.items ≡ text.old.items ++ text_of_date date) }
 {

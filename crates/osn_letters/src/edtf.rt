@@ -12,7 +12,7 @@ use osn_written::AnyDate;
 use std::alloc::{AllocError, Global};
 use std::fmt;
 
-/// The sign after each day: whether it is in doubt, about then, or both.
+/// Returns the sign after each day: whether it is in doubt, about then, or both.
 pub(crate) fn sign_of(is_uncertain: bool, is_approximate: bool) -> &'static str
     ensures { result.now ≡ spec.sign_of is_uncertain is_approximate }
 {
@@ -24,7 +24,7 @@ pub(crate) fn sign_of(is_uncertain: bool, is_approximate: bool) -> &'static str
     }
 }
 
-/// The sign after each day of a date.
+/// Returns the sign after each day of a date.
 pub(crate) fn sign(date: AnyDate) -> &'static str
     ensures { result.now ≡ spec.sign date }
 {
@@ -76,7 +76,7 @@ impl fmt::Display for SignedRun {
     }
 }
 
-/// The days, with a comma between two.
+/// Returns the days, with a comma between two.
 fn days_joined(alloc: Global, sign: &'static str, days: &[DatedDay]) -> Result<String, AllocError>
     ensures { IfOk result (λ s. string_bytes s ≡ spec.days_joined sign.now days.now) }
 {
@@ -85,7 +85,7 @@ fn days_joined(alloc: Global, sign: &'static str, days: &[DatedDay]) -> Result<S
         .join(alloc, ",")
 }
 
-/// The days of one label: one day, or the set of several.
+/// Returns the days of one label: one day, or the set of several.
 pub(crate) fn edtf_of_days(
     alloc: Global,
     sign: &'static str,
@@ -100,7 +100,8 @@ pub(crate) fn edtf_of_days(
     format!(in alloc; "[{dates}]")
 }
 
-/// The runs, with that text between the first and the last day of each, and a comma between two.
+/// Returns the runs, with that text between the first and the last day of each, and a comma between
+/// two.
 fn runs_joined(
     alloc: Global,
     between: &'static str,
@@ -118,7 +119,7 @@ fn runs_joined(
         .join(alloc, ",")
 }
 
-/// The runs of a date: one run, or the set of several.
+/// Returns the runs of a date: one run, or the set of several.
 pub(crate) fn edtf_of_runs(
     alloc: Global,
     sign: &'static str,
@@ -144,7 +145,7 @@ pub(crate) fn edtf_of_runs(
     }
 }
 
-/// The days of a date that is not one day: a bound is open at one end.
+/// Returns the days of a date that is not one day: a bound is open at one end.
 pub(crate) fn edtf_of_span(
     alloc: Global,
     sign: &'static str,

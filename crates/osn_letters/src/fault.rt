@@ -7,7 +7,7 @@ use crate::added_column::AddedColumn;
 use osn_register::Text;
 use std::alloc::AllocError;
 
-/// A column that a table of letters has to have.
+/// A column that a table of letters must have.
 #[derive(Clone, Copy, Debug, PartialEq, Eq)]
 pub enum Column {
     /// The column of the places.
@@ -24,8 +24,8 @@ pub enum Column {
     Weekday,
 }
 
-/// Why a table of letters ended early. Lines are counted from 1, and a record that has several is
-/// told by its first one.
+/// Why a table of letters ended early. Lines are counted from 1. For a record of several lines, the
+/// line is its first one.
 #[derive(Debug, Drop)]
 pub enum LettersFault {
     /// The table has no record, and so no header. Nothing was written.
@@ -57,7 +57,7 @@ pub enum LettersFault {
     OpenQuote {
         line: u64,
     },
-    /// In the record on that line a text stands after a closing quote. The records before it were
+    /// The record on that line has a text after a closing quote. The records before it were
     /// written.
     TextAfterQuote {
         line: u64,
@@ -71,7 +71,8 @@ pub enum LettersFault {
 }
 
 impl LettersFault {
-    /// Whether it is one of the table itself, and not of memory, of the input or of the output.
+    /// Returns whether it is one of the table itself, and not of memory, of the input or of the
+    /// output.
     pub(crate) fn is_of_table(&self) -> bool
         ensures { result ≡ spec.is_of_table self.now }
     {

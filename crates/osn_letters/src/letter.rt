@@ -35,7 +35,7 @@ pub struct LetterFields {
     pub remarks: Vec<Remark>,
 }
 
-/// The fields where a date has no days to be said one by one, with this text of its days.
+/// Returns the fields of a date whose days are not listed one by one, with this text of its days.
 pub(crate) fn fields_with(
     alloc: Global,
     summary: Summary,
@@ -53,7 +53,7 @@ pub(crate) fn fields_with(
     }
 }
 
-/// The fields of a row that has no day.
+/// Returns the fields of a row that has no day.
 pub(crate) fn fields_of_none(
     alloc: Global,
     edition: usize,
@@ -73,7 +73,7 @@ pub(crate) fn fields_of_none(
     Ok(fields_with(alloc, summary, String::new(alloc), remarks))
 }
 
-/// The fields of days.
+/// Returns the fields of days.
 fn fields_of_days(
     alloc: Global,
     edition: usize,
@@ -100,7 +100,7 @@ fn fields_of_days(
     })
 }
 
-/// The fields of runs.
+/// Returns the fields of runs.
 fn fields_of_runs(
     alloc: Global,
     edition: usize,
@@ -122,7 +122,7 @@ fn fields_of_runs(
     Ok(fields_with(alloc, summary, edtf, remarks))
 }
 
-/// The fields of a date that means no day.
+/// Returns the fields of a date that means no day.
 fn fields_of_absence(
     alloc: Global,
     edition: usize,
@@ -143,8 +143,8 @@ fn fields_of_absence(
     )
 }
 
-/// The fields of a date that is one day, by the reckoning of a territory, each day as the place
-/// dated it.
+/// Returns the fields of a date that is one day, by the reckoning of a territory, each day as the
+/// place dated it.
 fn fields_of_one_day(
     alloc: Global,
     edition: usize,
@@ -169,7 +169,7 @@ fn fields_of_one_day(
     fields_of_days(alloc, edition, date, days, &on_days, beside)
 }
 
-/// The fields of a date that is not one day, by the reckoning of a territory.
+/// Returns the fields of a date that is not one day, by the reckoning of a territory.
 fn fields_of_many_days(
     alloc: Global,
     edition: usize,
@@ -190,8 +190,8 @@ fn fields_of_many_days(
     }
 }
 
-/// The fields of a date by the reckoning of a territory, in a place of its own reckoning, with the
-/// field of the weekday.
+/// Returns the fields of a date by the reckoning of a territory, in a place of its own reckoning,
+/// with the field of the weekday.
 fn fields_by(
     alloc: Global,
     edition: usize,
@@ -214,7 +214,7 @@ fn fields_by(
     }
 }
 
-/// The fields of a date in a territory, with the field of the weekday.
+/// Returns the fields of a date in a territory, with the field of the weekday.
 fn fields_in(
     alloc: Global,
     edition: usize,
@@ -234,7 +234,7 @@ fn fields_in(
     fields_by(alloc, edition, territory, &reckoned, is_other, date, named)
 }
 
-/// The fields of a date whose place is not known, with the field of the weekday.
+/// Returns the fields of a date whose place is not known, with the field of the weekday.
 fn fields_without_place(
     alloc: Global,
     edition: usize,
@@ -258,7 +258,7 @@ fn fields_without_place(
     )
 }
 
-/// The fields of a date in its place, if that is known, with the field of the weekday.
+/// Returns the fields of a date in its place, if that is known, with the field of the weekday.
 fn fields_of_date(
     alloc: Global,
     edition: usize,
@@ -277,7 +277,7 @@ fn fields_of_date(
     }
 }
 
-/// The fields where no date is read, with the field of the weekday.
+/// Returns the fields if no date is read, with the field of the weekday.
 fn fields_without_date(
     alloc: Global,
     edition: usize,
@@ -297,20 +297,20 @@ fn fields_without_date(
     fields_of_none(alloc, edition, None, &reasons, &beside)
 }
 
-/// What the twelve fields say that are put after the row of a letter, by the register of that edition: which
-/// days its date means in its place. The fields `days`, `gregorian`, `julian`, `dual`,
-/// `weekday_found` and `jdn` say each day of a date that is one day. After them stand `earliest`,
-/// `latest`, `kind`, `edtf`, `edition` and `remark`.
+/// Returns the twelve fields that are put after the row of a letter, by the register of that
+/// edition: which days its date means in its place. The fields `days`, `gregorian`, `julian`,
+/// `dual`, `weekday_found` and `jdn` contain each day of a date that is one day. The fields
+/// `earliest`, `latest`, `kind`, `edtf`, `edition` and `remark` follow.
 ///
-/// A place that the table of places lists has the code that stands there. Any other is the code of
-/// a territory or its name: the code first, else the first territory of that name. The weekday may
-/// be lacking or empty, and its letters may be capital or small. White space of ASCII around each
-/// of the three is passed over. A date that names a calendar is read as if the territory had gone
-/// by it.
+/// A place that the table of places lists has the code of that table. Any other place is the code
+/// of a territory or, if no territory has that code, the name of one: the first territory of that
+/// name. The weekday may be missing or empty, and its letters may be capital or small. White space
+/// of ASCII around each of the three is ignored. A date that names a calendar is read as if the
+/// territory had used that calendar.
 ///
 /// # Errors
 ///
-/// Want of memory, and nothing else.
+/// If memory runs out, and in no other case.
 #[tactic(auto, using(crate::proofs::EdtfFacts::runs_read, crate::proofs::EdtfFacts::days_read))]
 pub fn letter_fields(
     alloc: Global,

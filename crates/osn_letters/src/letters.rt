@@ -30,7 +30,7 @@ pub(crate) struct Letters<'a> {
 }
 
 impl<'a> Letters<'a> {
-    /// At the beginning of a text.
+    /// Returns the state at the beginning of a text.
     pub(crate) fn new(
         alloc: Global,
         register: &'a Register,
@@ -85,7 +85,7 @@ impl Letters<'_> {
         Ok(())
     }
 
-    /// Takes the bytes that are held back, which are no mark.
+    /// Takes the bytes that are held back, which are not a byte order mark.
     fn take_held(&mut self) -> Result<(), LettersFault>
         requires ready { inside.IsReady self.old }
         requires line { self.old.parser.line + 1 < 2 ^ 64 }
@@ -128,7 +128,7 @@ impl Letters<'_> {
     }
 
     /// Takes some of the next bytes after the beginning of the text: a run of those that only join
-    /// the field at hand, and one more. Returns how many.
+    /// the current field, and one more. Returns how many.
     fn take_some_after(&mut self, bytes: &[u8]) -> Result<usize, LettersFault>
         requires ready { inside.IsReady self.old }
         requires line { self.old.parser.line + 1 < 2 ^ 64 }

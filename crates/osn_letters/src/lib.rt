@@ -1,9 +1,9 @@
-//! Letters: a table in CSV, each row of which is told which days its date means in its place. What
+//! Letters: a table in CSV, each row of which gets the days that its date means in its place. What
 //! the crate promises to those above: `write_letters` writes the table of the definition and
-//! nothing else, in whatever pieces the bytes come. It says where it ended early and why, and tells
-//! how many rows have each remark. The fields after a row are those of `letter_fields`, by which
-//! days its date means in the territory. `read_places` has the entries of a table of places, or
-//! tells its first fault.
+//! nothing else, in whatever pieces the bytes come. It returns where the table ended early and why,
+//! and how many rows have each remark. The fields after a row are those of `letter_fields`: the
+//! days that its date means in the territory. `read_places` returns the entries of a table of
+//! places, or its first fault.
 #![tactic(auto)]
 
 mod added_column;

@@ -19,7 +19,8 @@ use std::alloc::{AllocError, Global};
 /// The most bytes that a record may have in the text, without its line end.
 const LONGEST_RECORD: usize = 65_536;
 
-/// How many bytes there are before the first that is `end` or ends a line, but no more than `most`.
+/// Returns how many bytes there are before the first that is `end` or ends a line, but no more than
+/// `most`.
 fn run_len(bytes: &[u8], end: u8, most: usize) -> usize
     ensures within { result ≤ length bytes.now }
     ensures most { result ≤ most }
@@ -35,7 +36,7 @@ fn run_len(bytes: &[u8], end: u8, most: usize) -> usize
     most
 }
 
-/// Where the reading of a text stands, and what has come of the record at hand.
+/// The state of the reading of a text, and what was read of the current record.
 #[derive(Drop)]
 pub(crate) struct RecordParser {
     pub(crate) state: ParserState,
@@ -49,7 +50,7 @@ pub(crate) struct RecordParser {
 }
 
 impl RecordParser {
-    /// At the beginning of a text, with the separator that was named, if any.
+    /// Returns the state at the beginning of a text, with the separator that was named, if any.
     pub(crate) fn new(alloc: Global, named: Option<Separator>) -> RecordParser
         ensures reading { reading_of result ≡ spec.at_start named }
         ensures partial { partial_of result.fields ≡ [] }
@@ -66,7 +67,7 @@ impl RecordParser {
         }
     }
 
-    /// Ends the field at hand.
+    /// Ends the current field.
     fn end_field(&mut self) -> Result<(), AllocError>
         requires { partial_of self.old.fields ≡ [] }
         ensures fields { OnOk result
@@ -85,7 +86,7 @@ impl RecordParser {
         Ok(())
     }
 
-    /// Does to the record at hand what a byte does.
+    /// Does to the current record what a byte does.
     fn apply(&mut self, effect: Effect, byte: u8) -> Result<(), AllocError>
         requires { partial_of self.old.fields ≡ [] }
         ensures fields { OnOk result (fields_of self.new.fields ≡ fields_after
@@ -107,21 +108,21 @@ impl RecordParser {
         }
     }
 
-    /// Whether the record at hand has no room for a byte that leads to a state.
+    /// Returns whether the current record has no room for a byte that leads to a state.
     fn is_full(&self, state: ParserState) -> bool
         ensures { result ≡ spec.is_full (reading_of self.now) (state_of state) }
     {
         !state.is_between() && self.size >= LONGEST_RECORD
     }
 
-    /// Whether a byte ends a line.
+    /// Returns whether a byte ends a line.
     fn ends_line(&self, byte: u8) -> bool
         ensures { result ≡ spec.ends_line self.now.returned byte }
     {
         byte == b'\r' || (byte == b'\n' && !self.returned)
     }
 
-    /// Whether a byte is a text after a closing quote, where it leads to that state.
+    /// Returns whether a byte that leads to that state is a text after a closing quote.
     fn is_stray(&self, state: ParserState) -> bool
         ensures { result ≡ spec.is_stray (state_of self.now.state) (state_of state) }
     {
@@ -156,8 +157,8 @@ impl RecordParser {
         }
     }
 
-    /// How many bytes at the beginning of these are known to join the field at hand, and to do
-    /// nothing else.
+    /// Returns how many bytes at the beginning of these are known to join the current field, and to
+    /// do nothing else.
     fn count_joining(&self, bytes: &[u8]) -> usize
         ensures within { result ≤ length bytes.now }
         ensures room { result ≤ spec.longest_record - self.now.size }
@@ -173,12 +174,12 @@ impl RecordParser {
         run_len(bytes, end, room)
     }
 
-    /// Takes a run of bytes at once that only join the field at hand. Returns how many there are at
-    /// the beginning of these bytes.
+    /// Takes a run of bytes that only join the current field. Returns how many there are at the
+    /// beginning of these bytes.
     ///
     /// # Errors
     ///
-    /// Want of memory, and nothing else.
+    /// If memory runs out, and in no other case.
     #[inline]
     pub(crate) fn take_run(&mut self, bytes: &[u8]) -> Result<usize, AllocError>
         ensures within { IfOk result (λ len. len ≤ length bytes.now) }
@@ -193,20 +194,20 @@ impl RecordParser {
         Ok(len)
     }
 
-    /// What separates the fields of the record at hand.
+    /// Returns what separates the fields of the current record.
     pub(crate) fn separator(&self) -> Separator
         ensures { result ≡ separators.or_comma self.now.separator }
     {
         or_comma(self.separator)
     }
 
-    /// Takes the next byte. Answers the line on which the record begins that the byte ended, if it
-    /// ended one: that record stands in the parser then, until it is cleared.
+    /// Takes the next byte. If the byte ends a record, returns the line on which that record
+    /// begins. The parser contains that record until it is cleared.
     ///
     /// # Errors
     ///
-    /// `TooLong` where the record at hand has no room for the byte, else `TextAfterQuote` where the
-    /// byte is a text after a closing quote, and `NoMemory`.
+    /// `TooLong` if the current record has no room for the byte. Otherwise `TextAfterQuote` if the
+    /// byte is a text after a closing quote. And `NoMemory`.
     #[inline]
     pub(crate) fn take(&mut self, byte: u8) -> Result<Option<u64>, LettersFault>
         requires partial { partial_of self.old.fields ≡ [] }
@@ -246,12 +247,12 @@ impl RecordParser {
         self.fields.clear();
     }
 
-    /// Ends the text. Answers the line on which the record begins that the end of the text ended,
-    /// if it ended one: that record stands in the parser then.
+    /// Ends the text. If this ends a record, returns the line on which that record begins. The
+    /// parser then contains that record.
     ///
     /// # Errors
     ///
-    /// `OpenQuote` where a quote is still open, and `NoMemory`.
+    /// `OpenQuote` if a quote is still open, and `NoMemory`.
     pub(crate) fn finish(&mut self) -> Result<Option<u64>, LettersFault>
         requires partial { partial_of self.old.fields ≡ [] }
         ensures ends { IfOk result (λ ended. spec.last_record (reading_of self.old)

@@ -8,7 +8,7 @@ ghost use Rattle.osn_letters.specs.Separators.{config_by};
 
 use crate::separator::{Separator, separator_at};
 
-/// Where a reading of CSV stands.
+/// The state of a reading of CSV.
 #[derive(Clone, Copy, Debug, PartialEq, Eq)]
 pub(crate) enum ParserState {
     /// Before a record.
@@ -25,20 +25,20 @@ pub(crate) enum ParserState {
     AfterReturn,
 }
 
-/// What a byte does to the record at hand.
+/// What a byte does to the current record.
 #[derive(Clone, Copy, Debug, PartialEq, Eq)]
 pub(crate) enum Effect {
     /// Nothing.
     Skip,
-    /// It joins the field at hand.
+    /// It joins the current field.
     Copy,
-    /// It ends the field at hand.
+    /// It ends the current field.
     EndField,
-    /// It ends the field at hand and the record.
+    /// It ends the current field and the record.
     EndRecord,
 }
 
-/// Where the reading stands after a byte, and what the byte does.
+/// The state of the reading after a byte, and what the byte does.
 #[derive(Clone, Copy, Debug)]
 pub(crate) struct Step {
     pub(crate) state: ParserState,
@@ -52,7 +52,7 @@ fn to(state: ParserState, effect: Effect) -> Step
     Step { state, effect }
 }
 
-/// How a byte is read in a field without quotes.
+/// Returns how a byte is read in a field without quotes.
 fn in_field(separator: Separator, byte: u8) -> Step
     ensures { (state_of result.state, action_of result.effect)
         ≡ machine.in_field (config_by separator) byte }
@@ -67,7 +67,7 @@ fn in_field(separator: Separator, byte: u8) -> Step
     }
 }
 
-/// How a byte is read before a field.
+/// Returns how a byte is read before a field.
 fn start_field(separator: Separator, byte: u8) -> Step
     ensures { (state_of result.state, action_of result.effect)
         ≡ machine.start_field (config_by separator) byte }
@@ -78,7 +78,7 @@ fn start_field(separator: Separator, byte: u8) -> Step
     }
 }
 
-/// How a byte is read before a record.
+/// Returns how a byte is read before a record.
 fn start_record(separator: Separator, byte: u8) -> Step
     ensures { (state_of result.state, action_of result.effect)
         ≡ machine.start_record (config_by separator) byte }
@@ -90,7 +90,7 @@ fn start_record(separator: Separator, byte: u8) -> Step
 }
 
 impl ParserState {
-    /// How the next byte is read, where that separator was found.
+    /// Returns how the next byte is read, given the separator that was found.
     #[tactic(auto, unfolding(crate::specs::Records::read_byte))]
     pub(crate) fn read_byte(self, found: Option<Separator>, byte: u8) -> Step
         ensures { (state_of result.state, action_of result.effect)
@@ -108,8 +108,8 @@ impl ParserState {
         }
     }
 
-    /// The byte that ends a run of bytes which only join the field at hand, as a line end does. Where
-    /// no field is at hand there is no such run.
+    /// Returns the byte that ends a run of bytes which only join the current field. A line end ends
+    /// such a run too. If there is no current field, there is no such run.
     pub(crate) fn run_end(self, separator: Separator) -> Option<u8>
         ensures { IfSome result (runs.EndsRun separator (state_of self)) }
     {
@@ -120,7 +120,7 @@ impl ParserState {
         }
     }
 
-    /// Whether it is between two records.
+    /// Returns whether it is between two records.
     pub(crate) fn is_between(self) -> bool
         ensures { result ≡ spec.is_between (state_of self) }
     {

@@ -9,7 +9,7 @@ use crate::places_fault::{PlacesColumn, PlacesFault};
 use csv::ByteRecord;
 use std::alloc::{AllocError, Global};
 
-/// Where the columns that are read stand, counted from 0, and how many fields a record has.
+/// The columns that are read, counted from 0, and how many fields a record has.
 #[derive(Clone, Copy, Debug, PartialEq, Eq)]
 pub(crate) struct PlaceColumns {
     pub(crate) place: usize,
@@ -17,7 +17,7 @@ pub(crate) struct PlaceColumns {
     pub(crate) width: usize,
 }
 
-/// The fault of a header that lacks a column.
+/// Returns the fault of a header that lacks a column.
 fn lacks(
     alloc: Global,
     header: &ByteRecord,
@@ -33,7 +33,7 @@ fn lacks(
     })
 }
 
-/// Where a column stands in a header, which begins on the line.
+/// Returns the index of a column in a header, which begins on the line.
 fn find_column(
     alloc: Global,
     header: &ByteRecord,
@@ -51,12 +51,11 @@ fn find_column(
     }
 }
 
-/// Where both columns stand in a header, which begins on the line.
+/// Returns both columns in a header, which begins on the line.
 ///
 /// # Errors
 ///
-/// `LacksColumn` where no column has the name `place`, or else none the name `code`; and
-/// `NoMemory`.
+/// `LacksColumn` if no column has the name `place` or, otherwise, the name `code`. And `NoMemory`.
 pub(crate) fn find_place_columns(
     alloc: Global,
     header: &ByteRecord,

@@ -32,7 +32,7 @@ pub(crate) struct PlaceReader {
 }
 
 impl PlaceReader {
-    /// At the beginning of a text.
+    /// Returns the state at the beginning of a text.
     fn new(alloc: Global) -> PlaceReader
         ensures partial { partial_of result.parser.fields ≡ [] }
         ensures line { result.parser.line ≡ 1 }
@@ -47,7 +47,7 @@ impl PlaceReader {
         }
     }
 
-    /// Takes the header, which stands in the parser.
+    /// Takes the header, which is in the parser.
     fn take_header(&mut self, line: u64) -> Result<(), PlacesFault>
         requires { self.old.columns ≡ None }
         ensures takes { OnOk result (inside.TakesRecord self.old self.new line) }
@@ -58,7 +58,7 @@ impl PlaceReader {
         Ok(())
     }
 
-    /// Takes a record after the header, which stands in the parser.
+    /// Takes a record after the header, which is in the parser.
     fn take_row(&mut self, columns: PlaceColumns, line: u64) -> Result<(), PlacesFault>
         requires { self.old.columns ≡ Some columns }
         ensures takes { OnOk result (inside.TakesRecord self.old self.new line) }
@@ -77,7 +77,7 @@ impl PlaceReader {
         self.places.take(self.alloc, line, place, code)
     }
 
-    /// Takes the record that stands in the parser.
+    /// Takes the record that is in the parser.
     fn take_record(&mut self, line: u64) -> Result<(), PlacesFault>
         ensures takes { OnOk result (inside.TakesRecord self.old self.new line) }
         ensures refuses { IfErr result (inside.RefusesRecord self.old line) }
@@ -135,7 +135,7 @@ impl PlaceReader {
         Ok(())
     }
 
-    /// The entries of the text, which is at its end.
+    /// Returns the entries of the text, which is at its end.
     fn finish(mut self) -> Result<Places, PlacesFault>
         requires { partial_of self.parser.fields ≡ [] }
         ensures value { IfOk result (λ places. inside.found_from self [] ≡ Ok places) }
@@ -149,7 +149,7 @@ impl PlaceReader {
     }
 }
 
-/// A text without the byte order mark that it may begin with.
+/// Returns a text without the byte order mark that it may begin with.
 fn unmarked(text: &[u8]) -> &[u8]
     ensures { result.now ≡ strip_bom text.now }
 {
@@ -159,7 +159,7 @@ fn unmarked(text: &[u8]) -> &[u8]
     }
 }
 
-/// The places of a text.
+/// Returns the places of a text.
 fn places_in(alloc: Global, text: &[u8]) -> Result<Places, PlacesFault>
     ensures value { IfOk result (λ places. spec.places_in text.now ≡ Ok places) }
     ensures fault { IfErr result
@@ -171,22 +171,22 @@ fn places_in(alloc: Global, text: &[u8]) -> Result<Places, PlacesFault>
     reader.finish()
 }
 
-/// Reads a table of places in CSV to its end: the code of the territory for what the rows of a
-/// table of letters call a place. Its header has the columns `place` and `code`, and further ones
-/// are passed over. White space of ASCII around a place and a code is taken off. The fields are
-/// separated by the first comma, semicolon or tab of the header that stands in no quotes, or else
-/// by commas. A byte order mark at the beginning is left out. A place may be listed twice with the
-/// same code.
+/// Reads a table of places in CSV to its end: the code of the territory for each name that a table
+/// of letters gives a place. Its header has the columns `place` and `code`; other columns are
+/// ignored. White space of ASCII around a place and a code is removed. The fields are separated by
+/// the first comma, semicolon or tab of the header that is not in quotes, or by commas if there is
+/// none. A byte order mark at the beginning is ignored. A place may be listed twice with the same
+/// code.
 ///
 /// # Errors
 ///
-/// The fault of the first record that has one. `NoHeader` where the table has no record.
-/// `LacksColumn` where the header lacks the column `place`, or else `code`. At a record with
-/// another number of fields than the header `BadRecord`. Else `NotUtf8` where its place or its code
-/// is no text. Else `TwoCodes` where its place had another code before. `TooLong` at a record of
-/// more than 65,536 bytes. `OpenQuote` at one with a quote that is open at the end of the table.
-/// `TextAfterQuote` at one in which a text stands after a closing quote. `ReadFault` where the
-/// source failed or gave no end within 4,294,967,295 reads. And `NoMemory`.
+/// The fault of the first record that has one. `NoHeader` if the table has no record. `LacksColumn`
+/// if the header lacks the column `place` or, otherwise, `code`. `BadRecord` if a record has
+/// another number of fields than the header. Otherwise `NotUtf8` if its place or its code is not
+/// UTF-8. Otherwise `TwoCodes` if a record before it has another code for its place. `TooLong` if a
+/// record has more than 65,536 bytes. `OpenQuote` if a quote of a record is open at the end of the
+/// table. `TextAfterQuote` if a record has a text after a closing quote. `ReadFault` if the source
+/// failed or gave no end within 4,294,967,295 reads. And `NoMemory`.
 pub fn read_places<R: Source>(alloc: Global, source: &mut R) -> Result<Places, PlacesFault>
     ensures value { IfOk result (λ places. IfSome (R.remaining source.old)
         (λ text. spec.places_in text ≡ Ok places)) }
@@ -195,7 +195,7 @@ pub fn read_places<R: Source>(alloc: Global, source: &mut R) -> Result<Places, P
     // All was read, unless the source failed or memory ran out.
     ensures end { MatchResult result (λ _. IsAtEnd (R.remaining source.new))
         (λ fault. is_of_table fault ≡ true → IsAtEnd (R.remaining source.new)) }
-    // The source failed where a read fault says so, or gave no end in 4,294,967,295 reads.
+    // On a read fault, the source failed or gave no end in 4,294,967,295 reads.
     ensures source { MatchResult result (λ _. R.has_failed source.new ≡ R.has_failed source.old)
         (λ f. EndsStream (is_read_fault f) (R.has_failed source.old) (R.has_failed source.new)
         (IfSome (R.remaining source.old) (λ text. 4294967295 ≤ length text))) }

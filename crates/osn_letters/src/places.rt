@@ -28,7 +28,7 @@ impl Model for Places {
 }
 
 impl Places {
-    /// Without an entry.
+    /// Returns places without an entry.
     pub(crate) fn new(alloc: Global) -> Places
         ensures { result ≡ [] }
     {
@@ -37,7 +37,7 @@ impl Places {
         }
     }
 
-    /// The code of a place, if the place is listed.
+    /// Returns the code of a place, if the place is listed.
     pub(crate) fn code_of(&self, place: &str) -> Option<&str>
         ensures { option_map (λ code. code.now) result ≡ entries.code_of place.now self.now }
     {
@@ -57,11 +57,12 @@ impl Places {
         Ok(())
     }
 
-    /// Takes the entry of a record that begins on the line. One that is there already adds nothing.
+    /// Takes the entry of a record that begins on the line. An entry that is there already is not
+    /// added.
     ///
     /// # Errors
     ///
-    /// `TwoCodes` where the place has another code, and `NoMemory`.
+    /// `TwoCodes` if the place has another code, and `NoMemory`.
     pub(crate) fn take(
         &mut self,
         alloc: Global,

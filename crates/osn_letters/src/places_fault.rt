@@ -8,7 +8,7 @@ use osn_lines::ReadAllFault;
 use osn_register::Text;
 use std::alloc::AllocError;
 
-/// A column that a table of places has to have.
+/// A column that a table of places must have.
 #[derive(Clone, Copy, Debug, PartialEq, Eq)]
 pub enum PlacesColumn {
     /// The column of the places.
@@ -18,7 +18,7 @@ pub enum PlacesColumn {
 }
 
 impl PlacesColumn {
-    /// Its name.
+    /// Returns its name.
     pub fn name(self) -> &'static str
         ensures { result.now ≡ spec.column_name self }
     {
@@ -29,8 +29,8 @@ impl PlacesColumn {
     }
 }
 
-/// Why a table of places was not read. Lines are counted from 1, and a record that has several is
-/// told by its first one.
+/// Why a table of places was not read. Lines are counted from 1. For a record of several lines, the
+/// line is its first one.
 #[derive(Debug, Drop)]
 pub enum PlacesFault {
     /// The table has no record, and so no header.
@@ -54,11 +54,11 @@ pub enum PlacesFault {
     OpenQuote {
         line: u64,
     },
-    /// In the record on that line a text stands after a closing quote.
+    /// The record on that line has a text after a closing quote.
     TextAfterQuote {
         line: u64,
     },
-    /// The place or the code of the record on that line is no text in UTF-8.
+    /// The place or the code of the record on that line is not UTF-8.
     NotUtf8 {
         line: u64,
     },
@@ -81,7 +81,7 @@ impl From<AllocError> for PlacesFault {
     }
 }
 
-/// The parser of records tells three faults of a record, and want of memory.
+/// The parser of records returns three faults of a record, and `NoMemory`.
 impl From<LettersFault> for PlacesFault {
     ghost from_gives = { λ fault given. given ≡ spec.of_letters fault };
 

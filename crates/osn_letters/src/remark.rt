@@ -1,4 +1,4 @@
-//! What is said of a letter in its last field.
+//! The remarks on a letter in its last field.
 ghost use Rattle.std.specs.Prelude.{◌≡◌, ◌++◌, IfOk, Some, string_bytes};
 ghost use Rattle.std.specs.Prelude.{count_by};
 ghost use Rattle.std.specs.List.{list_any};
@@ -17,13 +17,13 @@ use std::fmt;
 pub enum Remark {
     /// Its date is not read.
     NotRead(DateFault),
-    /// Its place is no code, or that of no territory.
+    /// Its place is not a code, or the code of no territory.
     UnknownPlace,
     /// Its date means no day.
     NoDay(NoDay),
     /// Its date means several days, of which one alone has the weekday that is given.
     ByItsWeekday,
-    /// Its date means several days, and no weekday tells which.
+    /// Its date means several days, and no weekday decides between them.
     SeveralDays,
     /// None of its days has the weekday that is given.
     WeekdayDiffers,
@@ -37,12 +37,12 @@ pub enum Remark {
     ByAnotherCalendar,
     /// A weekday is given, and its date is not one day.
     WeekdayNotLookedFor,
-    /// Its weekday is no weekday's name.
+    /// Its weekday is not the name of a weekday.
     MalformedWeekday,
 }
 
 impl Remark {
-    /// The remark in words.
+    /// Returns the remark in words.
     pub(crate) fn words(self) -> &'static str
         ensures { result.now ≡ spec.remark_words self }
     {
@@ -74,7 +74,7 @@ impl fmt::Display for Remark {
 /// A remark, and whether it applies.
 pub(crate) type PossibleRemark = (bool, Remark);
 
-/// The remarks that apply: those on the days, and then those beside them, in their order.
+/// Returns the remarks that apply: those on the days, and then those beside them, in their order.
 pub(crate) fn those_that_apply(
     alloc: Global,
     on_days: &[PossibleRemark],
@@ -91,21 +91,21 @@ pub(crate) fn those_that_apply(
         .collect(alloc)
 }
 
-/// The field of these remarks.
+/// Returns the field of these remarks.
 pub(crate) fn remark_text(alloc: Global, remarks: &[Remark]) -> Result<String, AllocError>
     ensures { IfOk result (λ s. string_bytes s ≡ spec.remark_text remarks.now) }
 {
     remarks.iter().join(alloc, "; ")
 }
 
-/// Whether a weekday is given, by the date itself or beside it.
+/// Returns whether a weekday is given, by the date itself or beside it.
 fn is_weekday_given(named: Option<Weekday>, given: Option<Weekday>) -> bool
     ensures { result ≡ spec.is_weekday_given named given }
 {
     named.is_some() || given.is_some()
 }
 
-/// How many of the days have the weekday.
+/// Returns how many of the days have the weekday.
 fn count_on_weekday(date: WrittenDate, given: Option<Weekday>, days: &[DatedDay]) -> usize
     ensures { result ≡ count_by (meaning.has_weekday date given) days.now }
 {
@@ -114,7 +114,7 @@ fn count_on_weekday(date: WrittenDate, given: Option<Weekday>, days: &[DatedDay]
         .count()
 }
 
-/// Whether a weekday is given, and `count` of the days have it.
+/// Returns whether a weekday is given, and `count` of the days have it.
 fn are_on_weekday(
     count: usize,
     date: WrittenDate,
@@ -126,7 +126,7 @@ fn are_on_weekday(
     is_weekday_given(date.weekday, given) && count_on_weekday(date, given, days) == count
 }
 
-/// What is said of several days: whether the weekday that is given tells one of them.
+/// Returns the remark on several days: whether the given weekday decides between them.
 fn several_remark(date: WrittenDate, given: Option<Weekday>, days: &[DatedDay]) -> Remark
     ensures { result ≡ spec.several_remark date given days.now }
 {
@@ -137,14 +137,15 @@ fn several_remark(date: WrittenDate, given: Option<Weekday>, days: &[DatedDay]) 
     }
 }
 
-/// Whether the date means one of the days although the territory wrote the later year alone.
+/// Returns whether the date means one of the days although the territory wrote the later year
+/// alone.
 fn has_not_counted_double(date: WrittenDate, days: &[DatedDay]) -> bool
     ensures { result ≡ list_any (meaning.is_not_counted_double date) days.now }
 {
     days.iter().any(|day| is_not_counted_double(date, day))
 }
 
-/// What is said of days.
+/// Returns the remarks on days.
 pub(crate) fn remarks_on_days(
     date: WrittenDate,
     given: Option<Weekday>,
@@ -159,7 +160,7 @@ pub(crate) fn remarks_on_days(
     ]
 }
 
-/// What is said beside the days of a set.
+/// Returns the remarks that a set has in addition to those on its days.
 pub(crate) fn remarks_beside_set(given: Option<Weekday>, is_malformed: bool) -> [PossibleRemark; 2]
     ensures { result ≡ spec.remarks_beside_set given is_malformed }
 {
@@ -169,7 +170,7 @@ pub(crate) fn remarks_beside_set(given: Option<Weekday>, is_malformed: bool) -> 
     ]
 }
 
-/// What is said beside the days, of a date that is read.
+/// Returns the remarks that a date has in addition to those on its days.
 pub(crate) fn remarks_beside(
     date: AnyDate,
     given: Option<Weekday>,

@@ -12,21 +12,21 @@ use osn_written::{AnyDate, DateFault, weekday_named};
 use std::alloc::{AllocError, Global};
 use std::str;
 
-/// Bytes without the white space of ASCII around them.
+/// Returns bytes without the white space of ASCII around them.
 pub(crate) fn trimmed(bytes: &[u8]) -> &[u8]
     ensures { result.now ≡ spec.trimmed bytes.now }
 {
     bytes.trim_ascii()
 }
 
-/// The text that a field has without the white space around it, if it is a text.
+/// Returns the text that a field has without the white space around it, if it is a text.
 pub(crate) fn text_in_field(bytes: &[u8]) -> Option<&str>
     ensures { option_map (λ s. s.now) result ≡ spec.text_in_field bytes.now }
 {
     str::from_utf8(trimmed(bytes)).ok()
 }
 
-/// What a field says of a date, or why it says nothing of one.
+/// Returns what a field says of a date, or why it says nothing of one.
 pub(crate) fn date_of_field(
     alloc: Global,
     order: DateOrder,
@@ -40,7 +40,7 @@ pub(crate) fn date_of_field(
     }
 }
 
-/// The dates of the set that a field says.
+/// Returns the dates of the set that a field says.
 pub(crate) fn members_in(alloc: Global, field: &[u8]) -> Result<Vec<AnyDate>, AllocError>
     ensures { IfOk result (λ members. members.items ≡ spec.members_in field.now) }
 {
@@ -50,7 +50,7 @@ pub(crate) fn members_in(alloc: Global, field: &[u8]) -> Result<Vec<AnyDate>, Al
     }
 }
 
-/// The territory of a code, if some territory has it.
+/// Returns the territory of a code, if some territory has it.
 fn territory_of_code<'a>(register: &'a Register, code: &str) -> Option<&'a Territory>
     ensures { option_map (λ t. t.now) result
         ≡ spec.territory_of_code register.now.lands code.now }
@@ -59,7 +59,7 @@ fn territory_of_code<'a>(register: &'a Register, code: &str) -> Option<&'a Terri
     Some(territory)
 }
 
-/// The territory of a code, or else the first one of a name.
+/// Returns the territory of a code, or else the first one of a name.
 fn territory_of_text<'a>(register: &'a Register, text: &str) -> Option<&'a Territory>
     ensures { option_map (λ t. t.now) result
         ≡ spec.territory_of_text register.now.lands text.now }
@@ -70,7 +70,7 @@ fn territory_of_text<'a>(register: &'a Register, text: &str) -> Option<&'a Terri
     }
 }
 
-/// The code that a table of places has for a text.
+/// Returns the code that a table of places has for a text.
 fn code_of<'a>(places: Option<&'a Places>, text: &str) -> Option<&'a str>
     ensures { option_map (λ code. code.now) result ≡ entries.code_of text.now
         (unwrap_or (option_map (λ places. places.now) places.entry) []) }
@@ -78,7 +78,7 @@ fn code_of<'a>(places: Option<&'a Places>, text: &str) -> Option<&'a str>
     places?.code_of(text)
 }
 
-/// The territory of a field.
+/// Returns the territory of a field.
 pub(crate) fn territory_in<'a>(
     register: &'a Register,
     places: Option<&Places>,
@@ -94,14 +94,14 @@ pub(crate) fn territory_in<'a>(
     }
 }
 
-/// The weekday of a field, which may be lacking.
+/// Returns the weekday of a field, which may be missing.
 pub(crate) fn weekday_in(named: Option<&[u8]>) -> Option<Weekday>
     ensures { result ≡ spec.weekday_in (option_map (λ w. w.now) named.entry) }
 {
     weekday_named(text_in_field(named?)?)
 }
 
-/// Whether the field has something that is no weekday's name.
+/// Returns whether the field is not empty and is not the name of a weekday.
 pub(crate) fn is_malformed_weekday(named: Option<&[u8]>) -> bool
     ensures { result ≡ spec.is_malformed_weekday (option_map (λ w. w.now) named.entry) }
 {

@@ -14,7 +14,7 @@ pub enum Separator {
 }
 
 impl Separator {
-    /// Its byte.
+    /// Returns its byte.
     pub(crate) fn byte(self) -> u8
         ensures { result ≡ spec.separator_byte self }
     {
@@ -25,7 +25,7 @@ impl Separator {
         }
     }
 
-    /// The separator that a byte is, if it is one.
+    /// Returns the separator that a byte is, if it is one.
     fn of(byte: u8) -> Option<Separator>
         ensures { result ≡ spec.separator_of byte }
     {
@@ -38,21 +38,22 @@ impl Separator {
     }
 }
 
-/// The separator that was found, or the comma while none was.
+/// Returns the separator that was found, or the comma if there is no such separator.
 pub(crate) fn or_comma(found: Option<Separator>) -> Separator
     ensures { result ≡ spec.or_comma found }
 {
     found.unwrap_or(Separator::Comma)
 }
 
-/// The separator by which a byte is read: the one that was found, or the byte while none was.
+/// Returns the separator by which a byte is read: the one that was found. If there is none yet, it
+/// is the byte itself, or the comma if the byte is not a separator.
 pub(crate) fn separator_at(found: Option<Separator>, byte: u8) -> Separator
     ensures { result ≡ spec.separator_at found byte }
 {
     or_comma(found.or(Separator::of(byte)))
 }
 
-/// The separator that was found after a byte that does that to the record at hand.
+/// Returns the separator that was found after a byte that does that to the current record.
 pub(crate) fn separator_after(
     found: Option<Separator>,
     byte: u8,

@@ -15,7 +15,7 @@ use osn_lands::{Run, Territory};
 use osn_written::{AbsentMember, AnyDate, Kind, find_set, is_set_approximate, is_set_uncertain};
 use std::alloc::{AllocError, Global};
 
-/// The fields of the runs of a set.
+/// Returns the fields of the runs of a set.
 fn fields_of_set_runs(
     alloc: Global,
     edition: usize,
@@ -37,7 +37,7 @@ fn fields_of_set_runs(
     Ok(fields_with(alloc, summary, edtf, remarks))
 }
 
-/// The fields of a set without days, for that reason.
+/// Returns the fields of a set without days, for that reason.
 fn fields_of_no_set(
     alloc: Global,
     edition: usize,
@@ -50,7 +50,7 @@ fn fields_of_no_set(
     fields_of_none(alloc, edition, Some(Kind::Set), &[(true, reason)], beside)
 }
 
-/// The fields of what was found of a set.
+/// Returns the fields of what was found of a set.
 fn fields_of_found_set(
     alloc: Global,
     edition: usize,
@@ -67,7 +67,7 @@ fn fields_of_found_set(
     }
 }
 
-/// The fields of a set of dates in its place, if that is known.
+/// Returns the fields of a set of dates in its place, if that is known.
 fn fields_of_members(
     alloc: Global,
     edition: usize,
@@ -88,7 +88,7 @@ fn fields_of_members(
     }
 }
 
-/// The fields of the set of dates that a field says, with the field of the weekday.
+/// Returns the fields of the set of dates that a field says, with the field of the weekday.
 pub(crate) fn fields_of_set(
     alloc: Global,
     edition: usize,

@@ -9,7 +9,7 @@ use osn_grammar::DateOrder;
 pub struct TableSettings<'a> {
     /// The names of the columns that are read.
     pub names: ColumnNames<'a>,
-    /// What separates the fields. Where it is not named, the header says it.
+    /// What separates the fields. If it is not named, the header decides.
     pub separator: Option<Separator>,
     /// How a date of three numbers is read that may begin with its day or its month.
     pub order: DateOrder,

@@ -20,21 +20,21 @@ pub(crate) const NO_SPAN: Span = Span {
     latest: None,
 };
 
-/// The earliest of days.
+/// Returns the earliest of days.
 fn earliest(days: &[DatedDay]) -> Option<Day>
     ensures { result ≡ spec.earliest days.now }
 {
     days.iter().map(|day| day.day).min()
 }
 
-/// The latest of days.
+/// Returns the latest of days.
 fn latest(days: &[DatedDay]) -> Option<Day>
     ensures { result ≡ spec.latest days.now }
 {
     days.iter().map(|day| day.day).max()
 }
 
-/// That of days in any order.
+/// Returns the span of days in any order.
 pub(crate) fn span_of_days(days: &[DatedDay]) -> Span
     ensures { result ≡ spec.span_of_days days.now }
 {
@@ -44,7 +44,7 @@ pub(crate) fn span_of_days(days: &[DatedDay]) -> Span
     }
 }
 
-/// That of the runs of a set, in order.
+/// Returns the span of the runs of a set, in order.
 pub(crate) fn span_of_set(runs: &[Run]) -> Span
     ensures { result ≡ spec.span_of_set runs.now }
 {
@@ -54,7 +54,7 @@ pub(crate) fn span_of_set(runs: &[Run]) -> Span
     }
 }
 
-/// That of the runs of what is written, in order. A bound is open at one end.
+/// Returns the span of the runs of what is written, in order. A bound is open at one end.
 pub(crate) fn span_of_runs(extent: Extent, runs: &[Run]) -> Span
     ensures { result ≡ spec.span_of_runs extent runs.now }
 {

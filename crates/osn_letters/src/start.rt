@@ -14,12 +14,12 @@ pub(crate) enum Start {
     OneByte,
     /// Its first two bytes.
     TwoBytes,
-    /// The beginning is past: it was a mark, or it was none.
+    /// The beginning was read, with or without a mark.
     Past,
 }
 
 impl Start {
-    /// How much there is after the next byte, where that goes on with the mark.
+    /// Returns how much of the mark was read after the next byte, if that byte continues the mark.
     pub(crate) fn next(self, byte: u8) -> Option<Start>
         ensures { result ≡ spec.next_start self byte }
     {

@@ -19,7 +19,7 @@ use osn_lines::{Progress, Sink, Source, read_buffer, write_all};
 use osn_register::Register;
 use std::alloc::Global;
 
-/// Whether it is known what waits of what was taken: not where memory ran out.
+/// Returns whether it is known what waits of what was taken: it is not if memory ran out.
 fn is_known(taken: &Result<(), LettersFault>) -> bool
     ensures { result ≡ inside.is_known taken.now }
 {
@@ -29,8 +29,8 @@ fn is_known(taken: &Result<(), LettersFault>) -> bool
     }
 }
 
-/// Writes what waits of what was taken, so that nothing waits then. Where memory ran out it is not
-/// known what waits, and nothing is written.
+/// Writes the text that waits after the bytes were taken, so that nothing waits afterwards. If
+/// memory ran out, it is not known what waits, and nothing is written.
 fn write_out<W: Sink>(
     alloc: Global,
     sink: &mut W,
@@ -60,7 +60,7 @@ fn write_out<W: Sink>(
     }
 }
 
-/// Takes the next bytes, and writes what comes of them.
+/// Takes the next bytes, and writes what they add to the table.
 fn take_and_write<W: Sink>(
     letters: &mut Letters<'_>,
     sink: &mut W,
@@ -87,7 +87,7 @@ fn take_and_write<W: Sink>(
     write_out(letters.table.alloc, sink, &mut letters.table.out, taken)
 }
 
-/// Ends the text, writes what comes of that, and takes the tally of the rows out.
+/// Ends the text, writes what that adds to the table, and takes the tally of the rows out.
 fn finish_and_write<W: Sink>(letters: &mut Letters<'_>, sink: &mut W) -> Result<Tally, LettersFault>
     requires ready { inside.IsReady letters.old }
     requires line { letters.old.parser.line + 1 < 2 ^ 64 }
@@ -110,34 +110,34 @@ fn finish_and_write<W: Sink>(letters: &mut Letters<'_>, sink: &mut W) -> Result<
     }
 }
 
-/// Writes a table of letters in CSV from one in CSV. The header has twelve names after those that
-/// came. Each record has the twelve fields of `letter_fields` after its own, by the register of
-/// that edition. The settings name the columns of the places, of the dates or their parts, and of
-/// the weekdays. The fields are separated by what the settings name. Else it is the first comma,
-/// semicolon or tab of the header that stands in no quotes, or else the comma. What is written has
-/// the same separator. A byte order mark at the beginning is left out.
+/// Writes a table of letters in CSV from one in CSV. The header has twelve names after its own.
+/// Each record has the twelve fields of `letter_fields` after its own, by the register of that
+/// edition. The settings name the columns of the places, of the dates or their parts, and of the
+/// weekdays. The fields are separated by what the settings name. If they name nothing, the
+/// separator is the first comma, semicolon or tab of the header that is not in quotes, or the comma
+/// if there is none. The table is written with the same separator. A byte order mark at the
+/// beginning is ignored.
 ///
-/// What comes of a read is written before the next one. Besides the register there is one read of
-/// at most 65,536 bytes, what is written of them, and of a record that hasn't ended yet at most
-/// 65,536 bytes. `progress` is told of each read that gave bytes.
+/// What a read gives is written before the next read. In addition to the register, memory contains
+/// one read of at most 65,536 bytes, what is written of them, and at most 65,536 bytes of a record
+/// that hasn't ended yet. `progress` counts each read that gave bytes.
 ///
-/// Where all was written, the tally of its rows is given back.
+/// If the whole table was written, the tally of its rows is returned.
 ///
 /// A table may be cut between its records and written in parts, each after the same header: the
 /// rows of each part, one after another, are those of the whole.
 ///
 /// # Errors
 ///
-/// `NoHeader` where the table has no record. `HasColumn` where the header has one of the twelve
-/// names already. `LacksColumn` where it lacks a column that has to be there. `BadRecord` at a
-/// record with another number of fields than the header. `TooLong` at a record of more than 65,536
-/// bytes. `OpenQuote` at one with a quote that is open at the end of the table. `TextAfterQuote` at
-/// one in which a text stands after a closing quote. All that stood before such a fault was
-/// written.
+/// `NoHeader` if the table has no record. `HasColumn` if the header has one of the twelve names
+/// already. `LacksColumn` if it lacks a column that is required. `BadRecord` if a record has
+/// another number of fields than the header. `TooLong` if a record has more than 65,536 bytes.
+/// `OpenQuote` if a quote of a record is open at the end of the table. `TextAfterQuote` if a record
+/// has a text after a closing quote. All that was before such a fault was written.
 ///
-/// `ReadFault` where the source failed or gave no end within 4,294,967,295 reads. `WriteFault`
-/// where the sink failed or did not take a text within as many writes. And `NoMemory`. Where one of
-/// these ended the table, a beginning of it was written.
+/// `ReadFault` if the source failed or gave no end within 4,294,967,295 reads. `WriteFault` if the
+/// sink failed or did not take a text within as many writes. And `NoMemory`. If one of these ended
+/// the table, a beginning of it was written.
 #[tactic(auto, using(crate::proofs::PartFacts::table_laws))]
 pub fn write_letters<R: Source, W: Sink, P: Progress>(
     alloc: Global,
@@ -162,9 +162,8 @@ pub fn write_letters<R: Source, W: Sink, P: Progress>(
     ensures end { OnOk result
         (IsAtEnd (R.remaining source.new) × (W.holds_back sink.new ≡ false)) }
 
-    // Where a read fault says so, the source failed or gave no end in 4,294,967,295 reads, and all
-    // was written of what was read. Where a write fault says so, the sink failed, or the table has
-    // as many bytes.
+    // On a read fault, the source failed or gave no end in 4,294,967,295 reads, and all that was
+    // read was written. On a write fault, the sink failed, or the table has as many bytes.
     ensures source { MatchResult result (λ _. R.has_failed source.new ≡ R.has_failed source.old)
         (λ f. EndsStream (is_read_fault f) (R.has_failed source.old) (R.has_failed source.new)
         (IfSome (R.remaining source.old) (λ text. 4294967295 ≤ length text))
@@ -177,7 +176,7 @@ pub fn write_letters<R: Source, W: Sink, P: Progress>(
         (IfSome (R.remaining source.old) (λ text. spec.IsLong (spec.letters_written
         (spec.basis newest_rules register.now.lands edition settings.entry) text)))) }
 
-    // As laws: the records of a text are those that the kit reads, where none has a fault. And a
+    // As laws: the records of a text are those that the kit reads, if no record has a fault. And a
     // table may be cut between its records and written in parts, each after the header.
     ensures laws { AreTableLaws }
 {

@@ -26,7 +26,7 @@ use std::mem;
 /// What the header says of the records after it.
 #[derive(Clone, Copy, Debug, PartialEq, Eq)]
 pub(crate) struct Rows {
-    /// Where the columns that are read stand.
+    /// The columns that are read.
     pub(crate) columns: Columns,
     /// How many fields each has.
     pub(crate) width: usize,
@@ -44,7 +44,7 @@ pub(crate) struct Table<'a> {
     pub(crate) out: RowWriter,
 }
 
-/// The weekday of a record, where there is such a column.
+/// Returns the weekday of a record, if there is such a column.
 fn weekday_at(row: &ByteRecord, column: Option<usize>) -> Option<&[u8]>
     ensures { option_map (λ w. w.now) result
         ≡ option_map (λ n. get_or (fields_of row.now) n []) column }
@@ -100,7 +100,7 @@ impl Table<'_> {
         Ok(())
     }
 
-    /// The twelve fields of a record, with the text of its date, and its remarks.
+    /// Returns the twelve fields of a record, with the text of its date, and its remarks.
     fn letter_with_date(
         &self,
         columns: Columns,
@@ -122,7 +122,7 @@ impl Table<'_> {
         )
     }
 
-    /// The twelve fields of a record, and its remarks.
+    /// Returns the twelve fields of a record, and its remarks.
     fn letter_of(&self, columns: Columns, row: &ByteRecord) -> Result<LetterFields, AllocError>
         ensures { IfOk result (λ made. fields_and_remarks made ≡ spec.letter_of
             (inside.source_of self.now) columns (fields_of row.now)) }
@@ -205,7 +205,7 @@ impl Table<'_> {
     ///
     /// # Errors
     ///
-    /// `NoHeader` where there was no header, and nothing else.
+    /// `NoHeader` if there was no header, and nothing else.
     pub(crate) fn finish(&self) -> Result<(), LettersFault>
         ensures whole { OnOk result (inside.written_of self.now [] ≡ spec.whole) }
         ensures fault { IfErr result

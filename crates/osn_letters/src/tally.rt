@@ -44,7 +44,7 @@ impl Model for Tally {
 }
 
 impl Tally {
-    /// Of no rows.
+    /// Returns the tally of no rows.
     pub(crate) fn new(alloc: Global) -> Tally
         ensures { result ≡ inside.no_rows }
     {
@@ -80,7 +80,7 @@ impl Tally {
         Ok(())
     }
 
-    /// Counts a row that has these remarks. Want of memory leaves the counts of remarks unknown.
+    /// Counts a row that has these remarks. If memory runs out, the counts of remarks are unknown.
     pub(crate) fn count(&mut self, remarks: &[Remark]) -> Result<(), AllocError>
         ensures { OnOk result (self.new ≡ inside.with_row self.old remarks.now) }
     {
@@ -92,20 +92,20 @@ impl Tally {
         Ok(())
     }
 
-    /// Whether a row has a remark.
+    /// Returns whether a row has a remark.
     pub fn has_remarks(&self) -> bool
         ensures { result ≡ spec.has_remarks self.now }
     {
         self.remarked > 0
     }
 
-    /// The tally in lines, each after `front`: `rows: 6`, `rows with a remark: 3`. Then it tells
-    /// for each remark that a row has, in the order of their words, how many rows have it, as
-    /// `several days: 2`.
+    /// Returns the tally in lines, each after `front`: `rows: 6`, `rows with a remark: 3`. For each
+    /// remark that a row has, a line says how many rows have it, such as `several days: 2`. These
+    /// lines are in the order of the remarks' words.
     ///
     /// # Errors
     ///
-    /// Want of memory, and nothing else.
+    /// If memory runs out, and in no other case.
     pub fn text(&self, alloc: Global, front: &str) -> Result<String, AllocError>
         ensures { IfOk result (λ text. string_bytes text ≡ spec.tally_text front.now self.now) }
     {

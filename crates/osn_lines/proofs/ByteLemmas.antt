@@ -1,4 +1,4 @@
--- One write after another, and one read after another, where the bytes are known.
+-- One write after another, and one read after another, if the bytes are known.
 use Rattle.std.proofs.Common.{◌≡◌, ℕ, ◌+◌, List, [], ◌++◌, Option, None, Some, take, drop, refl}
 use Rattle.std.proofs.Common.{sym, ap, subst, ◌∙◌, append_assoc, append-nil}
 use Rattle.std.proofs.Math.Seq.{take-add}

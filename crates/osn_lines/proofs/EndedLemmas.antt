@@ -1,5 +1,4 @@
--- How many bytes are of lines that have ended, by where the last line feed stands, and after
--- further bytes.
+-- The number of bytes in ended lines, by the place of the last line feed, and after more bytes.
 use Rattle.std.proofs.Common.{◌≡◌, ◌+◌, ◌-◌, ◌≤◌, ◌==◌, ℕ, zero, suc, Bool, true, false, List}
 use Rattle.std.proofs.Common.{[], ◌∷◌, ◌++◌, length, refl, ap, ◌∙◌, arith, cond}
 use Rattle.std.proofs.Common.{zero-le}
@@ -8,7 +7,7 @@ use Rattle.osn_lines.specs.Ended.{with_byte, ended_length}
 
 -- ---- by the last line feed
 
--- a byte that is no line feed, before none of ended lines
+-- a byte other than a line feed, before no ended line
 with_other : (b : ℕ) (n : ℕ) → (b == 10) ≡ false → n ≡ 0 → with_byte b n ≡ 0
 with_other b zero other none = ap (λ t. cond t 1 0) other
 with_other b (suc n) other none = absurd (omega (arith, none))
@@ -46,7 +45,7 @@ ended-at (b ∷ bs) (suc k) last is =
     after_more zero h = absurd (omega (arith, h))
     after_more (suc n) h = omega (arith, h)
 
--- ---- further bytes
+-- ---- more bytes
 
 -- bytes with no line feed that come last leave the ended lines as they were
 pub ended-before : (xs ys : List ℕ) → ended_length ys ≡ 0
@@ -54,7 +53,7 @@ pub ended-before : (xs ys : List ℕ) → ended_length ys ≡ 0
 ended-before [] ys none = none
 ended-before (x ∷ xs) ys none = ap (with_byte x) (ended-before xs ys none)
 
--- where those bytes have a line feed, the ended lines reach into them
+-- if those bytes have a line feed, the ended lines reach into them
 pub ended-within : (xs ys : List ℕ) (k : ℕ) → ended_length ys ≡ suc k
     → ended_length (xs ++ ys) ≡ suc (length xs + k)
 ended-within [] ys k some = omega (arith, some)

@@ -1,16 +1,16 @@
--- The lines of bytes that end with a line feed, and of further bytes.
+-- The lines of bytes that end with a line feed, and of more bytes.
 use Rattle.std.proofs.Common.{◌≡◌, ◌==◌, ◌∙◌, ℕ, Bool, true, false, cond, List, [], ◌∷◌, ◌++◌}
 use Rattle.std.proofs.Common.{refl, sym, ap, subst}
 use Rattle.osn_lines.specs.Lines.{lines, onto_first, EndsWithFeed}
 
--- bytes that have a line, and after which further bytes begin a line of their own
+-- bytes that have a line, and after which more bytes begin a line of their own
 record Ends (bytes : List ℕ) : Type 0 where
   first : List ℕ
   rest : List (List ℕ)
   is : lines bytes ≡ first ∷ rest
   more : (ys : List ℕ) → lines (bytes ++ ys) ≡ first ∷ rest ++ lines ys
 
--- so with one byte more in front, which is a line feed or not
+-- so with one byte more before them, which is a line feed or not
 Ends-more : (b : ℕ) (bytes : List ℕ) (t : Bool) → (b == 10) ≡ t → Ends bytes → Ends (b ∷ bytes)
 Ends-more b bytes true e h =
     let cut : (ys : List ℕ) → lines (b ∷ ys) ≡ [] ∷ lines ys =

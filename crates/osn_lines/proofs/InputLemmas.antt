@@ -1,4 +1,4 @@
--- What follows for the whole input, where it is known, and for each way to end early.
+-- What follows for the whole input, if it is known, and for each way to end early.
 use Rattle.std.proofs.Common.{◌≡◌, ◌≤◌, ℕ, ◌+◌, List, [], ◌∷◌, ◌++◌, Option, None, Some, Result}
 use Rattle.std.proofs.Common.{Err, IfSome, IfErr, length, take}
 use Rattle.std.proofs.Common.{refl, sym, ap, subst, ◌∙◌, append-nil}
@@ -106,12 +106,12 @@ HasKeptUp-all a b n h = record {
   ended = omega (arith, h.ended);
 }
 
--- where the last line was to be taken
+-- if the last line was to be taken
 pub HasKeptUp-at_end : (a b : Option (List ℕ)) (m n : ℕ) → HasRead a b m → n ≡ m → HasKeptUp a b n
 HasKeptUp-at_end a b m n h same =
     HasKeptUp-all a b n (subst (λ (i : ℕ). HasRead a b i) (sym same) h)
 
--- and of one read more some may be
+-- after one more read, of which lines may be left
 pub HasKeptUp-more : {S : Type 0} (after : S → List (List ℕ) → S → Type 0) (s t : S)
     (a b : Option (List ℕ)) (bytes more : List ℕ) (unended : UnendedLine) (m n : ℕ) →
     IsTaken after s t bytes 0 m (IsUnended unended) → Consumes a b (bytes ++ more) →
@@ -124,14 +124,14 @@ HasKeptUp-more after s t a b bytes more unended m n h consumed few le = record {
   ended = omega (arith, ended_of after s t bytes unended m h, le);
 }
 
--- of the causes for which lines that were read may end, one
+-- a cause for which lines that were read may be left
 pub counts_on : {W : Type 0} (fault : TakeFault W) (n m : ℕ)
     → MatchFault fault (n ≤ m) ⊥ (λ why. n ≤ m) → n ≤ m
 counts_on NoMemory n m h = h
 counts_on ReadFault n m h = absurd h
 counts_on (Stopped why) n m h = h
 
--- where no more is read than was taken and kept
+-- if no more is read than was taken and kept
 pub TakesEnded-from : {S : Type 0} (after : S → List (List ℕ) → S → Type 0) (s t : S)
     (a b : Option (List ℕ)) (bytes : List ℕ) (unended : UnendedLine) (n : ℕ) →
     IsTaken after s t bytes 0 n (IsUnended unended) → Consumes a b bytes →
@@ -165,7 +165,7 @@ TakesAll-from after s t u a b bytes unended m n h consumed end next =
           (lines_at_end after s t bytes unended m h);
     }
 
--- where memory runs out at the last line
+-- if memory runs out at the last line
 pub TakesFirst-at_end : {S : Type 0} (after : S → List (List ℕ) → S → Type 0) (s t u : S)
     (a b : Option (List ℕ)) (bytes : List ℕ) (unended : UnendedLine) (m n : ℕ) →
     IsTaken after s t bytes 0 m (IsUnended unended) → Consumes a b bytes → n ≡ m → u ≡ t →
@@ -175,7 +175,7 @@ TakesFirst-at_end {S} after s t u a b bytes unended m n h consumed same still =
     (subst (λ (i : ℕ). TakesFirst after s t a i) (sym same)
     (TakesFirst-from after s t a b bytes m (IsUnended unended) h consumed))
 
--- where the taker stops at the last line
+-- if the taker stops at the last line
 pub StopsAfter-at_end : {S W : Type 0} (after : S → List (List ℕ) → S → Type 0)
     (stopped : S → List (List ℕ) → Option (List ℕ) → S → W → Type 0) (s t u : S)
     (a b : Option (List ℕ)) (bytes : List ℕ) (unended : UnendedLine) (m n : ℕ) (why : W) →
@@ -201,7 +201,7 @@ StopsAfter-at_end after stopped s t u a b bytes unended m n why h consumed end s
           (slice_get_at _ h.lines_taken h.left [] n count all);
     }
 
--- where the taker stops at a line that has ended
+-- if the taker stops at a line that has ended
 pub StopsAfter-from : {S W : Type 0} (after : S → List (List ℕ) → S → Type 0)
     (stopped : S → List (List ℕ) → Option (List ℕ) → S → W → Type 0) (s t : S)
     (a b : Option (List ℕ)) (bytes : List ℕ) (n : ℕ) (why : W) →
@@ -224,7 +224,7 @@ StopsAfter-from after stopped s t a b bytes n why h consumed =
           (λ more. slice_get_at _ h.lines_taken h.line _ n (from_none n _ h.count) (all more));
     }
 
--- where the taker stops before a read
+-- if the taker stops before a read
 pub StopsAfter-between : {S W : Type 0} (after : S → List (List ℕ) → S → Type 0)
     (stopped : S → List (List ℕ) → Option (List ℕ) → S → W → Type 0) (s t u : S)
     (a b : Option (List ℕ)) (bytes : List ℕ) (n : ℕ) (Left : List ℕ → Type 0) (why : W) →

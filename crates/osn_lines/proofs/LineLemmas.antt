@@ -1,4 +1,4 @@
--- How `lines` goes on after bytes that are already cut.
+-- How `lines` continues after bytes that are already cut.
 use Rattle.std.proofs.Common.{◌≡◌, ℕ, zero, suc, ◌+◌, ◌<◌, ◌≤◌, Bool, true, false, cond, List, []}
 use Rattle.std.proofs.Common.{◌∷◌, ◌++◌, length, take, drop, refl, ap, sym, ◌∙◌, append_assoc}
 use Rattle.std.proofs.Common.{append-nil, arith, subst, slice_index, ◌==◌, length-drop}
@@ -8,7 +8,7 @@ use Rattle.std.proofs.lemmas.Bool.{eqb-true}
 use Rattle.osn_lines.specs.Inside.{HasNoFeed, Cuts}
 use Rattle.osn_lines.specs.Lines.{lines, onto_first}
 
--- bytes at the front of the first line
+-- bytes put before the first line
 abbrev pub onto : List ℕ → List (List ℕ) → List (List ℕ)
 onto p [] = p ∷ []
 onto p (line ∷ rest) = (p ++ line) ∷ rest
@@ -22,7 +22,7 @@ onto_first-alone : (b : ℕ) (ls : List (List ℕ)) → onto_first b ls ≡ onto
 onto_first-alone b [] = refl
 onto_first-alone b (l ∷ ls) = refl
 
--- what has no line feed stands at the front of the first line
+-- bytes without a line feed begin the first line
 pub lines-front : (b : ℕ) (p more : List ℕ) → HasNoFeed (b ∷ p) →
     lines ((b ∷ p) ++ more) ≡ onto (b ∷ p) (lines more)
 lines-front b [] more h =
@@ -55,7 +55,7 @@ pub Cuts-line : (line : List ℕ) → HasNoFeed line → Cuts (line ++ 10 ∷ []
 Cuts-line line h =
     record { whole = λ more. ap lines (append_assoc line (10 ∷ []) more) ∙ lines-feed line more h }
 
--- further bytes are left over too
+-- more bytes are left over too
 pub Cuts-more : (bytes left more : List ℕ) (done : List (List ℕ)) → Cuts bytes done left →
     Cuts (bytes ++ more) done (left ++ more)
 Cuts-more bytes left more done h = record {
@@ -64,7 +64,7 @@ Cuts-more bytes left more done h = record {
       ∙ (h.whole (more ++ xs) ∙ ap (λ ys. done ++ lines ys) (sym (append_assoc left more xs)));
 }
 
--- further bytes are cut after those that were left
+-- more bytes are cut after those that were left
 pub Cuts-then : (bytes left more rest : List ℕ) (done new : List (List ℕ)) → Cuts bytes done left →
     Cuts (left ++ more) new rest → Cuts (bytes ++ more) (done ++ new) rest
 Cuts-then bytes left more rest done new h k = record {
@@ -77,7 +77,7 @@ not_true : (t : Bool) → (t ≡ true → ⊥) → t ≡ false
 not_true true h = absurd (h refl)
 not_true false h = refl
 
--- where no byte before place k is a line feed, the first k bytes have none
+-- if no byte before place k is a line feed, the first k bytes have none
 pub HasNoFeed-take : (bytes : List ℕ) (k : ℕ) →
     ((i : ℕ) → i < k → (slice_index bytes i == 10) ≡ true → ⊥) → HasNoFeed (take k bytes)
 HasNoFeed-take [] zero h = tt
@@ -100,12 +100,12 @@ seen_line piece from place h e =
     ∙ ap (λ b. take place (drop from piece) ++ b ∷ [])
     (eqb-true (slice_index (drop from piece) place) 10 e)))
 
--- what stands after the last line feed is the last line, if it is anything
+-- the bytes after the last line feed are the last line, if there are any
 pub lines-rest : (part : List ℕ) → HasNoFeed part → 0 < length part → lines part ≡ (part ++ []) ∷ []
 lines-rest [] h more = absurd (omega arith)
 lines-rest (b ∷ p) h more = lines-last b p h ∙ ap (λ l. l ∷ []) (sym (append-nil (b ∷ p)))
 
--- where nothing was kept of a line, its end is the line
+-- if nothing was kept of a line, its end is the line
 pub whole_end : (part end : List ℕ) → part ≡ [] → length end ≤ 65536 →
     (end ≡ part ++ end) × (length (part ++ end) ≤ 65536)
 whole_end part end none few =

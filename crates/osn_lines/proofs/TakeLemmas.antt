@@ -171,7 +171,7 @@ IsUnended-more unended unended' hay rest left is_hay more none h =
       HasNoFeed-append left rest h.1 no_feed,
     )
 
--- a further piece was read
+-- another piece was read
 pub IsTaken-then : {S : Type 0} (after : S → List (List ℕ) → S → Type 0) (s t u : S)
     (bytes given piece : List ℕ) (unended : UnendedLine) (n m q : ℕ) (Left : List ℕ → Type 0) →
     IsTaken after s t bytes n m (IsUnended unended) → given ≡ piece →

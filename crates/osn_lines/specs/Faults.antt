@@ -1,4 +1,4 @@
--- What holds where taking lines ended early, by the cause, and why a read or a write fails.
+-- What holds if taking lines ended early, by the cause, and why a read or a write fails.
 use Rattle.std.specs.Prelude.{◌≡◌, ◌≤◌, ◌⊎◌, ℕ, Bool, true, List, length, Option, IfSome}
 use Rattle.osn_lines.specs.declared.fault.TakeFault.{TakeFault}
 use Rattle.osn_lines.specs.declared.fault.TakeFault.TheVariants.{NoMemory, ReadFault, Stopped}

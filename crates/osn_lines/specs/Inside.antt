@@ -10,21 +10,21 @@ abbrev pub HasNoFeed : List ℕ → Type 0
 HasNoFeed [] = Unit {0}
 HasNoFeed (b ∷ bs) = ((b == 10) ≡ false) × HasNoFeed bs
 
--- these bytes begin with the lines `done`, whatever comes after them, and `left` is what has come
+-- these bytes begin with the lines `done`, whatever comes after them, and `left` is the beginning
 -- of the next line
 pub record Cuts (bytes : List ℕ) (done : List (List ℕ)) (left : List ℕ) : Type 0 where
   pub whole : (more : List ℕ) → lines (bytes ++ more) ≡ done ++ lines (left ++ more)
 
--- these bytes are all of the line, unless it is too long: then no more than the longest are held
+-- these bytes are all of the line, unless it is too long: then no more than the longest are kept
 abbrev pub HoldsBytes : Bool → List ℕ → List ℕ → Type 0
 HoldsBytes false bytes line = (bytes ≡ line) × (length line ≤ longest_line)
 HoldsBytes true bytes line = (longest_line < length line) × (length bytes ≤ longest_line)
 
--- what has come of a line, or that it is too long
+-- the beginning of a line, or that it is too long
 abbrev pub Holds : UnendedLine → List ℕ → Type 0
 Holds unended line = HoldsBytes unended.is_too_long unended.bytes.items line
 
--- this has come of a line that hasn't ended yet
+-- this is the beginning of a line that hasn't ended yet
 abbrev pub IsUnended : UnendedLine → List ℕ → Type 0
 IsUnended unended line = Holds unended line × HasNoFeed line
 

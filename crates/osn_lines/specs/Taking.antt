@@ -20,7 +20,7 @@ abbrev pub Stops : {S W : Type 0} → (S → List (List ℕ) → S → Type 0) �
 Stops {S} {W} after stopped s t at why =
     (begun : S) (before : List (List ℕ)) → after begun before s → stopped begun before at t why
 
--- n lines were taken, and they are all lines of the input, where that is known
+-- n lines were taken, and they are all lines of the input, if that is known
 pub record TakesAll {S : Type 0} (after : S → List (List ℕ) → S → Type 0) (s t : S)
     (input : Option (List ℕ)) (n : ℕ) : Type 0 where
   pub lines_taken : List (List ℕ)
@@ -28,7 +28,7 @@ pub record TakesAll {S : Type 0} (after : S → List (List ℕ) → S → Type 0
   pub count : n ≡ length lines_taken
   pub all : IfSome input (λ bytes. lines bytes ≡ lines_taken)
 
--- n lines were taken, and they are the first n of the input, where that is known
+-- n lines were taken, and they are the first n of the input, if that is known
 pub record TakesFirst {S : Type 0} (after : S → List (List ℕ) → S → Type 0) (s t : S)
     (input : Option (List ℕ)) (n : ℕ) : Type 0 where
   pub lines_taken : List (List ℕ)
@@ -36,8 +36,8 @@ pub record TakesFirst {S : Type 0} (after : S → List (List ℕ) → S → Type
   pub count : n ≡ length lines_taken
   pub first : IfSome input (λ bytes. take n (lines bytes) ≡ lines_taken)
 
--- n lines were taken, the first n of the input where that is known. The taker stopped after them:
--- at the next line of the input, or between two lines
+-- n lines were taken, the first n of the input if that is known. The taker stopped after them: at
+-- the next line of the input, or between two lines
 pub record StopsAfter {S W : Type 0} (after : S → List (List ℕ) → S → Type 0)
     (stopped : S → List (List ℕ) → Option (List ℕ) → S → W → Type 0) (s t : S)
     (input : Option (List ℕ)) (n : ℕ) (why : W) : Type 0 where
@@ -56,15 +56,15 @@ pub record HasRead (old new : Option (List ℕ)) (n : ℕ) : Type 0 where
   pub consumed : Consumes old new read
   pub ended : length (lines (read ++ 10 ∷ [])) ≡ n + 1
 
--- n lines were taken, the first n of the input where that is known, and of the bytes that were read
--- no other has ended
+-- n lines were taken, the first n of the input if that is known, and of the bytes that were read no
+-- other has ended
 pub record TakesEnded {S : Type 0} (after : S → List (List ℕ) → S → Type 0) (s t : S)
     (old new : Option (List ℕ)) (n : ℕ) : Type 0 where
   pub first : TakesFirst after s t old n
   pub read : HasRead old new n
 
--- Of the bytes that were read each line is among the first n that ended before the last ones, which
--- are at most what one read gives.
+-- Each line that ended in the bytes before the last ones is among the first n. The last ones are at
+-- most what one read gives.
 pub record HasKeptUp (old new : Option (List ℕ)) (n : ℕ) : Type 0 where
   pub earlier : List ℕ
   pub last : List ℕ

@@ -12,7 +12,7 @@ pub struct Bytes<'a> {
 impl<'a> Bytes<'a> {
     ghost use Rattle.osn_lines.specs.Bytes.{rest_of};
 
-    /// All of these bytes.
+    /// Returns a source of all of these bytes.
     pub fn new(bytes: &'a [u8]) -> Bytes<'a>
         ensures { rest_of result ≡ bytes.now }
     {

@@ -1,4 +1,4 @@
-//! Cuts the bytes that were read into lines, and has each line taken.
+//! Cuts the bytes that were read into lines, and gives each line to the taker.
 ghost use Rattle.std.specs.Prelude.{◌≡◌, ◌+◌, ◌^◌, ◌<◌, ◌≤◌, ℕ, List, [], ◌∷◌, ◌++◌, ⊤, Some};
 ghost use Rattle.std.specs.Prelude.{length, OnOk, IfErr};
 ghost use Rattle.osn_lines.specs.Faults.{MatchFault};
@@ -11,7 +11,7 @@ use crate::taker::LineTaker;
 use crate::unended_line::UnendedLine;
 use memchr::memchr;
 
-/// Has a line taken of which `unended` is the beginning and `end` the end.
+/// Gives the taker a line of which `unended` is the beginning and `end` the end.
 pub(crate) fn take_line<T: LineTaker>(
     taker: &mut T,
     unended: &mut UnendedLine,
@@ -45,8 +45,8 @@ pub(crate) fn take_line<T: LineTaker>(
     }
 }
 
-/// Has the lines taken that end in this piece, and keeps what it has of the next. Counts each line
-/// that is taken.
+/// Gives the taker the lines that end in this piece, and keeps the beginning of the next line.
+/// Counts each line that is taken.
 pub(crate) fn take_piece<T: LineTaker>(
     taker: &mut T,
     unended: &mut UnendedLine,

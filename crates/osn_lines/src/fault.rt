@@ -3,14 +3,14 @@
 use std::fmt::Display;
 use thiserror::Error;
 
-/// An end before the end of the input: how many lines, and why no more.
+/// An end before the end of the input: the number of lines before it, and the cause.
 #[derive(Debug, Drop, Error)]
 #[error("after {lines} lines {cause}")]
 #[error_bound(C: Display)]
 pub struct Interrupted<C> {
-    /// How many lines were done with before.
+    /// The number of lines that were done before.
     pub lines: u64,
-    /// Why no further line was.
+    /// The cause of the end.
     pub cause: C,
 }
 

@@ -1,7 +1,7 @@
 //! Lines of bytes: what they are read from and written to, how they are cut, and the loop that
-//! hands each line to what takes lines. What the crate promises to those above: `take_lines` hands
-//! over exactly the lines of the input, in order, in whatever pieces the bytes come. It says where
-//! it ended early and why. `read_all` has all bytes of an input in memory.
+//! gives each line to what takes lines. The crate guarantees that `take_lines` gives exactly the
+//! lines of the input, in order, in whatever pieces the bytes come. If it ends early, it returns
+//! the number of lines and why. `read_all` has all bytes of an input in memory.
 #![tactic(auto)]
 
 mod bytes;

@@ -1,4 +1,4 @@
-//! A line as it is handed over.
+//! A line as it is given to a taker.
 
 /// The most bytes that a line may have, without its line feed.
 pub const LONGEST_LINE: usize = 65_536;

@@ -17,7 +17,7 @@ pub struct Plain<T> {
 impl<T> Plain<T> {
     ghost use Rattle.osn_lines.specs.Plain.{inner_of, failed_of};
 
-    /// One that hasn't failed.
+    /// Returns one that hasn't failed.
     pub fn new(inner: T) -> Plain<T>
         ensures inner { inner_of result ≡ inner }
         ensures failed { failed_of result ≡ false }
@@ -28,7 +28,7 @@ impl<T> Plain<T> {
         }
     }
 
-    /// The reader or writer inside.
+    /// Returns the reader or writer inside.
     pub fn into_inner(self) -> T
         ensures { result ≡ inner_of self }
     {

@@ -1,6 +1,6 @@
-//! Who is told how far an input was read.
+//! Counts how much of an input was read.
 
-/// Who is told, while an input is read, how much of it was.
+/// Counts the bytes of an input while it is read.
 pub trait Progress {
     /// Counts bytes that were read.
     fn count(&mut self, bytes: usize);

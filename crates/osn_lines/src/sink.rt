@@ -11,7 +11,7 @@ pub struct WriteFailed;
 
 /// What bytes are written to, one call at a time, and what notes that a call failed.
 pub trait Sink {
-    // The bytes that have been written, where they are known.
+    // The bytes that have been written, if they are known.
     ghost contents: { Self → Option (List ℕ) };
 
     // Whether a write has ever failed.
@@ -20,9 +20,9 @@ pub trait Sink {
     // Whether some of the bytes that have been written are known to be held back.
     ghost holds_back: { Self → Bool } = { λ _. false };
 
-    /// Writes once: `Ok(n)` where the first n bytes were taken, of some bytes at least one. A write
-    /// that takes none of them fails. A write that fails marks the sink as failed for good, and
-    /// nothing else does.
+    /// Writes once. Returns `Ok(n)` if the first n bytes were taken, at least one unless there are
+    /// no bytes. A write that takes none of them fails. Only a write that fails marks the sink as
+    /// failed, and it stays so.
     fn write(&mut self, bytes: &[u8]) -> Result<usize, WriteFailed>
         ensures bound { WritesAtMost result bytes.now }
         ensures some { IfOk result (λ n. 0 < length bytes.now → 0 < n) }
@@ -30,15 +30,15 @@ pub trait Sink {
         ensures failed { has_failed self.new
             ≡ (if is_ok result then has_failed self.old else true) };
 
-    /// Passes on whatever the sink still holds back. A call that fails marks the sink as failed for
-    /// good.
+    /// Passes on all bytes that the sink still holds back. A call that fails marks the sink as
+    /// failed, and it stays so.
     fn flush(&mut self) -> Result<(), WriteFailed>
         ensures bytes { Keeps (contents self.old) (contents self.new) }
         ensures passed { OnOk result (holds_back self.new ≡ false) }
         ensures failed { has_failed self.new
             ≡ (if is_ok result then has_failed self.old else true) };
 
-    /// Whether a write has ever failed.
+    /// Returns whether a write has ever failed.
     fn failed(&self) -> bool
         ensures { result ≡ has_failed self.now };
 }
@@ -47,7 +47,7 @@ pub trait Sink {
 ///
 /// # Errors
 ///
-/// `Err(n)` where the sink took the first n of them and then failed, or where 4,294,967,295 calls
+/// Returns `Err(n)` if the sink took the first n of them and then failed, or if 4,294,967,295 calls
 /// of it did not suffice.
 pub fn write_all<W: Sink>(sink: &mut W, bytes: &[u8]) -> Result<(), usize>
     ensures ok { OnOk result (Appends (W.contents sink.old) (W.contents sink.new) bytes.now) }

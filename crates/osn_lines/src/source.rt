@@ -12,26 +12,26 @@ pub struct ReadFailed;
 
 /// What bytes are read from, one call at a time, and what notes that a call failed.
 pub trait Source {
-    // The bytes that reads will give from here on, where they are known.
+    // The bytes that reads will give from here on, if they are known.
     ghost remaining: { Self → Option (List ℕ) };
 
     // Whether a read has ever failed.
     ghost has_failed: { Self → Bool };
 
-    /// Reads once: `Ok(n)` for n bytes at the front of `buffer`, and `Ok(0)` for a buffer with room
-    /// at the end of the input. A read that fails marks the source as failed for good, and nothing
-    /// else does.
+    /// Reads once. Returns `Ok(n)` for n bytes at the beginning of `buffer`, and `Ok(0)` for a
+    /// buffer with room at the end of the input. Only a read that fails marks the source as failed,
+    /// and it stays so.
     fn read(&mut self, buffer: &mut [u8]) -> Result<usize, ReadFailed>
         ensures bound { ReadsAtMost result buffer.new }
         ensures bytes { ReadConsumes (remaining self.old) (remaining self.new) result buffer.new }
         ensures failed { has_failed self.new
             ≡ (if is_ok result then has_failed self.old else true) };
 
-    /// Whether a read has ever failed.
+    /// Returns whether a read has ever failed.
     fn failed(&self) -> bool
         ensures { result ≡ has_failed self.now };
 
-    /// How many bytes a read is worth having room for: from 1 to 65,536.
+    /// Returns how many bytes of room are useful for a read: from 1 to 65,536.
     fn room(&self) -> usize
         ensures some { 0 < result }
         ensures most { result ≤ 65536 }
@@ -43,18 +43,18 @@ pub trait Source {
 /// The most bytes that are read at once.
 pub(crate) const MOST_ROOM: usize = 65_536;
 
-/// A buffer of this many bytes.
+/// Returns a buffer of this many bytes.
 pub(crate) fn buffer_of(alloc: Global, room: usize) -> Result<Vec<u8>, AllocError>
     ensures { IfOk result (λ buffer. length buffer.items ≡ room) }
 {
     vec![in alloc; 0u8; room]
 }
 
-/// A buffer to read a source into, of 65,536 bytes.
+/// Returns a buffer to read a source into, of 65,536 bytes.
 ///
 /// # Errors
 ///
-/// Want of memory, and nothing else.
+/// Returns `AllocError` if memory runs out.
 pub fn read_buffer(alloc: Global) -> Result<Vec<u8>, AllocError>
     ensures { IfOk result (λ buffer. length buffer.items ≡ 65536) }
 {

@@ -1,4 +1,4 @@
-//! Hands over all lines of a source, each as soon as it has come.
+//! Gives all lines of a source to a taker, each as soon as it is read.
 ghost use Rattle.std.specs.Prelude.{◌≡◌, ◌+◌, ◌^◌, ◌<◌, ◌≤◌, ◌⊎◌, ℕ, List, Some, length, true};
 ghost use Rattle.std.specs.Prelude.{IfOk, IfErr, IfSome, OnOk, ⊤, [], ◌∷◌};
 ghost use Rattle.std.specs.Io.KnownBytes.{IsAtEnd};
@@ -15,7 +15,8 @@ use crate::taker::LineTaker;
 use crate::unended_line::UnendedLine;
 use std::alloc::Global;
 
-/// Has the bytes after the last line feed taken as a line, if there are any, after this many lines.
+/// Gives the taker the bytes after the last line feed as a line, if there are any, after this many
+/// lines.
 fn take_rest<T: LineTaker>(
     taker: &mut T,
     unended: &mut UnendedLine,
@@ -43,19 +44,19 @@ fn take_rest<T: LineTaker>(
     }
 }
 
-/// Hands every line of the source to the taker, in order, up to the end of the input. Answers their
+/// Gives every line of the source to the taker, in order, up to the end of the input. Returns their
 /// number.
 ///
-/// Each line is handed over as soon as its line feed has come, and what stands after the last line
-/// feed at the end of the input. Before each read the taker is told. Besides what the taker uses,
-/// memory holds one read of at most 65,536 bytes, and of a line that hasn't ended yet at most
-/// 65,536 bytes.
+/// Each line is given as soon as its line feed is read, and the bytes after the last line feed at
+/// the end of the input. `before_read` is called before each read. Besides what the taker uses,
+/// memory contains one read of at most 65,536 bytes, and at most 65,536 bytes of a line that hasn't
+/// ended yet.
 ///
 /// # Errors
 ///
-/// The number of lines that were taken, and why no more. `NoMemory` where memory ran out here.
-/// `ReadFault` where the source failed, or gave no end within 4,294,967,295 reads. `Stopped` where
-/// the taker stopped. No line is handed over after that, not even one that a failed read cut short.
+/// Returns the number of lines that were taken, and the cause: `NoMemory` if memory ran out here,
+/// `ReadFault` if the source failed or didn't end within 4,294,967,295 reads, and `Stopped` if the
+/// taker stopped. No line is given after that, not even one that a failed read cut short.
 pub fn take_lines<T: LineTaker, R: Source>(
     alloc: Global,
     taker: &mut T,
@@ -73,7 +74,7 @@ pub fn take_lines<T: LineTaker, R: Source>(
     ensures recent { IfErr result (λ end.
         HasKeptUp (R.remaining source.old) (R.remaining source.new) end.lines) }
 
-    // A further line can be counted.
+    // Another line can be counted.
     ensures few { IfErr result (λ end. end.lines < 2 ^ 63) }
 
     // The taker was ready for the read that failed.
@@ -81,8 +82,8 @@ pub fn take_lines<T: LineTaker, R: Source>(
         ((R.has_failed source.new ≡ R.has_failed source.old) ⊎ T.is_ready taker.new)
         (λ _. ⊤)) }
 
-    // The source failed where a read fault says so, or gave no end in 4,294,967,295 reads, and
-    // nowhere else.
+    // The source failed, or gave no end in 4,294,967,295 reads, if the fault is a read fault, and
+    // otherwise it did not fail.
     ensures sound { OnOk result (R.has_failed source.new ≡ R.has_failed source.old) }
     ensures reason { IfErr result (λ end. MatchFault end.cause
         (R.has_failed source.new ≡ R.has_failed source.old)

@@ -5,8 +5,8 @@ ghost use Rattle.osn_lines.specs.Taking.{Takes, Rests, Stops};
 
 use crate::line::Line;
 
-/// What takes one line after another, and may stop. The words `after` and `stopped` are its own:
-/// what it has become by the lines that it took, and what a stop shows.
+/// What takes one line after another, and may stop. It defines `after` and `stopped`: what it has
+/// become by the lines that it took, and what a stop shows.
 pub trait LineTaker {
     /// Why it stops.
     type Stop;
@@ -15,7 +15,7 @@ pub trait LineTaker {
     ghost after: { Self → List (List ℕ) → Self → Type 0 };
 
     // `stopped begun taken at now why`: what was `begun` took these lines, and stopped at this
-    // line, or between two lines where no line is given. It is `now`, and has this reason.
+    // line, or between two lines if no line is given. It is `now`, and has this reason.
     ghost stopped: { Self → List (List ℕ) → Option (List ℕ) → Self → Self.Stop → Type 0 };
 
     // Whether it is ready for a wait.
@@ -25,18 +25,18 @@ pub trait LineTaker {
     ///
     /// # Errors
     ///
-    /// Why it stops here. No further line is given to it then.
+    /// Returns why it stops here. No other line is given to it then.
     fn take(&mut self, line: Line<'_>) -> Result<(), Self::Stop>
         ensures takes { OnOk result ((whole : List ℕ) → IsLine line.entry whole →
             Takes after self.old self.new (whole ∷ [])) }
         ensures stop { IfErr result (λ why. (whole : List ℕ) → IsLine line.entry whole →
             Stops after stopped self.old self.new (Some whole) why) };
 
-    /// Makes ready for a wait: it is called before each read, and more input may be long in coming.
+    /// Makes ready for a wait. It is called before each read, and more input may take long to come.
     ///
     /// # Errors
     ///
-    /// Why it stops here.
+    /// Returns why it stops here.
     fn before_read(&mut self) -> Result<(), Self::Stop>
         ensures ready { OnOk result (Rests after self.old self.new) }
         ensures waits { OnOk result (is_ready self.new) }

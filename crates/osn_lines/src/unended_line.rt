@@ -1,4 +1,4 @@
-//! What has come of a line that has not ended, from one piece to the next.
+//! The beginning of a line that has not ended, from one piece to the next.
 ghost use Rattle.std.specs.Prelude.{◌≡◌, ◌<◌, ℕ, List, [], ◌++◌, IsTrue, length, true, false, OnOk};
 ghost use Rattle.osn_lines.specs.Inside.{Holds};
 ghost use Rattle.osn_lines.specs.Lines.{IsLine};
@@ -6,7 +6,7 @@ ghost use Rattle.osn_lines.specs.Lines.{IsLine};
 use crate::line::{LONGEST_LINE, Line};
 use std::alloc::{AllocError, Global};
 
-/// What has come of a line that has not ended: its bytes, or that they were too many.
+/// The beginning of a line that has not ended: its bytes, or that they were too many.
 #[derive(Drop)]
 pub(crate) struct UnendedLine {
     bytes: Vec<u8>,
@@ -14,7 +14,7 @@ pub(crate) struct UnendedLine {
 }
 
 impl UnendedLine {
-    /// Nothing has come.
+    /// Returns one without bytes.
     pub(crate) fn new(alloc: Global) -> UnendedLine
         ensures { Holds result [] }
     {
@@ -24,7 +24,7 @@ impl UnendedLine {
         }
     }
 
-    /// Whether nothing has come.
+    /// Returns whether no bytes were added.
     pub(crate) fn is_empty(&self) -> bool
         ensures nothing { result ≡ true → Holds self.now [] }
         ensures empty { result ≡ true → (line : List ℕ) → Holds self.now line → line ≡ [] }
@@ -33,7 +33,7 @@ impl UnendedLine {
         self.bytes.is_empty() && !self.is_too_long
     }
 
-    /// Adds what has come next.
+    /// Adds the next bytes.
     pub(crate) fn add(&mut self, more: &[u8]) -> Result<(), AllocError>
         ensures { OnOk result ((line : List ℕ) → Holds self.old line →
             Holds self.new (line ++ more.now)) }
@@ -45,7 +45,7 @@ impl UnendedLine {
         self.bytes.extend_from_slice(more)
     }
 
-    /// The line, where nothing more comes.
+    /// Returns the line, if no more bytes follow.
     pub(crate) fn as_line(&self) -> Line<'_>
         ensures { (line : List ℕ) → Holds self.now line → IsLine result line }
     {
@@ -55,7 +55,7 @@ impl UnendedLine {
         Line::Whole(&self.bytes)
     }
 
-    /// Clears the bytes that have come.
+    /// Clears the bytes.
     pub(crate) fn clear(&mut self)
         ensures { Holds self.new [] }
     {

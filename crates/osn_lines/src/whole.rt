@@ -24,12 +24,12 @@ impl From<AllocError> for ReadAllFault {
     }
 }
 
-/// All bytes that a source has left.
+/// Reads all bytes that a source has left.
 ///
 /// # Errors
 ///
-/// `NoMemory` where memory ran out. The source is as sound as it was then. `ReadFault` where the
-/// source failed, or gave no end within 4,294,967,295 reads.
+/// Returns `NoMemory` if memory ran out, which does not mark the source as failed. Returns
+/// `ReadFault` if the source failed, or didn't end within 4,294,967,295 reads.
 pub fn read_all<R: Source>(alloc: Global, source: &mut R) -> Result<Vec<u8>, ReadAllFault>
     ensures bytes { IfOk result (λ read. IfSome (R.remaining source.old)
         (λ bytes. read.items ≡ bytes)) }

@@ -46,7 +46,7 @@ adds_goes log v e old len pre false is =
       (λ found. absurd (grind (arith, nat_tests))),
     )
 
--- whatever the book is, the exchange adds the batch to all that was seen, where the number found is
+-- whatever the book is, the exchange adds the batch to all that was seen, if the number found is
 -- the one expected
 pub add_moves : (v : List (List Edit)) (e : List Edit) (old : ℕ) → length v ≡ old →
     Moves HoldsLength no_batches moved 0 (v, (no_nib, None)) (λ n. either (n == old) (old + 1) n)

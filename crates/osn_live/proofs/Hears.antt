@@ -1,4 +1,4 @@
--- What a gate was told, by one item more and by one reader more, and whom a broken history names.
+-- The calls of a gate, for one item more and for one reader more, and whom a broken history names.
 use Rattle.std.proofs.Common.{◌≡◌, ◌∙◌, ◌<◌, ◌+◌, ◌++◌, ℕ, List, [], ◌∷◌, Vec, Result, length}
 use Rattle.std.proofs.Common.{inl, inr, subst, sym, ap, Err, IfErr, arith}
 use Rattle.std.proofs.Math.Nat.{eq-or-lt_of_le}

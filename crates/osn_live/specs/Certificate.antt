@@ -1,4 +1,4 @@
--- What a certificate stands for: that the history of a book began with these batches.
+-- The state of a certificate: the history of a book began with these batches.
 use Rattle.std.specs.Prelude.{List, []}
 use Rattle.logbook.specs.Pages.{Book}
 use Rattle.osn_register.specs.declared.edit.Edit.{Edit}

@@ -1,4 +1,4 @@
--- What readers at work are told, each of its own list of questions.
+-- The replies to readers at work, each to its own list of questions.
 use Rattle.std.specs.Prelude.{◌≡◌, ℕ, ◌+◌, ◌<◌, ◌≤◌, List, [], ◌∷◌, length, take, Vec}
 use Rattle.std.specs.declared.alloc.Global.{Global}
 use Rattle.osn_days.specs.Profile.{Profile}

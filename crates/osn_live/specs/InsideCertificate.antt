@@ -1,4 +1,4 @@
--- How a certificate keeps what it stands for.
+-- How a certificate keeps its state.
 use Rattle.std.specs.Prelude.{◌≡◌, length}
 use Rattle.osn_live.specs.declared.history.Certificate.TheInside.{Inside}
 use Rattle.osn_live.specs.Certificate.{CertificateState}

@@ -16,7 +16,7 @@ use Rattle.osn_live.specs.declared.work.Worked.{Worked}
 use Rattle.osn_live.specs.declared.work.Works.{Works}
 use Rattle.osn_live.specs.declared.work_fault.WorkFault.{WorkFault}
 
--- what a fault shows once the count of lists was found good, as IsDeskFault has it
+-- what a fault shows once the count of lists was found good, as in IsDeskFault
 abbrev pub IsFaultAt : ℕ → ℕ → DeskFault → Type 0
 IsFaultAt lists published Desk.NoMemory = Unit {0}
 IsFaultAt lists published (Desk.HistoryBroken reader last editions) =
@@ -25,8 +25,8 @@ IsFaultAt lists published Desk.BadCount = ⊥
 IsFaultAt lists published Desk.NoPlace = Unit {0}
 IsFaultAt lists published Desk.GateClosed = Unit {0}
 
--- the fault that is told of a reader that has worked: its own fault, or its last edition is above
--- those that were published
+-- the fault of a reader that has worked: its own fault, or its last edition is above those that
+-- were published
 abbrev pub IsFaultOf : ℕ → ℕ → ℕ → Result (Vec Reply Global) WorkFault → DeskFault → Type 0
 IsFaultOf who seen published replies fault =
     ((own : WorkFault) × (replies ≡ Err own) × (fault ≡ by_work own))
@@ -60,7 +60,7 @@ abbrev pub AreNumbered : {G : Type 0} → ℕ → List (PromisedHandle Worked (W
 AreNumbered who [] = Unit {0}
 AreNumbered who (h ∷ hs) = (h.promise.3 ≡ who) × AreNumbered (who + 1) hs
 
--- what works at one gate told it of the items of each list
+-- what works at one gate called it for the items of each list
 pub record TellTheirGate {G : Type 0} (let_pass saw_end : G → ℕ → ℕ → Type 0)
     (handles : List (PromisedHandle Worked (Works G))) (lists : List (Vec Query Global)) : Type 0
   where

@@ -1,4 +1,4 @@
--- How an edition keeps what it stands for.
+-- How an edition keeps its state.
 use Rattle.std.specs.Prelude.{◌≡◌}
 use Rattle.std.specs.Arc.{arc_value}
 use Rattle.osn_days.specs.Profile.{newest_rules}

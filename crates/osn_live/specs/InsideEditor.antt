@@ -1,4 +1,4 @@
--- How the editor keeps what it stands for.
+-- How the editor keeps its state.
 use Rattle.std.specs.Prelude.{◌≡◌, Some}
 use Rattle.left_right.specs.Sides.{view}
 use Rattle.osn_core.specs.Draft.{object_of, IsDraftOf}

@@ -10,6 +10,6 @@ pub record HoldsLength (cells : List Cell) (log : List (List Edit)) : Type 0 whe
 abbrev pub head_of : Book → Named
 head_of b = record { tracked = true; key = 0; book = b }
 
--- where the number found is the one expected, the batch was added after all that had been seen
+-- if the number found is the one expected, the batch was added after all that had been seen
 abbrev pub Adds : Step (List Edit) → View (List Edit) ℕ → ℕ → View (List Edit) ℕ → Type 0
 Adds s v found w = found ≡ s.old → w.0 ≡ v.0 ++ s.ask ∷ []

@@ -1,4 +1,4 @@
--- How a reader keeps what it stands for.
+-- How a reader keeps its state.
 use Rattle.std.specs.Prelude.{◌≡◌, true, Option, Some, None, Result, IfOk, OnErr}
 use Rattle.std.specs.declared.alloc.AllocError.{AllocError}
 use Rattle.left_right.specs.Sides.{view}

@@ -1,4 +1,4 @@
--- What a gate was told of a list.
+-- The calls of a gate for a list.
 use Rattle.std.specs.Prelude.{◌≡◌, ℕ}
 use Rattle.osn_live.specs.Desk.{HearsOf}
 use Rattle.osn_live.specs.declared.turns.Turns.{Turns}

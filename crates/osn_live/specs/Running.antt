@@ -1,4 +1,4 @@
--- What the editor, notes and readers of a running register stand for. All of one register share its
+-- The states of the editor, notes and readers of a running register. All of one register share its
 -- origin: its limits, and the book of its history.
 use Rattle.std.specs.Prelude.{◌≡◌, List, []}
 use Rattle.osn_register.specs.declared.limits.Limits.{Limits}

@@ -1,4 +1,4 @@
-//! Readers and one editor at work at once, each in a thread of its own.
+//! Readers and one editor at work at the same time, each in its own thread.
 ghost use Rattle.std.specs.Prelude.{◌≡◌, ◌≤◌, length, vec_len, IfOk, IfErr, OnOk, Ok, Err};
 ghost use Rattle.std.specs.List.{All};
 ghost use Rattle.osn_days.specs.Profile.{newest_rules};
@@ -61,8 +61,7 @@ fn start_all<'s, E, G: Gate + Sync>(
     Ok(handles)
 }
 
-/// The editor at work, each command between the two calls of its turn. What is refused is passed
-/// over.
+/// Runs the editor, each command between the two calls of its turn. Refused commands are ignored.
 #[tactic(auto, using(crate::proofs::Hears::hears_more))]
 fn edit_all<R: Wait, G: Gate>(
     rt: &R,
@@ -87,7 +86,7 @@ fn edit_all<R: Wait, G: Gate>(
     Ok(())
 }
 
-/// What one reader was told, compared with what was published in the end.
+/// Returns the replies to one reader, compared with what was published in the end.
 fn check_against_note(
     worked: Worked,
     note: Note,
@@ -117,7 +116,7 @@ fn check_against_note(
     Ok(replies?)
 }
 
-/// What all readers were told, once each has ended.
+/// Returns the replies to all readers, once each has ended.
 fn collect<R: Threads, G: Gate>(
     rt: &R,
     alloc: Global,
@@ -149,7 +148,7 @@ fn collect<R: Threads, G: Gate>(
     Ok(all)
 }
 
-/// The readers, each in its thread, and the editor in this one.
+/// Runs the readers, each in its thread, and the editor in this one.
 #[tactic(auto, using(crate::proofs::AtWork::work_at))]
 fn at_desk<'s, E, R: Threads + Wait, G: Gate + Sync>(
     rt: &R,
@@ -178,7 +177,7 @@ fn at_desk<'s, E, R: Threads + Wait, G: Gate + Sync>(
 }
 
 /// Runs an editor through commands, and at the same time a reader through each list of questions,
-/// each in its own thread, with calls of a gate around each item. Refused commands are passed over.
+/// each in its own thread, with calls of a gate around each item. Refused commands are ignored.
 ///
 /// Each question has exactly one reply, in its place: the definition's under the first editions of
 /// the script, as many as the reply names. For one reader their number never falls. The gate let
@@ -186,9 +185,9 @@ fn at_desk<'s, E, R: Threads + Wait, G: Gate + Sync>(
 ///
 /// # Errors
 ///
-/// `BadCount` where the lists are not 1 to 64. Else `NoMemory` where none is found, `NoPlace` where
-/// a reader finds no place or no thread, and `GateClosed` where the gate answered false.
-/// `HistoryBroken` comes only with the numbers that show it. All threads have ended then.
+/// `BadCount` if the lists are not 1 to 64. Otherwise `NoMemory` if memory runs out, `NoPlace` if a
+/// reader finds no place or no thread, and `GateClosed` if the gate returned false. `HistoryBroken`
+/// always has the numbers that show it. On an error all threads have ended.
 #[tactic(auto, using(crate::proofs::AtWork::open_at, crate::proofs::AtWork::opened_at))]
 pub fn run_desk<R: Threads + Wait, G: Gate + Sync>(
     rt: &R,

@@ -65,7 +65,8 @@ impl Edition {
         }
     }
 
-    /// The same edition once more. It takes no memory, but owners of a register are counted.
+    /// Returns the same edition once more. It takes no memory, but owners of a register are
+    /// counted.
     pub fn share(&self) -> Result<Edition, AllocError>
         ensures { IfOk result (λ edition. edition ≡ self.now) }
     {
@@ -82,7 +83,7 @@ impl Edition {
         self.certificate.again()
     }
 
-    /// What a query is told of this edition.
+    /// Returns the reply to a query of this edition.
     pub fn ask(&self, query: &Query) -> Result<Reply, AllocError>
         ensures value { IfOk result (λ r.
             r ≡ reply_at newest_rules self.now.limits self.now.certificate.batches query.now) }

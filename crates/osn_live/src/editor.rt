@@ -32,7 +32,7 @@ pub type EditionWriter = Writer<Edition, Edition, View, OneOrigin>;
 /// The copies after a publish, and whether it showed what it was to show.
 pub type Turned = (EditionWriter, Result<(), AllocError>);
 
-/// The one editor. It stands for the sequential object.
+/// The one editor. It behaves as the sequential object.
 ///
 /// It is not `Drop`: end it by `close`.
 pub struct Editor {
@@ -113,7 +113,7 @@ impl Editor {
         }
     }
 
-    /// A further reader, where there is a place.
+    /// Returns another reader, if there is a place.
     pub(crate) fn reader(&mut self) -> Result<Reader, AllocError>
         ensures same { self.new ≡ self.old }
         ensures origin { IfOk result (λ r. r.origin ≡ self.old.origin) }
@@ -124,7 +124,7 @@ impl Editor {
         Ok(Reader::new(self.draft.limits(), place, self.certificate.again()))
     }
 
-    /// A note of what is published.
+    /// Returns a note of what is published.
     pub fn note(&self) -> Note
         ensures batches { result.batches ≡ self.now.object.batches }
         ensures origin { result.origin ≡ self.now.origin }
@@ -132,7 +132,7 @@ impl Editor {
         Note::new(self.draft.limits(), self.certificate.again())
     }
 
-    /// Waits for the readers that are reading, and ends. Readers are told nothing from then on.
+    /// Waits for the readers that are reading, and ends. From then on, readers get no replies.
     pub fn close<R: Wait>(self, rt: &R) {
         let Editor {
             alloc: _,
@@ -146,12 +146,12 @@ impl Editor {
 }
 
 impl Editor {
-    /// Stages an edit, and answers how many are pending then.
+    /// Stages an edit, and returns how many are pending then.
     ///
     /// # Errors
     ///
-    /// The first refusal that applies, and else `NoMemory` where none is found. Nothing has changed
-    /// then.
+    /// The first refusal that applies. Otherwise `NoMemory` if memory runs out. On an error nothing
+    /// has changed.
     pub fn stage(&mut self, edit: &Edit) -> Result<u32, Refusal>
         ensures lawful { OnOk result (stage_refusal newest_rules self.old.object edit.now ≡ None) }
         ensures ok { OnOk result
@@ -165,7 +165,7 @@ impl Editor {
         Ok(self.admit(edit.copy()?)?)
     }
 
-    /// Whether an edit may be staged now.
+    /// Checks whether an edit may be staged now.
     fn check(&self, edit: &Edit) -> Result<u32, Refusal>
         ensures { IsTestOf (stage_refusal newest_rules self.now.object edit.now) result }
     {
@@ -185,13 +185,13 @@ impl Editor {
 }
 
 impl Editor {
-    /// Publishes the pending edits as the next edition, and answers a note of it. It waits for
+    /// Publishes the pending edits as the next edition, and returns a note of it. It waits for
     /// readers that still read the edition before.
     ///
     /// # Errors
     ///
-    /// The first refusal that applies, and else `NoMemory` where none is found. Nothing has changed
-    /// then.
+    /// The first refusal that applies. Otherwise `NoMemory` if memory runs out. On an error nothing
+    /// has changed.
     pub fn publish<R: Wait>(&mut self, rt: &R) -> Result<Note, PublishFault>
         ensures lawful { OnOk result (publish_refusal self.old.object ≡ None) }
         ensures ok { OnOk result
@@ -209,7 +209,7 @@ impl Editor {
         }
     }
 
-    /// Whether there may be a further edition now.
+    /// Checks that there may be another edition now.
     fn check_publish(&self) -> Result<(), PublishFault>
         ensures { MatchResult result
             (λ _. publish_refusal self.now.object ≡ None)
@@ -224,9 +224,9 @@ impl Editor {
         Ok(())
     }
 
-    /// Once the batch is in the history, nothing is left that may want memory. The queue of the
-    /// copies has had room for one edition since they were made, and to share a register takes
-    /// none.
+    /// Makes the next edition. Once the batch is in the history, no step that is left needs memory:
+    /// the queue of the copies has had room for one edition since they were made, and sharing a
+    /// register needs none.
     fn make_edition<R: Wait>(&mut self, rt: &R) -> Result<(), AllocError>
         requires { publish_refusal self.old.object ≡ None }
         ensures ok { OnOk result
@@ -256,11 +256,11 @@ impl Editor {
 }
 
 impl Editor {
-    /// Does what a command says, and passes over one that is refused.
+    /// Executes a command, and ignores one that is refused.
     ///
     /// # Errors
     ///
-    /// Only where no memory is found. Nothing has changed then.
+    /// If memory runs out. On an error nothing has changed.
     pub(crate) fn execute<R: Wait>(&mut self, rt: &R, command: &Command) -> Result<(), AllocError>
         ensures ok { OnOk result (self.new
             ≡ record self.old { object = command_after newest_rules self.old.object command.now }) }

@@ -38,7 +38,7 @@ impl<T: Drop> From<AllocFailed<T>> for OpenFault {
     }
 }
 
-/// Why nothing was published. What is pending stands.
+/// Why nothing was published. What is pending remains.
 #[derive(Clone, Copy, Debug, Drop, PartialEq, Eq, Error)]
 pub enum PublishFault {
     /// There is no edit to publish.
@@ -63,19 +63,19 @@ pub enum AskFault {
     NoPlace,
 }
 
-/// Why a desk answered nothing. Where there are several faults, any of them is answered.
+/// Why a desk answered nothing. If there are several faults, any of them is returned.
 #[derive(Clone, Copy, Debug, Drop, PartialEq, Eq, Error)]
 pub enum DeskFault {
     /// A growth of memory was refused.
     #[error("memory ran out")]
     NoMemory,
-    /// Once all had ended, a reader had been told of more editions than there were. No contract
-    /// excludes it, and no cause for it is known.
+    /// Once all had ended, a reader had seen more editions than there were. No contract excludes
+    /// it, and no cause for it is known.
     #[error("reader {reader} was told of edition {last}, of {editions} editions")]
     HistoryBroken {
         /// Which reader, from 1.
         reader: u32,
-        /// The edition that the reader had been told of.
+        /// The last edition that the reader had seen.
         last: u32,
         /// How many editions the script has.
         editions: u32,
@@ -92,7 +92,7 @@ pub enum DeskFault {
 }
 
 impl DeskFault {
-    /// The number of the fault.
+    /// Returns the number of the fault.
     pub fn number(self) -> u8
         ensures { result ≡ desk_fault_number self }
     {
@@ -105,7 +105,7 @@ impl DeskFault {
         }
     }
 
-    /// The name of the fault.
+    /// Returns the name of the fault.
     pub fn name(self) -> &'static str
         ensures { result.now ≡ desk_fault_name self }
     {

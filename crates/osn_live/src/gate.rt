@@ -10,10 +10,10 @@ pub trait Gate {
     // What is known of it once it let the item at this place in the list of this one pass.
     ghost let_pass: { Self → ℕ → ℕ → Type 0 } = { λ _ _ _. ⊤ };
 
-    // What is known of it once it was told that this item has ended.
+    // What is known of it once it was called after this item.
     ghost saw_end: { Self → ℕ → ℕ → Type 0 } = { λ _ _ _. ⊤ };
 
-    /// Called before an item. If it answers false, the desk ends.
+    /// Called before an item. If it returns false, the desk ends.
     fn before(&self, who: u32, index: usize) -> bool
         ensures open { is_open self.now ≡ true → result ≡ true }
         ensures told { result ≡ true → let_pass self.now who index };

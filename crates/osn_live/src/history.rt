@@ -96,7 +96,7 @@ impl Model for Certificate {
     ghost invariant = { IsMeasured };
 }
 
-/// A new history with no batch.
+/// Returns a new history with no batch.
 pub fn begin() -> (History, Certificate)
     ensures { result.1 ≡ none_of result.0 }
 {
@@ -140,14 +140,14 @@ impl History {
 }
 
 impl Certificate {
-    /// How many batches there are.
+    /// Returns how many batches there are.
     pub fn len(&self) -> u32
         ensures { result ≡ length self.now.batches }
     {
         self.count
     }
 
-    /// The same certificate once more. It takes no memory.
+    /// Returns the same certificate once more. It takes no memory.
     pub fn again(&self) -> Certificate
         ensures { result ≡ self.now }
     {
@@ -157,7 +157,7 @@ impl Certificate {
         }
     }
 
-    /// Becomes the other one, if that is no shorter. This one begins it then.
+    /// Becomes the other one, if that is not shorter. Then this one is a beginning of it.
     pub fn follow(&mut self, later: Certificate) -> bool
         requires { later.book ≡ self.old.book }
         ensures { MatchBool result
@@ -173,7 +173,7 @@ impl Certificate {
         true
     }
 
-    /// Becomes the longer one of the two, which the other begins.
+    /// Becomes the longer one of the two, of which the other is a beginning.
     pub fn learn(&mut self, other: Certificate)
         requires { other.book ≡ self.old.book }
         ensures book { self.new.book ≡ self.old.book }

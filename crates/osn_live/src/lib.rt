@@ -1,6 +1,6 @@
 //! The running register: one editor, and readers that never wait. What the crate promises to those
 //! above: a reader's answer is the definition's under a beginning of the published batches. That
-//! beginning goes on from all that the reader saw and was told of.
+//! beginning contains all that the reader saw and learnt of.
 #![tactic(auto)]
 
 mod desk;

@@ -1,4 +1,4 @@
-//! What an editor tells a reader of what is published.
+//! A note from an editor to a reader of what is published.
 ghost use Rattle.std.specs.Prelude.{◌≡◌, length};
 ghost use Rattle.osn_live.specs.Running.{note_of};
 
@@ -6,7 +6,8 @@ use crate::history::Certificate;
 use osn_register::Limits;
 use std::marker::Model;
 
-/// What was published when the editor made it. A reader that has learnt it answers from no less.
+/// What was published when the editor made it. A reader that has learnt it answers from at least
+/// this.
 #[derive(Drop)]
 pub struct Note {
     limits: Limits,
@@ -31,7 +32,7 @@ impl Note {
         }
     }
 
-    /// The edition: how many batches were published.
+    /// Returns the edition: how many batches were published.
     pub fn edition(&self) -> u32
         ensures { result ≡ length self.now.batches }
     {

@@ -54,13 +54,13 @@ fn places(alloc: Global, editor: &mut Editor, readers: u32) -> Result<Vec<Reader
     Ok(all)
 }
 
-/// An editor with nothing published and nothing pending, and that many readers, 1 to 64, that have
-/// seen nothing.
+/// Returns an editor with nothing published and nothing pending, and that many readers, 1 to 64,
+/// that have seen nothing.
 ///
 /// # Errors
 ///
-/// `BadCount` for another number of readers, and else `NoMemory` where none is found or `NoPlace`
-/// where a reader finds no place. What was made is ended then, which may wait.
+/// `BadCount` for another number of readers. Otherwise `NoMemory` if memory runs out, or `NoPlace`
+/// if a reader finds no place. On an error, what was made is ended, which may wait.
 pub fn open<R: Wait>(
     rt: &R,
     alloc: Global,

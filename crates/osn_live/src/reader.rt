@@ -1,4 +1,5 @@
-//! A reader of a running register: it answers at once, and never from less than it has seen.
+//! A reader of a running register: it answers without waiting, and never from less than it has
+//! seen.
 ghost use Rattle.std.specs.Prelude.{◌≡◌, true, length, IfOk, IfErr, OnErr, Some};
 ghost use Rattle.left_right.specs.Sides.{view};
 ghost use Rattle.osn_days.specs.Profile.{newest_rules};
@@ -23,8 +24,8 @@ use std::marker::Model;
 /// A reader's place at the two copies of what is published.
 pub type Place = left_right::reader::Reader<Edition, View, OneOrigin>;
 
-/// A reader, which waits for nobody. It stands for its seen list: the batches that it has seen, or
-/// learnt of by a note.
+/// A reader, which waits for nobody. Its seen list has the batches that it has seen, or learnt of
+/// by a note.
 #[derive(Drop)]
 pub struct Reader {
     limits: Limits,
@@ -77,14 +78,13 @@ impl Reader {
         }
     }
 
-    /// What a query is told of all that is published at one moment, which is no less than this
-    /// reader has seen or learnt of.
+    /// Returns the reply to a query of all that is published at one moment, which is at least what
+    /// this reader has seen or learnt of.
     ///
     /// # Errors
     ///
-    /// `NoPlace` where the editor was closed. Nothing has changed then. `NoMemory` where none is
-    /// found, of which a refused query, the figures of a year and an empty list of territories take
-    /// none.
+    /// `NoPlace` if the editor was closed. Nothing has changed then. `NoMemory` if memory runs out.
+    /// A refused query, the figures of a year and an empty list of territories need none.
     pub fn ask(&mut self, query: &Query) -> Result<Reply, AskFault>
         ensures origin { self.new.origin ≡ self.old.origin }
         ensures seen { Begins self.old.seen self.new.seen }
@@ -116,7 +116,7 @@ impl Reader {
         }
     }
 
-    /// From now on this reader answers from no less than the note says.
+    /// Learns a note: from now on this reader answers from at least what the note says.
     pub fn learn(&mut self, note: Note)
         requires { note.origin ≡ self.old.origin }
         ensures origin { self.new.origin ≡ self.old.origin }

@@ -6,8 +6,8 @@ ghost use Rattle.osn_live.specs.declared.work_fault.WorkFault.{WorkFault};
 use crate::gate::Gate;
 use crate::work_fault::WorkFault;
 
-/// How far one who works through a list is with telling a gate of it. It counts the items of which
-/// the gate was told before them, and those of which it was told after them.
+/// The calls of a gate for the items of one list: how many items it was called before, and how many
+/// it was called after.
 #[derive(Drop)]
 pub struct Turns<'a, G> {
     pub gate: &'a G,
@@ -17,7 +17,7 @@ pub struct Turns<'a, G> {
 }
 
 impl<'a, G: Gate> Turns<'a, G> {
-    /// With no item begun.
+    /// Returns the calls of a gate with no item begun.
     pub fn new(gate: &'a G, who: u32) -> Turns<'a, G>
         ensures gate { result.gate.now ≡ gate.now }
         ensures who { result.who ≡ who }
@@ -32,7 +32,7 @@ impl<'a, G: Gate> Turns<'a, G> {
         }
     }
 
-    /// Tells the gate of the next item, before it.
+    /// Calls the gate before the next item.
     pub fn begin(&mut self) -> Result<(), WorkFault>
         requires between { self.old.begun ≡ self.old.ended }
         requires few { self.old.begun + 1 < 2 ^ 64 }
@@ -50,7 +50,7 @@ impl<'a, G: Gate> Turns<'a, G> {
         Ok(())
     }
 
-    /// Tells the gate of the item that was begun, after it.
+    /// Calls the gate after the item that was begun.
     pub fn end(&mut self)
         requires { self.old.begun ≡ self.old.ended + 1 }
         ensures counts { self.new ≡ record self.old { ended = self.old.ended + 1 } }

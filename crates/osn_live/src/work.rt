@@ -15,7 +15,7 @@ use std::alloc::Global;
 use std::snapshot::Snapshot;
 use std::thread::Promise;
 
-/// A reader that has worked, with what it was told.
+/// A reader that has worked, with the replies that it got.
 #[derive(Drop)]
 pub struct Worked {
     pub reader: Reader,

@@ -9,7 +9,7 @@ use osn_test_texts::joined;
 use std::alloc::Global;
 use std::test::Fail;
 
-/// Loads a journal to where an object may be.
+/// Loads a journal, and puts the object in place of none.
 #[derive(Drop)]
 struct LoadJournal<'a> {
     text: &'a str,

@@ -1,6 +1,6 @@
 //! The calls of a register, an object, the machine of two copies, the running register and the
-//! service that may want memory, with growths of memory refused in turn: each answers that it wants
-//! memory and has changed nothing, or it answers what it does with ample memory. All other calls
+//! service that may lack memory, with growths of memory refused in turn: each returns that memory
+//! ran out and has changed nothing, or it returns what it does with ample memory. All other calls
 //! are tried by `verify/growths.py`.
 #![tactic(auto)]
 

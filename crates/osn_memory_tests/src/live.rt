@@ -23,7 +23,7 @@ fn close<R: Wait>(rt: &R, running: Running) {
     editor.close(rt);
 }
 
-/// Does what a command says, for good.
+/// Does what a command says, which must succeed.
 fn command<R: Wait>(rt: &R, editor: &mut Editor, command: &Command) -> Result<(), Fail> {
     match command {
         Command::Stage(edit) => {
@@ -44,7 +44,7 @@ fn command_all<R: Wait>(rt: &R, editor: &mut Editor, commands: &[Command]) -> Re
     Ok(())
 }
 
-/// A running register of one reader, with nothing published.
+/// Returns a running register of one reader, with nothing published.
 fn opened<R: Wait>(rt: &R, alloc: Global) -> Result<Running, Fail> {
     let (editor, mut readers) = open(rt, alloc, Limits::standard(), 1)?;
     match readers.pop() {
@@ -56,7 +56,7 @@ fn opened<R: Wait>(rt: &R, alloc: Global) -> Result<Running, Fail> {
     }
 }
 
-/// One with the edition of the journal.
+/// Returns one with the edition of the journal.
 fn begun<R: Wait>(rt: &R, alloc: Global) -> Result<Running, Fail> {
     let text = joined(alloc, JOURNAL)?;
     let commands = read_script(alloc, &mut Plain::new(text.as_bytes()))?;
@@ -70,14 +70,14 @@ fn begun<R: Wait>(rt: &R, alloc: Global) -> Result<Running, Fail> {
     }
 }
 
-/// What its reader is told of a query.
+/// Returns the reply to its reader for a query.
 fn told(alloc: Global, reader: &mut Reader, line: &str) -> Result<String, Fail> {
     let query = query_of(alloc, line)?;
     let reply = reader.ask(&query)?;
     Ok(format!(in alloc; "{reply:?}\n")?)
 }
 
-/// What tells how it stands, as far as its reader is told.
+/// Returns a text of its state, as far as the replies to its reader show it.
 fn running_text(alloc: Global, running: &mut Running) -> Result<String, Fail> {
     let mut text = String::new(alloc);
     for line in QUERIES {
@@ -136,14 +136,14 @@ struct PublishLive<'a, R> {
     rt: &'a R,
 }
 
-/// Stages the edit of a line, for good.
+/// Stages the edit of a line, which must succeed.
 fn stage_line(alloc: Global, editor: &mut Editor, line: &str) -> Result<(), Fail> {
     let edit = edit_of(alloc, line)?;
     editor.stage(&edit)?;
     Ok(())
 }
 
-/// Stages an edit of each kind, for good.
+/// Stages an edit of each kind, which must succeed.
 fn stage_all(alloc: Global, editor: &mut Editor) -> Result<(), Fail> {
     for line in EDITS {
         stage_line(alloc, editor, line)?;

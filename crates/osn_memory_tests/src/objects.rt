@@ -51,7 +51,7 @@ fn an_edit_is_staged(rt: HostRuntime) -> Result<(), Fail> {
 /// Publishes the first edition, for which the list of editions grows.
 struct Publish;
 
-/// Stages the edit of a line, for good.
+/// Stages the edit of a line, which must succeed.
 fn stage_line(alloc: Global, object: &mut Object, line: &str) -> Result<(), Fail> {
     let edit = edit_of(alloc, line)?;
     object.stage(&edit)?;

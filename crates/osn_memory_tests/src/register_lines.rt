@@ -1,5 +1,5 @@
-//! Edits, queries, registers and objects that are read from their lines, and what tells how a
-//! register stands.
+//! Edits, queries, registers and objects that are read from their lines, and texts of the state of
+//! a register.
 use osn_core::Object;
 use osn_files::{journal_text, load_journal};
 use osn_lines::Plain;
@@ -48,7 +48,7 @@ pub(crate) const QUERIES: [&str; 8] = [
     r#"{"op":"written","reader":1,"code":"GB","date":"11 February 1731/2","weekday":"Friday"}"#,
 ];
 
-/// The queries whose answers tell how a register stands.
+/// The queries whose answers show the state of a register.
 const TELLING: [&str; 5] = [
     r#"{"op":"lands","reader":1}"#,
     r#"{"op":"periods","reader":1,"code":"GB"}"#,
@@ -57,7 +57,7 @@ const TELLING: [&str; 5] = [
     r#"{"op":"easter","reader":1,"code":"FR","year":1724}"#,
 ];
 
-/// The edit of a line.
+/// Returns the edit of a line.
 pub(crate) fn edit_of(alloc: Global, line: &str) -> Result<Edit, Fail> {
     let line = joined(alloc, line)?;
     match read_request(alloc, 1, line.as_bytes())? {
@@ -66,7 +66,7 @@ pub(crate) fn edit_of(alloc: Global, line: &str) -> Result<Edit, Fail> {
     }
 }
 
-/// The query of a line.
+/// Returns the query of a line.
 pub(crate) fn query_of(alloc: Global, line: &str) -> Result<Query, Fail> {
     match read_request(alloc, 1, line.as_bytes())? {
         Request::Ask { query, .. } => Ok(query),
@@ -74,20 +74,20 @@ pub(crate) fn query_of(alloc: Global, line: &str) -> Result<Query, Fail> {
     }
 }
 
-/// An object with the published edition.
+/// Returns an object with the published edition.
 pub(crate) fn begun_object(alloc: Global) -> Result<Object, Fail> {
     let text = joined(alloc, JOURNAL)?;
     let mut source = Plain::new(text.as_bytes());
     Ok(load_journal(alloc, Limits::standard(), &mut source)?)
 }
 
-/// A register of the published edition.
+/// Returns a register of the published edition.
 pub(crate) fn begun_register(alloc: Global) -> Result<Register, Fail> {
     let object = begun_object(alloc)?;
     Ok(object.register().copy()?)
 }
 
-/// Adds what the query of a line is answered.
+/// Adds the answer to the query of a line.
 fn push_answer(
     alloc: Global,
     register: &Register,
@@ -99,7 +99,7 @@ fn push_answer(
     Ok(text.push_str(told.as_str())?)
 }
 
-/// What tells how a register stands.
+/// Returns a text of the state of a register.
 pub(crate) fn register_text(alloc: Global, register: &Register) -> Result<String, Fail> {
     let mut text = String::new(alloc);
     for line in TELLING {
@@ -108,7 +108,7 @@ pub(crate) fn register_text(alloc: Global, register: &Register) -> Result<String
     Ok(text)
 }
 
-/// What tells how an object stands.
+/// Returns a text of the state of an object.
 pub(crate) fn object_text(alloc: Global, object: &Object) -> Result<String, Fail> {
     let mut text = journal_text(alloc, object)?;
     text.push_str(register_text(alloc, object.register())?.as_str())?;

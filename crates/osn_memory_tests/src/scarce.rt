@@ -1,4 +1,4 @@
-//! Memory as scarce as a test wants it, and calls to which growths of memory are refused in turn.
+//! Memory as scarce as a test needs it, and calls to which growths of memory are refused in turn.
 //! It takes all memory that the C library has for the process. An allocator that checks each
 //! access, as under `rt try`, keeps some of its own, and then the tests say that a call was never
 //! refused.

@@ -45,7 +45,7 @@ struct Told {
 
 type Served = Result<u64, Interrupted<ServeFault>>;
 
-/// No replies, and room for some.
+/// Returns no replies, with room for some.
 fn nothing_told(alloc: Global) -> Result<Told, Fail> {
     Ok(Told {
         replies: Vec::with_capacity(alloc, ROOM)?,
@@ -54,7 +54,7 @@ fn nothing_told(alloc: Global) -> Result<Told, Fail> {
 }
 
 impl Told {
-    /// Counts the lines to which a service replied. Answers nothing where it wants memory.
+    /// Counts the lines to which a service replied. Returns `None` if it lacks memory.
     fn note(&mut self, served: Served) -> Option<Served> {
         match served {
             Ok(lines) => {
@@ -74,8 +74,8 @@ impl Told {
         }
     }
 
-    /// Checks that the replies are those to as many lines as were counted, whole, and the first of
-    /// these ones.
+    /// Checks that the replies are whole, as many as the lines that were counted, and the first of
+    /// all replies.
     fn are_first(&self, all: &str) -> Result<(), Fail> {
         let replies = str::from_utf8(&self.replies)?;
         let is_whole = replies.is_empty() || replies.ends_with('\n');
@@ -89,7 +89,7 @@ impl Told {
     }
 }
 
-/// What is left of a text after as many lines.
+/// Returns the rest of a text after as many lines.
 fn after_lines(text: &str, lines: u64) -> &str {
     let mut rest = text;
     for _line in 0..lines {
@@ -149,7 +149,7 @@ fn a_session_is_served(rt: HostRuntime) -> Result<(), Fail> {
     )
 }
 
-/// A session from an object, which goes on behind the lines that were answered.
+/// A session from an object, which continues after the lines that were answered.
 #[derive(Drop)]
 struct ServeFrom<'a> {
     requests: &'a str,

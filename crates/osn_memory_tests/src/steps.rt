@@ -33,13 +33,13 @@ const STEPS: &str = r#"{"step":"stage","op":"add_land","code":"RM","name":"Rome"
 /// The places of steps that take memory, one of each kind at least.
 const PLACES: [usize; 7] = [0, 1, 2, 5, 8, 10, 15];
 
-/// The steps of the schedule.
+/// Returns the steps of the schedule.
 fn steps(alloc: Global) -> Result<Vec<Step>, Fail> {
     let text = joined(alloc, STEPS)?;
     Ok(read_schedule(alloc, 1, &mut Plain::new(text.as_bytes()))?)
 }
 
-/// Takes some steps, for good.
+/// Takes some steps, which must succeed.
 fn take(core: &mut Core, steps: &[Step]) -> Result<(), Fail> {
     for step in steps {
         core.step(step)?;

@@ -1,21 +1,21 @@
-//! Calls that go wrong where memory is scarce, each of which is found out.
+//! Calls that do wrong when memory is scarce, each of which is detected.
 use crate::scarce::{Change, is_sound_change};
 use std::alloc::Global;
 use std::process::{Abort, ExitCode, Termination};
 use std::test::Fail;
 
-/// What a call does where memory is scarce.
+/// What a call does when memory is scarce.
 #[derive(Clone, Copy, Debug, PartialEq, Eq)]
 enum Manner {
-    /// All that it has to.
+    /// It does all that it must.
     Right,
-    /// It has changed something where it is refused.
+    /// It has changed something when it is refused.
     ChangesFirst,
-    /// It answers otherwise.
+    /// It returns another result.
     AnswersOtherwise,
-    /// It wants no memory.
+    /// It needs no memory.
     WantsNone,
-    /// It finds none ever again.
+    /// Once it lacks memory, it always does.
     StaysRefused,
 }
 

@@ -1,4 +1,4 @@
--- Where memory ran out before a date was read, a conversion ended as its contract says.
+-- If memory ran out before a date was read, a conversion ended as its contract says.
 use Rattle.std.proofs.Common.{◌≡◌, List, ℕ, Option, Result, Ok, Err, inr}
 use Rattle.osn_days.specs.declared.weekday.Weekday.{Weekday}
 use Rattle.osn_lines.specs.Streams.{Output}

@@ -54,13 +54,13 @@ ended_table s settings lands edition i o ended is counted early reason =
     rw (is, counted) (early, reason)
 
 module _ (is_asked : Bool) (text : List ℕ) (e : Output) (given : Status) where
-  -- a text was told that was asked for
+  -- a text was written that was asked for
   pub tally_told : (made status : Status) → is_asked ≡ true → made ≡ given
       → TellsIfMade e made text status → TellsIfAsked is_asked text e given status
   tally_told made status is same told =
       rw is (subst (λ s. TellsIfMade e s text status) same told)
 
-  -- nothing was told, and nothing was asked for
+  -- nothing was written, and nothing was asked for
   pub tally_untold : (status : Status) → is_asked ≡ false → status ≡ given → TellsNothing e
       → TellsIfAsked is_asked text e given status
   tally_untold status is same quiet = rw is (same, quiet)

@@ -1,4 +1,4 @@
--- A command that prints a page, or tells why there is none, did what its contract says.
+-- A command that prints a page, or reports why there is none, did what its contract says.
 use Rattle.std.proofs.Common.{◌≡◌, Bool, List, ℕ, None, Ok, ◌∙◌, ap, refl, subst₂, inl, inr}
 use Rattle.osn_core.specs.Sequential.{ObjectState}
 use Rattle.osn_invocation.specs.Invocation.{PageWordsModel}
@@ -20,7 +20,7 @@ use Rattle.osn_report.specs.declared.fault.CommandFault.TheVariants.{NoMemory}
 use Rattle.osn_report.specs.declared.status.Status.{Status}
 use Rattle.osn_report.specs.declared.status.Status.TheVariants as statuses
 
--- want of memory stays what it is, whatever day is lacking
+-- NoMemory stays what it is, whatever day is missing
 unmade_same : (lacks : Bool) (status : Status) → status ≡ statuses.NoMemory
     → status ≡ ended lacks status
 unmade_same lacks status is = rw is refl
@@ -37,7 +37,7 @@ lacks_text Lands text o e status same told = inr (same, told)
 module _ (s : ObjectState) (path code date : List ℕ) (topic : Topic) (o e : Output)
     (status : Status)
   where
-    -- the page was printed, and a day that was asked for is lacking or not
+    -- the page was printed, and a day that was asked for is missing or not
     pub page_made : (printed : Status) (lacks : Bool)
         → topic_refusal (published s) code topic ≡ None
         → lacks ≡ lacks_strict_day (published s) code date topic

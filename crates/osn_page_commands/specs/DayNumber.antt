@@ -25,7 +25,7 @@ unless_either (Ok number) =
     if nat_lt 1721425 number then Err (misuses.WhichDayNumber number) else Ok number
 unless_either (Err misuse) = Err misuse
 
--- the day of a number that stands alone
+-- the day of a number that is alone
 abbrev pub day_of_either : ℕ → Result ℕ Misuse
 day_of_either number = unless_either (day_of_number number)
 

@@ -1,4 +1,4 @@
--- What a command has written of a table of letters where it ends.
+-- What a command has written of a table of letters when it ends.
 use Rattle.std.specs.Prelude.{◌≡◌, ◌⊎◌, ◌≤◌, ◌++◌, ◌&&◌, ℕ, Bool, true, false, if◌then◌else◌}
 use Rattle.std.specs.Prelude.{List, [], length, codes}
 use Rattle.std.specs.Prelude.{Option, IfSome, option_map, unwrap_or}
@@ -52,7 +52,7 @@ settings_model settings = record {
   places = unwrap_or (option_map (λ places. places.now) settings.places) [];
 }
 
--- ---- what is told of a table that ends early
+-- ---- what is printed about a table that ends early
 
 -- the line on a record
 abbrev pub record_line : ℕ → List ℕ → List ℕ
@@ -101,7 +101,7 @@ abbrev pub has_line : ℕ → AddedColumn → List ℕ
 has_line line added =
     column_line line (added_name added) (codes "is there already: take it out or rename it")
 
--- standard error was told why the table ended early; of an output that failed nothing
+-- it was reported why the table ended early; nothing is reported about an output that failed
 abbrev pub TellsTable : NameTexts → Output → LettersFault → Status → Type 0
 TellsTable names e ends.NoHeader status = TellsIfMade e statuses.Refused
     (record_line 1 (codes "no header: the first line has the names of the columns")) status
@@ -123,7 +123,7 @@ TellsTable names e ends.NoMemory status = EndsBy e NoMemory status
 
 -- ---- what was written
 
--- by what a table is made, of what an object has published
+-- what a table is made by, from what an object has published
 abbrev pub basis_of : ObjectState → SettingsModel → TableBasis
 basis_of s settings = record {
   rules = newest_rules;
@@ -139,14 +139,13 @@ basis_of s settings = record {
 abbrev pub table_of : ObjectState → SettingsModel → List ℕ → Written
 table_of s settings = letters_written (basis_of s settings)
 
--- a beginning of the table was written by the time of this end, and all that stands before a record
+-- a beginning of the table was written by the time of this end, and all that comes before a record
 -- that ended it
 abbrev pub EndsTable : (List ℕ → Written) → Input → Output → LettersFault → Type 0
 EndsTable table i o ended = IfSome i.bytes (λ text. EndsEarly o.old o.new (table text) ended)
 
--- where a read fault says so, the input failed or gave no end, and all was written of what was
--- read. Where a write fault says so, the output failed, or the table may take more writes than are
--- made
+-- if a read fault says so, the input failed or gave no end, and all was written of what was read.
+-- If a write fault says so, the output failed, or the table may take more writes than are made
 abbrev pub IsReason : (List ℕ → Written) → Input → Output → LettersFault → Type 0
 IsReason table i o ended =
     EndsStream (is_read_fault ended) i.unread_before i.unread
@@ -155,25 +154,25 @@ IsReason table i o ended =
     × EndsStream (is_write_fault ended) o.unwritten_before o.unwritten
     (IfSome i.bytes (λ text. IsLong (table text)))
 
--- the status where all was written: a remark is a refusal, where that is asked for
+-- the status if all was written: a remark is a refusal, if that is asked for
 abbrev pub status_by : Bool → Bool → Status
 status_by is_strict has_remarks =
     if is_strict && has_remarks then statuses.Refused else statuses.Done
 
--- standard error was told this text where it was asked for, and else nothing; and this status goes
--- with it
+-- this text was written to standard error if it was asked for, or else nothing; and the status is
+-- this one
 abbrev pub TellsIfAsked : Bool → List ℕ → Output → Status → Status → Type 0
 TellsIfAsked false text e given status = (status ≡ given) × TellsNothing e
 TellsIfAsked true text e given status = TellsIfMade e given text status
 
--- a table was written whole that has this tally, which was told where that is asked for. The status
--- says whether a row has a remark, where that is asked for
+-- a table with this tally was written whole, and the tally was reported if that is asked for. The
+-- status says whether a row has a remark, if that is asked for
 abbrev pub TellsEnd : EndRules → TallyModel → Output → Status → Type 0
 TellsEnd rules tally e status =
     TellsIfAsked rules.summary (tally_text (codes "oldstyle: letters: ") tally) e
     (status_by rules.strict (has_remarks tally)) status
 
--- all was written, and the end told
+-- all was written, and the end reported
 abbrev pub EndsWhole : ObjectState → SettingsModel → EndRules → Input → Output → Output → Status
     → Type 0
 EndsWhole s settings rules i o e status =
@@ -181,8 +180,8 @@ EndsWhole s settings rules i o e status =
     × IfSome i.bytes (λ text. IsWhole o.old o.new (table_of s settings text))
     × IfSome i.bytes (λ text. IsTallyOf (basis_of s settings) text tally)
 
--- what was written and told, by what an object has published: the table whole; or a part of it, and
--- why it ended there
+-- what was written and reported, by what an object has published: the table whole; or a part of it,
+-- and why it ended there
 abbrev pub WritesTable : ObjectState → SettingsModel → EndRules → Input → Output → Output → Status
     → Type 0
 WritesTable s settings rules i o e status =

@@ -24,14 +24,13 @@ use Rattle.osn_report.specs.declared.status.Status.TheVariants as statuses
 abbrev pub rules_of : LettersModel → EndRules
 rules_of options = record { strict = options.strict; summary = options.summary }
 
--- the table of places of a path could not be opened, which standard error was told, and nothing was
--- written
+-- the table of places of a path could not be opened, which was reported, and nothing was written
 abbrev pub MissesPlaces : List ℕ → Folders → Output → Output → Status → Type 0
 MissesPlaces path d o e status =
     CannotOpen (path ∷ []) d.before d.after × (o.new ≡ o.old)
     × (cause : OpenFailed) × TellsIfMade e statuses.ReadFault (unopened_line path cause) status
 
--- it has a fault, which standard error was told, and nothing was written
+-- it has a fault, which was reported, and nothing was written
 abbrev pub RefusesPlaces : List ℕ → Input → Output → Output → Status → Type 0
 RefusesPlaces path table o e status =
     (fault : PlacesFault) × IsPlacesFault table fault × (o.new ≡ o.old)
@@ -44,7 +43,7 @@ ReadsByEntries limits table journal settings rules i o e status =
     (entries : List PlaceEntry) × IfSome table.bytes (λ text. places_in text ≡ Ok entries)
     × PrintsLetters limits journal (record settings { places = entries }) rules i o e status
 
--- how the command ends that was given a table of places, once the journal was opened
+-- how the command with a table of places ends, once the journal was opened
 abbrev pub PrintsByPlaces : Limits → List ℕ → Input → SettingsModel → EndRules → (Bool → Type 0)
     → Folders → Input → Output → Output → Status → Type 0
 PrintsByPlaces limits path journal settings rules CanFail d i o e status =
@@ -65,8 +64,8 @@ PrintsTable limits journal (Some path) settings rules CanFail d i o e status =
     × PrintsByPlaces limits path file settings rules CanFail
     (record { before = opened; after = d.after }) i o e status
 
--- what the command has done: what the options ask for; or one of them is wrong, which standard
--- error was told, and no file was opened and nothing written
+-- what the command has done: what the options ask for; or one of them is wrong, which was reported,
+-- and no file was opened and nothing written
 abbrev pub RunsLetters : Limits → List ℕ → LettersModel → (Bool → Type 0) → Folders → Input → Output
     → Output → Status → Type 0
 RunsLetters limits journal options CanFail d i o e status = MatchResult

@@ -57,7 +57,7 @@ edition_of s = record { edition = length s.batches; pending = length s.pending }
 
 -- ---- the page
 
--- the text of what was asked for, of what an object has published, where this is the text of its
+-- the text of what was asked for, from what an object has published, if this is the text of its
 -- date
 abbrev pub topic_text : ObjectState → List ℕ → List ℕ → Topic → List ℕ
 topic_text s code date (Almanac year) = almanac newest_rules (published s) code (pos year)
@@ -100,7 +100,7 @@ is_set_without_day (Some named) date =
 abbrev pub lacks_set : List LandModel → List ℕ → List ℕ → Bool
 lacks_set lands code date = is_set_without_day (named_of code lands) date
 
--- that, where the words ask for a day
+-- that, if the words ask for a day
 abbrev pub lacks_strict_day : List LandModel → List ℕ → List ℕ → Topic → Bool
 lacks_strict_day lands code date (Almanac year) = false
 lacks_strict_day lands code date (Year year) = false
@@ -108,19 +108,19 @@ lacks_strict_day lands code date (Land page is_strict) = is_strict && lacks_day 
 lacks_strict_day lands code date (Set given is_strict) = is_strict && lacks_set lands code date
 lacks_strict_day lands code date Lands = false
 
--- the status of a page that was printed: that of a refusal, where such a day is lacking
+-- the status of a page that was printed: that of a refusal, if such a day is missing
 abbrev pub ended : Bool → Status → Status
 ended lacks statuses.Done = if lacks then statuses.Refused else statuses.Done
 ended lacks status = status
 
--- ---- what is told of a refusal
+-- ---- what is printed about a refusal
 
--- that a word can be no code, and what a code is
+-- that a word can't be a code, and what a code is
 abbrev pub no_code : List ℕ → List ℕ
 no_code code =
     shown code ++ codes ": a code is 2 to 8 capital letters or digits, the first a letter"
 
--- that no territory of a journal has the code, and where the codes are listed
+-- that no territory of a journal has the code, and which command lists the codes
 abbrev pub no_land : List ℕ → List ℕ → List ℕ
 no_land path code =
     codes "no territory has the code "
@@ -133,7 +133,7 @@ land_refusal_line path code UnknownLand =
     codes "oldstyle: " ++ (no_land path code ++ codes "\n")
 land_refusal_line path code refusal = numbered_line refusal
 
--- of an almanac the line has the number and name, and the next one says what is allowed
+-- for an almanac the line has the number and name, and the next one says what is allowed
 abbrev pub almanac_help : List ℕ → List ℕ → ℕ → Refusal → List ℕ
 almanac_help path code year BadCode = codes "help: " ++ (no_code code ++ codes "\n")
 almanac_help path code year UnknownLand = codes "help: " ++ (no_land path code ++ codes "\n")
@@ -145,7 +145,7 @@ abbrev pub almanac_refusal_lines : List ℕ → List ℕ → ℕ → Refusal →
 almanac_refusal_lines path code year refusal =
     numbered_line refusal ++ almanac_help path code year refusal
 
--- what is told of a refusal
+-- what is printed about a refusal
 abbrev pub refusal_line : List ℕ → List ℕ → Topic → Refusal → List ℕ
 refusal_line path code (Almanac year) refusal =
     almanac_refusal_lines path code year refusal
@@ -156,12 +156,12 @@ refusal_line path code Lands refusal = numbered_line refusal
 
 -- ---- how the command ends
 
--- nothing was written, and standard error was told of the refusal
+-- nothing was written, and the refusal was reported
 abbrev pub IsRefused : List ℕ → List ℕ → Topic → Refusal → Output → Output → Status → Type 0
 IsRefused path code topic refusal o e status =
     (o.new ≡ o.old) × TellsIfMade e statuses.Refused (refusal_line path code topic refusal) status
 
--- the text of a page was printed. Where an almanac could not be written, standard error was told
+-- the text of a page was printed. If an almanac could not be written, that was reported
 abbrev pub PrintsTopicText : Topic → List ℕ → Output → Output → Status → Type 0
 PrintsTopicText (Almanac year) text o e status = PrintsOrReports text o e status
 PrintsTopicText (Year year) text o e status = PrintsIfMade text o e status
@@ -169,12 +169,12 @@ PrintsTopicText (Land page is_strict) text o e status = PrintsIfMade text o e st
 PrintsTopicText (Set given is_strict) text o e status = PrintsIfMade text o e status
 PrintsTopicText Lands text o e status = PrintsIfMade text o e status
 
--- that, with the status that goes with it
+-- that, with its status
 abbrev pub PrintsPageText : Topic → List ℕ → Bool → Output → Output → Status → Type 0
 PrintsPageText topic text lacks o e status =
     (printed : Status) × PrintsTopicText topic text o e printed × (status ≡ ended lacks printed)
 
--- of an object: the page was printed, unless what was asked for is refused, or memory ran out
+-- for an object: the page was printed, unless what was asked for is refused, or memory ran out
 abbrev pub PrintsPageOf : ObjectState → List ℕ → List ℕ → List ℕ → Topic → Output → Output
     → Status → Type 0
 PrintsPageOf s path code date topic o e status =
@@ -183,15 +183,15 @@ PrintsPageOf s path code date topic o e status =
     (lacks_strict_day (published s) code date topic) o e status)
     (λ refusal. IsRefused path code topic refusal o e status)
 
--- of a journal: it makes an object, and that was done
+-- for a journal: it makes an object, and that was done
 abbrev pub PrintsTopic : Limits → List ℕ → Input → List ℕ → List ℕ → Topic → Output → Output
     → Status → Type 0
 PrintsTopic limits path journal code date topic o e status =
     (s : ObjectState) × MakesObject limits journal.bytes s
     × PrintsPageOf s path code date topic o e status
 
--- of words: that, once the journal was opened; or a word is not what its place asks for, which
--- standard error was told, and no file was opened
+-- by words: that, once the journal was opened; or a word is not what its place asks for, which was
+-- reported, and no file was opened
 abbrev pub RunsWords : Limits → List ℕ → PageWordsModel → (Bool → Type 0) → Folders → Output
     → Output → Status → Type 0
 RunsWords limits path words CanFail d o e status = MatchResult (topic_of_words words)
@@ -200,12 +200,12 @@ RunsWords limits path words CanFail d o e status = MatchResult (topic_of_words w
     (λ misuse. (d.after ≡ d.before) × (o.new ≡ o.old)
     × TellsMisuse e misuse (wrong_word words misuse) status)
 
--- there was no memory to read the words, which was told, and no file was opened
+-- there was no memory to read the words, which was reported, and no file was opened
 abbrev pub LacksMemory : PageWordsModel → Folders → Output → Output → Status → Type 0
 LacksMemory words d o e status =
     (takes_memory words ≡ true) × (d.after ≡ d.before) × (o.new ≡ o.old) × EndsBy e NoMemory status
 
--- by what it printed and told: one of these
+-- by what it printed and reported: one of these
 abbrev pub RunsPage : Limits → List ℕ → PageWordsModel → (Bool → Type 0) → Folders → Output
     → Output → Status → Type 0
 RunsPage limits path words CanFail d o e status =

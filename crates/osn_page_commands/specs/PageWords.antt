@@ -33,7 +33,7 @@ use Rattle.osn_page_commands.specs.declared.page_words.Topic.TheVariants.{Set, L
 use Rattle.osn_report.specs.declared.misuse.Misuse.{Misuse}
 use Rattle.osn_report.specs.declared.misuse.Misuse.TheVariants as misuses
 
--- one word after another, where the first one is what its place asks for
+-- one word after another, if the first one is what its place asks for
 infixl 10 ◌>>=◌
 abbrev pub ◌>>=◌ : {A B : Type 0} → Result A Misuse → (A → Result B Misuse) → Result B Misuse
 (Ok x) >>= f = f x
@@ -49,8 +49,8 @@ date_or_misuse (Err fault) = Err (misuses.Date fault)
 abbrev pub date_of_word : List ℕ → Result WrittenDate Misuse
 date_of_word text = date_or_misuse (written_date text)
 
--- a date with all that is written of it, which has to be there, and is no set. One that may begin
--- with its day or its month may be given an order
+-- a date with all that is written of it, which is required, and not a set. For one that may begin
+-- with its day or its month, an order may be given
 abbrev pub any_date_or_misuse : Result Written DateFault → Result AnyDate Misuse
 any_date_or_misuse (Ok (say.Date date)) = Ok date
 any_date_or_misuse (Ok say.Set) = Err (misuses.Date faults.NotOneDay)
@@ -65,7 +65,8 @@ weekday_of_word (Some name) = do
   weekday ← ok_or (weekday_named name) misuses.Weekday
   Ok (Some weekday)
 
--- the weekday that is given beside a date, which is no other than the one that the date names
+-- the weekday that is given beside a date, which must be the one that the date names, if it names
+-- one
 abbrev pub weekday_beside : Option Weekday → Option Weekday → Result (Option Weekday) Misuse
 weekday_beside None given = Ok given
 weekday_beside (Some named) None = Ok None
@@ -98,7 +99,7 @@ abbrev pub topic_of_read : Result Written DateFault → Option (List ℕ) → Bo
 topic_of_read (Ok say.Set) name is_strict = topic_of_set name is_strict
 topic_of_read read name is_strict = of_land (reading_of (any_date_or_misuse read) name) is_strict
 
--- the same of a text, and of the word of the order of its numbers, if there is one
+-- the same for a text, and for the word of the order of its numbers, if there is one
 abbrev pub topic_of_reading : List ℕ → Option (List ℕ) → Option (List ℕ) → Bool
     → Result Topic Misuse
 topic_of_reading text name word is_strict = do
@@ -107,7 +108,7 @@ topic_of_reading text name word is_strict = do
 
 -- ---- a day
 
--- of the days that have a date, the one that there is
+-- the first of the days that have a date, if there is one
 abbrev pub one_day : Calendar → List ℕ → Result ℕ Misuse
 one_day c [] = Err (misuses.NoSuchDate c)
 one_day c (d ∷ ds) = Ok d
@@ -147,7 +148,7 @@ day_page_of None text = page_of_date (date_of_word text)
 
 -- ---- a conversion: its day, and the weekday that the date names, if any
 
--- of a number that may be either this command asks which is meant
+-- for a number that may be either, this command asks which is meant
 abbrev pub on_conversion : Misuse → Misuse
 on_conversion (misuses.WhichDayNumber number) = misuses.WhichConversion number
 on_conversion misuse = misuse

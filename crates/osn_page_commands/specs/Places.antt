@@ -1,4 +1,4 @@
--- Why a table of places was not read, and what standard error is told. This project's profile.
+-- Why a table of places was not read, and how that is reported. This project's profile.
 use Rattle.std.specs.Prelude.{◌≡◌, ◌≤◌, ℕ, true, List, ◌++◌, length, IfSome, Err, codes}
 use Rattle.std.specs.Fmt.{decimal}
 use Rattle.osn_folder.specs.declared.fault.OpenFailed.TheVariants.{Other}
@@ -16,7 +16,7 @@ use Rattle.osn_report.specs.declared.fault.CommandFault.TheVariants.{NoMemory}
 use Rattle.osn_report.specs.declared.status.Status.{Status}
 use Rattle.osn_report.specs.declared.status.Status.TheVariants as statuses
 
--- a table was not read for this fault: its own, which is its first one, or one of the input, which
+-- a table was not read, by this fault: its own, which is its first one, or one of the input, which
 -- failed or gave no end
 abbrev pub IsPlacesFault : Input → PlacesFault → Type 0
 IsPlacesFault table fault =
@@ -49,7 +49,7 @@ codes_line path line place = codes "oldstyle: "
     ++ (codes ": the place "
     ++ (shown place ++ codes " has another code already: take one of the two rows out\n")))))
 
--- standard error was told why the table of a path was not read
+-- it was reported why the table of a path was not read
 abbrev pub TellsPlaces : List ℕ → Output → PlacesFault → Status → Type 0
 TellsPlaces path e faults.NoHeader status = TellsIfMade e statuses.Refused
     (places_line path 1 (codes "no header: the first line names the columns place and code")) status

@@ -21,14 +21,14 @@ separator_of_word (Some word) =
     else (if bytes_eq word (codes "tab") then Ok (Some Tab)
     else Err misuses.Separator))
 
--- the name of the column of weekdays, which has to be there where it is named
+-- the name of the column of weekdays, which is required if it is named
 abbrev pub weekday_column : Option (List ℕ) → List ℕ
 weekday_column name = unwrap_or name (codes "weekday")
 
 -- the names of the columns of the date, by those that are named: that of whole dates, or those of
--- years, months and days. The first goes with none of the others, a month goes with a year, and a
--- day with both. Else it is told what is wrong, and of which option. Where none is named, one
--- column has the date
+-- years, months and days. The first can't be used with the others; a month requires a year, and a
+-- day requires both. Otherwise it says what is wrong, and with which option. If no column is named,
+-- one column has the date
 abbrev pub dates_named : Option (List ℕ) → Option (List ℕ) → Option (List ℕ) → Option (List ℕ)
     → Result DateTexts (Misuse × List ℕ)
 dates_named None None None None = Ok (OneText (codes "date"))

@@ -8,11 +8,11 @@ use osn_pages::conversion_page;
 use osn_report::{Status, print, tell_misuse, tell_no_memory};
 use std::alloc::Global;
 
-/// The command `convert`: prints a day by every calendar and by its numbers. The day is that of a
-/// date in the calendar of that word. After the word `day` in place of a calendar's, it is that of
-/// a number.
+/// Runs the command `convert`: prints a day by every calendar and by its numbers. The day is that
+/// of a date in the calendar of that word. After the word `day` in place of a calendar's, it is
+/// that of a number.
 ///
-/// Where the words name no day, standard error is told in a line why, and the status says it.
+/// If the words name no day, a line on standard error reports why, and the status says so.
 pub fn convert_command<W: Sink, E: Sink>(
     alloc: Global,
     calendar: &str,

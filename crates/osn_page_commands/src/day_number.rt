@@ -9,14 +9,14 @@ use osn_written::{number_of, parts_at};
 /// The Julian day number of the day before day 1.
 const JULIAN_OFFSET: u32 = 1_721_425;
 
-/// The day of a number.
+/// Returns the day of a number.
 fn day_of_number(number: u32) -> Result<Day, Misuse>
     ensures { result ≡ spec.day_of_number number }
 {
     Day::new(i64::from(number)).ok_or(Misuse::DayNumber)
 }
 
-/// The day of a Julian day number.
+/// Returns the day of a Julian day number.
 fn day_of_julian(number: u32) -> Result<Day, Misuse>
     ensures { result ≡ spec.day_of_julian number }
 {
@@ -24,7 +24,7 @@ fn day_of_julian(number: u32) -> Result<Day, Misuse>
     Day::new(i64::from(day)).ok_or(Misuse::JulianDayNumber)
 }
 
-/// The day of a number that stands alone, unless it may be a Julian day number as well.
+/// Returns the day of a number that is alone, unless it may be a Julian day number as well.
 fn day_of_either(number: u32) -> Result<Day, Misuse>
     ensures { result ≡ spec.day_of_either number }
 {
@@ -36,14 +36,15 @@ fn day_of_either(number: u32) -> Result<Day, Misuse>
     }
 }
 
-/// Whether a word says that a Julian day number follows: `JDN`, in capital or small letters.
+/// Returns whether a word says that a Julian day number follows: `JDN`, in capital or small
+/// letters.
 pub(crate) fn is_julian_word(word: &str) -> bool
     ensures { result ≡ spec.is_julian_word word.now }
 {
     word.eq_ignore_ascii_case("jdn")
 }
 
-/// The day of a number after a word that says which one it is: `day` or `JDN`.
+/// Returns the day of a number after a word that says which one it is: `day` or `JDN`.
 fn day_after_word(word: &str, text: &str) -> Option<Result<Day, Misuse>>
     ensures { result ≡ spec.day_after_word word.now text.now }
 {
@@ -57,8 +58,8 @@ fn day_after_word(word: &str, text: &str) -> Option<Result<Day, Misuse>>
     }
 }
 
-/// The day of a text that is a number: `632287`, `day 632287` or `JDN 2353712`. Any other text,
-/// which may be a date, has none.
+/// Returns the day of a text that is a number: `632287`, `day 632287` or `JDN 2353712`. Any other
+/// text, which may be a date, has none.
 pub(crate) fn day_by_number(text: &str) -> Option<Result<Day, Misuse>>
     ensures { result ≡ spec.day_by_number text.now }
 {
@@ -68,7 +69,7 @@ pub(crate) fn day_by_number(text: &str) -> Option<Result<Day, Misuse>>
     }
 }
 
-/// The day of a Julian day number, which the text is.
+/// Returns the day of a Julian day number, which the text is.
 pub(crate) fn day_by_julian(text: &str) -> Result<Day, Misuse>
     ensures { result ≡ spec.day_by_julian text.now }
 {

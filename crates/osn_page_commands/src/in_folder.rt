@@ -17,7 +17,7 @@ use osn_register::Limits;
 use osn_report::{CommandFault, Failure, Status, tell_misuse, tell_no_memory};
 use std::alloc::Global;
 
-/// The fault of a page whose journal could not be opened for this reason.
+/// Returns the fault of a page whose journal could not be opened, by its cause.
 fn unopened(words: PageWords<'_>, cause: OpenFailed) -> CommandFault
     ensures { result ≡ spec.unopened (page_words words.entry) cause }
 {
@@ -27,8 +27,8 @@ fn unopened(words: PageWords<'_>, cause: OpenFailed) -> CommandFault
     }
 }
 
-/// The commands `almanac`, `read`, `day`, `month`, `year` and `territory`: opens the journal of a
-/// path, and prints the page that the words ask for, on what it published under these limits. The
+/// Runs the command `almanac`, `read`, `day`, `month`, `year` or `territory`: opens the journal of
+/// a path, and prints the page that the words ask for, on what it published under these limits. The
 /// journal is read whole before anything is printed.
 ///
 /// If a word is not what its place asks for, standard error says so before a file is opened. If no

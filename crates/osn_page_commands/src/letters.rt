@@ -17,11 +17,11 @@ use std::alloc::Global;
 pub struct EndRules {
     /// Whether a remark is a refusal.
     pub strict: bool,
-    /// Whether it is told how many rows have each remark.
+    /// Whether it is reported how many rows have each remark.
     pub summary: bool,
 }
 
-/// The status where all was written: a remark is a refusal, where that is asked for.
+/// Returns the status if all was written: a remark is a refusal, if that is asked for.
 fn status_by(is_strict: bool, has_remarks: bool) -> Status
     ensures { result ≡ spec.status_by is_strict has_remarks }
 {
@@ -32,7 +32,7 @@ fn status_by(is_strict: bool, has_remarks: bool) -> Status
     }
 }
 
-/// Ends a table that was written whole, by its tally, which is told where that is asked for.
+/// Ends a table that was written whole, and reports its tally if that is asked for.
 fn end_whole<E: Sink>(alloc: Global, errors: &mut E, rules: EndRules, tally: &Tally) -> Status
     ensures { spec.TellsEnd rules tally.now
         (output_of E.contents E.has_failed E.holds_back errors.old errors.new) result }
@@ -69,16 +69,16 @@ fn write_table<R: Source, W: Sink, E: Sink, P: Progress>(
     }
 }
 
-/// The command `letters`: writes the table of the input, CSV with a header, with twelve columns
-/// more after its own. These say of each row what its date means, by what the journal published
-/// under these limits. The journal is read whole before a record is, and what comes of a read is
-/// written before the next one. The settings name the columns that are read, what separates the
-/// fields, the order of a date's three numbers and the table of places. How much of the table was
-/// read is told on the way.
+/// Runs the command `letters`: writes the table of the input, CSV with a header, with twelve
+/// columns more after its own. These say for each row what its date means, by what the journal
+/// published under these limits. The journal is read whole before a record is, and what comes of a
+/// read is written before the next one. The settings name the columns that are read, what separates
+/// the fields, the order of a date's three numbers and the table of places. The progress shows how
+/// much of the table was read.
 ///
-/// Where it ends early, standard error is told in a line why, and the status says it. Where it is
-/// written whole and a remark is a refusal, `Refused` says that a row has one. Where it is asked
-/// for, standard error is told how many rows have each remark.
+/// If it ends early, a line on standard error reports why, and the status says so. If it is written
+/// whole and a remark is a refusal, `Refused` says that a row has one. If that is asked for,
+/// standard error reports how many rows have each remark.
 pub fn letters_command<J: Source, R: Source, W: Sink, E: Sink, P: Progress>(
     alloc: Global,
     limits: Limits,

@@ -19,7 +19,7 @@ use osn_register::Limits;
 use osn_report::{ReadProgress, Status, tell_misuse, tell_unopened};
 use std::alloc::Global;
 
-/// What a table that was written whole ends with, by the options.
+/// Returns what a table that was written whole ends with, by the options.
 fn rules_of(options: LettersOptions<'_>) -> EndRules
     ensures { result ≡ spec.rules_of (letters_model options.entry) }
 {
@@ -29,9 +29,8 @@ fn rules_of(options: LettersOptions<'_>) -> EndRules
     }
 }
 
-/// Reads the table of places of a path, and does what `letters_command` does by it, where it has no
-/// fault. Where it could not be opened or has one, standard error is told why, and nothing is
-/// written.
+/// Reads the table of places of a path, and does what `letters_command` does by it, if it has no
+/// fault. If it could not be opened or has one, standard error reports why, and nothing is written.
 fn letters_by_places<D: Folder, R: Source, W: Sink, E: Sink, P: Progress>(
     alloc: Global,
     limits: Limits,
@@ -128,11 +127,11 @@ fn letters_by<D: Folder, R: Source, W: Sink, E: Sink, T: Sink + Drop>(
 }
 
 /// Opens the journal of a path, then the table of places, if there is one, and does what
-/// `letters_command` does, as the options ask. A terminal, where there is one, is told how much of
-/// the table was read.
+/// `letters_command` does, as the options ask. A terminal, if there is one, shows how much of the
+/// table was read.
 ///
-/// Where an option is wrong, or the table of places cannot be opened or has a fault, standard error
-/// is told in a line why, and nothing is written. Where an option is wrong, no file is opened.
+/// If an option is wrong, or the table of places cannot be opened or has a fault, a line on
+/// standard error reports why, and nothing is written. If an option is wrong, no file is opened.
 ///
 /// # Errors
 ///

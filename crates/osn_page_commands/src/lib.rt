@@ -1,6 +1,6 @@
 //! The commands that print pages, and the one that writes tables of letters. What the crate
-//! promises to those above: a command writes what its definition says of what it reads, and ends
-//! with the status of what happened. It tells standard error in one line why it ended early.
+//! promises to those above: a command writes what its definition says about what it reads, and ends
+//! with the status of what happened. It reports in one line on standard error why it ended early.
 #![tactic(auto)]
 
 mod conversion;

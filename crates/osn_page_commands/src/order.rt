@@ -5,8 +5,8 @@ ghost use Rattle.osn_page_commands.specs.Order as spec;
 use osn_grammar::DateOrder;
 use osn_report::Misuse;
 
-/// The order in which a date's three numbers are read, by its word. Without a word, a date that may
-/// begin with its day or its month is refused.
+/// Returns the order in which a date's three numbers are read, by its word. Without a word, a date
+/// that may begin with its day or its month is refused.
 ///
 /// # Errors
 ///

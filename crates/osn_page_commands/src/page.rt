@@ -17,7 +17,8 @@ use osn_register::{Limits, Refusal, Register};
 use osn_report::{Status, print, print_or_report, tell_line, tell_no_memory};
 use std::alloc::Global;
 
-/// The page that was asked for, on what an object has published. `date` is the text of its date.
+/// Returns the page that was asked for, on what an object has published. `date` is the text of its
+/// date.
 fn text_of(
     alloc: Global,
     object: &Object,
@@ -48,7 +49,8 @@ fn text_of(
     }
 }
 
-/// Whether the date of a page means no day in the territory of the code. Other pages have no date.
+/// Returns whether the date of a page means no day in the territory of the code. Other pages have
+/// no date.
 fn lacks_day(alloc: Global, register: &Register, code: &str, page: Page) -> Result<bool, Refusal>
     ensures value { IfOk result (λ lacks. lacks ≡ spec.lacks_day register.now.lands code.now page) }
     ensures refused { IfErr result
@@ -61,7 +63,7 @@ fn lacks_day(alloc: Global, register: &Register, code: &str, page: Page) -> Resu
     Ok(has_no_day(alloc, territory, date)?)
 }
 
-/// Whether a date of a set means no day in the territory of the code.
+/// Returns whether a date of a set means no day in the territory of the code.
 fn lacks_set(alloc: Global, register: &Register, code: &str, date: &str) -> Result<bool, Refusal>
     ensures value { IfOk result (λ lacks.
         lacks ≡ spec.lacks_set register.now.lands code.now date.now) }
@@ -72,7 +74,7 @@ fn lacks_set(alloc: Global, register: &Register, code: &str, date: &str) -> Resu
     Ok(set_has_no_day(alloc, territory, date)?)
 }
 
-/// The same where the words ask for a day.
+/// Does the same if the words ask for a day.
 fn lacks_strict_day(
     alloc: Global,
     object: &Object,
@@ -98,13 +100,13 @@ fn lacks_strict_day(
     }
 }
 
-/// The text of a page, and whether a day that was asked for is lacking.
+/// The text of a page, and whether a day that was asked for is missing.
 struct Made {
     text: String,
     lacks_day: bool,
 }
 
-/// The page that was asked for, and whether a day that was asked for is lacking.
+/// Returns the page that was asked for, and whether a day that was asked for is missing.
 fn page_of(
     alloc: Global,
     object: &Object,
@@ -126,7 +128,7 @@ fn page_of(
     Ok(Made { text, lacks_day })
 }
 
-/// The status of a page that was printed, where a day that was asked for is lacking or not.
+/// Returns the status of a page that was printed, by whether a day that was asked for is missing.
 fn ended(lacks_day: bool, printed: Status) -> Status
     ensures { result ≡ spec.ended lacks_day printed }
 {
@@ -136,7 +138,8 @@ fn ended(lacks_day: bool, printed: Status) -> Status
     }
 }
 
-/// Prints the text of a page. Standard error is told at once where an almanac could not be written.
+/// Prints the text of a page. For an almanac, a failure of the output is reported immediately on
+/// standard error.
 fn print_text_of<W: Sink, E: Sink>(
     topic: &Topic,
     text: String,

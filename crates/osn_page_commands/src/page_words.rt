@@ -1,4 +1,4 @@
-//! What the words of a command line ask for, where each is what its place asks for.
+//! What the words of a command line ask for, if each is what its place asks for.
 ghost use Rattle.std.specs.Prelude.{◌≡◌, option_map, true, IfOk, OnErr};
 ghost use Rattle.osn_invocation.specs.Invocation.{page_words};
 ghost use Rattle.osn_written.specs.WrittenDate.{number_of as number_in};
@@ -22,7 +22,7 @@ pub(crate) enum Topic {
     Almanac(u32),
     /// A year as a territory counted it.
     Year(Year),
-    /// What this page says of a territory.
+    /// What this page says about a territory.
     Land {
         page: Page,
         /// Whether a date that means no day ends the command as a refusal does.
@@ -39,7 +39,7 @@ pub(crate) enum Topic {
     Lands,
 }
 
-/// The date of one day that a text is.
+/// Returns the date of one day that a text is.
 fn date_of_word(alloc: Global, text: &str) -> Result<Result<WrittenDate, Misuse>, AllocError>
     ensures { IfOk result (λ date. date ≡ spec.date_of_word text.now) }
 {
@@ -49,7 +49,7 @@ fn date_of_word(alloc: Global, text: &str) -> Result<Result<WrittenDate, Misuse>
     }
 }
 
-/// The date that was read of a text, which has to say one that is no set.
+/// Returns the date that was read of a text, which must contain one that is not a set.
 fn any_date_or_misuse(read: Result<Written, DateFault>) -> Result<AnyDate, Misuse>
     ensures { result ≡ spec.any_date_or_misuse read }
 {
@@ -62,7 +62,7 @@ fn any_date_or_misuse(read: Result<Written, DateFault>) -> Result<AnyDate, Misus
     }
 }
 
-/// The weekday of a name, if there is a name.
+/// Returns the weekday of a name, if there is a name.
 fn weekday_of_word(name: Option<&str>) -> Result<Option<Weekday>, Misuse>
     ensures { result ≡ spec.weekday_of_word (option_map (λ name. name.now) name.entry) }
 {
@@ -72,7 +72,7 @@ fn weekday_of_word(name: Option<&str>) -> Result<Option<Weekday>, Misuse>
     }
 }
 
-/// The weekday that is given beside a date, unless the date names another one.
+/// Returns the weekday that is given beside a date, unless the date names another one.
 fn weekday_beside(named: Option<Weekday>, given: Option<Weekday>) -> Result<Option<Weekday>, Misuse>
     ensures { result ≡ spec.weekday_beside named given }
 {
@@ -84,7 +84,8 @@ fn weekday_beside(named: Option<Weekday>, given: Option<Weekday>) -> Result<Opti
     }
 }
 
-/// The reading of a date that was asked for, by the weekday of that name, if there is a name.
+/// Returns the reading of a date that was asked for, by the weekday of that name, if there is a
+/// name.
 fn reading_of(date: Result<AnyDate, Misuse>, name: Option<&str>) -> Result<Page, Misuse>
     ensures { result ≡ spec.reading_of date (option_map (λ name. name.now) name.entry) }
 {
@@ -96,7 +97,7 @@ fn reading_of(date: Result<AnyDate, Misuse>, name: Option<&str>) -> Result<Page,
     })
 }
 
-/// The page on a set of dates, by the weekday of that name, if there is a name.
+/// Returns the page on a set of dates, by the weekday of that name, if there is a name.
 fn topic_of_set(name: Option<&str>, is_strict: bool) -> Result<Topic, Misuse>
     ensures { result ≡ spec.topic_of_set (option_map (λ name. name.now) name.entry) is_strict }
 {
@@ -106,7 +107,7 @@ fn topic_of_set(name: Option<&str>, is_strict: bool) -> Result<Topic, Misuse>
     })
 }
 
-/// The page on what was read of a text, by the weekday of that name, if there is a name.
+/// Returns the page on what was read of a text, by the weekday of that name, if there is a name.
 fn topic_of_read(
     read: Result<Written, DateFault>,
     name: Option<&str>,
@@ -121,8 +122,8 @@ fn topic_of_read(
     }
 }
 
-/// The reading of a date that was asked for, by the word of the order of its numbers and by the
-/// weekday of that name, if there are any.
+/// Returns the reading of a date that was asked for, by the word of the order of its numbers and by
+/// the weekday of that name, if there are any.
 fn topic_of_reading(
     alloc: Global,
     text: &str,
@@ -143,7 +144,7 @@ fn topic_of_reading(
     }
 }
 
-/// The day of a date in a calendar.
+/// Returns the day of a date in a calendar.
 fn day_of_date(calendar: Calendar, date: WrittenDate) -> Result<Day, Misuse>
     ensures { result ≡ spec.day_of_date calendar date }
 {
@@ -156,14 +157,14 @@ fn day_of_date(calendar: Calendar, date: WrittenDate) -> Result<Day, Misuse>
 /// A day, and the weekday that is named beside it, if any.
 pub(crate) type DayAndWeekday = (Day, Option<Weekday>);
 
-/// The day of a number, which names no weekday.
+/// Returns the day of a number, which names no weekday.
 fn without_weekday(day: Result<Day, Misuse>) -> Result<DayAndWeekday, Misuse>
     ensures { result ≡ spec.without_weekday day }
 {
     Ok((day?, None))
 }
 
-/// The same misuse, where `convert` asks which number is meant.
+/// Returns the same misuse, as `convert` reports it, which asks which number is meant.
 fn on_conversion(misuse: Misuse) -> Misuse
     ensures { result ≡ spec.on_conversion misuse }
 {
@@ -173,7 +174,7 @@ fn on_conversion(misuse: Misuse) -> Misuse
     }
 }
 
-/// The day of a text that is a number.
+/// Returns the day of a text that is a number.
 fn conversion_by_number(text: &str) -> Result<DayAndWeekday, Misuse>
     ensures { result ≡ spec.conversion_by_number (day_in text.now) }
 {
@@ -184,7 +185,8 @@ fn conversion_by_number(text: &str) -> Result<DayAndWeekday, Misuse>
     }
 }
 
-/// The day of a date that was asked for in a calendar, and the weekday that it names, if any.
+/// Returns the day of a date that was asked for in a calendar, and the weekday that it names, if
+/// any.
 fn day_and_weekday(
     calendar: Calendar,
     date: Result<WrittenDate, Misuse>,
@@ -195,8 +197,8 @@ fn day_and_weekday(
     Ok((day_of_date(calendar, date)?, date.weekday))
 }
 
-/// The day of a date in the calendar of a word; of a number after the word `day`; or of a Julian
-/// day number after the word `jdn`. And the weekday that the date names, if any.
+/// Returns the day of a date in the calendar of a word, of a number after the word `day`, or of a
+/// Julian day number after the word `jdn`. Returns also the weekday that the date names, if any.
 pub(crate) fn conversion_of_words(
     alloc: Global,
     word: &str,
@@ -216,14 +218,14 @@ pub(crate) fn conversion_of_words(
     }
 }
 
-/// The page on the day of a Gregorian date that was asked for.
+/// Returns the page on the day of a Gregorian date that was asked for.
 fn page_of_date(date: Result<WrittenDate, Misuse>) -> Result<Page, Misuse>
     ensures { result ≡ spec.page_of_date date }
 {
     page_of_day(day_and_weekday(Calendar::Gregorian, date))
 }
 
-/// The page on a day, with the weekday that its date names, if any.
+/// Returns the page on a day, with the weekday that its date names, if any.
 fn page_of_day(day: Result<DayAndWeekday, Misuse>) -> Result<Page, Misuse>
     ensures { result ≡ spec.page_of_day day }
 {
@@ -231,7 +233,7 @@ fn page_of_day(day: Result<DayAndWeekday, Misuse>) -> Result<Page, Misuse>
     Ok(Page::OfDay { day, weekday })
 }
 
-/// The page on the day of a number, or of a Gregorian date.
+/// Returns the page on the day of a number, or of a Gregorian date.
 fn day_page_of(alloc: Global, text: &str) -> Result<Result<Page, Misuse>, AllocError>
     ensures value { IfOk result (λ page. page ≡ spec.day_page_of (day_in text.now) text.now) }
     ensures memory { OnErr result (spec.day_takes_memory (day_in text.now) ≡ true) }
@@ -242,7 +244,7 @@ fn day_page_of(alloc: Global, text: &str) -> Result<Result<Page, Misuse>, AllocE
     }
 }
 
-/// A year as a territory counts it.
+/// Returns a year as a territory counts it.
 fn year_of_word(text: &str) -> Result<u16, Misuse>
     ensures { result ≡ spec.year_of_word text.now }
 {
@@ -252,7 +254,7 @@ fn year_of_word(text: &str) -> Result<u16, Misuse>
     }
 }
 
-/// A month by its number or its English name.
+/// Returns a month by its number or its English name.
 fn month_of_word(text: &str) -> Result<u8, Misuse>
     ensures { result ≡ spec.month_of_word (number_in text.now) text.now }
 {
@@ -263,7 +265,7 @@ fn month_of_word(text: &str) -> Result<u8, Misuse>
     }
 }
 
-/// The page on a month.
+/// Returns the page on a month.
 fn month_page_of(year: &str, month: &str) -> Result<Page, Misuse>
     ensures { result ≡ spec.month_page_of year.now month.now }
 {
@@ -272,7 +274,7 @@ fn month_page_of(year: &str, month: &str) -> Result<Page, Misuse>
     Ok(Page::Month { year, month })
 }
 
-/// The year that a number is, where the year has figures.
+/// Returns the year that a number is, if the year has figures.
 fn year_numbered(number: Option<u32>) -> Result<Year, Misuse>
     ensures { result ≡ spec.year_numbered number }
 {
@@ -282,14 +284,14 @@ fn year_numbered(number: Option<u32>) -> Result<Year, Misuse>
     }
 }
 
-/// The page on a year.
+/// Returns the page on a year.
 fn year_topic_of(year: &str) -> Result<Topic, Misuse>
     ensures { result ≡ spec.year_topic_of year.now }
 {
     Ok(Topic::Year(year_numbered(number_of(year))?))
 }
 
-/// A page on a territory, as what is asked for.
+/// Returns a page on a territory, as what is asked for.
 fn of_land(page: Result<Page, Misuse>, is_strict: bool) -> Result<Topic, Misuse>
     ensures { result ≡ spec.of_land page is_strict }
 {
@@ -299,7 +301,7 @@ fn of_land(page: Result<Page, Misuse>, is_strict: bool) -> Result<Topic, Misuse>
     })
 }
 
-/// What words ask for a page on.
+/// Returns what words ask for a page on.
 pub(crate) fn topic_of_words(
     alloc: Global,
     words: PageWords<'_>,
@@ -324,7 +326,7 @@ pub(crate) fn topic_of_words(
     }
 }
 
-/// The text of the date that words name, and none where they name no date.
+/// Returns the text of the date that words name, or an empty text if they name no date.
 pub(crate) fn date_text_of<'a>(words: PageWords<'a>) -> &'a str
     ensures { result.now ≡ spec.date_text_of (page_words words.entry) }
 {
@@ -334,7 +336,7 @@ pub(crate) fn date_text_of<'a>(words: PageWords<'a>) -> &'a str
     }
 }
 
-/// The code of the territory that words name, and none where they name no territory.
+/// Returns the code of the territory that words name, or an empty text if they name no territory.
 pub(crate) fn code_of<'a>(words: PageWords<'a>) -> &'a str
     ensures { result.now ≡ spec.code_of (page_words words.entry) }
 {
@@ -349,7 +351,7 @@ pub(crate) fn code_of<'a>(words: PageWords<'a>) -> &'a str
     }
 }
 
-/// Which of the words of a page is not what its place asks for.
+/// Returns which of the words of a page is not what its place asks for.
 pub(crate) fn wrong_word<'a>(words: PageWords<'a>, misuse: Misuse) -> &'a str
     ensures { result.now ≡ spec.wrong_word (page_words words.entry) misuse }
 {
@@ -375,7 +377,7 @@ pub(crate) fn wrong_word<'a>(words: PageWords<'a>, misuse: Misuse) -> &'a str
     }
 }
 
-/// Which of the words of a conversion is not what its place asks for.
+/// Returns which of the words of a conversion is not what its place asks for.
 pub(crate) fn wrong_word_of_conversion<'a>(
     calendar: &'a str,
     date: &'a str,

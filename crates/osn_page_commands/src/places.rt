@@ -1,4 +1,4 @@
-//! How standard error is told why a table of places was not read.
+//! Reports on standard error why a table of places was not read.
 ghost use Rattle.std.specs.Prelude.{◌≡◌, IfOk, string_bytes};
 ghost use Rattle.osn_lines.specs.Streams.{output_of};
 ghost use Rattle.osn_page_commands.specs.Places as spec;
@@ -24,14 +24,14 @@ const AFTER_QUOTE: &str = "text follows a closing quote: write each quote of a f
 
 const NOT_UTF8: &str = "a place or a code is not UTF-8: save the table as UTF-8";
 
-/// What is told of a line of the table of this path.
+/// Returns the report on a line of the table of this path.
 fn places_line(alloc: Global, path: &str, line: u64, text: &str) -> Result<String, AllocError>
     ensures { IfOk result (λ told. string_bytes told ≡ spec.places_line path.now line text.now) }
 {
     format!(in alloc; "oldstyle: {} line {line}: {text}\n", Shown(path))
 }
 
-/// The line on a header that lacks a column and has these.
+/// Returns the line on a header that lacks a column and has these.
 fn lacks_line(
     alloc: Global,
     path: &str,
@@ -50,7 +50,7 @@ fn lacks_line(
     )
 }
 
-/// The line on a place that has two codes.
+/// Returns the line on a place that has two codes.
 fn codes_line(alloc: Global, path: &str, line: u64, place: &str) -> Result<String, AllocError>
     ensures { IfOk result (λ told. string_bytes told ≡ spec.codes_line path.now line place.now) }
 {
@@ -62,7 +62,7 @@ rows out\n",
     )
 }
 
-/// Tells standard error what is wrong with the record on a line.
+/// Reports on standard error what is wrong with the record on a line.
 fn tell_record<E: Sink>(alloc: Global, errors: &mut E, path: &str, line: u64, text: &str) -> Status
     ensures { TellsIfMade
         (output_of E.contents E.has_failed E.holds_back errors.old errors.new) Status.Refused
@@ -75,7 +75,7 @@ fn tell_record<E: Sink>(alloc: Global, errors: &mut E, path: &str, line: u64, te
     )
 }
 
-/// Tells standard error of the table of this path why it was not read. Answers the status.
+/// Reports on standard error why the table of this path was not read. Returns the status.
 pub(crate) fn tell_places<E: Sink>(
     alloc: Global,
     errors: &mut E,

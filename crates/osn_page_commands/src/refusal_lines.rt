@@ -1,4 +1,4 @@
-//! What standard error is told of a refused page.
+//! The lines on standard error about a refused page.
 ghost use Rattle.std.specs.Prelude.{◌≡◌, ◌++◌, IfOk, OnOk, string_bytes, codes};
 ghost use Rattle.osn_page_commands.specs.Page as spec;
 
@@ -10,7 +10,7 @@ use std::alloc::{AllocError, Global};
 use std::fmt;
 use std::fmt::Write;
 
-/// That a word can be no code.
+/// That a word can't be a code.
 #[derive(Clone, Copy)]
 struct NoCode<'a>(&'a str);
 
@@ -52,11 +52,11 @@ impl<'a> fmt::Display for NoLand<'a> {
     }
 }
 
-/// The line on a refusal of what is asked of a territory, with the path of the journal.
+/// Returns the line on a refusal of what is asked of a territory, with the path of the journal.
 ///
 /// # Errors
 ///
-/// Want of memory, and nothing else.
+/// Only that memory ran out.
 pub fn land_refusal_line(
     alloc: Global,
     path: &str,
@@ -73,7 +73,7 @@ pub fn land_refusal_line(
     }
 }
 
-/// Appends what is allowed where an almanac was refused, and what to do next.
+/// Appends what is allowed if an almanac was refused, and what to do next.
 fn push_help(
     line: &mut String,
     path: &str,
@@ -92,7 +92,7 @@ fn push_help(
     }
 }
 
-/// The lines on the refusal of an almanac.
+/// Returns the lines on the refusal of an almanac.
 fn almanac_lines(
     alloc: Global,
     path: &str,
@@ -108,7 +108,7 @@ fn almanac_lines(
     Ok(lines)
 }
 
-/// What is told of a refusal of what was asked for.
+/// Returns the line on a refusal of what was asked for.
 pub(crate) fn refusal_line(
     alloc: Global,
     path: &str,

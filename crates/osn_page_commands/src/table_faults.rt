@@ -1,4 +1,4 @@
-//! How standard error is told why a table of letters ended early.
+//! Reports on standard error why a table of letters ended early.
 ghost use Rattle.std.specs.Prelude.{◌≡◌, IfOk, string_bytes};
 ghost use Rattle.osn_letters.specs.Columns.{dates_of, names_of};
 ghost use Rattle.osn_lines.specs.Streams.{output_of};
@@ -23,7 +23,7 @@ const OPEN_QUOTE: &str = "a quote that opens in this record is never closed";
 
 const AFTER_QUOTE: &str = "text follows a closing quote";
 
-/// The name by which a column of the date was looked for, and no text where none was.
+/// Returns the name by which a column of the date was looked for, or an empty text if it was not.
 fn date_name_of<'a>(names: DateNames<'a>, column: Column) -> &'a str
     ensures { result.now ≡ spec.date_name_of (dates_of names.entry) column }
 {
@@ -42,7 +42,7 @@ fn date_name_of<'a>(names: DateNames<'a>, column: Column) -> &'a str
     }
 }
 
-/// The name by which a column was looked for.
+/// Returns the name by which a column was looked for.
 fn name_of<'a>(names: ColumnNames<'a>, column: Column) -> &'a str
     ensures { result.now ≡ spec.name_of (names_of names.entry) column }
 {
@@ -57,7 +57,7 @@ fn name_of<'a>(names: ColumnNames<'a>, column: Column) -> &'a str
     }
 }
 
-/// The option that names a column.
+/// Returns the option that names a column.
 fn option_of(column: Column) -> &'static str
     ensures { result.now ≡ spec.option_of column }
 {
@@ -71,14 +71,14 @@ fn option_of(column: Column) -> &'static str
     }
 }
 
-/// What a record is told by which a table ends early.
+/// Returns the line on a record that ends a table early.
 fn record_line(alloc: Global, line: u64, text: &str) -> Result<String, AllocError>
     ensures { IfOk result (λ told. string_bytes told ≡ spec.record_line line text.now) }
 {
     format!(in alloc; "oldstyle: letters line {line}: {text}\n")
 }
 
-/// The line on a header that lacks a column.
+/// Returns the line on a header that lacks a column.
 fn lacks_line(
     alloc: Global,
     names: ColumnNames<'_>,
@@ -98,14 +98,14 @@ fn lacks_line(
     )
 }
 
-/// What is told of a column of a header.
+/// Returns the line on a column of a header.
 fn column_line(alloc: Global, line: u64, name: &str, text: &str) -> Result<String, AllocError>
     ensures { IfOk result (λ told. string_bytes told ≡ spec.column_line line name.now text.now) }
 {
     format!(in alloc; "oldstyle: letters line {line}: the column {name} {text}\n")
 }
 
-/// The line on a header that has a column already.
+/// Returns the line on a header that has a column already.
 fn has_line(alloc: Global, line: u64, column: AddedColumn) -> Result<String, AllocError>
     ensures { IfOk result (λ told. string_bytes told ≡ spec.has_line line column) }
 {
@@ -118,7 +118,7 @@ fn has_line(alloc: Global, line: u64, column: AddedColumn) -> Result<String, All
     )
 }
 
-/// Tells standard error what is wrong with the record on a line.
+/// Reports on standard error what is wrong with the record on a line.
 fn tell_record<E: Sink>(alloc: Global, errors: &mut E, line: u64, text: &str) -> Status
     ensures { TellsIfMade
         (output_of E.contents E.has_failed E.holds_back errors.old errors.new) Status.Refused
@@ -127,8 +127,8 @@ fn tell_record<E: Sink>(alloc: Global, errors: &mut E, line: u64, text: &str) ->
     tell_line(errors, Status::Refused, record_line(alloc, line, text))
 }
 
-/// Tells standard error why a table ended early; but of an output that failed nothing, which the
-/// status alone says.
+/// Reports on standard error why a table ended early. Writes nothing if the output failed, which
+/// the status alone says.
 pub(crate) fn tell_table<E: Sink>(
     alloc: Global,
     errors: &mut E,

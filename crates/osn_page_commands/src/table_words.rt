@@ -1,4 +1,4 @@
-//! How a table of letters is read, by the words of the command line.
+//! How a table of letters is read, by the arguments.
 ghost use Rattle.std.specs.Prelude.{◌≡◌, [], Ok, Err, IfErr, IfOk, is_some, option_map, unwrap_or};
 ghost use Rattle.osn_invocation.specs.Invocation.{date_model, letters_model};
 ghost use Rattle.osn_letters.specs.Columns.{dates_of, is_required, weekday_name};
@@ -10,7 +10,7 @@ use osn_invocation::{DateOptions, LettersOptions};
 use osn_letters::{ColumnNames, DateNames, Separator, TableSettings, WeekdayName};
 use osn_report::Misuse;
 
-/// What separates the fields of a table, by its word, if there is one.
+/// Returns what separates the fields of a table, by its word, if there is one.
 fn separator_of_word(word: Option<&str>) -> Result<Option<Separator>, Misuse>
     ensures { result ≡ spec.separator_of_word (option_map (λ word. word.now) word.entry) }
 {
@@ -25,7 +25,7 @@ fn separator_of_word(word: Option<&str>) -> Result<Option<Separator>, Misuse>
     }
 }
 
-/// The name of the column of weekdays: one that is named has to be there.
+/// Returns the name of the column of weekdays, which is required if it is named.
 fn weekday_column<'a>(name: Option<&'a str>) -> WeekdayName<'a>
     ensures text { weekday_name result
         ≡ spec.weekday_column (option_map (λ name. name.now) name.entry) }
@@ -45,7 +45,7 @@ pub(crate) struct WrongWord<'a> {
     pub(crate) typed: &'a str,
 }
 
-/// A word that is wrong, as it was typed.
+/// Returns a word that is wrong, as it was typed.
 fn wrong_word<'a>(misuse: Misuse, word: Option<&'a str>) -> WrongWord<'a>
     ensures misuse { result.misuse ≡ misuse }
     ensures typed { result.typed.now
@@ -58,11 +58,11 @@ fn wrong_word<'a>(misuse: Misuse, word: Option<&'a str>) -> WrongWord<'a>
     WrongWord { misuse, typed }
 }
 
-/// The names of the columns of the date. Where none is named, one has the whole date.
+/// Returns the names of the columns of the date. If no column is named, one has the whole date.
 ///
 /// # Errors
 ///
-/// The option that goes with none of the others, or lacks one.
+/// The option that can't be used with the others, or lacks one.
 fn dates_of_options<'a>(options: DateOptions<'a>) -> Result<DateNames<'a>, WrongWord<'a>>
     ensures ok { IfOk result
         (λ names. spec.dates_of_options (date_model options.entry) ≡ Ok (dates_of names)) }
@@ -81,8 +81,8 @@ fn dates_of_options<'a>(options: DateOptions<'a>) -> Result<DateNames<'a>, Wrong
     Err(WrongWord { misuse, typed })
 }
 
-/// How a table is read, by the names of its columns, the word of what separates its fields, and
-/// that of the order of a date's three numbers. It has no table of places yet.
+/// Returns how a table is read, by the names of its columns, the word of what separates its fields,
+/// and that of the order of a date's three numbers. It has no table of places yet.
 ///
 /// # Errors
 ///

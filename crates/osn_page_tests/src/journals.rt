@@ -7,7 +7,7 @@ use osn_test_texts::{EUROPE, joined};
 use std::alloc::Global;
 use std::test::Fail;
 
-/// The object of the journal.
+/// Returns the object of the journal.
 pub fn europe(alloc: Global) -> Result<Object, Fail> {
     let journal = joined(alloc, EUROPE)?;
     let mut source = Plain::new(journal.as_bytes());

@@ -54,7 +54,7 @@ impl Progress for Reads {
     }
 }
 
-/// How a table ends, and the reads of it.
+/// Returns how a table ends, and the reads of it.
 fn end_of(alloc: Global, table: &str) -> Result<(Result<Tally, LettersFault>, Reads), Fail> {
     let object = europe(alloc)?;
     let mut input = Plain::new(table.as_bytes());
@@ -74,8 +74,8 @@ fn end_of(alloc: Global, table: &str) -> Result<(Result<Tally, LettersFault>, Re
     Ok((ended, reads))
 }
 
-/// The line of a record that is too long, where the second record has this number of letters after
-/// its date, or 0 where none is.
+/// Returns the line of a record that is too long, if the second record has this number of letters
+/// after its date, or 0 if no record is too long.
 fn line_of_long(alloc: Global, letters: usize) -> Result<u64, Fail> {
     let text = "x".repeat(alloc, letters)?;
     let table = format!(in alloc; "place,date,text\nGB,1752-09-14,{text}")?;

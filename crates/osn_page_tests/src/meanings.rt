@@ -15,7 +15,7 @@ use std::test::Fail;
 /// A date as it is written without its weekday: year, month and day, and whether it is double.
 type Parts = (u16, u8, u8, bool);
 
-/// The date of the parts, with no weekday.
+/// Returns the date of the parts, with no weekday.
 fn date_of(parts: Parts) -> WrittenDate {
     let (year, month, day, is_double) = parts;
     WrittenDate {
@@ -67,7 +67,7 @@ fn dates_without_a_day_have_a_reason(rt: HostRuntime) -> Result<(), Fail> {
 /// last part is whether the date has both years and the place did not count it double.
 type Meaning = (u32, i32, i32, bool, bool);
 
-/// What is told of a day that a date means.
+/// Returns what a page says of a day that a date means.
 fn meaning_of(date: WrittenDate, day: &DatedDay) -> Meaning {
     (
         day.day.number(),
@@ -78,7 +78,7 @@ fn meaning_of(date: WrittenDate, day: &DatedDay) -> Meaning {
     )
 }
 
-/// A code, a date, and its first day where a Tuesday is looked for.
+/// A code, a date, and its first day if a Tuesday is looked for.
 const FIRST_DAYS: [(&str, Parts, Meaning); 4] = [
     (
         "FR",

@@ -1,4 +1,4 @@
-//! Dates as people write them, and what is wrong with a text that is no date.
+//! Dates as people write them, and what is wrong with a text that is not a date.
 use crate::compare::same;
 use osn_days::{Weekday, month_named};
 use osn_grammar::parse_day;
@@ -86,7 +86,7 @@ const OTHER: [Row; 15] = [
     ),
 ];
 
-/// What is wrong with texts of further forms.
+/// What is wrong with texts of other forms.
 const OTHER_FAULTS: [Row; 21] = [
     ("", Err(DateFault::NoDate)),
     ("n.d.", Err(DateFault::NoDate)),
@@ -143,7 +143,7 @@ const FAULTS: [Row; 28] = [
     ("11 Feb. 173?", Err(DateFault::OpenYear)),
 ];
 
-/// The parts of a date.
+/// Returns the parts of a date.
 fn parts_of(date: WrittenDate) -> Parts {
     (
         date.year,

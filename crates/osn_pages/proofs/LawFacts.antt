@@ -28,7 +28,7 @@ single year month day = record {
   weekday = None;
 }
 
--- the words of a date are read as that date, which is no double one
+-- the words of a date are read as that date, which does not have both years
 record IsRead (date : Date) : Type 0 where
   pub is : written_date (words_of_date date)
       ≡ Ok (single (unsigned_abs date.year) date.month date.day)

@@ -18,7 +18,7 @@ one_more f y most low =
     let count : most + 1 - y ≡ suc (most + 1 - (y + 1)) = omega (arith, low) in
     ap (λ n. spec.first_with_days (map f (range_with_len y n))) count
 
--- a year with no day is passed over
+-- a year with no day is skipped
 pub next_years : (f : ℕ → List ℕ) (whole days : List ℕ) (y most : ℕ) → y < most + 1
     → whole ≡ left f y most → days ≡ f y → length days ≡ 0 → whole ≡ left f (y + 1) most
 next_years f whole [] y most low so_far is none =

@@ -53,7 +53,7 @@ covers_line_of p limits code (l ∷ ls) sound =
 on_line : (p : Profile) (d : ℕ) → 1 ≤ d → d ≤ p.high → is_off_line p (pos d) ≡ false
 on_line p d low high = grind (arith, ints, nat_tests)
 
--- the answer about a day, where the code is refused so
+-- the answer about a day, if the code is refused so
 abbrev answer_on : Profile → Option Refusal → Option TerritoryModel → Option SourcesModel → ℕ
     → Answer
 answer_on p refused t sources d =
@@ -77,7 +77,7 @@ answer_at_place p t sources i d q covers within is low high held =
     (period_on-place ps ps i 1 p.high d q refl covers within there is)
     ∙ ap (λ r. let a : Answer = OnDay (found_under p r d) (and_source sources q) in a) (sym regime)
 
--- a period with its source, where the code is refused so
+-- a period with its source, if the code is refused so
 abbrev IsAnsweredIf : Profile → Option Refusal → Option TerritoryModel → Option SourcesModel
     → PeriodAndSource → Type 0
 IsAnsweredIf p refused t sources item =

@@ -28,7 +28,7 @@ use Rattle.osn_pages.specs.Why.{why_lines, why_text}
 
 -- ---- one day
 
--- the days that a date means, as the place itself dated them, and where it means none why
+-- the days that a date means, as the place itself dated them, or why it means none
 abbrev pub reading_lines : Profile → TerritoryModel → Option SourcesModel → WrittenDate
     → Option Weekday → List DatedDay → List ℕ
 reading_lines p t sources w given [] = why_lines p t sources w
@@ -36,7 +36,7 @@ reading_lines p t sources w given (day ∷ days) = days_text w given (day ∷ da
 
 -- ---- a month, a year, a range or a bound
 
--- no day of the line is before the date, or none is after it
+-- the line has no day before the date, or no day after it
 abbrev pub off_the_line : Kind → List ℕ
 off_the_line kinds.Before = codes "no day of the line is before it\n"
 off_the_line kind = codes "no day of the line is after it\n"
@@ -73,7 +73,7 @@ lines_of p own t sources w given (Some day) =
 lines_of p own t sources w given None =
     found_lines p own t sources w.extent (extent_meant p t w.extent)
 
--- where the date names a calendar it is read as if the place had gone by that one
+-- if the date names a calendar, it is read as if the place had used that one
 abbrev pub date_lines : Profile → TerritoryModel → Option SourcesModel → AnyDate → Option Weekday
     → List ℕ
 date_lines p t sources w given = lines_of p t (reckoned t w.reckoning) sources w given (one_day w)

@@ -11,7 +11,7 @@ use Rattle.osn_lands.specs.Dated.{years_text}
 
 -- ---- days in pieces
 
--- a day more at the front of the first piece
+-- a day more at the beginning of the first piece
 abbrev pub in_first_piece : DatedDay → List (List DatedDay) → List (List DatedDay)
 in_first_piece x [] = []
 in_first_piece x (piece ∷ pieces) = (x ∷ piece) ∷ pieces
@@ -50,8 +50,8 @@ weeks_of = pieces_of is_in_week
 unfoldable pub month_year : DatedDay → List ℕ
 month_year x = month_name x.label.month ++ (codes " " ++ years_text x)
 
--- a title of ASCII, centred in the 20 characters of a grid as `cal` does. Half of the spaces that
--- are left stand before it, rounded down. A longer title has none before it.
+-- a title of ASCII, centred in the 20 characters of a grid as `cal` does. Half of the remaining
+-- spaces, rounded down, are before it. A longer title has none before it.
 unfoldable pub centred : List ℕ → List ℕ
 centred title = replicate ((20 - length title) / 2) 32 ++ (title ++ codes "\n")
 
@@ -87,7 +87,7 @@ weekdays_line = codes "Su Mo Tu We Th Fr Sa\n"
 unfoldable pub grid : List DatedDay → List ℕ
 grid run = title_line run ++ (weekdays_line ++ flat_map week_line (weeks_of run))
 
--- a grid for each run of days, or that there is no such month where there is no day
+-- a grid for each run of days, or that there is no such month if there is no day
 abbrev pub grids : List DatedDay → List ℕ
 grids [] = codes "no such month\n"
 grids (day ∷ days) = flat_map grid (runs_of (day ∷ days))

@@ -1,4 +1,4 @@
--- The first line of a page, which has the territory and the edition, and its last line, where edits
+-- The first line of a page, which has the territory and the edition, and its last line, if edits
 -- are not published yet. This project's profile.
 use Rattle.std.specs.Prelude.{ℕ, ◌==◌, if◌then◌else◌, List, [], ◌++◌, codes}
 use Rattle.std.specs.Fmt.{decimal}
@@ -12,7 +12,7 @@ land_heading name code edition =
 unfoldable pub heading : List ℕ → List ℕ → List ℕ → ℕ → List ℕ
 heading subject name code edition = subject ++ (codes " in " ++ land_heading name code edition)
 
--- how many edits are not published yet, where any is
+-- how many edits are not published yet, if any
 unfoldable pub pending_line : ℕ → List ℕ
 pending_line count =
     if count == 0 then []

@@ -16,7 +16,7 @@ use Rattle.osn_pages.specs.Words.{calendar_words, named_day}
 
 -- ---- weekdays
 
--- the weekday, where one is given and the day is another
+-- the weekday, if one is given and the day is another
 abbrev pub other_weekday : Option Weekday → ℕ → Option Weekday
 other_weekday None d = None
 other_weekday (Some given) d = if is_on (Some given) d then None else Some given
@@ -26,7 +26,7 @@ abbrev pub weekday_verdict : Option Weekday → List ℕ
 weekday_verdict None = codes " ok"
 weekday_verdict (Some given) = codes " not " ++ weekday_name given
 
--- the remark on a day, where the date names a weekday or one is given beside it
+-- the remark on a day, if the date names a weekday or one is given beside it
 unfoldable pub verdict : Option Weekday → Option Weekday → ℕ → List ℕ
 verdict written given d =
     if is_some written || is_some given then

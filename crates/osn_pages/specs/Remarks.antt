@@ -38,11 +38,11 @@ subject w = subject_of w (plain_day w)
 
 -- ---- how sure it is
 
--- a word where something is said
+-- a word if something is said
 abbrev pub word_if : Bool → List ℕ → List (List ℕ)
 word_if applies word = if applies then word ∷ [] else []
 
--- words with `; ` between them, as a line, where there are words
+-- words with `; ` between them, as a line, if there are words
 abbrev pub words_after : List (List ℕ) → List ℕ
 words_after [] = codes "\n"
 words_after (word ∷ words) = codes "; " ++ (word ++ words_after words)

@@ -24,7 +24,7 @@ unfoldable pub count_line : ℕ → List ℕ
 count_line count =
     if count == 1 then codes "1 day\n" else decimal count ++ codes " days\n"
 
--- one day stands alone
+-- a first and a last day, or the one day if both are the same
 abbrev pub ends_lines : Profile → TerritoryModel → ℕ → ℕ → List ℕ
 ends_lines p t first last =
     if first == last then plain_day_line (dated_on p t first)

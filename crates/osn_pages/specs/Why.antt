@@ -77,7 +77,7 @@ beginning_line old new =
 abbrev pub is_style : Style → Style → Bool
 is_style a b = bytes_eq (style_word a) (style_word b)
 
--- where the change is one of the year's beginning, that it is, and the nearest days
+-- that a change is one of the year's beginning, if it is, and the nearest days
 unfoldable pub beginning_lines : Profile → TerritoryModel → WrittenDate → Style → Style → List ℕ
 beginning_lines p t w old new =
     if is_style old new then [] else beginning_line old new ++ nearest_lines p t w
@@ -113,7 +113,7 @@ year_line p t year (d ∷ ds) = year_ends_line year (dated_on p t d) (dated_on p
 
 -- ---- the whole
 
--- the lines of a reason, as a territory has it whose changes have these sources
+-- the lines of a reason, in a territory whose changes have these sources
 abbrev pub why_text : Profile → TerritoryModel → Option SourcesModel → WrittenDate → Absence
     → List ℕ
 why_text p t sources w why.NotWithBothYears =

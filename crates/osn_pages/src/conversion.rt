@@ -55,12 +55,12 @@ fn push_numbers(out: &mut String, day: Day) -> Result<(), AllocError>
     )
 }
 
-/// The page of a conversion: the weekday of a day, its date in each calendar, its numbers, and
-/// whether it is of the weekday that is given, if any.
+/// Returns the page of a conversion: the weekday of a day, its date in each calendar, its numbers,
+/// and whether it is on the weekday that is given, if any.
 ///
 /// # Errors
 ///
-/// Want of memory, and nothing else.
+/// If memory runs out, and in no other case.
 #[tactic(auto, unfolding(crate::specs::Conversion::conversion_page))]
 pub fn conversion_page(
     alloc: Global,
@@ -85,8 +85,9 @@ pub fn conversion_page(
     Ok(text)
 }
 
-/// The one day that has the written date in the calendar, or `None` where no day of the line has
-/// it. A double date, as `11 February 1731/2`, is that of a territory, and no calendar has it.
+/// Returns the one day that has the written date in the calendar, or `None` if no day of the line
+/// has it. A double date, such as `11 February 1731/2`, is that of a territory, and no calendar has
+/// it.
 #[tactic(auto, using(crate::proofs::LawFacts::calendar_words_written))]
 pub fn day_of_written(calendar: Calendar, date: WrittenDate) -> Option<Day>
     ensures value { option_to_list result ≡ spec.days_of_written newest_rules calendar date }

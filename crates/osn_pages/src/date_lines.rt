@@ -19,7 +19,7 @@ use osn_written::{
 use std::alloc::{AllocError, Global};
 
 /// Appends the days that a date means by the reckoning of a territory, as the place itself dated
-/// them, and where it means none why.
+/// them, or why it means none.
 fn push_reading(
     alloc: Global,
     out: &mut String,
@@ -41,7 +41,7 @@ fn push_reading(
     push_days(out, date, given, days.as_slice())
 }
 
-/// The line of a bound beyond which the line has no day.
+/// Returns the line of a bound beyond which the line has no day.
 fn off_the_line(kind: Kind) -> &'static str
     ensures { result.now ≡ spec.off_the_line kind }
 {
@@ -67,8 +67,8 @@ fn push_last_absent(
     push_reason(alloc, out, territory, sources, last, absence)
 }
 
-/// Appends why no day is meant, as the territory has it by whose reckoning the date is read. The
-/// sources are those of the place.
+/// Appends why no day is meant, in the territory by whose reckoning the date is read. The sources
+/// are those of the place.
 pub(crate) fn push_no_day(
     alloc: Global,
     out: &mut String,
@@ -133,8 +133,8 @@ fn push_lines(
     }
 }
 
-/// Appends the lines of a date. Where it names a calendar it is read as if the place had gone by
-/// that one.
+/// Appends the lines of a date. If it names a calendar, it is read as if the place had used that
+/// one.
 pub(crate) fn push_date(
     alloc: Global,
     out: &mut String,
@@ -155,7 +155,7 @@ pub(crate) fn push_date(
     }
 }
 
-/// Whether an extent means no day by the reckoning of a territory.
+/// Returns whether an extent means no day by the reckoning of a territory.
 fn is_without_day(alloc: Global, territory: &Territory, extent: Extent) -> Result<bool, AllocError>
     ensures { IfOk result (λ without.
         without ≡ is_err (extent_meant newest_rules territory.now extent)) }
@@ -163,12 +163,12 @@ fn is_without_day(alloc: Global, territory: &Territory, extent: Extent) -> Resul
     Ok(find_runs(alloc, territory, extent)?.is_err())
 }
 
-/// Whether a date means no day in a territory. Where it names a calendar it is read as if the place
-/// had gone by that one.
+/// Returns whether a date means no day in a territory. If it names a calendar, it is read as if the
+/// place had used that one.
 ///
 /// # Errors
 ///
-/// `AllocError` where there is no memory for the list of days.
+/// `AllocError` if there is no memory for the list of days.
 pub fn has_no_day(alloc: Global, territory: &Territory, date: AnyDate) -> Result<bool, AllocError>
     ensures { IfOk result (λ none. none ≡ spec.has_no_day newest_rules territory.now date) }
 {

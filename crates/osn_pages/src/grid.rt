@@ -23,7 +23,7 @@ fn push_spaces(out: &mut String, count: usize) -> Result<(), AllocError>
     Ok(())
 }
 
-/// The month and year of a day.
+/// Returns the month and year of a day.
 #[tactic(auto, unfolding(crate::specs::Grid::month_year))]
 fn month_year(alloc: Global, dated: DatedDay) -> Result<String, AllocError>
     ensures { IfOk result (λ s. string_bytes s ≡ spec.month_year dated) }
@@ -51,7 +51,7 @@ fn push_title(alloc: Global, out: &mut String, run: &[DatedDay]) -> Result<(), A
     push_centred(out, title.as_str())
 }
 
-/// The weekday of a day, 0 for Sunday.
+/// Returns the weekday of a day, 0 for Sunday.
 fn weekday_number(day: Day) -> u32
     ensures { result ≡ weekday day }
 {
@@ -99,14 +99,14 @@ fn push_week(out: &mut String, week: &[DatedDay]) -> Result<(), AllocError>
     out.push_str("\n")
 }
 
-/// Whether the day begins a week.
+/// Returns whether the day begins a week.
 fn begins_week(dated: &DatedDay) -> bool
     ensures { result ≡ spec.begins_week dated.now }
 {
     weekday_number(dated.day) == 0
 }
 
-/// How many days the first week has.
+/// Returns how many days the first week has.
 fn week_len(days: &[DatedDay]) -> usize
     requires { 0 < length days.now }
     ensures some { 0 < result }
@@ -155,14 +155,14 @@ fn push_grid(alloc: Global, out: &mut String, run: &[DatedDay]) -> Result<(), Al
     push_weeks(out, run)
 }
 
-/// Whether a day is the next one on the line.
+/// Returns whether a day is the next one on the line.
 fn is_next(before: &DatedDay, after: &DatedDay) -> bool
     ensures { result ≡ spec.is_next before.now after.now }
 {
     after.day.number() == before.day.number() + 1
 }
 
-/// How many days the first run has.
+/// Returns how many days the first run has.
 fn run_len(days: &[DatedDay]) -> usize
     requires { 0 < length days.now }
     ensures some { 0 < result }
@@ -192,7 +192,7 @@ fn push_all_grids(alloc: Global, out: &mut String, days: &[DatedDay]) -> Result<
     Ok(())
 }
 
-/// Appends the grids of days in order, or that there is no such month where there is no day.
+/// Appends the grids of days in order, or that there is no such month if there is no day.
 pub(crate) fn push_grids(
     alloc: Global,
     out: &mut String,

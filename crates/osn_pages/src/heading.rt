@@ -1,4 +1,4 @@
-//! The first line of a page, and its last one where edits are not published yet.
+//! The first line of a page, and its last one if edits are not published yet.
 ghost use Rattle.std.specs.Prelude.{◌≡◌, ◌++◌, OnOk, string_bytes};
 ghost use Rattle.osn_pages.specs.Heading as spec;
 
@@ -9,7 +9,7 @@ use std::fmt::Write;
 ///
 /// # Errors
 ///
-/// Want of memory, and nothing else.
+/// If memory runs out, and in no other case.
 #[tactic(auto, unfolding(crate::specs::Heading::land_heading))]
 pub fn push_land_heading(
     out: &mut String,
@@ -23,11 +23,11 @@ pub fn push_land_heading(
     writeln!(out, "{} ({}), edition {}", name, code, edition)
 }
 
-/// Appends how many edits are not published yet, where any is.
+/// Appends how many edits are not published yet, if any.
 ///
 /// # Errors
 ///
-/// Want of memory, and nothing else.
+/// If memory runs out, and in no other case.
 #[tactic(auto, unfolding(crate::specs::Heading::pending_line))]
 pub fn push_pending(out: &mut String, count: usize) -> Result<(), AllocError>
     ensures { OnOk result (string_bytes out.new

@@ -7,8 +7,8 @@ use osn_days::{Day, Year};
 use osn_register::{Register, Source};
 use std::marker::Model;
 
-/// The sources of a territory, where a register has them. Contracts see them as the register's
-/// definition has them.
+/// The sources of a territory, if a register has them. In contracts they are those of the
+/// register's definition.
 #[derive(Drop)]
 pub(crate) struct LandSources<'a> {
     register: &'a Register,
@@ -26,21 +26,21 @@ impl<'a> Model for LandSources<'a> {
 }
 
 impl<'a> LandSources<'a> {
-    /// The sources of the territory of a code.
+    /// Returns the sources of the territory of a code.
     pub(crate) fn new(register: &'a Register, code: &'a str) -> LandSources<'a>
         ensures { result ≡ sources_of code.now register.now.lands }
     {
         LandSources { register, code }
     }
 
-    /// The source of the period that starts on a day, where one is given.
+    /// Returns the source of the period that starts on a day, if one is given.
     pub(crate) fn of_period(&self, day: Day) -> Option<&Source>
         ensures { option_map (λ s. s.now) result ≡ period_source self.now day }
     {
         self.register.period_source(self.code, day)
     }
 
-    /// The source of the listed Easter of a year, where one is given.
+    /// Returns the source of the listed Easter of a year, if one is given.
     pub(crate) fn of_easter(&self, year: Year) -> Option<&Source>
         ensures { option_map (λ s. s.now) result ≡ easter_source self.now year }
     {

@@ -21,11 +21,11 @@ fn push_run(days: &mut Vec<DatedDay>, territory: &Territory, run: Run) -> Result
     Ok(())
 }
 
-/// The days of these runs, as the territory dated them.
+/// Returns the days of these runs, as the territory dated them.
 ///
 /// # Errors
 ///
-/// `AllocError` where there is no memory for the list.
+/// `AllocError` if there is no memory for the list.
 pub fn dated_days(
     alloc: Global,
     territory: &Territory,

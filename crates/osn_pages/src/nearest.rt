@@ -11,7 +11,7 @@ use std::alloc::{AllocError, Global};
 /// How far the years are looked through: labels have the years 0 to 10,000.
 const MOST_YEARS: u16 = 10_000;
 
-/// The days of the date's month and day in another year.
+/// Returns the days of the date's month and day in another year.
 fn days_in_year(territory: &Territory, date: WrittenDate, year: i32) -> Result<Vec<Day>, AllocError>
     ensures { IfOk result (λ days. days.items
         ≡ spec.days_in_year newest_rules territory.now date year) }
@@ -23,7 +23,7 @@ fn days_in_year(territory: &Territory, date: WrittenDate, year: i32) -> Result<V
     })
 }
 
-/// Those of the date's month and day that many years before and after its own.
+/// Returns the days of the date's month and day that many years before and after its own.
 #[tactic(auto, unfolding(crate::specs::Nearest::days_apart))]
 fn days_apart(territory: &Territory, date: WrittenDate, years: u16) -> Result<Vec<Day>, AllocError>
     ensures { IfOk result (λ days. days.items
@@ -36,7 +36,7 @@ fn days_apart(territory: &Territory, date: WrittenDate, years: u16) -> Result<Ve
     Ok(days)
 }
 
-/// Those in the nearest years that have some, at most as many years before or after.
+/// Returns those in the nearest years that have some, at most as many years before or after.
 fn nearest_within(
     alloc: Global,
     territory: &Territory,
@@ -56,7 +56,7 @@ fn nearest_within(
     Ok(Vec::new(alloc))
 }
 
-/// Those in the nearest years that have some, of all years that a label may have.
+/// Returns those in the nearest years that have some, of all years that a label may have.
 pub(crate) fn nearest_days(
     alloc: Global,
     territory: &Territory,

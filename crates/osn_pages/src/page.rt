@@ -152,7 +152,7 @@ fn push_page(
     }
 }
 
-/// The whole text of a page.
+/// Returns the whole text of a page.
 fn text_of(
     alloc: Global,
     place: Place<'_>,
@@ -170,12 +170,12 @@ fn text_of(
     Ok(text)
 }
 
-/// The text of a page on the territory of that code, by what was published.
+/// Returns the text of a page on the territory of that code, by what was published.
 ///
 /// # Errors
 ///
-/// `BadCode` for a code that no territory can have, then `UnknownLand` where none has it. Else
-/// `NoMemory` where no memory is found.
+/// `BadCode` for a code that no territory can have, then `UnknownLand` if no territory has it.
+/// Otherwise `NoMemory` if memory runs out.
 pub fn page_text(
     alloc: Global,
     register: &Register,
@@ -194,7 +194,7 @@ pub fn page_text(
     ensures answered { OnOk result
         (spec.AnswersPeriods newest_rules register.now.lands code.now page) }
 {
-    // Its contract tells that the periods of each territory cover the line.
+    // Its contract says that the periods of each territory cover the line.
     let _limits = register.limits();
     let (name, territory) = register.land(code)?;
     let sources = LandSources::new(register, code);

@@ -11,7 +11,7 @@ use osn_lands::{Period, dated_day};
 use std::alloc::AllocError;
 use std::fmt::Write;
 
-/// Whether the period ends with the line.
+/// Returns whether the period ends with the line.
 #[tactic(auto, unfolding(crate::specs::Periods::ends_line))]
 fn ends_line(period: &Period) -> bool
     ensures { result ≡ spec.ends_line newest_rules period.now }

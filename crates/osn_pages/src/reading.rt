@@ -11,14 +11,14 @@ use std::alloc::AllocError;
 use std::fmt;
 use std::fmt::Write;
 
-/// The weekday, where one is given and the day is another.
+/// Returns the weekday, if one is given and the day is another.
 fn other_weekday(given: Option<Weekday>, day: Day) -> Option<Weekday>
     ensures { result ≡ spec.other_weekday given day }
 {
     if is_on(given, day) { None } else { given }
 }
 
-/// What is said of a day, of the weekday that its date names and of the one given beside it.
+/// The remark on a day, by the weekday that its date names and the one given beside it.
 #[derive(Clone, Copy)]
 pub(crate) struct Verdict {
     pub(crate) written: Option<Weekday>,
@@ -45,7 +45,7 @@ impl fmt::Display for Verdict {
     }
 }
 
-/// Appends the line of a day, and what is said of its weekday.
+/// Appends the line of a day, with the remark on its weekday.
 #[tactic(auto, unfolding(crate::specs::Reading::day_line))]
 fn push_day_line(out: &mut String, verdict: Verdict, dated: DatedDay) -> Result<(), AllocError>
     ensures { OnOk result (string_bytes out.new ≡ string_bytes out.old
@@ -91,7 +91,7 @@ pub(crate) fn push_named_day(
 ///
 /// # Errors
 ///
-/// Want of memory, and nothing else.
+/// If memory runs out, and in no other case.
 #[tactic(auto, unfolding(crate::specs::Reading::verdict))]
 pub fn push_day(out: &mut String, dated: DatedDay) -> Result<(), AllocError>
     ensures { OnOk result (string_bytes out.new

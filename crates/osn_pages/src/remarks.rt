@@ -14,7 +14,7 @@ use std::alloc::{AllocError, Global};
 use std::fmt;
 use std::fmt::Write;
 
-/// A date without the weekday that it names.
+/// Returns a date without the weekday that it names.
 fn without_weekday(date: AnyDate) -> AnyDate
     ensures { result ≡ spec.without_weekday date }
 {
@@ -24,8 +24,8 @@ fn without_weekday(date: AnyDate) -> AnyDate
     }
 }
 
-/// A date as its page names it. One day of which nothing more is said stands without its weekday,
-/// and any other date with all that is said of it.
+/// A date as its page names it. A plain date of one day is named without its weekday, and any other
+/// date with its weekday and its signs.
 #[derive(Clone, Copy)]
 pub(crate) struct Subject(pub(crate) AnyDate);
 
@@ -44,7 +44,7 @@ impl fmt::Display for Subject {
     }
 }
 
-/// The line of how sure a date is, if anything is said of it.
+/// Returns the line of how sure a date is, if anything is said of it.
 fn sureness(date: AnyDate) -> &'static str
     ensures { result.now ≡ spec.sureness_line date }
 {
@@ -60,7 +60,7 @@ fn sureness(date: AnyDate) -> &'static str
     }
 }
 
-/// The line of a date that has a year of three digits and no zero before them.
+/// Returns the line of a date that has a year of three digits and no zero before them.
 fn three_digits_line(date: AnyDate) -> &'static str
     ensures { result.now ≡ spec.three_digits_line date }
 {
@@ -71,7 +71,7 @@ fn three_digits_line(date: AnyDate) -> &'static str
     }
 }
 
-/// The name of the style whose calendar a date names.
+/// Returns the name of the style whose calendar a date names.
 fn style_name(reckoning: Reckoning) -> &'static str
     ensures { result.now ≡ spec.style_name reckoning }
 {
@@ -81,7 +81,7 @@ fn style_name(reckoning: Reckoning) -> &'static str
     }
 }
 
-/// The day, if runs are a single one.
+/// Returns the day, if runs are a single one.
 fn only_day(runs: &[Run]) -> Option<Day>
     ensures { result ≡ spec.only_day runs.now }
 {
@@ -121,8 +121,8 @@ fn push_own_days(
     }
 }
 
-/// The same of what a date means by the calendar that it names. If it means no day by that one, it
-/// does by the place's own.
+/// Appends the same of what a date means by the calendar that it names. If it means no day by that
+/// calendar, it means one by the place's own.
 #[tactic(auto, unfolding(crate::specs::Remarks::own_dates))]
 fn push_own_dates(
     out: &mut String,
@@ -163,7 +163,7 @@ fn push_calendar(
     push_own_dates(out, name, territory, &found)
 }
 
-/// Appends that the weekday of a date is not looked for, where it has one.
+/// Appends that the weekday of a date is not looked for, if it has one.
 #[tactic(auto, unfolding(crate::specs::Remarks::not_sought_line))]
 pub(crate) fn push_not_sought(out: &mut String, weekday: Option<Weekday>) -> Result<(), AllocError>
     ensures { OnOk result (string_bytes out.new
@@ -179,7 +179,7 @@ pub(crate) fn push_not_sought(out: &mut String, weekday: Option<Weekday>) -> Res
     }
 }
 
-/// Appends that the weekday is not looked for, where the date is not one day.
+/// Appends that the weekday is not looked for, if the date is not one day.
 fn push_weekday(
     out: &mut String,
     weekday: Option<Weekday>,

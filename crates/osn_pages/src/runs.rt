@@ -32,7 +32,7 @@ fn push_to(out: &mut String, dated: DatedDay) -> Result<(), AllocError>
 ///
 /// # Errors
 ///
-/// Want of memory, and nothing else.
+/// If memory runs out, and in no other case.
 #[tactic(auto, unfolding(crate::specs::Runs::count_line))]
 pub fn push_count(out: &mut String, count: usize) -> Result<(), AllocError>
     ensures { OnOk result (string_bytes out.new ≡ string_bytes out.old ++ spec.count_line count) }
@@ -43,7 +43,7 @@ pub fn push_count(out: &mut String, count: usize) -> Result<(), AllocError>
     }
 }
 
-/// Appends a first and a last day. One day stands alone.
+/// Appends a first and a last day, or the one day if both are the same.
 fn push_ends(
     out: &mut String,
     territory: &Territory,
@@ -60,7 +60,7 @@ fn push_ends(
     push_to(out, territory.dated(last))
 }
 
-/// How many days there are from a first one to a last one.
+/// Returns how many days there are from a first one to a last one.
 fn day_count(first: Day, last: Day) -> u32
     ensures { result ≡ last + 1 - first }
 {

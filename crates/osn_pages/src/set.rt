@@ -22,7 +22,7 @@ use osn_written::{AbsentMember, AnyDate, Kind, find_set, is_set_approximate, is_
 use std::alloc::{AllocError, Global};
 use std::fmt::Write;
 
-/// The line of how sure a set is, if anything is said of it.
+/// Returns the line of how sure a set is, if anything is said of it.
 fn set_sureness(is_approximate: bool, is_uncertain: bool) -> &'static str
     ensures { result.now ≡ spec.set_sureness is_approximate is_uncertain }
 {
@@ -97,7 +97,7 @@ fn push_set_page(
     )
 }
 
-/// The whole text of the page.
+/// Returns the whole text of the page.
 fn text_of_set(
     alloc: Global,
     place: Place<'_>,
@@ -116,13 +116,13 @@ fn text_of_set(
     Ok(page)
 }
 
-/// The text of the page of the set of dates that a text is, on the territory of that code, by what
-/// was published. A weekday may be given beside it.
+/// Returns the text of the page of the set of dates that a text is, on the territory of that code,
+/// by what was published. A weekday may be given beside it.
 ///
 /// # Errors
 ///
-/// `BadCode` for a code that no territory can have, then `UnknownLand` where none has it. Else
-/// `NoMemory` where no memory is found.
+/// `BadCode` for a code that no territory can have, then `UnknownLand` if no territory has it.
+/// Otherwise `NoMemory` if memory runs out.
 pub fn set_page_text(
     alloc: Global,
     register: &Register,
@@ -149,11 +149,11 @@ pub fn set_page_text(
     Ok(text_of_set(alloc, place, published.pending, text, given)?)
 }
 
-/// Whether a date of the set that a text is means no day in a territory.
+/// Returns whether a date of the set that a text is means no day in a territory.
 ///
 /// # Errors
 ///
-/// `AllocError` where there is no memory for the list of days.
+/// `AllocError` if there is no memory for the list of days.
 pub fn set_has_no_day(alloc: Global, territory: &Territory, text: &str) -> Result<bool, AllocError>
     ensures { IfOk result (λ none.
         none ≡ is_err (set_meant newest_rules territory.now (members text.now))) }

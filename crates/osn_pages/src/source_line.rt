@@ -15,11 +15,11 @@ fn push_source_line(out: &mut String, source: &Source) -> Result<(), AllocError>
     writeln!(out, "(source: {})", source.as_str())
 }
 
-/// Appends the line of a source, where one is given.
+/// Appends the line of a source, if one is given.
 ///
 /// # Errors
 ///
-/// Want of memory, and nothing else.
+/// If memory runs out, and in no other case.
 pub fn push_source(out: &mut String, source: Option<&Source>) -> Result<(), AllocError>
     ensures { OnOk result (string_bytes out.new ≡ string_bytes out.old
         ++ spec.source_text (option_map (λ s. s.now) source.entry)) }

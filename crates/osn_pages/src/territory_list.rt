@@ -41,11 +41,11 @@ fn push_lands(out: &mut String, lands: &[Land]) -> Result<(), AllocError>
     Ok(())
 }
 
-/// The page of all territories, by name and code in the order of addition.
+/// Returns the page of all territories, by name and code in the order of addition.
 ///
 /// # Errors
 ///
-/// Want of memory, and nothing else.
+/// If memory runs out, and in no other case.
 #[tactic(auto, unfolding(crate::specs::Territory::territories_page))]
 pub fn territories_page(
     alloc: Global,

@@ -38,7 +38,7 @@ fn push_twice(out: &mut String, dates: u32) -> Result<(), AllocError>
 ///
 /// # Errors
 ///
-/// Want of memory, and nothing else.
+/// If memory runs out, and in no other case.
 pub fn push_gap(out: &mut String, same: Option<Day>, first: Day) -> Result<(), AllocError>
     ensures { OnOk result (string_bytes out.new
         ≡ string_bytes out.old ++ spec.gap_words (option_to_list same) first) }
@@ -54,7 +54,7 @@ pub fn push_gap(out: &mut String, same: Option<Day>, first: Day) -> Result<(), A
 ///
 /// # Errors
 ///
-/// Want of memory, and nothing else.
+/// If memory runs out, and in no other case.
 #[tactic(auto, unfolding(crate::specs::Turn::turned_line))]
 pub fn push_turned(out: &mut String, part: &str, old: &str, new: &str) -> Result<(), AllocError>
     ensures { OnOk result (string_bytes out.new

@@ -94,7 +94,7 @@ fn push_line_ends(out: &mut String, first: DatedDay, last: DatedDay) -> Result<(
     )
 }
 
-/// How many days a month has that lacks one of them by every calendar of a territory.
+/// Returns how many days a month has that lacks one of them by every calendar of a territory.
 fn month_length(territory: &Territory, month: u8) -> &'static str
     ensures { result.now ≡ spec.month_length newest_rules territory.now month }
 {
@@ -132,14 +132,14 @@ fn push_skip_line(out: &mut String, before: DatedDay, change: DatedDay) -> Resul
     writeln!(out, "skipped: {}", Followed { before, change })
 }
 
-/// Whether the two styles are one.
+/// Returns whether the two styles are one.
 fn is_style(one: Style, other: Style) -> bool
     ensures { result ≡ spec.is_style one other }
 {
     one.word() == other.word()
 }
 
-/// Appends, where a change is one of the year's beginning, that it is, and the nearest days.
+/// Appends that a change is one of the year's beginning, if it is, and the nearest days.
 #[tactic(auto, unfolding(crate::specs::Why::beginning_lines))]
 fn push_beginning(
     alloc: Global,
@@ -273,7 +273,7 @@ fn push_not_in_year(
     push_nearest(alloc, out, territory, date)
 }
 
-/// Appends the lines of a reason, as a territory has it whose changes have these sources.
+/// Appends the lines of a reason, in a territory whose changes have these sources.
 pub(crate) fn push_reason(
     alloc: Global,
     out: &mut String,

@@ -8,7 +8,7 @@ use std::alloc::AllocError;
 use std::fmt;
 use std::fmt::Write;
 
-/// The date of a day in a calendar, as `22 February 1732`.
+/// The date of a day in a calendar, such as `22 February 1732`.
 #[derive(Clone, Copy, Debug, PartialEq, Eq)]
 pub struct DayInCalendar {
     pub calendar: Calendar,
@@ -28,7 +28,7 @@ impl fmt::Display for DayInCalendar {
     }
 }
 
-/// A day by its weekday and as it is dated, as `Friday 11 February 1731/2`.
+/// A day by its weekday and as it is dated, such as `Friday 11 February 1731/2`.
 #[derive(Clone, Copy, Debug, PartialEq, Eq)]
 pub struct NamedDay(pub DatedDay);
 
@@ -45,7 +45,8 @@ impl fmt::Display for NamedDay {
     }
 }
 
-/// A day by its weekday, its date and its number, as `Thursday 14 September 1752 (day 639797)`.
+/// A day by its weekday, its date and its number, such as
+/// `Thursday 14 September 1752 (day 639797)`.
 #[derive(Clone, Copy, Debug, PartialEq, Eq)]
 pub struct NumberedDay(pub DatedDay);
 
@@ -119,7 +120,7 @@ impl fmt::Display for Followed {
 ///
 /// # Errors
 ///
-/// Want of memory, and nothing else.
+/// If memory runs out, and in no other case.
 #[tactic(auto, unfolding(crate::specs::Words::empty_year_line))]
 pub fn push_empty_year(out: &mut String, year: u32) -> Result<(), AllocError>
     ensures { OnOk result (string_bytes out.new

@@ -1,4 +1,4 @@
--- The sources of listed Easters after the two passes over those of two territories.
+-- The sources of listed Easters after two passes, through those of each of two territories.
 use Rattle.std.proofs.Common.{◌≡◌, ℕ, inl, inr, ◌+◌, ◌≤◌, Bool, cond, true, false, ◌&&◌, List}
 use Rattle.std.proofs.Common.{[], ◌∷◌, ◌++◌, None, Some, is_some, refl, sym, ap, ◌∙◌, arith}
 use Rattle.std.proofs.lemmas.Bool.{cases_eq, false≢true, and_parts}
@@ -103,7 +103,7 @@ pub record DaysCited (old new s : SourcesModel) (ys : List (ℕ × ℕ)) (es : L
 abbrev cited_for : ℕ → SourcesModel → SourcesModel → SourcesModel
 cited_for y new s = with_easter_source y (source_of y new.easters) s
 
--- the days that stand have the standing sources, from a year on
+-- the days that stay have the present sources, from a year on
 abbrev Stand : SourcesModel → SourcesModel → TerritoryModel → ℕ → List (ℕ × ℕ) → SourcesModel
     → Type 0
 Stand old new t n ys s = (k d : ℕ) → n ≤ k → look k ys ≡ Some d →

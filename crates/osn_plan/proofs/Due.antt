@@ -1,4 +1,4 @@
--- Changes of one territory towards a wanted one, each of them needed where it stands.
+-- Changes of one territory towards a wanted one, each of them needed in its turn.
 use Rattle.std.proofs.Common.{◌≡◌, true, false, List, [], ◌∷◌, ◌++◌}
 use Rattle.std.proofs.Common.{◌<◌, length, Some, None, is_some, refl}
 use Rattle.osn_lands.specs.Territory.{TerritoryModel}
@@ -15,7 +15,7 @@ abbrev pub after : List Change → TerritoryModel → TerritoryModel
 after [] t = t
 after (e ∷ es) t = after es (territory_after e t)
 
--- the change is needed by a territory, where its sources and the wanted ones are these at first
+-- the change is needed by a territory, if its sources and the wanted ones are these at first
 abbrev pub IsDue : BothSources → TerritoryModel → TerritoryModel → Change → Type 0
 IsDue both w t (Add d r c) =
     (look d t.starts ≡ None) × (look d w.starts ≡ Some r)
@@ -31,7 +31,7 @@ IsDue both w t (DropDay y) =
     (is_some (look y t.exceptions) ≡ true)
     × (look y w.exceptions ≡ look y t.exceptions → same_easter both y ≡ false)
 
--- each is, where it stands
+-- each is, in its turn
 abbrev pub AreDue : BothSources → TerritoryModel → TerritoryModel → List Change → Type 0
 AreDue both w t [] = Unit {0}
 AreDue both w t (e ∷ es) = IsDue both w t e × AreDue both w (territory_after e t) es

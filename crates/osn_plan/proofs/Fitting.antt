@@ -139,7 +139,7 @@ are_fit p room limits (l ∷ wanted) lands low named sound standing none =
       later none,
     )
 
--- what stands as it is wanted says the same as the wanted territory
+-- what is present as it is wanted says the same as the wanted territory
 pub stands_same : (p : Profile) (room limits : Limits) (wanted ls : List LandModel) (code : List ℕ)
     (l : LandModel) → AreSound p room wanted → AreSound p limits ls → land_of code wanted ≡ Some l →
     Stands l (land_of code ls) → AreSameLand (land_of code ls) (Some l)

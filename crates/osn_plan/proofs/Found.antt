@@ -126,11 +126,11 @@ pub easter_source_found : (code : List ℕ) (ls : List LandModel) (l : LandModel
 easter_source_found code ls l y known = ap (λ o. easter_source
     (option_map (λ (k : LandModel). k.sources) o) y) known
 
--- two sources that are one are not told apart
+-- two sources that are one do not differ
 not_apart : (a b : Option (List ℕ)) → a ≡ b → same_source a b ≡ false → ⊥
 not_apart a b e apart = false≢true (sym apart ∙ ap (same_source a) (sym e) ∙ source_itself a)
 
--- a change that is due, and finds the source that stood, is an edit that is needed
+-- a change that is due, and finds the source from before, is an edit that is needed
 is_needed : (wanted ls : List LandModel) (code : List ℕ) (w : LandModel) (old : SourcesModel)
     (l : LandModel) (e : Change) →
     land_of code wanted ≡ Some w → land_of code ls ≡ Some l →

@@ -1,12 +1,12 @@
--- The sources of a territory after changes in turn, and changes that each find the source that
--- stood at first.
+-- The sources of a territory after changes in turn, and changes that each find the source that was
+-- present at first.
 use Rattle.std.proofs.Common.{◌≡◌, List, [], ◌∷◌, ◌++◌, Some, refl}
 use Rattle.osn_register.specs.Sources.{SourcesModel, source_of}
 use Rattle.osn_plan.specs.Change.{Change, sources_after}
 use Rattle.osn_plan.specs.Change.Change.{Add, Alter, Drop, ListDay, DropDay}
 use Rattle.osn_plan.specs.Cited.{BothSources}
 
--- the sources that stand, and the wanted ones
+-- the present sources, and the wanted ones
 abbrev pub sides_of : SourcesModel → SourcesModel → BothSources
 sides_of old new = record { standing = Some old; wanted = Some new }
 
@@ -15,7 +15,7 @@ abbrev pub cited_after : List Change → SourcesModel → SourcesModel
 cited_after [] s = s
 cited_after (e ∷ es) s = cited_after es (sources_after e s)
 
--- the source that the change alters or drops is still the standing one
+-- the source that the change alters or drops is still the one from before
 abbrev pub IsFresh : SourcesModel → SourcesModel → Change → Type 0
 IsFresh old s (Add d r c) = Unit {0}
 IsFresh old s (Alter d r c) = source_of d s.periods ≡ source_of d old.periods
@@ -23,7 +23,7 @@ IsFresh old s (Drop d) = Unit {0}
 IsFresh old s (ListDay y d c) = Unit {0}
 IsFresh old s (DropDay y) = source_of y s.easters ≡ source_of y old.easters
 
--- each is, where it stands
+-- each is, in its turn
 abbrev pub AreFresh : SourcesModel → SourcesModel → List Change → Type 0
 AreFresh old s [] = Unit {0}
 AreFresh old s (e ∷ es) = IsFresh old s e × AreFresh old (sources_after e s) es

@@ -130,7 +130,7 @@ pub ok_by : {X Y : Type 0} {A C : Type 0} (r : Result X Y) → (A → C) → OnO
 ok_by (Ok x) f a = f a
 ok_by (Err y) f a = a
 
--- an error that is handed on is what it was
+-- an error that is passed on stays the same
 pub handed_on : {X E : Type 0} (P : E → Type 0) (r : Result X E) (f : E) → IsErrAnd r (λ y. y ≡ f) →
     P f → IfErr r P
 handed_on {X} {E} P r f is holds =

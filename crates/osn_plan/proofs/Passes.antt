@@ -1,4 +1,4 @@
--- The two passes over the starts of two territories: those that are dropped, and those wanted.
+-- The two passes through the starts of two territories: those that are dropped, and those wanted.
 use Rattle.std.proofs.Common.{◌≡◌, ℕ, inl, inr, ◌+◌, ◌≤◌, Bool, cond, true, false, List}
 use Rattle.std.proofs.Common.{[], ◌∷◌, ◌++◌, Option, Some, None, is_some, refl, sym, ap}
 use Rattle.std.proofs.Common.{◌∙◌, ◌<◌, ◌&&◌, length, arith}
@@ -27,12 +27,12 @@ none_is : {X : Type 0} (o : Option X) → is_some o ≡ false → o ≡ None
 none_is None h = refl
 none_is (Some x) h = absurd (false≢true (sym h))
 
--- where both do not hold and the first does, the second does not
+-- if not both hold and the first does, the second does not
 pub and_second : (a b : Bool) → a ≡ true → (a && b) ≡ false → b ≡ false
 and_second true b holds h = h
 and_second false b holds h = absurd (false≢true holds)
 
--- what is found of a key after the drops among these rows: nothing where a row is dropped
+-- what is found of a key after the drops among these rows: nothing if a row is dropped
 abbrev pub kept : {V : Type 0} → Option V → Bool → Option V → Option V
 kept None stays now = now
 kept (Some v) stays now = cond stays now None

@@ -1,4 +1,4 @@
--- The edits of wanted territories in turn: each of them stands then as it is wanted.
+-- The edits of wanted territories in turn: after its edits each of them is as it is wanted.
 use Rattle.std.proofs.Common.{◌≡◌, ℕ, ◌≤◌, Bool, true, false, cond, List, [], ◌∷◌, ◌++◌, fold}
 use Rattle.std.proofs.Common.{Option, Some, None, option_map, is_some, refl, sym, ap, subst, ◌∙◌}
 use Rattle.std.proofs.Common.{arith}
@@ -63,7 +63,7 @@ record Placed (p : Profile) (limits : Limits) (wanted ls : List LandModel) (l : 
       land_of other (fold effect ls es) ≡ land_of other ls
   stands : Stands l (land_of l.code (fold effect ls es))
 
--- what stands under the code has the wanted name, and ascends
+-- the territory of the code has the wanted name, and ascends
 abbrev pub Fits : Profile → LandModel → Option LandModel → Type 0
 Fits p l None = Unit {0}
 Fits p l (Some standing) =
@@ -87,7 +87,7 @@ opened_allowed p r low style = record {
   listed = tt;
 }
 
--- a further territory is refused by the limit of territories, if it is
+-- another territory is refused by the limit of territories, if it is refused
 land_limited : (p : Profile) (limits : Limits) (ls : List LandModel) (l : LandModel)
     (r : Regime) → is_code l.code ≡ true → is_name l.name ≡ true → land_of l.code ls ≡ None →
     is_style_refused p r ≡ false → (f : Refusal) →

@@ -57,7 +57,7 @@ AreNeeded-front wanted lands [] fs needed = tt
 AreNeeded-front wanted lands (e ∷ es) fs needed =
     (needed.0, AreNeeded-front wanted (effect lands e) es fs needed.1)
 
--- where all stand already no edit is needed
+-- if all are as wanted no edit is needed
 
 known_of : {X Y : Type 0} (f : X → Y) (o : Option X) (y : Y) → option_map f o ≡ Some y →
     is_some o ≡ true

@@ -65,7 +65,8 @@ day_at same (Some d) standing now e = refl
 day_at same None None now e = e
 day_at same None (Some s) now e = e
 
--- between them a wanted day is listed where it stood with its source, and else none is for its year
+-- between them a wanted day is listed if it was listed with its source, and otherwise its year has
+-- no day
 day_between : (same : Bool) (d : ℕ) (standing : Option ℕ) →
     kept_day same standing (Some d) standing ≡ cond (is_day d standing && same) (Some d) None
 day_between same d None = refl

@@ -1,4 +1,4 @@
--- The test of two regimes tells whether they are one.
+-- The test whether two regimes are one.
 use Rattle.std.proofs.Common.{◌≡◌, true, refl, ap, ◌∙◌}
 use Rattle.std.proofs.lemmas.Bool.{and_parts, and_from}
 use denote.Enum.Bare.{sameb, same_true, true_same}

@@ -1,4 +1,4 @@
--- What is found of a number's source, and of each other's, where one is given or taken away.
+-- What is found of a number's source, and of the others', if one is given or taken away.
 use Rattle.std.proofs.Common.{◌≡◌, ℕ, inl, inr, Bool, true, false, cond, not, ◌==◌, List, [], ◌∷◌}
 use Rattle.std.proofs.Common.{◌++◌, find, Option, Some, None, option_map, refl, sym, ap, ◌∙◌}
 use Rattle.std.proofs.lemmas.Bool.{eq-eqb, ne_eqb, cases_eq, false≢true}
@@ -67,7 +67,7 @@ source_apart k n (Some given) ss apart =
     let p : ℕ × List ℕ = (n, given) in
     ap text (pushed_apart k p (without_source n ss) apart ∙ left_apart k n ss apart)
 
--- the test of two sources tells whether they are one
+-- the test whether two sources are one
 
 pub same_is : (a b : Option (List ℕ)) → same_source a b ≡ true → a ≡ b
 same_is None None same = refl

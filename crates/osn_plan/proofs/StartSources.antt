@@ -1,4 +1,4 @@
--- The sources of periods after the two passes over the starts of two territories.
+-- The sources of periods after two passes, through the starts of each of two territories.
 use Rattle.std.proofs.Common.{◌≡◌, ℕ, inl, inr, ◌+◌, ◌≤◌, Bool, cond, true, false, List}
 use Rattle.std.proofs.Common.{[], ◌∷◌, ◌++◌, None, Some, is_some, refl, sym, ap, ◌∙◌, arith}
 use Rattle.std.proofs.lemmas.Bool.{cases_eq, false≢true, and_parts}
@@ -87,7 +87,7 @@ starts_cited old new s t n (x ∷ ss) from same =
     now : source_of x.0 s.periods ≡ source_of x.0 old.periods
     now = same x.0 from.0 (ap is_some (look_here x.0 x ss refl))
 
-    -- those that follow have the standing source as before
+    -- those that follow have their source from before
     still : (k : ℕ) → x.0 + 1 ≤ k → is_some (look k ss) ≡ true →
         source_of k s.periods ≡ source_of k old.periods
     still k high some = same k (omega (arith, from.0, high)) (ap is_some (later k high) ∙ some)

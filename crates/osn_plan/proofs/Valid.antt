@@ -1,4 +1,4 @@
--- Changes that a register refuses by its limits alone, where they are due.
+-- Changes that a register refuses by its limits alone, if they are due.
 use Rattle.std.proofs.Common.{◌≡◌, ℕ, ◌≤◌, Bool, true, false, cond, not, ◌==◌, List, [], ◌∷◌, ◌++◌}
 use Rattle.std.proofs.Common.{map, Option, Some, None, is_some, is_none, option_map, refl, sym, ap}
 use Rattle.std.proofs.Common.{subst, ◌∙◌, arith, pos, nat_lt, nat_le, length}

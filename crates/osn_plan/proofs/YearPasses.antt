@@ -1,4 +1,4 @@
--- The two passes over the listed Easters of two territories: those that are dropped, and those
+-- The two passes through the listed Easters of two territories: those that are dropped, and those
 -- wanted.
 use Rattle.std.proofs.Common.{◌≡◌, ℕ, inl, inr, ◌+◌, ◌≤◌, Bool, cond, true, false, List}
 use Rattle.std.proofs.Common.{[], ◌∷◌, ◌++◌, Option, Some, None, is_some, refl, sym, ap}
@@ -24,7 +24,7 @@ use Rattle.osn_plan.proofs.Passes.{and_second}
 
 -- the drops of listed days
 
--- what is found of a year after the drops among these rows, where its sources are one or not
+-- what is found of a year after the drops among these rows, whether its sources are one or not
 abbrev pub kept_day : Bool → Option ℕ → Option ℕ → Option ℕ → Option ℕ
 kept_day same None wanted now = now
 kept_day same (Some d) wanted now = cond (is_day d wanted && same) now None

@@ -49,7 +49,7 @@ sources_after (Drop day) s = with_period_source day None s
 sources_after (ListDay year day source) s = with_easter_source year source s
 sources_after (DropDay year) s = with_easter_source year None s
 
--- why a change is refused by what the territory holds
+-- why a change is refused by what the territory contains
 abbrev pub change_refusal : Profile → Limits → Change → TerritoryModel → Option Refusal
 change_refusal p limits (Add day regime source) t = add_change_refusal p limits (pos day) regime t
 change_refusal p limits (Alter day regime source) t = alter_change_refusal p (pos day) regime t

@@ -1,4 +1,4 @@
--- The sources of a territory in two registers: those that stand, and the wanted ones.
+-- The sources of a territory in two registers: the present ones, and the wanted ones.
 use Rattle.std.specs.Prelude.{ℕ, Bool, true, false, List, Option, Some, None}
 use Rattle.std.specs.Str.{bytes_eq}
 use Rattle.osn_register.specs.Answer.{period_source, easter_source}

@@ -24,7 +24,7 @@ is_same a b =
     sameb calendar.the_type a.calendar b.calendar
     && (sameb style.the_type a.style b.style && sameb rule.the_type a.rule b.rule)
 
--- a start is dropped on a day on which none is wanted
+-- a start is dropped on a day without a wanted start
 abbrev pub dropped_change : TerritoryModel → ℕ → List Change
 dropped_change wanted d = if starts_on wanted d then [] else Drop d ∷ []
 
@@ -32,17 +32,17 @@ dropped_change wanted d = if starts_on wanted d then [] else Drop d ∷ []
 abbrev pub added_change : Option SourcesModel → ℕ × Regime → List Change
 added_change cited s = Add s.0 s.1 (period_source cited s.0) ∷ []
 
--- the regime and the source that stand are those of a wanted start
+-- the present regime and source are those of a wanted start
 abbrev pub start_agrees : BothSources → Regime → ℕ × Regime → Bool
 start_agrees both standing s = is_same standing s.1 && same_period both s.0
 
--- a regime that stands is altered to another one, or to the same one with another source
+-- a present regime is altered to another one, or to the same one with another source
 abbrev pub altered_change : BothSources → Regime → ℕ × Regime → List Change
 altered_change both standing s =
     if start_agrees both standing s then []
     else Alter s.0 s.1 (period_source both.wanted s.0) ∷ []
 
--- a wanted start is added on a day on which none stands, and altered on one with another regime or
+-- a wanted start is added on a day without a start, and altered on one with another regime or
 -- another source
 abbrev pub wanted_change : BothSources → TerritoryModel → ℕ × Regime → List Change
 wanted_change both standing s =
@@ -57,7 +57,7 @@ is_day d (Some other) = other == d
 abbrev pub lists : TerritoryModel → ℕ × ℕ → Bool
 lists t e = is_day e.1 (exception_of t e.0)
 
--- the day is listed for the year, and the sources of that are one
+-- the day is listed for the year, with the wanted source
 abbrev pub day_agrees : BothSources → TerritoryModel → ℕ × ℕ → Bool
 day_agrees both t e = lists t e && same_easter both e.0
 

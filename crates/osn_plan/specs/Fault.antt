@@ -30,14 +30,14 @@ IsNameFault lands code name (Renamed other standing wanted) =
 IsNameFault lands code name (Refused other reason) = ⊥
 IsNameFault lands code name NoMemory = Unit {0}
 
--- the first of them is wanted under this name, and stands under another one
+-- the first of them is wanted under this name, and present under another one
 pub record IsRenamed (wanted lands : List LandModel) (code standing name : List ℕ) : Type 0 where
   pub has_code : option_map (λ l. l.code) (first_renamed wanted lands) ≡ Some code
   pub has_name : option_map (λ l. l.name) (first_renamed wanted lands) ≡ Some name
   pub stands : name_in lands code ≡ Some standing
 
--- what a limit lets in is fewer than the changes or the exceptions of the wanted territory, or it
--- is that of territories
+-- a limit allows fewer than the changes or the exceptions of the wanted territory, or it is that of
+-- territories
 abbrev pub IsOver : Limits → Option LandModel → Reason → Type 0
 IsOver limits (Some l) TooManyChanges = limits.changes + 1 < length l.territory.starts
 IsOver limits (Some l) TooManyExceptions = limits.exceptions < length l.territory.exceptions

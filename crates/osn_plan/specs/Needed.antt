@@ -1,4 +1,4 @@
--- Which edits a register needs, to have the territories of another one as that one has them.
+-- Which edits a register needs, to have the same territories as another one.
 use Rattle.std.specs.Prelude.{ℕ, ◌≡◌, ◌==◌, true, List, [], ◌∷◌, unsigned_abs, Option, Some, None}
 use Rattle.std.specs.Prelude.{is_some, option_map}
 use Rattle.std.specs.Option.{option_and_then}
@@ -38,9 +38,9 @@ abbrev pub easter_cited : List LandModel → List ℕ → ℕ → Option (List �
 easter_cited lands code y = easter_source (sources_of code lands) y
 
 -- The edit changes what differs. It adds a territory or a change that only the wanted register has.
--- It alters a regime that starts in both, where the wanted one is another, or its source. It drops
--- a change that only the first register has, of a territory that is wanted. It lists a wanted day
--- where none is listed, and drops one that is not the wanted day of its year, or has another
+-- It alters a regime that starts in both, if the wanted one or its source is another. It drops a
+-- change that only the first register has, of a territory that is wanted. It lists a wanted day for
+-- a year without one, and drops a day that is not the wanted day of its year, or has another
 -- source. What it adds, alters or lists has the wanted source.
 abbrev pub IsNeeded : List LandModel → List LandModel → Edit → Type 0
 IsNeeded wanted lands (AddLand code name regime source) =
@@ -71,7 +71,7 @@ IsNeeded wanted lands (DropException code year) =
     → easter_cited wanted code (unsigned_abs year) ≡ easter_cited lands code (unsigned_abs year)
     → ⊥)
 
--- each edit is needed where it stands, from these territories on
+-- each edit is needed in its turn, from these territories on
 abbrev pub AreNeeded : List LandModel → List LandModel → List Edit → Type 0
 AreNeeded wanted lands [] = Unit {0}
 AreNeeded wanted lands (e ∷ es) = IsNeeded wanted lands e × AreNeeded wanted (effect lands e) es

@@ -1,4 +1,4 @@
--- What a plan is: the edits that take a register to what another one wants.
+-- What a plan is: the edits that make a register's territories those of a wanted one.
 use Rattle.std.specs.Prelude.{ℕ, ◌≡◌, true, List, [], None, is_some}
 use Rattle.osn_days.specs.Profile.{newest_rules}
 use Rattle.osn_register.specs.declared.limits.Limits.{Limits}
@@ -8,7 +8,7 @@ use Rattle.osn_register.specs.Plain.{LandModel, land_of, applied_all}
 use Rattle.osn_register.specs.SameLand.{AreSameLand}
 use Rattle.osn_plan.specs.Needed.{AreNeeded}
 
--- every wanted territory stands as it is wanted: its name, itself, and the source of each of its
+-- every wanted territory is as it is wanted: its name, itself, and the source of each of its
 -- periods and of each of its listed Easters
 abbrev pub StandAsWanted : List LandModel → List LandModel → Type 0
 StandAsWanted wanted lands = (code : List ℕ) → is_some (land_of code wanted) ≡ true →
@@ -16,7 +16,7 @@ StandAsWanted wanted lands = (code : List ℕ) → is_some (land_of code wanted)
 
 -- The edits take these territories to the wanted ones, under these limits. Each is lawful in its
 -- turn, and needed then. After them each wanted territory is as it is wanted, and every other one
--- as before. Where all stand already there are none.
+-- as before. If all are as wanted already, there are no edits.
 pub record IsPlan (limits : Limits) (wanted lands : List LandModel) (edits : List Edit) : Type 0
   where
     pub lawful : AreLawful newest_rules limits lands edits

@@ -30,7 +30,7 @@ fn push_drop(
     Ok(())
 }
 
-/// Appends the drops of the changes on whose days none is wanted.
+/// Appends the drops of the changes on days without a wanted one.
 pub(crate) fn push_drops(
     sides: Sides<'_>,
     standing: &[Period],
@@ -78,7 +78,7 @@ pub(crate) fn push_additions(
     Ok(())
 }
 
-/// Whether the regime that stands is that of a wanted period, and its source too.
+/// Returns whether the present regime and its source are those of a wanted period.
 fn agrees(sides: Sides<'_>, standing: Regime, wanted: &Period) -> bool
     ensures { result ≡ spec.start_agrees (sources_at sides.entry) standing
         (wanted.now.first, wanted.now.regime) }

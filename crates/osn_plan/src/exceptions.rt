@@ -10,14 +10,14 @@ use osn_lands::Territory;
 use osn_register::Edit;
 use std::alloc::AllocError;
 
-/// Whether the territory lists the day as the Easter of the year.
+/// Returns whether the territory lists the day as the Easter of the year.
 fn lists(territory: &Territory, year: Year, day: Day) -> bool
     ensures { result ≡ spec.lists territory.now (year, day) }
 {
     territory.exception(year) == Some(day)
 }
 
-/// Whether the territory lists the day as the Easter of the year, and the sources of that are one.
+/// Returns whether the territory lists the day as the Easter of the year, with the wanted source.
 fn agrees(sides: Sides<'_>, territory: &Territory, year: Year, day: Day) -> bool
     ensures { result ≡ spec.day_agrees (sources_at sides.entry) territory.now (year, day) }
 {

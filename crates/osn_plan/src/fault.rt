@@ -7,7 +7,7 @@ use std::alloc::AllocError;
 /// Why there is no plan.
 #[derive(Debug, Drop)]
 pub enum PlanFault {
-    /// The code stands under another name than the wanted one, and a name can't be changed.
+    /// The code has another name than the wanted one, and a name can't be changed.
     Renamed {
         code: Text,
         name: Text,

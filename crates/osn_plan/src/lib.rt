@@ -1,6 +1,6 @@
-//! The edits that take one register to what another one wants. What the crate promises to those
-//! above: each edit is lawful in its turn and changes what differs, and after them each wanted
-//! territory is as it is wanted, with its sources, every other one as before.
+//! Plans the edits that take one register to a wanted one. The crate guarantees that each edit is
+//! lawful in its turn and changes what differs. After them each wanted territory is as it is
+//! wanted, with its sources, and every other one as before.
 #![tactic(auto)]
 
 mod changes;

@@ -1,4 +1,4 @@
-//! Whether each wanted territory has the name under which its code stands.
+//! Checks that each wanted territory has the name that its code has already.
 ghost use Rattle.std.specs.Prelude.{◌≡◌, false, None, IfOk, OnOk, IfErr};
 ghost use Rattle.osn_plan.specs.declared.fault.PlanFault.TheVariants.{Renamed};
 ghost use Rattle.osn_plan.specs.Fault.{has_other_name, first_renamed, IsNameFault, IsFault};
@@ -8,7 +8,7 @@ use crate::fault::PlanFault;
 use osn_register::{Register, Text};
 use std::alloc::{AllocError, Global};
 
-/// The fault of a code that stands under another name.
+/// Returns the fault of a code that has another name.
 fn renamed(alloc: Global, code: &str, name: &str, wanted: &str) -> Result<PlanFault, AllocError>
     ensures { IfOk result (λ fault. fault ≡ Renamed code.now name.now wanted.now) }
 {
@@ -19,7 +19,7 @@ fn renamed(alloc: Global, code: &str, name: &str, wanted: &str) -> Result<PlanFa
     })
 }
 
-/// Whether the code stands under this name, where it stands.
+/// Checks that the code has this name, if it is present.
 fn check_name(alloc: Global, register: &Register, code: &str, name: &str) -> Result<(), PlanFault>
     ensures ok { OnOk result
         (has_other_name name.now (name_in register.now.lands code.now) ≡ false) }
@@ -31,7 +31,7 @@ fn check_name(alloc: Global, register: &Register, code: &str, name: &str) -> Res
     }
 }
 
-/// Whether every code of the wanted register that stands has the wanted name.
+/// Checks that every code of the wanted register that is present has the wanted name.
 pub(crate) fn check_names(
     alloc: Global,
     register: &Register,

@@ -1,4 +1,4 @@
-//! The edits that take one register to what another one wants.
+//! The edits that take one register to a wanted one.
 ghost use Rattle.std.specs.Prelude.{◌≡◌, IfOk, IfErr};
 ghost use Rattle.osn_plan.specs.Differences.{all_edits};
 ghost use Rattle.osn_plan.specs.Fault.{IsFault};
@@ -12,7 +12,7 @@ use crate::trial::try_edits;
 use osn_register::{Edit, Register};
 use std::alloc::{AllocError, Global};
 
-/// The edits that each wanted territory needs, in the order of these.
+/// Returns the edits that each wanted territory needs, in the order of these.
 fn all_edits(alloc: Global, register: &Register, wanted: &Register) -> Result<Vec<Edit>, AllocError>
     ensures { IfOk result (λ es. es.items ≡ all_edits wanted.now.lands register.now.lands) }
 {
@@ -33,22 +33,22 @@ fn all_edits(alloc: Global, register: &Register, wanted: &Register) -> Result<Ve
     Ok(edits)
 }
 
-/// The edits that take a register to what another one wants, in their order: its territories, and
-/// the sources of their periods and listed Easters. A territory that the wanted register lacks
-/// stays as it is. The limits are those of the first register.
+/// Returns the edits that take a register to a wanted one, in their order: its territories, and the
+/// sources of their periods and listed Easters. A territory that the wanted register lacks stays as
+/// it is. The limits are those of the first register.
 ///
 /// # Errors
 ///
-/// `Renamed` for the first wanted territory whose code stands under another name, then `Refused`
-/// where the register refuses an edit that is needed, as one territory more than its limit. At any
-/// time `NoMemory`.
+/// Returns `Renamed` for the first wanted territory whose code has another name, then `Refused` if
+/// the register refuses an edit that is needed, such as one territory more than its limit. Returns
+/// `NoMemory` if memory runs out.
 pub fn plan(alloc: Global, register: &Register, wanted: &Register) -> Result<Vec<Edit>, PlanFault>
     ensures ok { IfOk result (λ edits. IsPlan register.now.limits wanted.now.lands
         register.now.lands edits.items) }
     ensures err { IfErr result
         (IsFault register.now.limits wanted.now.lands register.now.lands) }
 {
-    // What both hold is sound, as of every register.
+    // What both contain is sound, as of every register.
     let _limits = (register.limits(), wanted.limits());
     check_names(alloc, register, wanted)?;
     let edits = all_edits(alloc, register, wanted)?;

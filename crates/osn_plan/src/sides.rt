@@ -1,4 +1,4 @@
-//! A territory in the register that stands and in the wanted one, and its sources in both.
+//! A territory in the present register and in the wanted one, and its sources in both.
 ghost use Rattle.std.specs.Prelude.{◌≡◌, IfOk, option_map};
 ghost use Rattle.osn_plan.specs.Cited.{same_source};
 
@@ -6,7 +6,7 @@ use osn_days::{Day, Year};
 use osn_register::{Register, Source, Text};
 use std::alloc::{AllocError, Global};
 
-/// The code of a territory, with the register that stands and the wanted one.
+/// The code of a territory, with the present register and the wanted one.
 #[derive(Clone, Copy)]
 pub(crate) struct Sides<'a> {
     pub(crate) alloc: Global,
@@ -15,7 +15,7 @@ pub(crate) struct Sides<'a> {
     pub(crate) wanted: &'a Register,
 }
 
-/// Whether two sources are one, or neither is given.
+/// Returns whether two sources are equal, or neither is given.
 fn are_same(one: Option<&Source>, other: Option<&Source>) -> bool
     ensures { result ≡ same_source (option_map (λ s. s.now) one.entry)
         (option_map (λ s. s.now) other.entry) }
@@ -27,7 +27,7 @@ fn are_same(one: Option<&Source>, other: Option<&Source>) -> bool
     }
 }
 
-/// A source equal to this one, where one is given.
+/// Returns a source equal to this one, if one is given.
 fn copy_of(source: Option<&Source>) -> Result<Option<Source>, AllocError>
     ensures { IfOk result (λ s. s ≡ option_map (λ s. s.now) source.entry) }
 {
@@ -42,28 +42,28 @@ impl Sides<'_> {
     ghost use Rattle.osn_plan.specs.Cited.{same_period, same_easter};
     ghost use Rattle.osn_plan.specs.Inside.{sources_at};
 
-    /// The code, to be kept.
+    /// Returns a copy of the code.
     pub(crate) fn code_text(self) -> Result<Text, AllocError>
         ensures { IfOk result (λ text. text ≡ self.entry.code.now) }
     {
         Text::from_str(self.alloc, self.code)
     }
 
-    /// The wanted source of the period that starts on a day.
+    /// Returns the wanted source of the period that starts on a day.
     pub(crate) fn period_source(self, day: Day) -> Result<Option<Source>, AllocError>
         ensures { IfOk result (λ s. s ≡ spec.period_source (sources_at self.entry).wanted day) }
     {
         copy_of(self.wanted.period_source(self.code, day))
     }
 
-    /// The wanted source of the Easter that is listed for a year.
+    /// Returns the wanted source of the Easter that is listed for a year.
     pub(crate) fn easter_source(self, year: Year) -> Result<Option<Source>, AllocError>
         ensures { IfOk result (λ s. s ≡ spec.easter_source (sources_at self.entry).wanted year) }
     {
         copy_of(self.wanted.easter_source(self.code, year))
     }
 
-    /// Whether the period that starts on a day has the wanted source.
+    /// Returns whether the period that starts on a day has the wanted source.
     pub(crate) fn has_period_source(self, day: Day) -> bool
         ensures { result ≡ same_period (sources_at self.entry) day }
     {
@@ -73,7 +73,7 @@ impl Sides<'_> {
         )
     }
 
-    /// Whether the Easter that is listed for a year has the wanted source.
+    /// Returns whether the Easter that is listed for a year has the wanted source.
     pub(crate) fn has_easter_source(self, year: Year) -> bool
         ensures { result ≡ same_easter (sources_at self.entry) year }
     {

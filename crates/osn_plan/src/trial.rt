@@ -8,7 +8,7 @@ ghost use Rattle.osn_plan.specs.Fault as spec;
 use crate::fault::PlanFault;
 use osn_register::{Edit, Register};
 
-/// Whether the register takes the edit now.
+/// Checks that the register takes the edit now.
 fn check_edit(register: &Register, edit: &Edit) -> Result<(), PlanFault>
     ensures ok { OnOk result
         (refusal newest_rules register.now.limits register.now.lands edit.now ≡ None) }
@@ -23,7 +23,7 @@ fn check_edit(register: &Register, edit: &Edit) -> Result<(), PlanFault>
     }
 }
 
-/// Whether the register takes the edits, each after those before it.
+/// Checks that the register takes the edits, each after those before it.
 pub(crate) fn try_edits(register: &Register, edits: &[Edit]) -> Result<(), PlanFault>
     ensures lawful { OnOk result
         (AreLawful newest_rules register.now.limits register.now.lands edits.now) }

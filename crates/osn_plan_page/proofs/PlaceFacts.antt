@@ -50,7 +50,7 @@ pub next_written : (wanted lands : List LandModel) (place : ℕ) (code name : Li
 next_written wanted lands place code name t all old new =
     next_written_of wanted lands place (slice_get lands place) code name t all old new refl
 
--- none is left where none is at the place
+-- no territory is left if there is none at the place
 none_left : (lands : List LandModel) (place : ℕ) → slice_get lands place ≡ None
     → drop place lands ≡ []
 none_left [] place none = drop_all place [] (omega arith)

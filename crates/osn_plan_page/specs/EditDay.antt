@@ -34,7 +34,7 @@ abbrev pub opening_regime : Option TerritoryModel → Option Regime
 opening_regime None = None
 opening_regime (Some t) = Some (regime_at t 1)
 
--- the day of an edit: Thursday 14 September 1752 (day 639797), or day 4000000 where it is not known
+-- the day of an edit: Thursday 14 September 1752 (day 639797), or day 4000000 if it is not known
 abbrev pub day_words : Option DatedDay → ℤ → List ℕ
 day_words (Some dated) number = numbered_day dated
 day_words None number = codes "day " ++ signed_decimal number

@@ -1,6 +1,5 @@
--- The line of an edit, between the territories that there are and those that are wanted. What is
--- dropped stands as the former have it, and what comes as the latter have it. This project's
--- profile.
+-- The line of an edit, between the present territories and the wanted ones. What is dropped is
+-- printed from the former, and what is added from the latter. This project's profile.
 use Rattle.std.specs.Prelude.{ℕ, if◌then◌else◌, ℤ, pos, List, [], ◌++◌, None, codes}
 use Rattle.std.specs.Ordering.{int_eq}
 use Rattle.osn_days.specs.Profile.{Profile}
@@ -27,12 +26,12 @@ day_in p lands code day = day_words (dated_in p (territory_of code lands) day) d
 abbrev pub new_land : List ℕ → List ℕ → Regime → List ℕ
 new_land code name regime = land_words code name (regime_words None regime)
 
--- a regime from a day on, by what is other than on the day before
+-- a regime from a day on, by what differs from the day before
 abbrev pub new_change : Profile → List LandModel → List ℕ → ℤ → Regime → List ℕ
 new_change p wanted code day regime = change_words code (day_in p wanted code day)
     (regime_words (regime_before p (territory_of code wanted) day) regime)
 
--- another opening regime, by what is other than in the present one
+-- another opening regime, by what differs from the present one
 abbrev pub new_opening : List LandModel → List ℕ → Regime → List ℕ
 new_opening lands code regime =
     opening_words code (regime_words (opening_regime (territory_of code lands)) regime)

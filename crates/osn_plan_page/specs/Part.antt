@@ -28,12 +28,12 @@ is_part_of regime (Calendar calendar) =
 is_part_of regime (Beginning style) = bytes_eq (style_word style) (style_word regime.style)
 is_part_of regime (Easter rule) = bytes_eq (rule_word rule) (rule_word regime.rule)
 
--- the part is other than before. Where no regime was before, each one is
+-- the part differs from the regime before, or there was no regime before
 abbrev pub is_other : Option Regime → Part → Bool
 is_other None part = true
 is_other (Some before) part = not (is_part_of before part)
 
--- a part of a regime is other than before, if there was one
+-- a part of a regime differs from before, or there was no regime before
 abbrev pub is_other_regime : Option Regime → Regime → Bool
 is_other_regime before regime =
     is_other before (Calendar regime.calendar)
@@ -50,6 +50,6 @@ abbrev pub part_list : List Part → List ℕ
 part_list [] = codes "no other regime"
 part_list (first ∷ further) = part_words first ++ flat_map further_part further
 
--- what is other than before, in words
+-- what differs from before, in words
 abbrev pub regime_words : Option Regime → Regime → List ℕ
 regime_words before regime = part_list (other_parts before regime)

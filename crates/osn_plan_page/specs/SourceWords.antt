@@ -12,7 +12,7 @@ abbrev pub source_on : Profile → List LandModel → List ℕ → ℤ → Optio
 source_on p lands code number =
     option_and_then (period_source (sources_of code lands)) (day_numbered p number)
 
--- the source that there is of what an edit alters
+-- the present source of what an edit alters
 abbrev pub source_before : Profile → List LandModel → Edit → Option (List ℕ)
 source_before p lands (AlterChange code day regime source) = source_on p lands code day
 source_before p lands edit = None
@@ -21,7 +21,7 @@ source_before p lands edit = None
 unfoldable pub source_part : List ℕ → List ℕ
 source_part source = codes "; source: " ++ source
 
--- the source that is given. Where there was one and none is given, that there is none any more
+-- the source that is given, or that there is no source any more
 abbrev pub source_words : Option (List ℕ) → Option (List ℕ) → List ℕ
 source_words (Some source) before = source_part source
 source_words None (Some source) = codes "; no source any more"

@@ -10,7 +10,7 @@ use osn_pages::NumberedDay;
 use osn_register::Register;
 use std::fmt;
 
-/// The territory of a code, where some territory has it.
+/// Returns the territory of a code, if a territory has it.
 pub(crate) fn territory_of<'a>(register: &'a Register, code: &str) -> Option<&'a Territory>
     ensures { option_map (λ t. t.now) result ≡ territory_of code.now register.now.lands }
 {
@@ -20,21 +20,21 @@ pub(crate) fn territory_of<'a>(register: &'a Register, code: &str) -> Option<&'a
     }
 }
 
-/// The day of a number, where it is on the line.
+/// Returns the day of a number, if it is on the line.
 pub(crate) fn day_numbered(number: i64) -> Option<Day>
     ensures { result ≡ spec.day_numbered newest_rules number }
 {
     Day::new(number)
 }
 
-/// The day before a day, which the first day has not.
+/// Returns the day before a day, if it isn't the first day.
 pub(crate) fn day_before(day: Day) -> Option<Day>
     ensures { result ≡ spec.day_before day }
 {
     day.plus(-1)
 }
 
-/// The day of a number as a territory dates it, where both are known.
+/// Returns the day of a number as a territory dates it, if both are known.
 pub(crate) fn dated_in(territory: Option<&Territory>, number: i64) -> Option<DatedDay>
     ensures { result
         ≡ spec.dated_in newest_rules (option_map (λ t. t.now) territory.entry) number }
@@ -45,7 +45,7 @@ pub(crate) fn dated_in(territory: Option<&Territory>, number: i64) -> Option<Dat
     }
 }
 
-/// The regime of a territory on the day before that of a number, where both are known.
+/// Returns the regime of a territory on the day before that of a number, if both are known.
 pub(crate) fn regime_before(territory: Option<&Territory>, number: i64) -> Option<Regime>
     ensures { result
         ≡ spec.regime_before newest_rules (option_map (λ t. t.now) territory.entry) number }
@@ -56,7 +56,7 @@ pub(crate) fn regime_before(territory: Option<&Territory>, number: i64) -> Optio
     }
 }
 
-/// The regime of a territory on the first day, where it is known.
+/// Returns the regime of a territory on the first day, if the territory is known.
 pub(crate) fn opening_regime(territory: Option<&Territory>) -> Option<Regime>
     ensures { result ≡ spec.opening_regime (option_map (λ t. t.now) territory.entry) }
 {
@@ -66,7 +66,7 @@ pub(crate) fn opening_regime(territory: Option<&Territory>) -> Option<Regime>
     }
 }
 
-/// The day of an edit: as it is dated, and else by its number alone.
+/// The day of an edit: as it is dated, or otherwise its number alone.
 #[derive(Clone, Copy)]
 pub(crate) struct EditDay {
     pub(crate) dated: Option<DatedDay>,

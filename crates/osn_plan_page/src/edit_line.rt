@@ -14,7 +14,7 @@ use osn_lands::Regime;
 use osn_register::{Edit, Register};
 use std::alloc::{AllocError, Global};
 
-/// The day of a number, as the territory of a code dates it.
+/// Returns the day of a number, as the territory of a code dates it.
 fn day_in(register: &Register, code: &str, number: i64) -> EditDay
     ensures { day_words result.dated result.number
         ≡ spec.day_in newest_rules register.now.lands code.now number }

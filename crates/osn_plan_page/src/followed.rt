@@ -48,7 +48,7 @@ fn push_line(
     out.push_str("\n")
 }
 
-/// Appends that line of the day of a number, where the territory and both days are known.
+/// Appends that line for the day of a number, if the territory and both days are known.
 pub(crate) fn push_followed(
     out: &mut String,
     code: &str,

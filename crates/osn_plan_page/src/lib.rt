@@ -1,6 +1,5 @@
 //! What the command `plan` prints: each edit in words and dates, a line each, and the territories
-//! that stay as they are. What the crate promises to those above is that `plan_page` is its
-//! definition, line by line.
+//! that stay as they are. The crate guarantees that `plan_page` is its definition, line by line.
 #![tactic(auto)]
 
 mod edit_day;

@@ -7,7 +7,7 @@ use crate::edit_day::EditDay;
 use std::alloc::AllocError;
 use std::fmt::Write;
 
-/// Appends that a territory is added, of which these words tell the opening regime.
+/// Appends that a territory is added, with the words of its opening regime.
 #[tactic(auto, unfolding(crate::specs::Line::land_words))]
 pub(crate) fn push_land(
     out: &mut String,
@@ -21,7 +21,7 @@ pub(crate) fn push_land(
     write!(out, "{code}: new territory {name}: {regime}")
 }
 
-/// Appends that a regime holds from a day on, of which these words tell what is other than before.
+/// Appends that a regime holds from a day on, with the words of what differs from before.
 #[tactic(auto, unfolding(crate::specs::Line::change_words))]
 pub(crate) fn push_change(
     out: &mut String,

@@ -27,7 +27,7 @@ fn push_edits(
     Ok(())
 }
 
-/// Appends the line of a territory that a wanted register has not.
+/// Appends the line of a territory that a wanted register lacks.
 #[tactic(auto, unfolding(crate::specs::PlanPage::absent_line))]
 fn push_absent_line(out: &mut String, wanted: &Register, code: &str) -> Result<(), AllocError>
     ensures { OnOk result (string_bytes out.new
@@ -39,7 +39,7 @@ fn push_absent_line(out: &mut String, wanted: &Register, code: &str) -> Result<(
     writeln!(out, "{code}: not in the text, stays as it is")
 }
 
-/// Appends the lines of the territories that a wanted register has not.
+/// Appends the lines of the territories that a wanted register lacks.
 fn push_absent_lines(
     out: &mut String,
     register: &Register,
@@ -57,13 +57,13 @@ fn push_absent_lines(
     Ok(())
 }
 
-/// The text that tells of edits which change a register towards a wanted one. Each edit is a line,
-/// in their order; then there is one for each territory that the wanted register has not. Where
-/// there are neither, the text is empty.
+/// Returns the text of edits that change a register towards a wanted one. Each edit is a line, in
+/// their order; then there is one for each territory that the wanted register lacks. If there are
+/// neither, the text is empty.
 ///
 /// # Errors
 ///
-/// Want of memory, and nothing else.
+/// Returns `AllocError` if memory runs out.
 pub fn plan_page(
     alloc: Global,
     register: &Register,

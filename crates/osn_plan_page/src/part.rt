@@ -1,4 +1,4 @@
-//! How a territory reckons, in words: the parts of a regime, and those that are other than before.
+//! How a territory reckons, in words: the parts of a regime, and those that differ from before.
 ghost use Rattle.std.specs.Prelude.{◌≡◌, ◌++◌, IfOk, OnOk, string_bytes};
 ghost use Rattle.std.specs.List.{flat_map};
 ghost use Rattle.osn_plan_page.specs.Part as spec;
@@ -13,11 +13,11 @@ use std::fmt::Write;
 /// A part of a regime.
 #[derive(Clone, Copy)]
 pub(crate) enum Part {
-    /// The calendar, as `julian calendar`.
+    /// The calendar, such as `julian calendar`.
     Calendar(Calendar),
-    /// Where the years begin, as `years from 25 March`.
+    /// The beginning of the years, such as `years from 25 March`.
     Beginning(Style),
-    /// The rule of Easter, as `julian rule`.
+    /// The rule of Easter, such as `julian rule`.
     Easter(Rule),
 }
 
@@ -37,7 +37,7 @@ impl fmt::Display for Part {
     }
 }
 
-/// Whether a regime has the part too.
+/// Returns whether a regime has the part too.
 fn is_part_of(regime: Regime, part: Part) -> bool
     ensures { result ≡ spec.is_part_of regime part }
 {
@@ -48,7 +48,7 @@ fn is_part_of(regime: Regime, part: Part) -> bool
     }
 }
 
-/// Whether the part is other than before, if there was a regime before.
+/// Returns whether the part differs from the regime before, or there was no regime before.
 fn is_other(before: Option<Regime>, part: Part) -> bool
     ensures { result ≡ spec.is_other before part }
 {
@@ -58,7 +58,7 @@ fn is_other(before: Option<Regime>, part: Part) -> bool
     }
 }
 
-/// Whether a part of a regime is other than before.
+/// Returns whether a part of a regime differs from before.
 pub(crate) fn is_other_regime(before: Option<Regime>, regime: Regime) -> bool
     ensures { result ≡ spec.is_other_regime before regime }
 {
@@ -67,7 +67,7 @@ pub(crate) fn is_other_regime(before: Option<Regime>, regime: Regime) -> bool
         || is_other(before, Part::Easter(regime.rule))
 }
 
-/// The parts of a regime that are other than before.
+/// Returns the parts of a regime that differ from before.
 fn other_parts(
     alloc: Global,
     before: Option<Regime>,
@@ -87,7 +87,7 @@ fn other_parts(
         .collect(alloc)
 }
 
-/// Appends a further part, after a comma.
+/// Appends another part, after a comma.
 #[tactic(auto, unfolding(crate::specs::Part::further_part))]
 fn push_further_part(out: &mut String, part: Part) -> Result<(), AllocError>
     ensures { OnOk result (string_bytes out.new
@@ -96,7 +96,7 @@ fn push_further_part(out: &mut String, part: Part) -> Result<(), AllocError>
     write!(out, ", {part}")
 }
 
-/// Appends further parts.
+/// Appends more parts, each after a comma.
 fn push_further_parts(out: &mut String, parts: &[Part]) -> Result<(), AllocError>
     ensures { OnOk result (string_bytes out.new
         ≡ string_bytes out.old ++ flat_map spec.further_part parts.now) }
@@ -121,7 +121,7 @@ fn push_list(out: &mut String, parts: &[Part]) -> Result<(), AllocError>
     }
 }
 
-/// What is other than before, in words.
+/// Returns the words of what differs from before.
 pub(crate) fn regime_words(
     alloc: Global,
     before: Option<Regime>,

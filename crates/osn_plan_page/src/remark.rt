@@ -47,7 +47,7 @@ fn push_weekday(out: &mut String, code: &str, day: Day) -> Result<(), AllocError
     )
 }
 
-/// Whether a calendar dates the day from 21 March to 26 April of the year.
+/// Returns whether a calendar dates the day from 21 March to 26 April of the year.
 fn is_in_spring(calendar: Calendar, year: i64, day: Day) -> bool
     ensures { result ≡ spec.is_in_spring calendar year day }
 {

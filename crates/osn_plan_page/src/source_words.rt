@@ -8,7 +8,8 @@ use osn_register::{Edit, Register, Source};
 use std::alloc::AllocError;
 use std::fmt::Write;
 
-/// The source of the period of a territory that starts on the day of a number, where there is one.
+/// Returns the source of the period of a territory that starts on the day of a number, if there is
+/// one.
 fn source_on<'a>(register: &'a Register, code: &str, number: i64) -> Option<&'a Source>
     ensures { option_map (λ s. s.now) result
         ≡ spec.source_on newest_rules register.now.lands code.now number }
@@ -19,7 +20,7 @@ fn source_on<'a>(register: &'a Register, code: &str, number: i64) -> Option<&'a 
     }
 }
 
-/// The source that there is of what an edit alters.
+/// Returns the present source of what an edit alters.
 pub(crate) fn source_before<'a>(register: &'a Register, edit: &Edit) -> Option<&'a Source>
     ensures { option_map (λ s. s.now) result
         ≡ spec.source_before newest_rules register.now.lands edit.now }
@@ -39,8 +40,7 @@ fn push_source_part(out: &mut String, source: &Source) -> Result<(), AllocError>
     write!(out, "; source: {}", source.as_str())
 }
 
-/// Appends the source that is given. Where there was one and none is given, appends that there is
-/// none any more.
+/// Appends the source that is given, or that there is no source any more.
 pub(crate) fn push_source_words(
     out: &mut String,
     given: Option<&Source>,

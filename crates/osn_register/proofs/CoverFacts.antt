@@ -1,5 +1,5 @@
--- The periods of a territory go on covering the line where a start is added, altered or dropped,
--- and the one that holds a day is found by its place.
+-- The periods of a territory still cover the line after a start is added, altered or dropped, and
+-- the one that holds a day is found by its place.
 use Rattle.std.proofs.Common.{◌≡◌, ℕ, ◌<◌, ◌≤◌, ◌+◌, ◌-◌, Bool, true, false, cond, not, nat_lt}
 use Rattle.std.proofs.Common.{◌==◌, ◌||◌, if◌then◌else◌, Some, List, [], ◌∷◌, ◌++◌, length}
 use Rattle.std.proofs.Common.{get_or, take, drop, map, filter, refl, sym, ap, subst, ◌∙◌, arith}

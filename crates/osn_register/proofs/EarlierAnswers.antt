@@ -1,4 +1,4 @@
--- What the newest rules answer where the first rules have the year or the day.
+-- What the newest rules answer if the first rules have the year or the day.
 use Rattle.std.proofs.Common.{◌≡◌, ℕ, zero, suc, ◌+◌, ◌-◌, ◌≤◌, Bool, true, false, not, ◌&&◌}
 use Rattle.std.proofs.Common.{nat_le, if◌then◌else◌, List, [], ◌∷◌, map, filter, Option, Some, None}
 use Rattle.std.proofs.Common.{refl, sym, ap, ◌∙◌, arith, ℤ, pos, ◌≤ℤ◌, unsigned_abs, IfSome}
@@ -230,7 +230,7 @@ one_named : (t : TerritoryModel) (d : ℕ) → d ≤ first_rules.high
     → map (found_on newest_rules t) (d ∷ []) ≡ map (found_on first_rules t) (d ∷ [])
 one_named t d until = ap (λ f. f ∷ []) (same_on_day (regime_at t d) d until)
 
--- the days of a range are named alike where each is a day of the first rules
+-- the days of a range are named alike if each is a day of the first rules
 step_named : (t : TerritoryModel) (a : ℕ) (here : Bool) (days : List ℕ)
     → a ≤ first_rules.high
     → map (found_on newest_rules t) days ≡ map (found_on first_rules t) days

@@ -239,7 +239,7 @@ same_register a b limits lands =
     ∙ ap (λ (ls : List LandModel). let r : RegisterModel = record { limits = b.limits; lands = ls }
     in r) (sym (append-nil a.lands) ∙ lands)
 
--- what holds anyway holds where a call fails
+-- what holds anyway holds if a call fails
 pub on_err : {X Y A : Type 0} (r : Result X Y) → A → OnErr r A
 on_err (Ok x) a = tt
 on_err (Err y) a = a

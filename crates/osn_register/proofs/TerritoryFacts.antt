@@ -172,7 +172,7 @@ HaveSources-with code f g (l ∷ ls) given still =
       | false ↦ (given.0, HaveSources-with code f g ls given.1 still)
     ]
 
--- a register stays well formed where one of its territories is changed within the limit
+-- a register stays well formed if one of its territories is changed within the limit
 pub IsWellFormed-with : (p : Profile) (r : RegisterModel) (code : List ℕ)
     (f : TerritoryModel → TerritoryModel) (g : SourcesModel → SourcesModel) → IsWellFormed p r →
     ((t : TerritoryModel) → territory_of code r.lands ≡ Some t → IsSoundTerritory p r.limits t →

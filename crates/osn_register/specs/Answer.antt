@@ -179,7 +179,7 @@ reason_in (Err none) = Some (reasons.NoDay none)
 abbrev pub is_on_weekday : Profile → TerritoryModel → Option Weekday → WrittenDate → Bool
 is_on_weekday p t given w = list_any (has_weekday w given) (meaning p t w given)
 
--- the same where a weekday is named or given, and the date is that of one day
+-- the same if a weekday is named or given, and the date is that of one day
 abbrev pub if_weekday : Profile → TerritoryModel → AnyDate → Option Weekday → Option Bool
 if_weekday p t w given =
     if is_some w.weekday || is_some given then option_map (is_on_weekday p t given) (one_day w)
@@ -199,7 +199,7 @@ date_answer p t w given = record {
   is_on_weekday = if_weekday p (reckoned t w.reckoning) w given;
 }
 
--- where no date is read, it is told why
+-- the answer if no date is read, with the reason
 abbrev pub no_date : DateFault → WrittenAnswer
 no_date fault = record {
   kind = None;
@@ -221,7 +221,7 @@ abbrev pub set_reason_in : Result (List Run) AbsentMember → Option Reason
 set_reason_in (Ok runs) = None
 set_reason_in (Err absent) = Some (reasons.NoDay absent.reason)
 
--- what a set of dates means in a territory. It is no day, so that no weekday is looked for
+-- what a set of dates means in a territory. It is not one day, so no weekday is looked for
 abbrev pub set_answer : Profile → TerritoryModel → List AnyDate → WrittenAnswer
 set_answer p t ws = record {
   kind = Some kinds.Set;

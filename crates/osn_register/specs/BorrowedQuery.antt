@@ -1,4 +1,4 @@
--- The query that one with borrowed texts stands for.
+-- A query with borrowed texts, as a query with texts of its own.
 use Rattle.osn_register.specs.declared.borrowed_query.BorrowedQuery.{BorrowedQuery}
 use Rattle.osn_register.specs.declared.borrowed_query.BorrowedQuery.TheVariants as borrowed
 use Rattle.osn_register.specs.declared.query.Query.{Query}

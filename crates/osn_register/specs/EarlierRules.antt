@@ -57,9 +57,9 @@ KeepsDay before now =
     (refusal_in now ≡ refusal_in before) × (found_in now ≡ found_in before)
     × (starts_in now ≡ starts_in before)
 
--- what an answer keeps of the answer of these rules to the same query, where they have its year or
--- its day. The Easters and the figures of a year and the territories are the same. A reading and a
--- day keep what the rules' own line has, and periods keep their starts. A date as it is written is
+-- what an answer keeps of the answer of these rules to the same query, if they have its year or its
+-- day. The Easters and the figures of a year and the territories are the same. A reading and a day
+-- keep what the rules' own line has, and periods keep their starts. A date as it is written is
 -- refused alike, and nothing more is said of it
 abbrev pub KeepsAnswer : Profile → List LandModel → Query → Answer → Type 0
 KeepsAnswer p lands (queries.Read code year month day) now =

@@ -6,11 +6,11 @@ use Rattle.osn_register.specs.declared.unanswered.Unanswered.{Unanswered}
 use Rattle.osn_register.specs.declared.unanswered.Unanswered.TheVariants.{Refused, NoMemory}
 use Rattle.osn_register.specs.Answer.{refusal_in, takes_memory}
 
--- the given answer, which is no refusal, where nothing refuses
+-- the given answer, which is not a refusal, if nothing refuses
 abbrev pub IsAnswer : Option Refusal → Answer → Answer → Type 0
 IsAnswer refused said a = (refused ≡ None) × (a ≡ said) × (refusal_in a ≡ None)
 
--- what refuses, or want of memory where nothing does and memory is taken
+-- the refusal, or NoMemory if nothing refuses and memory is taken
 abbrev pub IsReason : Option Refusal → Answer → Unanswered → Type 0
 IsReason refused said (Refused f) = refused ≡ Some f
 IsReason refused said NoMemory = (refused ≡ None) × (takes_memory said ≡ true)

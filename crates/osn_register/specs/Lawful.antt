@@ -26,7 +26,7 @@ source_given (DropChange code day) = None
 source_given (AddException code year day source) = source
 source_given (DropException code year) = None
 
--- each edit is lawful where it stands, from these territories on
+-- each edit is lawful at its place, from these territories on
 abbrev pub AreLawful : Profile → Limits → List LandModel → List Edit → Type 0
 AreLawful p limits lands [] = Unit {0}
 AreLawful p limits lands (e ∷ es) =

@@ -59,7 +59,7 @@ sources_of code lands = option_map (λ l. l.sources) (land_of code lands)
 abbrev pub is_between : ℤ → ℤ → ℤ → Bool
 is_between low high n = int_le low n && int_le n high
 
--- the regime has a style that does not go with its calendar or its rule, where the rules test that
+-- the regime has a style that does not go with its calendar or its rule, if the rules test that
 abbrev pub is_style_refused : Profile → Regime → Bool
 is_style_refused p regime = p.tests_style && lacks_julian regime
 
@@ -225,7 +225,7 @@ abbrev pub AreDistinct : List LandModel → Type 0
 AreDistinct [] = Unit {0}
 AreDistinct (l ∷ ls) = (land_of l.code ls ≡ None) × AreDistinct ls
 
--- every regime goes with its style, where the rules test that
+-- every regime goes with its style, if the rules test that
 abbrev pub AreStyled : Profile → List (ℕ × Regime) → Type 0
 AreStyled p [] = Unit {0}
 AreStyled p (s ∷ ss) = (is_style_refused p s.1 ≡ false) × AreStyled p ss

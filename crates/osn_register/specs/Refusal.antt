@@ -1,4 +1,4 @@
--- The refusals by number and name, and how a call answers them: this project's profile.
+-- The refusals by number and name, and how a call returns them: this project's profile.
 use Rattle.std.specs.Prelude.{◌≡◌, ℕ, Bool, ◌⊎◌, if◌then◌else◌, List, [], ◌∷◌, codes, Option, Some}
 use Rattle.std.specs.Prelude.{None, Result, MatchResult}
 use Rattle.osn_register.specs.declared.refusal.Refusal.{Refusal}
@@ -69,10 +69,10 @@ abbrev pub or_else : Option Refusal → Option Refusal → Option Refusal
 or_else None second = second
 or_else (Some f) second = Some f
 
--- the call is a test: it passes where nothing refuses, and else answers what refuses
+-- the call is a test: it passes if nothing refuses, and otherwise returns the refusal
 abbrev pub IsTestOf : {T : Type 0} → Option Refusal → Result T Refusal → Type 0
 IsTestOf refused result = MatchResult result (λ _. refused ≡ None) (λ f. refused ≡ Some f)
 
--- what refuses, or want of memory where nothing does
+-- the refusal, or NoMemory if nothing refuses
 abbrev pub IsRefusalOrNoMemory : Option Refusal → Refusal → Type 0
 IsRefusalOrNoMemory refused f = (refused ≡ Some f) ⊎ ((f ≡ NoMemory) × (refused ≡ None))

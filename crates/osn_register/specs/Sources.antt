@@ -1,5 +1,5 @@
--- Where it is stated how a territory reckons: the source of each period and of each listed Easter.
--- This project's profile.
+-- The sources of a territory's reckoning: of each period and of each listed Easter. This project's
+-- profile.
 use Rattle.std.specs.Prelude.{ℕ, Bool, true, not, ◌≡◌, ◌==◌, ◌&&◌, List, [], ◌∷◌, ◌++◌, filter}
 use Rattle.std.specs.Prelude.{find, Option, Some, None, option_map, IfSome}
 use Rattle.std.specs.List.{list_all}
@@ -24,7 +24,7 @@ source_of n sources = option_map (λ s. s.1) (find (λ s. s.0 == n) sources)
 abbrev pub without_source : ℕ → List (ℕ × List ℕ) → List (ℕ × List ℕ)
 without_source n sources = filter (λ s. not (s.0 == n)) sources
 
--- the source of a number as it is given, or none where none is
+-- the source of a number as it is given, or no source if it is not given
 abbrev pub with_source : ℕ → Option (List ℕ) → List (ℕ × List ℕ) → List (ℕ × List ℕ)
 with_source n None sources = without_source n sources
 with_source n (Some source) sources = without_source n sources ++ (n, source) ∷ []
@@ -43,7 +43,7 @@ with_easter_source year source s =
 abbrev pub opening_sources : Option (List ℕ) → SourcesModel
 opening_sources source = record { periods = with_source 1 source []; easters = [] }
 
--- where a source is given, it is one that may be
+-- the source, if one is given, is one that may be
 abbrev pub IsGiven : Option (List ℕ) → Type 0
 IsGiven source = IfSome source (λ text. is_source text ≡ true)
 

@@ -31,7 +31,7 @@ pub type DayList = Listing<Day>;
 /// Territories in the order in which they were added.
 pub type LandList = Listing<Land>;
 
-/// A period of a territory, and the source that states it, where one is given.
+/// A period of a territory, and the source that states it, if one is given.
 #[derive(Debug, Drop)]
 pub struct PeriodAndSource {
     pub period: Period,
@@ -54,7 +54,7 @@ pub type RunList = Listing<FoundRun>;
 /// Why a text means no day in a territory.
 #[derive(Clone, Copy, Debug, PartialEq, Eq, Drop)]
 pub enum Reason {
-    /// The text is no date, or says that there is no date.
+    /// The text is not a date, or says that there is no date.
     NotRead(DateFault),
     /// The date means no day of the territory.
     NoDay(NoDay),
@@ -63,7 +63,7 @@ pub enum Reason {
 /// What a text means as a date in a territory.
 #[derive(Debug, Drop)]
 pub struct WrittenAnswer {
-    /// What kind of date the text is, where it is one.
+    /// What kind of date the text is, if it is one.
     pub kind: Option<Kind>,
     /// The text says that the date is approximate.
     pub is_approximate: bool,
@@ -73,12 +73,12 @@ pub struct WrittenAnswer {
     pub is_supplied: bool,
     /// The date names a calendar, and means other days by it than by the territory's reckoning.
     pub is_by_other_calendar: bool,
-    /// Why it means no day, where it means none.
+    /// Why it means no day, if it means none.
     pub reason: Option<Reason>,
     /// The days that it means, by the calendar that it names, as the territory names them.
     pub runs: RunList,
-    /// Whether one of the days is of each weekday that is named or given, where one is and the
-    /// date is that of one day.
+    /// Whether one of the days is on each weekday that is named or given, if one is and the date is
+    /// that of one day.
     pub is_on_weekday: Option<bool>,
 }
 
@@ -96,7 +96,7 @@ pub enum Answer {
         period: PeriodAndSource,
     },
     /// The days that were Easter of a year in a territory, whether a listed exception says so, and
-    /// the source of that, where one is given.
+    /// the source of that, if one is given.
     Easters {
         found: FoundList,
         listed: bool,

@@ -23,11 +23,11 @@ pub enum BorrowedQuery<'a> {
 }
 
 impl<'a> BorrowedQuery<'a> {
-    /// The query that it stands for, with texts of its own.
+    /// Returns the same query, with texts of its own.
     ///
     /// # Errors
     ///
-    /// Only where no memory is found, of which a query that names no territory takes none.
+    /// If memory runs out. A query that names no territory needs none.
     pub fn to_query(self, alloc: Global) -> Result<Query, AllocError>
         ensures value { IfOk result (λ q. q ≡ as_query self.entry) }
         ensures memory { OnErr result (names_land (as_query self.entry) ≡ true) }

@@ -50,8 +50,8 @@ impl TerritoryEdit {
         }
     }
 
-    /// The number by which the source of what is changed is found: that of the day on which a
-    /// period starts, or that of the year of a listed Easter.
+    /// Returns the number by which the source of what is changed is found: that of the day on which
+    /// a period starts, or that of the year of a listed Easter.
     fn number(self) -> u32
         ensures { result ≡ number_of self }
     {

@@ -33,7 +33,8 @@ pub(crate) fn are_name_bytes(bytes: &[u8]) -> bool
     bytes.iter().all(|byte| is_name_byte(*byte))
 }
 
-/// Whether a territory may have the code: 2 to 8 capital letters or digits, the first a letter.
+/// Returns whether a territory may have the code: 2 to 8 capital letters or digits, the first a
+/// letter.
 pub(crate) fn is_code(code: &str) -> bool
     ensures { result ≡ form.is_code code.now }
 {
@@ -41,7 +42,7 @@ pub(crate) fn is_code(code: &str) -> bool
     bytes.len() >= 2 && bytes.len() <= 8 && is_capital(bytes[0]) && are_code_bytes(bytes)
 }
 
-/// Whether a territory may have the name: 1 to 64 bytes, none a control byte.
+/// Returns whether a territory may have the name: 1 to 64 bytes, none a control byte.
 pub(crate) fn is_name(name: &str) -> bool
     ensures { result ≡ form.is_name name.now }
 {

@@ -7,9 +7,9 @@ use crate::text::Text;
 use osn_lands::Regime;
 use std::alloc::AllocError;
 
-/// A change of the register. What a member says wrongly is refused when the edit is checked. A
-/// source says where it is stated what the edit says. What is altered loses the source that it had,
-/// and what is dropped too.
+/// A change of the register. An edit with a wrong member is refused when it is checked. A source
+/// says where it is stated what the edit says. What is altered or dropped loses the source that it
+/// had.
 #[derive(Debug, Drop)]
 pub enum Edit {
     /// Adds a territory, with its regime from the first day on.
@@ -54,11 +54,11 @@ pub enum Edit {
 }
 
 impl Edit {
-    /// An edit equal to this one.
+    /// Returns an edit equal to this one.
     ///
     /// # Errors
     ///
-    /// Only where no memory is found.
+    /// If memory runs out.
     pub fn copy(&self) -> Result<Edit, AllocError>
         ensures { IfOk result (λ e. e ≡ self.now) }
     {
@@ -118,7 +118,7 @@ impl Edit {
         }
     }
 
-    /// The code of the territory that the edit is of.
+    /// Returns the code of the territory that the edit is of.
     pub fn code(&self) -> &Text
         ensures { result.now ≡ code_of self.now }
     {
@@ -132,7 +132,7 @@ impl Edit {
         }
     }
 
-    /// The source that the edit gives, if it gives one.
+    /// Returns the source that the edit gives, if it gives one.
     pub fn source(&self) -> Option<&Source>
         ensures { option_map (λ s. s.now) result ≡ source_given self.now }
     {

@@ -25,7 +25,7 @@ fn has_all_exceptions(limits: Limits, territory: &Territory) -> bool
     territory.exception_count() >= limits.exceptions as usize
 }
 
-/// Whether the style of a regime goes with its calendar and its rule.
+/// Checks whether the style of a regime goes with its calendar and its rule.
 pub(crate) fn check_style(regime: Regime) -> Result<(), Refusal>
     ensures { IsTestOf
         (first_refusal ((is_style_refused newest_rules regime, StyleNeedsJulian) ∷ [])) result }

@@ -9,7 +9,7 @@ use osn_computus::{
 };
 use osn_days::{Calendar, Year};
 
-/// The figures of a year.
+/// Returns the figures of a year.
 pub(crate) fn figures(year: Year) -> Answer
     ensures value { result ≡ figures_of newest_rules year }
     ensures answered { refusal_in result ≡ None }

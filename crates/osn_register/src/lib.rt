@@ -1,7 +1,7 @@
 //! The register of territories: edits with their refusals, queries with their answers. What the
 //! crate promises to those above: `check` is the first refusal that applies, and `apply` has the
 //! edit's effect on a plain list of territories. A refusal changes nothing. `answer` is the
-//! definition's answer, a refusal exactly where the definition refuses.
+//! definition's answer, and is a refusal exactly if the definition refuses.
 #![tactic(auto)]
 
 mod answer;

@@ -18,8 +18,8 @@ pub struct Limits {
 }
 
 impl Limits {
-    /// The limits of the service: 500 territories of 40 changes and 200 exceptions, 20,000 edits
-    /// and 5,000 editions.
+    /// Returns the limits of the service: 500 territories of 40 changes and 200 exceptions, 20,000
+    /// edits and 5,000 editions.
     pub fn standard() -> Limits
         ensures { result ≡ standard_limits }
     {

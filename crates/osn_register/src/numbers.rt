@@ -1,4 +1,4 @@
-//! The days, years and labels of numbers that a request gives, where they are in their ranges.
+//! The days, years and labels of numbers that a request gives, if they are in their ranges.
 ghost use Rattle.std.specs.Prelude.{◌≡◌, true, false, IfOk, MatchResult, unsigned_abs};
 ghost use Rattle.osn_days.specs.Profile.{newest_rules};
 ghost use Rattle.osn_register.specs.Refusal.{IsTestOf};
@@ -13,7 +13,7 @@ use osn_lands::Label;
 /// The last year that a label may have.
 const LAST_LABEL_YEAR: i64 = 10_000;
 
-/// The day of a number, where it is on the line.
+/// Returns the day of a number, if it is on the line.
 pub(crate) fn day_on_line(number: i64) -> Result<Day, Refusal>
     ensures { MatchResult result
         (λ d. (is_off_line newest_rules number ≡ false) × (d ≡ unsigned_abs number))
@@ -22,7 +22,7 @@ pub(crate) fn day_on_line(number: i64) -> Result<Day, Refusal>
     Day::new(number).ok_or(Refusal::DayOffLine)
 }
 
-/// The year of a number, where it has figures, an Easter and exceptions.
+/// Returns the year of a number, if it has figures, an Easter and exceptions.
 pub(crate) fn year_in_range(number: i64) -> Result<Year, Refusal>
     ensures { MatchResult result
         (λ y. (is_off_years newest_rules number ≡ false) × (y ≡ unsigned_abs number))
@@ -31,7 +31,7 @@ pub(crate) fn year_in_range(number: i64) -> Result<Year, Refusal>
     Year::new(number).ok_or(Refusal::YearOffRange)
 }
 
-/// The label of a date that is asked for, where it may be one.
+/// Returns the label of a date that is asked for, if it may be one.
 pub(crate) fn asked_label(year: i64, month: i64, day: i64) -> Result<Label, Refusal>
     ensures test { IsTestOf (date_refusal newest_rules year month day) result }
     ensures value { IfOk result (λ l. l ≡ label_from year month day) }

@@ -40,8 +40,9 @@ pub enum Query {
     Periods {
         code: Text,
     },
-    /// Which days a date means in a territory, as the date is written, and whether they are of a
-    /// weekday, where one is given. The answer is by what was read of the text, and not by the text.
+    /// Which days a date means in a territory, as the date is written, and whether they are on a
+    /// weekday, if one is given. The answer depends on what was read of the text, and not on the
+    /// text.
     Written {
         code: Text,
         text: Text,
@@ -51,11 +52,11 @@ pub enum Query {
 }
 
 impl Query {
-    /// A query equal to this one.
+    /// Returns a query equal to this one.
     ///
     /// # Errors
     ///
-    /// Only where no memory is found, of which a query that names no territory takes none.
+    /// If memory runs out. A query that names no territory needs none.
     pub fn copy(&self) -> Result<Query, AllocError>
         ensures value { IfOk result (λ q. q ≡ self.now) }
         ensures memory { OnErr result (names_land self.now ≡ true) }
@@ -71,7 +72,7 @@ impl Query {
         }
     }
 
-    /// This query, with its texts borrowed.
+    /// Returns this query, with its texts borrowed.
     pub fn borrowed(&self) -> BorrowedQuery<'_>
         ensures { as_query result ≡ self.now }
     {

@@ -52,7 +52,7 @@ pub enum Refusal {
 }
 
 impl Refusal {
-    /// The number that a reply gives.
+    /// Returns the number that a reply gives.
     pub fn number(self) -> u8
         ensures { result ≡ refusal_number self }
     {
@@ -81,7 +81,7 @@ impl Refusal {
         }
     }
 
-    /// The name that a reply gives.
+    /// Returns the name that a reply gives.
     pub fn name(self) -> &'static str
         ensures { result.now ≡ refusal_name self }
     {

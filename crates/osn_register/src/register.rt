@@ -50,7 +50,7 @@ struct NamedTerritory {
 }
 
 impl NamedTerritory {
-    /// A territory that opens with a regime.
+    /// Returns a territory that opens with a regime.
     fn new(
         alloc: Global,
         name: &Text,
@@ -104,7 +104,7 @@ impl Model for Register {
 }
 
 impl Register {
-    /// An empty register.
+    /// Returns an empty register.
     pub fn new(alloc: Global, limits: Limits) -> Register
         ensures { result ≡ folded newest_rules limits [] }
     {
@@ -115,7 +115,7 @@ impl Register {
         }
     }
 
-    /// The limits.
+    /// Returns the limits.
     pub fn limits(&self) -> Limits
         ensures value { result ≡ self.now.limits }
         ensures well_formed { IsWellFormed newest_rules self.now }
@@ -137,7 +137,7 @@ impl Register {
         Ok(territory)
     }
 
-    /// The territory of a code, with its sources.
+    /// Returns the territory of a code, with its sources.
     fn known_land(&self, code: &str) -> Result<(&Territory, &Sources), Refusal>
         ensures test { IsTestOf (code_refusal self.now.lands code.now) result }
         ensures territory { IfOk result (λ l.
@@ -152,7 +152,7 @@ impl Register {
         }
     }
 
-    /// The sources of the territory of a code, where some territory has it.
+    /// Returns the sources of the territory of a code, if some territory has it.
     fn sources(&self, code: &str) -> Option<&Sources>
         ensures { option_map (λ s. sources_in s.now) result
             ≡ sources_of code.now self.now.lands }
@@ -165,7 +165,7 @@ impl Register {
 }
 
 impl Register {
-    /// Whether an edit is lawful now.
+    /// Checks whether an edit is lawful now.
     ///
     /// # Errors
     ///
@@ -238,8 +238,8 @@ impl Register {
     ///
     /// # Errors
     ///
-    /// The first refusal that applies, and else `NoMemory` where none is found, of which an edit
-    /// that drops takes none, nor one that alters and gives no source. Nothing has changed then.
+    /// The first refusal that applies. Otherwise `NoMemory` if memory runs out. An edit that drops
+    /// needs none, nor one that alters and gives no source. On an error nothing has changed.
     pub fn apply(&mut self, edit: &Edit) -> Result<(), Refusal>
         ensures lawful { OnOk result
             (refusal newest_rules self.old.limits self.old.lands edit.now ≡ None) }
@@ -254,11 +254,11 @@ impl Register {
         Ok(self.admit(edit)?)
     }
 
-    /// Applies a lawful edit, and passes over one that is refused.
+    /// Applies a lawful edit, and ignores one that is refused.
     ///
     /// # Errors
     ///
-    /// Only where no memory is found, of which a refused edit takes none. Nothing has changed then.
+    /// If memory runs out. A refused edit needs none. On an error nothing has changed.
     pub fn apply_if_lawful(&mut self, edit: &Edit) -> Result<(), AllocError>
         ensures ok { OnOk result (self.new ≡ record self.old {
           lands = applied newest_rules self.old.limits self.old.lands edit.now;
@@ -277,8 +277,8 @@ impl Register {
     ///
     /// # Errors
     ///
-    /// Only where no memory is found, of which an edit that drops takes none, nor one that alters
-    /// and gives no source. Nothing has changed then.
+    /// If memory runs out. An edit that drops needs none, nor one that alters and gives no source.
+    /// On an error nothing has changed.
     pub fn admit(&mut self, edit: &Edit) -> Result<(), AllocError>
         requires { refusal newest_rules self.old.limits self.old.lands edit.now ≡ None }
         ensures ok { OnOk result

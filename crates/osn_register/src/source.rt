@@ -1,4 +1,4 @@
-//! Where it is stated how a territory reckons, as the editor cites it.
+//! The source of a territory's reckoning, as the editor cites it.
 ghost use Rattle.std.specs.Prelude.{◌≡◌, true, IfOk, OnErr, is_some};
 ghost use Rattle.osn_register.specs.Sources.{IsGiven, is_source};
 
@@ -7,8 +7,8 @@ use crate::text::Text;
 use std::alloc::{AllocError, Global};
 use std::marker::Model;
 
-/// Where it is stated how a territory reckons: a statute, a bull or a book, as the editor cites
-/// it. It has 1 to 1,000 bytes of UTF-8, none a control byte.
+/// The source of a territory's reckoning: a statute, a bull or a book, as the editor cites it. It
+/// has 1 to 1,000 bytes of UTF-8, none a control byte.
 #[derive(Debug, Drop)]
 pub struct Source {
     text: Text,
@@ -26,7 +26,7 @@ impl Model for Source {
 }
 
 impl Source {
-    /// Whether a text may be a source.
+    /// Returns whether a text may be a source.
     pub fn is_source(text: &str) -> bool
         ensures { result ≡ is_source text.now }
     {
@@ -37,11 +37,11 @@ impl Source {
         are_name_bytes(bytes)
     }
 
-    /// The source of this text.
+    /// Returns the source of this text.
     ///
     /// # Errors
     ///
-    /// Only where no memory is found.
+    /// If memory runs out.
     pub fn from_str(alloc: Global, text: &str) -> Result<Source, AllocError>
         requires { is_source text.now ≡ true }
         ensures { IfOk result (λ s. s ≡ text.now) }
@@ -51,7 +51,7 @@ impl Source {
         })
     }
 
-    /// The text, to read.
+    /// Returns the text, to read.
     pub fn as_str(&self) -> &str
         ensures value { result.now ≡ self.now }
         ensures allowed { is_source self.now ≡ true }
@@ -59,11 +59,11 @@ impl Source {
         self.text.as_str()
     }
 
-    /// A source equal to this one.
+    /// Returns a source equal to this one.
     ///
     /// # Errors
     ///
-    /// Only where no memory is found.
+    /// If memory runs out.
     pub fn copy(&self) -> Result<Source, AllocError>
         ensures value { IfOk result (λ s. s ≡ self.now) }
         ensures allowed { is_source self.now ≡ true }
@@ -73,11 +73,11 @@ impl Source {
         })
     }
 
-    /// The same of a source that may not be given.
+    /// Returns the same for a source that may be missing.
     ///
     /// # Errors
     ///
-    /// Only where no memory is found. None is asked for where there is no source.
+    /// If memory runs out, and only if there is a source.
     pub fn copy_if_given(source: &Option<Source>) -> Result<Option<Source>, AllocError>
         ensures value { IfOk result (λ s. s ≡ source.now) }
         ensures allowed { IsGiven source.now }

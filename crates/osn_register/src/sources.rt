@@ -16,7 +16,7 @@ pub(crate) struct Sources {
 }
 
 impl Sources {
-    /// The sources of a new territory: that of its opening period.
+    /// Returns the sources of a new territory: that of its opening period.
     pub(crate) fn of_opening(alloc: Global, source: &Option<Source>) -> Result<Sources, AllocError>
         ensures value { IfOk result (λ s. sources_in s ≡ spec.opening_sources source.now) }
         ensures allowed { OnOk result (spec.IsGiven source.now) }
@@ -41,7 +41,7 @@ impl Sources {
     }
 }
 
-/// A list of sources that is equal to this one.
+/// Returns a list of sources that is equal to this one.
 fn copied(alloc: Global, sources: &[(u32, Source)]) -> Result<Vec<(u32, Source)>, AllocError>
     ensures { IfOk result (λ v. v.items ≡ sources.now) }
 {
@@ -52,7 +52,7 @@ fn copied(alloc: Global, sources: &[(u32, Source)]) -> Result<Vec<(u32, Source)>
     Ok(copied)
 }
 
-/// The source of a number, if one is given.
+/// Returns the source of a number, if one is given.
 pub(crate) fn source_of(sources: &[(u32, Source)], number: u32) -> Option<&Source>
     ensures { option_map (λ s. s.now) result ≡ spec.source_of number sources.now }
 {

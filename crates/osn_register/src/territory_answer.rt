@@ -15,7 +15,7 @@ use osn_lands::{Label, Period, Regime, Territory, dual_text, label_of};
 use osn_written::Listing;
 use std::alloc::{AllocError, Global};
 
-/// The period that holds a day.
+/// Returns the period that holds a day.
 fn period_on(territory: &Territory, day: Day) -> Period
     ensures value { spec.period_on (periods_of newest_rules territory.now) day ≡ Some result }
     ensures regime { result.regime ≡ regime_at territory.now day }
@@ -24,7 +24,7 @@ fn period_on(territory: &Territory, day: Day) -> Period
     territory.periods()[place]
 }
 
-/// A day as a regime names it, with its label.
+/// Returns a day as a regime names it, with its label.
 fn found_under(alloc: Global, regime: Regime, day: Day, label: Label) -> Result<Found, AllocError>
     requires { label ≡ local_label newest_rules regime day }
     ensures { IfOk result (λ f. f ≡ spec.found_under newest_rules regime day) }
@@ -36,7 +36,7 @@ fn found_under(alloc: Global, regime: Regime, day: Day, label: Label) -> Result<
     })
 }
 
-/// A day as the territory names it.
+/// Returns a day as the territory names it.
 pub(crate) fn found_on(alloc: Global, territory: &Territory, day: Day) -> Result<Found, AllocError>
     ensures { IfOk result (λ f. f ≡ spec.found_on newest_rules territory.now day) }
 {
@@ -44,7 +44,7 @@ pub(crate) fn found_on(alloc: Global, territory: &Territory, day: Day) -> Result
     found_under(alloc, regime, day, label_of(regime, day))
 }
 
-/// Days as the territory names them.
+/// Returns days as the territory names them.
 fn found_days(alloc: Global, territory: &Territory, days: &[Day]) -> Result<Vec<Found>, AllocError>
     ensures { IfOk result (λ v. v.items ≡ map (spec.found_on newest_rules territory.now) days.now) }
 {
@@ -55,7 +55,7 @@ fn found_days(alloc: Global, territory: &Territory, days: &[Day]) -> Result<Vec<
     Ok(found)
 }
 
-/// Days that the territory dates with the label, as it names them.
+/// Returns days that the territory dates with the label, as it names them.
 fn read_days(
     alloc: Global,
     territory: &Territory,
@@ -72,7 +72,7 @@ fn read_days(
     Ok(found)
 }
 
-/// A source that is lent, as one that an answer owns.
+/// Returns a source that is lent, as one that an answer owns.
 fn owned(source: Option<&Source>) -> Result<Option<Source>, AllocError>
     ensures { IfOk result (λ s. s ≡ option_map (λ b. b.now) source.entry) }
 {
@@ -82,7 +82,7 @@ fn owned(source: Option<&Source>) -> Result<Option<Source>, AllocError>
     }
 }
 
-/// A period with its source.
+/// Returns a period with its source.
 fn and_source(sources: &Sources, period: Period) -> Result<PeriodAndSource, AllocError>
     ensures { IfOk result (λ p. p ≡ spec.and_source (Some (sources_in sources.now)) period) }
 {
@@ -92,7 +92,7 @@ fn and_source(sources: &Sources, period: Period) -> Result<PeriodAndSource, Allo
     })
 }
 
-/// Periods, each with its source.
+/// Returns periods, each with its source.
 fn and_sources(
     alloc: Global,
     sources: &Sources,
@@ -108,7 +108,7 @@ fn and_sources(
     Ok(list)
 }
 
-/// A day as a territory names it, with the period that holds it.
+/// Returns a day as a territory names it, with the period that holds it.
 pub(crate) fn on_day(
     alloc: Global,
     territory: &Territory,
@@ -129,7 +129,7 @@ pub(crate) fn on_day(
     })
 }
 
-/// The periods of a territory, each with its source.
+/// Returns the periods of a territory, each with its source.
 pub(crate) fn periods(
     alloc: Global,
     territory: &Territory,
@@ -142,7 +142,7 @@ pub(crate) fn periods(
     Ok(Answer::Periods(Listing::new(periods)))
 }
 
-/// The Easters of a year in a territory.
+/// Returns the Easters of a year in a territory.
 pub(crate) fn easters(
     alloc: Global,
     territory: &Territory,
@@ -161,7 +161,7 @@ pub(crate) fn easters(
     })
 }
 
-/// The reading of a label in a territory.
+/// Returns the reading of a label in a territory.
 pub(crate) fn reading(
     alloc: Global,
     territory: &Territory,

@@ -21,18 +21,18 @@ impl Model for Text {
 }
 
 impl Text {
-    /// The text that was moved in.
+    /// Returns the text that was moved in.
     pub fn new(text: String) -> Text
         ensures { result ≡ string_bytes text }
     {
         Text { text }
     }
 
-    /// A text of the same bytes.
+    /// Returns a text of the same bytes.
     ///
     /// # Errors
     ///
-    /// Only where no memory is found.
+    /// If memory runs out.
     pub fn from_str(alloc: Global, text: &str) -> Result<Text, AllocError>
         ensures { IfOk result (λ t. t ≡ text.now) }
     {
@@ -41,12 +41,12 @@ impl Text {
         })
     }
 
-    /// Where its memory comes from.
+    /// Returns the allocator of its memory.
     pub(crate) fn allocator(&self) -> Global {
         *self.text.allocator()
     }
 
-    /// The text, to read.
+    /// Returns the text, to read.
     pub fn as_str(&self) -> &str
         ensures value { result.now ≡ self.now }
         ensures utf8 { IsUtf8 self.now }
@@ -54,18 +54,18 @@ impl Text {
         self.text.as_str()
     }
 
-    /// The text, moved out.
+    /// Returns the text, moved out.
     pub fn into_string(self) -> String
         ensures { string_bytes result ≡ self }
     {
         self.text
     }
 
-    /// A text equal to this one.
+    /// Returns a text equal to this one.
     ///
     /// # Errors
     ///
-    /// Only where no memory is found.
+    /// If memory runs out.
     pub fn copy(&self) -> Result<Text, AllocError>
         ensures { IfOk result (λ t. t ≡ self.now) }
     {

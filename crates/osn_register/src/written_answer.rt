@@ -16,7 +16,7 @@ use osn_written::{
 };
 use std::alloc::{AllocError, Global};
 
-/// A run by its first and its last day, as the territory names them.
+/// Returns a run by its first and its last day, as the territory names them.
 fn found_run(alloc: Global, territory: &Territory, run: Run) -> Result<FoundRun, AllocError>
     ensures { IfOk result (λ f. f ≡ spec.found_run newest_rules territory.now run) }
 {
@@ -42,7 +42,7 @@ fn found_runs(
     Ok(found)
 }
 
-/// The runs that a date means, and why it means none.
+/// Returns the runs that a date means, and why it means none.
 fn runs_and_reason(
     alloc: Global,
     territory: &Territory,
@@ -58,8 +58,8 @@ fn runs_and_reason(
     }
 }
 
-/// Whether one of the days that a date means is of the weekday that it names, and of the one that
-/// is given.
+/// Returns whether one of the days that a date means is of the weekday that it names, and of the
+/// one that is given.
 fn is_on_weekday(
     alloc: Global,
     territory: &Territory,
@@ -73,7 +73,7 @@ fn is_on_weekday(
     Ok(days.iter().any(|day| has_weekday(date, given, day)))
 }
 
-/// The same where a weekday is named or given, and the date is that of one day.
+/// Returns the same if a weekday is named or given, and the date is that of one day.
 fn if_weekday(
     alloc: Global,
     territory: &Territory,
@@ -91,7 +91,7 @@ fn if_weekday(
     }
 }
 
-/// What a date means by the reckoning of one territory, each day as another one names it.
+/// Returns what a date means by the reckoning of one territory, each day as another one names it.
 fn answer_by(
     alloc: Global,
     territory: &Territory,
@@ -116,7 +116,7 @@ fn answer_by(
     })
 }
 
-/// What a date means in a territory, by the calendar that it names.
+/// Returns what a date means in a territory, by the calendar that it names.
 fn date_answer(
     alloc: Global,
     territory: &Territory,
@@ -134,7 +134,7 @@ fn date_answer(
     }
 }
 
-/// The runs that a set of dates means, and why it means none.
+/// Returns the runs that a set of dates means, and why it means none.
 fn set_runs_and_reason(
     alloc: Global,
     territory: &Territory,
@@ -150,7 +150,7 @@ fn set_runs_and_reason(
     }
 }
 
-/// What a set of dates means in a territory. No weekday is looked for.
+/// Returns what a set of dates means in a territory. No weekday is looked for.
 fn set_answer(
     alloc: Global,
     territory: &Territory,
@@ -172,7 +172,7 @@ fn set_answer(
     })
 }
 
-/// What is told where no date is read.
+/// Returns the answer if no date is read.
 fn no_date(alloc: Global, fault: DateFault) -> WrittenAnswer
     ensures { result ≡ spec.no_date fault }
 {
@@ -188,7 +188,7 @@ fn no_date(alloc: Global, fault: DateFault) -> WrittenAnswer
     }
 }
 
-/// What is told of a date that was read.
+/// Returns the answer about a date that was read.
 fn reading_answer(
     alloc: Global,
     territory: &Territory,
@@ -205,7 +205,7 @@ fn reading_answer(
     }
 }
 
-/// What a date means in a territory, as it was read.
+/// Returns what a date means in a territory, as it was read.
 pub(crate) fn written(
     alloc: Global,
     territory: &Territory,

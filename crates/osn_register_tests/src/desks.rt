@@ -1,4 +1,4 @@
-//! Desks, where an editor and readers work at once.
+//! Desks, at which an editor and readers work at the same time.
 use crate::compare::same;
 use crate::live::{NONE, ONE, ROME};
 use osn_core::{Command, Reply};
@@ -15,7 +15,7 @@ use std::test::Fail;
 use std::thread;
 use std::thread::Threads;
 
-/// A copy of a command, which itself goes.
+/// Returns a copy of a command, and drops the command.
 fn copy_of(command: Command) -> Result<Command, AllocError> {
     command.copy()
 }
@@ -36,7 +36,7 @@ fn script(alloc: Global, lines: &[&str]) -> Result<Vec<Command>, Fail> {
     Ok(commands)
 }
 
-/// That many lists of that many questions for the territories.
+/// Returns that many lists of that many questions for the territories.
 fn questions(alloc: Global, lists: u32, each: u32) -> Result<Vec<Vec<Query>>, Fail> {
     let mut all = Vec::new(alloc);
     for _ in 0..lists {
@@ -49,12 +49,12 @@ fn questions(alloc: Global, lists: u32, each: u32) -> Result<Vec<Vec<Query>>, Fa
     Ok(all)
 }
 
-/// The script of one edition, which passes over what is refused.
+/// The script of one edition, whose refused command is ignored.
 const SCRIPT: [&str; 3] = [ROME, r#"{"op":"publish"}"#, r#"{"op":"publish"}"#];
 
 pub type DeskReplies = Result<Vec<Vec<Reply>>, DeskFault>;
 
-/// What a desk of this many readers is told, who ask this many questions each.
+/// Returns the replies of a desk to this many readers, who ask this many questions each.
 pub fn desk<R: Threads + Wait, G: Gate + Sync>(
     rt: &R,
     alloc: Global,
@@ -109,8 +109,8 @@ fn reached(number: &AtomicU64, least: u64) -> bool {
     false
 }
 
-/// The editor publishes once the reader was told of its first question, and the reader asks its
-/// second one once that is done.
+/// The editor publishes after the reader has the reply to its first question, and the reader asks
+/// its second one after that.
 #[derive(Drop)]
 struct Turns {
     edited: AtomicU64,

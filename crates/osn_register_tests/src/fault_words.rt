@@ -5,7 +5,7 @@ use std::alloc::{AllocError, Global};
 use std::fmt::Display;
 use std::process::Abort;
 
-/// Of a broken history each number stands in its place.
+/// The numbers of a broken history differ, so that each is found in its place.
 const DESKS: [(DeskFault, &str); 5] = [
     (DeskFault::NoMemory, "memory ran out"),
     (

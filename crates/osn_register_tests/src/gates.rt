@@ -1,4 +1,4 @@
-//! What the gate of a desk is told: of whom, of which item, before it and after it, in order. Also
+//! What the gate of a desk is given: whose item, which item, before it and after it, in order. Also
 //! a gate that is closed to each item in turn.
 use crate::compare::same;
 use crate::desks::desk;
@@ -18,8 +18,8 @@ const QUESTIONS: u32 = 3;
 
 const COMMANDS: usize = 3;
 
-/// A call of a gate as a number, which is never zero: of whom, of which item, and 0 before it or 1
-/// after it.
+/// Returns a call of a gate as a number, which is never zero: whose item, which item, and 0 before
+/// it or 1 after it.
 fn call(who: u32, index: usize, side: u64) -> u64 {
     let item = (index as u64).saturating_mul(2).saturating_add(side);
     (who as u64)
@@ -28,7 +28,7 @@ fn call(who: u32, index: usize, side: u64) -> u64 {
         .saturating_add(item)
 }
 
-/// Whom a call was of.
+/// Returns whose call it was.
 fn caller(call: u64) -> u64 {
     (call / 1_000).saturating_sub(1)
 }
@@ -61,7 +61,7 @@ impl Noting {
         }
     }
 
-    /// The calls of one, in order.
+    /// Returns the calls of one participant, in order.
     fn of(&self, alloc: Global, who: u32) -> Result<Vec<u64>, AllocError> {
         let mut calls = Vec::new(alloc);
         for noted in &self.calls {
@@ -85,8 +85,8 @@ impl Gate for Noting {
     }
 }
 
-/// The calls that are due of one who has this many items: two of each item. After the first call of
-/// the item that the gate is closed to there are no more.
+/// Returns the calls that are due of a participant who has this many items: two of each item. After
+/// the first call of the item that the gate is closed to there are no more.
 fn due(
     alloc: Global,
     who: u32,
@@ -104,7 +104,7 @@ fn due(
     Ok(calls)
 }
 
-/// How many items one has.
+/// Returns how many items a participant has.
 fn items_of(who: u32) -> usize {
     if who == 0 {
         COMMANDS
@@ -113,7 +113,7 @@ fn items_of(who: u32) -> usize {
     }
 }
 
-/// Checks that a gate that is closed to one item, or to none, is told of all items before that, and
+/// Checks that a gate that is closed to one item, or to none, is given all items before that, and
 /// that the others still work through all of theirs.
 fn is_told<R: Threads + Wait + Abort>(
     rt: &R,

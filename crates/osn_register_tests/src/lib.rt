@@ -1,6 +1,6 @@
-//! Tests of the register, of the objects that hold it, of desks and transcripts over their
-//! public calls. What a contract says is not tested again. Here stands each public call once with
-//! ample memory, and values from outside.
+//! Tests of the register, of the objects that contain it, of desks and transcripts over their
+//! public calls. What a contract says is not tested again. Each public call is made once here with
+//! ample memory, and with values from outside.
 #![tactic(auto)]
 
 #[cfg(test)]

@@ -20,7 +20,7 @@ pub const ROME: &str = r#"{"op":"add_land","code":"RM","name":"Rome","calendar":
 const BRITAIN: &str = r#"{"op":"add_land","code":"GB","name":"Great Britain","calendar":"julian",
   "style":"january","rule":"julian"}"#;
 
-/// What a reader is told of the territories before and after the editions.
+/// The replies to a reader about the territories before and after the editions.
 pub const NONE: &str = r#"{"answer":{"lands":[]},"edition":0,"reader":1}"#;
 
 pub const ONE: &str =
@@ -29,7 +29,7 @@ pub const ONE: &str =
 const TWO: &str = r#"{"answer":{"lands":[{"code":"RM","name":"Rome"},{"code":"GB",
   "name":"Great Britain"}]},"edition":2,"reader":1}"#;
 
-/// The line of what a reader is told of the territories.
+/// Returns the line of the reply to a reader about the territories.
 fn lands_line(alloc: Global, reader: &mut Reader) -> Result<String, Fail>
     ensures { reader.new.origin ≡ reader.old.origin }
 {
@@ -55,7 +55,7 @@ fn published<R: Wait>(rt: &R, alloc: Global, editor: &mut Editor, line: &str) ->
     Ok(editor.publish(rt)?)
 }
 
-/// A reader of this editor's.
+/// Returns a reader of this editor.
 #[tactic(auto, using(crate::proofs::LiveLemmas::all_last))]
 fn next_reader(editor: &Editor, readers: &mut Vec<Reader>) -> Option<Reader>
     requires { All (λ r. r.origin ≡ editor.now.origin) readers.old.items }
@@ -65,7 +65,7 @@ fn next_reader(editor: &Editor, readers: &mut Vec<Reader>) -> Option<Reader>
     readers.pop()
 }
 
-/// An editor and a reader in turn.
+/// Checks an editor and a reader in turn.
 fn in_turn<R: Wait + Abort>(
     rt: &R,
     alloc: Global,
@@ -108,7 +108,7 @@ fn a_reader_learns_what_was_published(rt: HostRuntime) -> Result<(), Fail> {
     one_reader(&rt, rt.alloc())
 }
 
-/// Notes learnt in another order than they were made in.
+/// Checks that notes are learnt in another order than they were made in.
 fn notes<R: Wait + Abort>(
     rt: &R,
     alloc: Global,

@@ -1,5 +1,5 @@
 //! The numbers and names that replies give, as the formats list them, and the lists that answers
-//! hold.
+//! contain.
 use crate::compare::same;
 use osn_format::{Member, WireFault};
 use osn_register::{Listing, Refusal};
@@ -37,7 +37,7 @@ fn are_refusals(rt: &impl Abort, rows: &[(Refusal, u8, &str)]) {
     }
 }
 
-/// The faults of lines, but for `ReadOnly`.
+/// The faults of lines, except `ReadOnly`.
 const FAULTS: [(WireFault, u8, &str); 12] = [
     (WireFault::LineTooLong, 31, "LineTooLong"),
     (WireFault::NotJson, 32, "NotJson"),
@@ -59,7 +59,7 @@ fn are_faults(rt: &impl Abort, rows: &[(WireFault, u8, &str)]) {
     }
 }
 
-/// The members of lines, but for a written date and its weekday.
+/// The members of lines, except a written date and its weekday.
 const MEMBERS: [(Member, &str); 15] = [
     (Member::Op, "op"),
     (Member::Code, "code"),

@@ -18,7 +18,7 @@ fn made(alloc: Global, object: &mut Object, line: &str) -> Result<Result<u32, Re
     }
 }
 
-/// A stage by the test and then the call that refuses nothing.
+/// Stages an edit by the test and then the call that refuses nothing.
 fn staged(object: &mut Object, edit: Edit) -> Result<Result<u32, Refusal>, Fail> {
     match object.check(&edit) {
         Ok(_) => Ok(Ok(object.admit(edit)?)),
@@ -26,7 +26,7 @@ fn staged(object: &mut Object, edit: Edit) -> Result<Result<u32, Refusal>, Fail>
     }
 }
 
-/// A publish by the test and then the call that refuses nothing.
+/// Publishes by the test and then the call that refuses nothing.
 fn published(object: &mut Object) -> Result<Result<u32, Refusal>, Fail> {
     match object.check_publish() {
         Ok(_) => Ok(Ok(object.make_edition()?)),
@@ -34,7 +34,7 @@ fn published(object: &mut Object) -> Result<Result<u32, Refusal>, Fail> {
     }
 }
 
-/// Either, as a line asks for.
+/// Does either, as a line requests.
 fn admitted(alloc: Global, object: &mut Object, line: &str) -> Result<Result<u32, Refusal>, Fail> {
     match read_request(alloc, 1, line.as_bytes())? {
         Request::Stage(edit) => staged(object, edit),
@@ -43,7 +43,7 @@ fn admitted(alloc: Global, object: &mut Object, line: &str) -> Result<Result<u32
     }
 }
 
-/// Lines in turn, and what they are answered: counts of pending edits, and editions.
+/// Lines in turn, and their results: counts of pending edits, and editions.
 const CALLS: [(&str, Result<u32, Refusal>); 10] = [
     (r#"{"op":"publish"}"#, Err(Refusal::NothingPending)),
     (
@@ -81,12 +81,13 @@ const CALLS: [(&str, Result<u32, Refusal>); 10] = [
     ),
 ];
 
-/// What stands once they were made.
+/// The territories after these edits.
 const LANDS: &str =
     r#"{"answer":{"lands":[{"code":"RM","name":"Rome"},{"code":"GB","name":"Great Britain"},
   {"code":"FR","name":"France"}]},"edition":2,"reader":1}"#;
 
-/// The line that the first reader is told of the territories, by `ask`, or by `ask_borrowed`.
+/// Returns the line of the reply to the first reader about the territories, by `ask`, or by
+/// `ask_borrowed`.
 fn lands_of(alloc: Global, object: &Object, borrows: bool) -> Result<String, Fail> {
     let reply = if borrows {
         object.ask_borrowed(BorrowedQuery::Lands)
@@ -96,14 +97,14 @@ fn lands_of(alloc: Global, object: &Object, borrows: bool) -> Result<String, Fai
     Ok(first_reply_text(alloc, reply?)?)
 }
 
-/// Checks that the first reader is told of the territories so.
+/// Checks that this is the reply to the first reader about the territories.
 fn tells_lands(rt: &impl Abort, alloc: Global, object: &Object, borrows: bool) -> Result<(), Fail> {
     let told = lands_of(alloc, object, borrows)?;
     same(rt, told.as_str().trim_end(), joined(alloc, LANDS)?.as_str());
     Ok(())
 }
 
-/// Checks that two editions stand, of two edits and of one, and one edit is pending.
+/// Checks that there are two editions, of two edits and of one, and one pending edit.
 fn has_two_editions(rt: &impl Abort, alloc: Global, object: &Object) -> Result<(), Fail> {
     let [first, second] = object.batches() else {
         return Err(Fail::new("not two editions"));
@@ -115,8 +116,8 @@ fn has_two_editions(rt: &impl Abort, alloc: Global, object: &Object) -> Result<(
     tells_lands(rt, alloc, object, true)
 }
 
-/// Checks that an object answers some lines so, by the calls that can refuse, or by the tests and
-/// the calls that refuse nothing.
+/// Checks the results of an object for some lines, by the calls that can refuse, or by the tests
+/// and the calls that refuse nothing.
 fn takes(
     rt: &impl Abort,
     alloc: Global,
@@ -135,7 +136,7 @@ fn takes(
     Ok(())
 }
 
-/// Checks that a new object takes some lines so, and has two editions then.
+/// Checks the results of a new object for some lines, and that it has two editions then.
 fn makes_two_editions(
     rt: &impl Abort,
     alloc: Global,

@@ -9,12 +9,12 @@ use std::alloc::{AllocError, Global};
 use std::process::Abort;
 use std::test::Fail;
 
-/// What a register answers to a copy of a query, which itself goes.
+/// Returns what a register answers to a copy of a query, and drops the query.
 fn answer_to_copy(register: &Register, query: Query) -> Result<Answer, AllocError> {
     register.answer(&query.copy()?)
 }
 
-/// What a register answers to a query that borrows its code from a copy of another one.
+/// Returns what a register answers to a query that borrows its code from a copy of another one.
 fn answer_to_borrowed(
     alloc: Global,
     register: &Register,
@@ -24,7 +24,7 @@ fn answer_to_borrowed(
     register.answer_borrowed(copied.borrowed())
 }
 
-/// Either, to the query of a line.
+/// Returns either answer, to the query of a line.
 fn answer_of(
     alloc: Global,
     register: &Register,
@@ -39,13 +39,13 @@ fn answer_of(
     }
 }
 
-/// What a register, as edition 0, answers to the query of a line.
+/// Returns what a register, as edition 0, answers to the query of a line.
 fn answered(alloc: Global, register: &Register, line: &str, borrows: bool) -> Result<String, Fail> {
     let answer = answer_of(alloc, register, line, borrows)?;
     Ok(first_reply_text(alloc, Reply { edition: 0, answer })?)
 }
 
-/// Checks that a register answers the query of a line so.
+/// Checks the answer of a register to the query of a line.
 fn answers_line(
     rt: &impl Abort,
     alloc: Global,
@@ -59,7 +59,7 @@ fn answers_line(
     Ok(())
 }
 
-/// Checks that a register answers the queries of a session so, each line with the line of its
+/// Checks the answers of a register to the queries of a session, each line with the line of its
 /// answer, by `answer`, or by `answer_borrowed`.
 fn answers_by(
     rt: &impl Abort,
@@ -75,7 +75,7 @@ fn answers_by(
     Ok(())
 }
 
-/// The same by `answer`.
+/// Checks the same by `answer`.
 fn answers(rt: &impl Abort, alloc: Global, register: &Register, session: &str) -> Result<(), Fail> {
     answers_by(rt, alloc, register, session, false)
 }
@@ -90,7 +90,7 @@ const EDITS: &str = r#"{"op":"add_land","code":"GB","name":"Great Britain","cale
   "rule":"gregorian"}
 "#;
 
-/// What its register is asked, and answers.
+/// What its register is asked, and its answers.
 const BRITAIN: &str = r#"
 > {"op":"read","reader":1,"code":"GB","year":1731,"month":2,"day":11}
 < {"answer":{"days":[{"day":632287,"dual":"11 February 1731/2","gregorian":"1732-02-22",
@@ -136,7 +136,7 @@ fn apply(alloc: Global, register: &mut Register, line: &str) -> Result<(), Fail>
     Ok(register.apply_if_lawful(&edit)?)
 }
 
-/// A copy of a register, to which an edit is applied.
+/// Returns a copy of a register, to which an edit is applied.
 fn changed_copy(alloc: Global, register: &Register, line: &str) -> Result<Register, Fail> {
     let mut copied = register.copy()?;
     apply(alloc, &mut copied, line)?;
@@ -168,7 +168,7 @@ fn a_changed_copy_is_apart_from_its_source(rt: HostRuntime) -> Result<(), Fail> 
     has_copy_apart(&rt, rt.alloc(), &register)
 }
 
-/// Edits in turn, and what they are refused by.
+/// Edits in turn, and the refusal of each.
 const APPLIED: [(&str, Result<(), Refusal>); 14] = [
     (
         r#"{"op":"add_land","code":"GB","name":"Great Britain","calendar":"julian",
@@ -230,7 +230,7 @@ const APPLIED: [(&str, Result<(), Refusal>); 14] = [
     ),
 ];
 
-/// What `check` and `apply` answer, where they agree.
+/// Returns what `check` and `apply` return, if they agree.
 fn applied(register: &mut Register, edit: &Edit) -> Result<Result<(), Refusal>, Fail> {
     let checked = register.check(edit);
     let answer = register.apply(edit);
@@ -240,7 +240,7 @@ fn applied(register: &mut Register, edit: &Edit) -> Result<Result<(), Refusal>, 
     Ok(answer)
 }
 
-/// The same by `check` and then `admit`.
+/// Returns the same of `check` and then `admit`.
 fn admitted(register: &mut Register, edit: &Edit) -> Result<Result<(), Refusal>, Fail> {
     match register.check(edit) {
         Ok(()) => Ok(Ok(register.admit(edit)?)),
@@ -248,7 +248,7 @@ fn admitted(register: &mut Register, edit: &Edit) -> Result<Result<(), Refusal>,
     }
 }
 
-/// Either, of the edit of a line.
+/// Returns either result, for the edit of a line.
 fn answer_to(
     alloc: Global,
     register: &mut Register,
@@ -263,7 +263,7 @@ fn answer_to(
     }
 }
 
-/// Checks that a register answers some edits so, by `apply`, or by `admit`.
+/// Checks the results of a register for some edits, by `apply`, or by `admit`.
 fn takes(
     rt: &impl Abort,
     alloc: Global,
@@ -278,7 +278,7 @@ fn takes(
     Ok(())
 }
 
-/// The register of edits that are answered so.
+/// Returns the register of edits with these results.
 fn made(
     rt: &impl Abort,
     alloc: Global,

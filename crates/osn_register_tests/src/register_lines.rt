@@ -7,7 +7,7 @@ use osn_test_texts::joined;
 use std::alloc::{AllocError, Global};
 use std::test::Fail;
 
-/// The edit of a line.
+/// Returns the edit of a line.
 pub fn edit_of(alloc: Global, line: &str) -> Result<Edit, Fail> {
     match read_request(alloc, 1, line.as_bytes())? {
         Request::Stage(edit) => Ok(edit),
@@ -15,7 +15,7 @@ pub fn edit_of(alloc: Global, line: &str) -> Result<Edit, Fail> {
     }
 }
 
-/// The query of a line.
+/// Returns the query of a line.
 pub fn query_of(alloc: Global, line: &str) -> Result<Query, Fail> {
     match read_request(alloc, 1, line.as_bytes())? {
         Request::Ask { query, .. } => Ok(query),
@@ -23,12 +23,12 @@ pub fn query_of(alloc: Global, line: &str) -> Result<Query, Fail> {
     }
 }
 
-/// The line of a reply that the first reader is told.
+/// Returns the line of a reply to the first reader.
 pub fn first_reply_text(alloc: Global, reply: Reply) -> Result<String, AllocError> {
     reply_text(alloc, &Outcome::Replied { reader: 1, reply })
 }
 
-/// A copy of an edit, which itself goes.
+/// Returns a copy of an edit, and drops the edit.
 fn copy_of(edit: Edit) -> Result<Edit, AllocError> {
     edit.copy()
 }
@@ -38,7 +38,7 @@ fn push_edit(alloc: Global, edits: &mut Vec<Edit>, line: &str) -> Result<(), Fai
     Ok(edits.push(copy_of(edit_of(alloc, line)?)?)?)
 }
 
-/// Copies of the edits of lines.
+/// Returns copies of the edits of lines.
 fn edits_of(alloc: Global, lines: &str) -> Result<Vec<Edit>, Fail> {
     let mut edits = Vec::new(alloc);
     for line in lines.lines() {
@@ -47,7 +47,7 @@ fn edits_of(alloc: Global, lines: &str) -> Result<Vec<Edit>, Fail> {
     Ok(edits)
 }
 
-/// The register of edits, each on a line.
+/// Returns the register of edits, each on a line.
 pub fn folded(alloc: Global, lines: &str) -> Result<Register, Fail> {
     let edits = edits_of(alloc, joined(alloc, lines)?.as_str())?;
     Ok(Register::fold(alloc, Limits::standard(), &edits)?)

@@ -26,20 +26,20 @@ const AGAIN: &str = r#"{"step":"look","op":"lands","reader":1}
 {"step":"leave","reader":1}
 "#;
 
-/// The steps of a schedule, whose readers may be any.
+/// Returns the steps of a schedule, whose readers may be any.
 fn steps_of(alloc: Global, schedule: &str) -> Result<Vec<Step>, Fail> {
     let mut source = Plain::new(schedule.as_bytes());
     Ok(read_schedule(alloc, MOST_READERS, &mut source)?)
 }
 
-/// The line that a reader of a register is told of its territories.
+/// Returns the line of a register's reply to a reader about its territories.
 fn lands_of(alloc: Global, register: &Register) -> Result<String, Fail> {
     let answer = register.answer(&Query::Lands)?;
     let reply = Reply { edition: 0, answer };
     Ok(reply_text(alloc, &Outcome::Replied { reader: 1, reply })?)
 }
 
-/// What the two sides show of the territories after this many steps.
+/// Checks what the two sides show of the territories after this many steps.
 fn sides(
     rt: &impl Abort,
     alloc: Global,
@@ -79,7 +79,7 @@ fn the_two_sides_show_their_editions(rt: HostRuntime) -> Result<(), Fail> {
     sides(&rt, alloc, &steps, steps.len(), (ONE, ONE))
 }
 
-/// Whether a look of the reader moves, in a core of as many readers as there may be.
+/// Returns whether a look of the reader moves, in a core of as many readers as there may be.
 fn moves(alloc: Global, reader: u32) -> Result<bool, Fail> {
     let mut core = Core::new(alloc, Limits::standard(), MOST_READERS)?;
     let query = Query::Lands;
@@ -87,7 +87,7 @@ fn moves(alloc: Global, reader: u32) -> Result<bool, Fail> {
     Ok(matches!(out, Out::Moved))
 }
 
-/// What a core and a replay of this many readers are refused by.
+/// Returns the refusals of a core and of a replay with this many readers.
 fn refused(alloc: Global, readers: u32) -> (Option<Refusal>, Option<Refusal>) {
     let limits = Limits::standard();
     let made = Core::new(alloc, limits, readers).err();

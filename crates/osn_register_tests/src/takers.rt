@@ -71,7 +71,7 @@ const ENDS: [(&[u8], u32, End, u64); 8] = [
     (b"a\nb\nc", 0, End::Stopped(Why::Read), 0),
 ];
 
-/// How the loop ends, and how many lines it says were taken.
+/// Returns how the loop ends, and how many lines it says were taken.
 fn ended(alloc: Global, taker: &mut Patient, input: &[u8]) -> (End, u64) {
     match take_lines(alloc, taker, &mut Plain::new(input)) {
         Ok(lines) => (End::AtEnd, lines),

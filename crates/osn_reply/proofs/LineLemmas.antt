@@ -1,4 +1,4 @@
--- The text of a line: what stands after the bytes before it, and texts with no escape.
+-- The text of a line, after the bytes before it, and texts without escapes.
 use Rattle.std.proofs.Common.{◌≡◌, ℕ, ℤ, pos, negsuc, zero, suc, ◌-◌, ◌^◌, ◌<◌, ◌≤◌, replicate}
 use Rattle.std.proofs.Common.{List, [], ◌∷◌, ◌++◌, length, drop, Bool, true, false, ◌==◌}
 use Rattle.std.proofs.Common.{if◌then◌else◌, IsUtf8, codes, decimal, refl, ap, sym, subst, ◌∙◌}
@@ -23,7 +23,7 @@ use Rattle.json.proofs.Printed.Strings.{escape_byte_plain}
 use Rattle.osn_reply.specs.ReplyText.{answered_data}
 use Rattle.osn_reply.specs.SourceInside.{source_text}
 
--- bytes that are a text go on after the start
+-- bytes that are a text are appended after the start
 pub goes_on : (start : ℕ) (old new bytes : List ℕ) (ok : Bool) →
     start ≤ length old → IsUtf8 (drop start old) → IsUtf8 bytes →
     new ≡ (if ok then old ++ bytes else old) →
@@ -104,8 +104,8 @@ pub signed_text : (n : ℤ) → signed_decimal n ≡ compact_text (signed n)
 signed_text (pos n) = refl
 signed_text (negsuc n) = refl
 
--- pieces, each a front and what it stands before: one after the other as they are written, and
--- as the text of an object has them, with what ends it
+-- pieces, each a prefix and a value: written one after another, and as in the text of an object
+-- with its end
 abbrev pub pieces_after : List ℕ → List (List ℕ × List ℕ) → List ℕ
 pieces_after old [] = old
 pieces_after old (p ∷ ps) = pieces_after (old ++ (p.0 ++ p.1)) ps
@@ -122,7 +122,7 @@ chain old (p ∷ ps) end =
     ∙ (append_assoc old (p.0 ++ p.1) (joined ps end)
     ∙ ap (λ l. old ++ l) (append_assoc p.0 p.1 (joined ps end)))
 
--- a source that was written before further members
+-- a source that was written before other members
 pub source_before : (source : Option (List ℕ)) (rest : Members) →
     source_text source ++ members_text true rest ≡ members_text true (source_member source rest)
 unfolding escape_byte

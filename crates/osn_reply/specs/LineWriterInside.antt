@@ -10,7 +10,7 @@ pub record Line : Type 0 where
 abbrev pub line_in : Inside → Line
 line_in w = record { before = take w.start w.bytes.items; text = drop w.start w.bytes.items }
 
--- the text stands after the bytes before it, and is UTF-8
+-- the text follows the bytes before it, and is UTF-8
 pub record IsLine (w : Inside) : Type 0 where
   pub within : w.start ≤ length w.bytes.items
   pub utf8 : IsUtf8 (drop w.start w.bytes.items)

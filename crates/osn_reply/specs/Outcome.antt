@@ -5,7 +5,7 @@ use Rattle.osn_reply.specs.declared.outcome.Outcome.{Outcome}
 use Rattle.osn_reply.specs.declared.outcome.Outcome.TheVariants.{Staged, Published, Refused, Fault}
 use Rattle.osn_reply.specs.declared.outcome.Outcome.TheVariants.{Replied}
 
--- a reply tells a refusal, or the fault of its line
+-- a reply is a refusal, or the fault of its line
 abbrev pub is_refused : Outcome → Bool
 is_refused (Staged pending) = false
 is_refused (Published edition) = false

@@ -1,5 +1,5 @@
 -- The JSON value of each outcome, and the line that is its text: this project's profile. The
--- members of an object stand in ascending order of their names.
+-- members of an object are in ascending order of their names.
 use Rattle.std.specs.Prelude.{ℕ, Bool, List, [], ◌∷◌, ◌++◌, map, codes, Option, Some, None}
 use Rattle.serde_json.specs.Data.{Data, null, boolean, string, object, member, no_members}
 use Rattle.serde_json.specs.Written.{compact_text}
@@ -123,7 +123,7 @@ abbrev pub periods_data : List PeriodAndSource → Data
 periods_data periods =
     object (member (codes "periods") (list_data (map period_data periods)) no_members)
 
--- a value, or null where no value is given
+-- a value, or null if no value is given
 abbrev pub option_data : {A : Type 0} → (A → Data) → Option A → Data
 option_data json_value None = null
 option_data json_value (Some x) = json_value x
@@ -168,7 +168,7 @@ answered_data reader edition answer = object (
     (member (codes "reader") (whole reader)
     no_members)))
 
--- what a reader is told under an edition
+-- the reply to a reader under an edition
 abbrev pub replied_data : ℕ → ℕ → Answer → Data
 replied_data reader edition (answers.Reading found skipped) =
     answered_data reader edition (reading_data found skipped)
@@ -222,7 +222,7 @@ outcome_data (Refused f) = refused_data (refusal_number f) (refusal_name f)
 outcome_data (Fault f) = fault_data f
 outcome_data (Replied reader reply) = replied_data reader reply.edition reply.answer
 
--- the line of a value: its text with no space, and a line feed
+-- the line of a value: its text without spaces, and a line feed
 abbrev pub line_of : Data → List ℕ
 line_of d = compact_text d ++ 10 ∷ []
 

@@ -2,7 +2,7 @@
 use Rattle.std.specs.Prelude.{ℕ, List, [], ◌++◌, codes, Option, Some, None}
 use Rattle.json.specs.Print.{quoted}
 
--- the text of the member that it is, or none where none is given
+-- the text of a source's member, empty without a source
 abbrev pub source_text : Option (List ℕ) → List ℕ
 source_text None = []
 source_text (Some source) = codes ",\"source\":" ++ quoted source

@@ -1,4 +1,4 @@
--- The line of a transcript: what a reader asked, and the reply. The members of an object stand in
+-- The line of a transcript: what a reader asked, and the reply. The members of an object are in
 -- ascending order of their names. This project's profile.
 use Rattle.std.specs.Prelude.{ℕ, List, codes, Option, Some, None}
 use Rattle.serde_json.specs.Data.{Data, string, object, member, no_members}

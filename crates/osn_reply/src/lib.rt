@@ -1,6 +1,6 @@
-//! The reply lines of the service, and the lines of a step's out and of a transcript. What the
-//! crate promises to those above: a line is the compact text of the definition's JSON value, with a
-//! line feed. The compact text of a reply is given alone as well.
+//! The reply lines of the service, and the lines of a step's out and of a transcript. The crate
+//! guarantees that a line is the compact text of the definition's JSON value, with a line feed. The
+//! compact text of a reply is also given alone.
 #![tactic(auto)]
 
 mod line_writer;

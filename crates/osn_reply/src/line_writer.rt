@@ -1,4 +1,4 @@
-//! The text of a line that is being written, after what its vector holds.
+//! The text of a line that is being written, after the bytes of its vector.
 ghost use Rattle.std.specs.Prelude.{◌≡◌, [], ◌∷◌, ◌++◌, decimal};
 ghost use Rattle.std.specs.Prelude.{IfOk, OnOk, IsUtf8};
 ghost use Rattle.std.specs.List.{list_all};
@@ -12,7 +12,7 @@ use json::Writer;
 use std::alloc::{AllocError, Global};
 use std::marker::Model;
 
-/// A text that is written piece by piece after the bytes of a vector, which stay what they are.
+/// A text that is written piece by piece after the bytes of a vector, which do not change.
 #[derive(Drop)]
 pub(crate) struct LineWriter {
     alloc: Global,
@@ -31,7 +31,7 @@ impl Model for LineWriter {
 }
 
 impl LineWriter {
-    /// No text yet, after these bytes.
+    /// Returns a writer without text, after these bytes.
     pub(crate) fn new(alloc: Global, bytes: Vec<u8>) -> LineWriter
         ensures before { result.before ≡ bytes.items }
         ensures text { result.text ≡ [] }
@@ -44,7 +44,7 @@ impl LineWriter {
         }
     }
 
-    /// The bytes with the text after them.
+    /// Returns the bytes with the text after them.
     pub(crate) fn into_bytes(self) -> Vec<u8>
         ensures items { result.items ≡ self.before ++ self.text }
         ensures utf8 { IsUtf8 self.text }
@@ -52,7 +52,7 @@ impl LineWriter {
         self.bytes
     }
 
-    /// The bytes without the text.
+    /// Returns the bytes without the text.
     pub(crate) fn into_before(self) -> Vec<u8>
         ensures { result.items ≡ self.before }
     {
@@ -65,7 +65,7 @@ impl LineWriter {
         bytes
     }
 
-    /// Where the memory comes from.
+    /// Returns the allocator.
     pub(crate) fn alloc(&self) -> Global {
         self.alloc
     }
@@ -87,7 +87,7 @@ impl LineWriter {
         self.push_bytes(text.as_bytes())
     }
 
-    /// Writes what stands before a number, and the number.
+    /// Writes `front` and a number.
     pub(crate) fn push_number(&mut self, front: &str, number: u32) -> Result<(), AllocError>
         ensures text { OnOk result
             (self.new.text ≡ self.old.text ++ (front.now ++ decimal number)) }
@@ -98,7 +98,7 @@ impl LineWriter {
         self.push(buffer.format(number))
     }
 
-    /// Writes what stands before a number that may be negative, and the number.
+    /// Writes `front` and a number that may be negative.
     pub(crate) fn push_signed(&mut self, front: &str, number: i64) -> Result<(), AllocError>
         ensures text { OnOk result
             (self.new.text ≡ self.old.text ++ (front.now ++ compact_text (signed number))) }
@@ -109,7 +109,7 @@ impl LineWriter {
         self.push(buffer.format(number))
     }
 
-    /// Writes what stands before a text, and the text as JSON has it.
+    /// Writes `front` and a text as a JSON string.
     pub(crate) fn push_text(&mut self, front: &str, text: &str) -> Result<(), AllocError>
         ensures text { OnOk result
             (self.new.text ≡ self.old.text ++ (front.now ++ quoted text.now)) }
@@ -154,7 +154,7 @@ impl LineWriter {
     }
 }
 
-/// A text as JSON has it, with its escapes and its quotation marks.
+/// Returns a text as a JSON string, with its escapes and its quotation marks.
 fn quoted_bytes(alloc: Global, text: &str) -> Result<Vec<u8>, AllocError>
     ensures { IfOk result (λ bytes. bytes.items ≡ quoted text.now) }
 {
@@ -163,7 +163,7 @@ fn quoted_bytes(alloc: Global, text: &str) -> Result<Vec<u8>, AllocError>
     Ok(writer.into_inner())
 }
 
-/// Whether no byte of a text needs an escape.
+/// Returns whether no byte of a text needs an escape.
 fn is_plain_text(text: &[u8]) -> bool
     ensures { result ≡ list_all is_plain text.now }
 {

@@ -15,14 +15,14 @@ pub enum Outcome {
     Published(u32),
     /// The edit or the publish was refused.
     Refused(Refusal),
-    /// The line is no request.
+    /// The line is not a request.
     Fault(WireFault),
-    /// The query of this reader was told this.
+    /// The reply to this reader's query.
     Replied { reader: u32, reply: Reply },
 }
 
 impl Outcome {
-    /// Whether the reply tells a refusal, or the fault of its line.
+    /// Returns whether the reply is a refusal, or the fault of its line.
     pub fn is_refused(&self) -> bool
         ensures { result ≡ spec.is_refused self.now }
     {

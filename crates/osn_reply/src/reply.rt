@@ -102,7 +102,7 @@ fn write_line<J: WriteJson>(out: &mut LineWriter, value: &J) -> Result<(), Alloc
     out.push("\n")
 }
 
-/// A value's line as a text.
+/// Returns a value's line as a text.
 fn line_text<J: WriteJson>(alloc: Global, value: &J) -> Result<String, AllocError>
     ensures { IfOk result (λ s. string_bytes s ≡ line_of (J.json_value value.now)) }
 {
@@ -111,10 +111,10 @@ fn line_text<J: WriteJson>(alloc: Global, value: &J) -> Result<String, AllocErro
     Ok(unsafe { String::from_utf8_unchecked(out.into_bytes()) })
 }
 
-/// The reply line of an outcome, with its line feed.
+/// Returns the reply line of an outcome, with its line feed.
 ///
 /// # Errors
-/// Want of memory, and nothing else.
+/// Returns `AllocError` if memory runs out.
 #[tactic(auto, unfolding(crate::specs::ReplyText::reply_line))]
 pub fn reply_text(alloc: Global, outcome: &Outcome) -> Result<String, AllocError>
     ensures { IfOk result (λ s. string_bytes s ≡ reply_line outcome.now) }
@@ -122,10 +122,10 @@ pub fn reply_text(alloc: Global, outcome: &Outcome) -> Result<String, AllocError
     line_text(alloc, outcome)
 }
 
-/// The line of what a step of the core gave, with its line feed.
+/// Returns the line of what a step of the core gave, with its line feed.
 ///
 /// # Errors
-/// Want of memory, and nothing else.
+/// Returns `AllocError` if memory runs out.
 #[tactic(auto, unfolding(crate::specs::OutText::out_line))]
 pub fn out_text(alloc: Global, out: &Out) -> Result<String, AllocError>
     ensures { IfOk result (λ s. string_bytes s ≡ out_line out.now) }
@@ -133,10 +133,11 @@ pub fn out_text(alloc: Global, out: &Out) -> Result<String, AllocError>
     line_text(alloc, out)
 }
 
-/// The line of a transcript, with its line feed: the query of a reader, and the reply to it.
+/// Returns the line of a transcript, with its line feed: the query of a reader, and the reply to
+/// it.
 ///
 /// # Errors
-/// Want of memory, and nothing else.
+/// Returns `AllocError` if memory runs out.
 #[tactic(auto, unfolding(crate::specs::Transcript::transcript_line))]
 pub fn transcript_text(
     alloc: Global,
@@ -155,10 +156,10 @@ pub fn transcript_text(
     line_text(alloc, &asked)
 }
 
-/// Appends the reply line of an outcome, or leaves what is there as it was.
+/// Appends the reply line of an outcome, or leaves the bytes as they were.
 ///
 /// # Errors
-/// Want of memory, and nothing else.
+/// Returns `AllocError` if memory runs out.
 #[tactic(auto, unfolding(crate::specs::ReplyText::reply_line))]
 pub fn push_reply(alloc: Global, outcome: &Outcome, out: &mut Vec<u8>) -> Result<(), AllocError>
     ensures ok { OnOk result (out.new.items ≡ out.old.items ++ reply_line outcome.now) }

@@ -17,7 +17,7 @@ use Rattle.osn_report.specs.declared.fault.CommandFault.TheVariants.{Desk, NotOp
 use Rattle.osn_report.specs.declared.status.Status.{Status}
 use Rattle.osn_report.specs.declared.status.Status.TheVariants as statuses
 
--- a refusal was told by its line, or as want of memory for that
+-- a refusal was reported by its line, or as NoMemory if there was no memory for the line
 pub tells_refusal : (e : Output) (fault : CommandFault) (line : List ℕ) (status : Status)
     → fault_status fault ≡ statuses.Refused → line ≡ fault_line fault
     → TellsIfMade e statuses.Refused line status → Tells e fault status
@@ -34,7 +34,7 @@ pub tells_by : (e : Output) (fault other : CommandFault) (status : Status)
     → fault ≡ other → EndsBy e other status → Tells e fault status
 tells_by e fault other status is h = inl (subst (λ f. EndsBy e f status) (sym is) h)
 
--- a refusal other than want of memory is told by its number and name, and by how more is allowed
+-- a refusal other than NoMemory is reported by its number and name, and by how more is allowed
 pub other_status : (refusal : Refusal) → (refusal ≡ refusals.NoMemory → ⊥)
     → fault_status (Refused refusal) ≡ statuses.Refused
 other_status refusals.NoMemory other = absurd (other refl)
@@ -57,14 +57,14 @@ pub desk_told : (fault : DeskFault) (n : ℕ) (s : List ℕ) → (fault ≡ desk
 desk_told desk_faults.NoMemory n s other e k = absurd (other refl)
 desk_told fault n s other e k = rw (e, k) refl
 
--- any fault but that of a file that could not be opened was told so
+-- any fault except that of a file that could not be opened was reported so
 pub told_explained : (path : List ℕ) (e : Output) (fault : CommandFault) (status : Status)
     → ((cause : OpenFailed) → fault ≡ NotOpened cause → ⊥) → TellsExplained path e fault status
     → TellsAt path e fault status
 told_explained path e (NotOpened cause) status other h = absurd (other cause refl)
 told_explained path e fault status other h = h
 
--- a text that was not made was not told
+-- a text that was not made was not written
 pub told_none : (e : Output) (wanted : Option (List ℕ)) → TellsNothing e → TellsMore e wanted
 told_none e None h = h
 told_none e (Some text) h = inr h

@@ -37,7 +37,7 @@ note path said = codes "note: " ++ (shown path ++ (codes ": " ++ (said ++ codes 
 
 -- ---- a bad line of a journal
 
--- what is no journal, and how one begins
+-- that a file is not a journal, and how one begins
 abbrev pub head_text : List ℕ → List ℕ
 head_text path = codes "help: "
     ++ (shown path ++ codes
@@ -49,8 +49,8 @@ torn_text line path = codes "help: if line "
     ++ (decimal line ++ (codes " is the last, a stop left it unfinished: oldstyle serve --keep "
     ++ (shown path ++ codes " < /dev/null cuts it off\n")))
 
--- the help with the first line, where it is no head of a journal, and with a later one, where it is
--- no text of JSON
+-- the help with the first line, if it is not the head of a journal, and with a later one, if it is
+-- not JSON
 abbrev pub head_help : List ℕ → WireFault → Option (List ℕ)
 head_help path LineTooLong = Some (head_text path)
 head_help path NotJson = Some (head_text path)

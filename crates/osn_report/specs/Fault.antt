@@ -1,5 +1,5 @@
--- The status with which a command ends by a fault, and the line that standard error is told. This
--- project's profile.
+-- The status with which a command ends by a fault, and the line that is written to standard error.
+-- This project's profile.
 use Rattle.std.specs.Prelude.{ℕ, List, ◌++◌, codes}
 use Rattle.std.specs.Fmt.{decimal}
 use Rattle.osn_folder.specs.declared.fault.FollowFault.{FollowFault}
@@ -34,7 +34,7 @@ use Rattle.osn_report.specs.declared.status.Status.{Status}
 use Rattle.osn_report.specs.declared.status.Status.TheVariants.{Refused, Misused, ReadFault}
 use Rattle.osn_report.specs.declared.status.Status.TheVariants.{WriteFault, NoMemory}
 
--- the fault of a file that was to be read whole
+-- the fault of a file that must be read whole
 abbrev pub by_read : ReadAllFault → CommandFault
 by_read read_faults.NoMemory = faults.NoMemory
 by_read read_faults.ReadFault = faults.File file_faults.ReadFault
@@ -139,7 +139,7 @@ abbrev pub numbered_line : Refusal → List ℕ
 numbered_line refusal =
     codes "oldstyle: " ++ refusal_end (refusal_number refusal) (refusal_name refusal)
 
--- the same, and how more is allowed where that is at a limit
+-- the same, and how more is allowed if the refusal is at a limit
 abbrev pub hinted_line : Refusal → List ℕ
 hinted_line refusal = codes "oldstyle: "
     ++ refusal_end (refusal_number refusal) (refusal_name refusal ++ limit_hint refusal)

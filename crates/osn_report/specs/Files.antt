@@ -9,14 +9,14 @@ use Rattle.osn_files.specs.declared.fault.FileFault.{FileFault}
 use Rattle.osn_files.specs.declared.fault.LineFault.{LineFault}
 use Rattle.osn_files.specs.declared.fault.Role.{Role}
 
--- what the rule makes of the file, where its bytes are known
+-- what the rule makes of the file, if its bytes are known
 abbrev pub Makes : {S : Type 0} → (List (List ℕ) → Result S (ℕ × LineFault)) → Option (List ℕ) → S
     → Type 0
 Makes rule bytes s = IfSome bytes (λ input. rule (lines input) ≡ Ok s)
 
 -- why the rule makes nothing of the file of this role: its first fault, by the number of the line.
--- Or a read failed, where it refuses no line that had ended. Or memory ran out, where it refuses
--- none that had ended before the last read
+-- Or a read failed, and the rule refuses no line that had ended. Or memory ran out, and the rule
+-- refuses no line that had ended before the last read
 abbrev pub IsFileFault : {S : Type 0} → Role → (List (List ℕ) → Result S (ℕ × LineFault)) → Input
     → FileFault → Type 0
 IsFileFault role rule file fault =

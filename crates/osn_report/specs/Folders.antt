@@ -12,7 +12,7 @@ pub record Folders : Type 0 where
 abbrev pub folders_of : {D : Type 0} → (D → Option Known) → D → D → Folders
 folders_of known old new = record { before = known old; after = known new }
 
--- a file of this path gave the bytes that were read, and a read of it failed only where one of its
+-- a file of this path gave the bytes that were read, and a read of it failed only if one of its
 -- kind can
 abbrev pub IsReadOf : Folders → List ℕ → (Bool → Type 0) → Input → Type 0
 IsReadOf d path CanFail file = IsFileOf d.before path file.bytes × CanFail file.unread

@@ -1,5 +1,4 @@
--- What to do where something is refused, for which standard error has a hint. This project's
--- profile.
+-- What to do if something is refused, for which standard error has a hint. This project's profile.
 use Rattle.std.specs.Prelude.{ℕ, List, [], codes}
 use Rattle.osn_register.specs.declared.refusal.Refusal.{Refusal}
 use Rattle.osn_register.specs.declared.refusal.Refusal.TheVariants.{TooManyLands, TooManyChanges}

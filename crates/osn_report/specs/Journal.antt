@@ -17,7 +17,7 @@ MakesObject limits = Makes (load newest_rules limits)
 abbrev pub MakesNoObject : Limits → Input → FileFault → Type 0
 MakesNoObject limits = IsFileFault Journal (load newest_rules limits)
 
--- the object to begin with: that of the journal, where there is one, or else an empty one
+-- the object to begin with: that of the journal, if there is one, or else an empty one
 abbrev pub Begins : Limits → Option Input → ObjectState → Type 0
 Begins limits None s = s ≡ opened limits
 Begins limits (Some journal) s = MakesObject limits journal.bytes s

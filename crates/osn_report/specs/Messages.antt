@@ -1,4 +1,4 @@
--- The messages to standard error, and the status that goes with each.
+-- The messages to standard error, and the status of each.
 use Rattle.std.specs.Prelude.{◌≡◌, ◌≢◌, ◌⊎◌, ℕ, Bool, List, Option, Some, None, codes}
 use Rattle.std.specs.declared.io.ErrorKind.{ErrorKind}
 use Rattle.std.specs.declared.io.ErrorKind.TheVariants.{OutOfMemory}
@@ -20,31 +20,31 @@ use Rattle.osn_report.specs.declared.status.Status.TheVariants as statuses
 abbrev pub WritesLine : Output → List ℕ → Type 0
 WritesLine e line = Appends e.old e.new line ⊎ WriteFails e.unwritten_before e.unwritten line
 
--- a line was told, with the status that goes with it
+-- a line was written, with the status that belongs to it
 abbrev pub TellsLine : Output → Status → List ℕ → Status → Type 0
 TellsLine e given line status = (status ≡ given) × WritesLine e line
 
--- standard error was told this fault, and this is its status
+-- this fault was reported on standard error, and this is its status
 abbrev pub EndsBy : Output → CommandFault → Status → Type 0
 EndsBy e fault status = TellsLine e (fault_status fault) (fault_line fault) status
 
--- a line was told that takes memory; or that there was none for it
+-- a line that takes memory was written, or it was reported that there was no memory for it
 abbrev pub TellsIfMade : Output → Status → List ℕ → Status → Type 0
 TellsIfMade e given line status = TellsLine e given line status ⊎ EndsBy e NoMemory status
 
--- standard error was told why a command ended early: this fault, or of a refusal, whose line takes
--- memory, that there was none for it
+-- it was reported why a command ended early: by the line of this fault, or, for a refusal, whose
+-- line takes memory, that there was no memory for the line
 abbrev pub Tells : Output → CommandFault → Status → Type 0
 Tells e fault status =
     EndsBy e fault status ⊎ ((fault_status fault ≡ Refused) × EndsBy e NoMemory status)
 
--- standard error was told nothing
+-- nothing was written to standard error
 abbrev pub TellsNothing : Output → Type 0
 TellsNothing e = (e.new ≡ e.old) × (e.unwritten ≡ e.unwritten_before)
 
--- ---- what was told in two parts
+-- ---- what was written in two parts
 
--- the first of two parts of what was told, and the second
+-- the first of two parts of what was written, and the second
 abbrev pub first_output : Output → Option (List ℕ) → Bool → Bool → Output
 first_output e between failed held = record {
   old = e.old;
@@ -63,12 +63,12 @@ later_output e between failed = record {
   holds_back = e.holds_back;
 }
 
--- a text was told, if there is one and there was memory for it
+-- a text was written, if there is one and there was memory for it
 abbrev pub TellsMore : Output → Option (List ℕ) → Type 0
 TellsMore e None = TellsNothing e
 TellsMore e (Some text) = WritesLine e text ⊎ TellsNothing e
 
--- Standard error was told this fault of the file of a path, and then what explains it.
+-- This fault of the file of a path was reported, and then what explains it.
 pub record TellsExplained (path : List ℕ) (e : Output) (fault : CommandFault) (status : Status)
     : Type 0 where
   pub between : Option (List ℕ)
@@ -77,7 +77,7 @@ pub record TellsExplained (path : List ℕ) (e : Output) (fault : CommandFault) 
   pub tells : Tells (first_output e between failed held_back) fault status
   pub explains : TellsMore (later_output e between failed) (explained path fault)
 
--- that, or of a file that could not be opened its path and why, in one line
+-- that, or for a file that could not be opened, its path and why, in one line
 abbrev pub TellsAt : List ℕ → Output → CommandFault → Status → Type 0
 TellsAt path e (NotOpened cause) status =
     TellsIfMade e statuses.ReadFault (unopened_line path cause) status
@@ -85,16 +85,16 @@ TellsAt path e fault status = TellsExplained path e fault status
 
 -- ---- how a command ended
 
--- a command ended by this fault, which was told, or did all that it was to do, and told nothing
+-- a command ended by this fault, which was reported, or did all its work and wrote nothing
 abbrev pub Ends : Output → Option CommandFault → Status → Type 0
 Ends e None status = (status ≡ Done) × TellsNothing e
 Ends e (Some fault) status = Tells e fault status
 
--- it was told of a word, as it was typed, what its place asks for
+-- it was reported what the place of an argument asks for, with the argument as it was typed
 abbrev pub TellsMisuse : Output → Misuse → List ℕ → Status → Type 0
 TellsMisuse e misuse typed status = TellsIfMade e Misused (misuse_line misuse typed) status
 
--- standard error was told why the words of the command line could not be had, by the kind of error
+-- it was reported why the arguments could not be read, by the kind of error
 abbrev pub TellsNoWords : Output → ErrorKind → Status → Type 0
 TellsNoWords e kind status =
     ((kind ≡ OutOfMemory) × EndsBy e NoMemory status)

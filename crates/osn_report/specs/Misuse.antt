@@ -1,5 +1,4 @@
--- What a word of the command line is told that is not what its place asks for. This project's
--- profile.
+-- What is printed about an argument that is not what its place asks for. This project's profile.
 use Rattle.std.specs.Prelude.{ℕ, List, ◌++◌, codes}
 use Rattle.std.specs.Fmt.{decimal}
 use Rattle.osn_days.specs.CalendarWords.{calendar_word}

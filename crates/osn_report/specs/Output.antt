@@ -1,5 +1,4 @@
--- Why a write of standard output failed, and how standard error is told of it. This project's
--- profile.
+-- Why a write of standard output failed, and how that is reported. This project's profile.
 use Rattle.std.specs.Prelude.{◌≡◌, ℕ, List, Option, Some, None, codes, unwrap_or}
 use Rattle.std.specs.declared.io.ErrorKind.{ErrorKind}
 use Rattle.std.specs.declared.io.ErrorKind.TheVariants.{BrokenPipe, StorageFull, QuotaExceeded}
@@ -26,7 +25,7 @@ cause_of_kind StorageFull = NoSpace
 cause_of_kind QuotaExceeded = NoSpace
 cause_of_kind kind = Other
 
--- a text could not be printed: standard error was told why, except where nobody reads it any more
+-- a text could not be printed: it was reported why, unless the other end of the pipe is closed
 abbrev pub EndsUnwritten : WriteCause → streams.Output → Status → Type 0
 EndsUnwritten Closed e status = (status ≡ statuses.Done) × TellsNothing e
 EndsUnwritten NoSpace e status = TellsLine e statuses.WriteFault
@@ -34,7 +33,7 @@ EndsUnwritten NoSpace e status = TellsLine e statuses.WriteFault
 EndsUnwritten Other e status = TellsLine e statuses.WriteFault
     (codes "oldstyle: standard output: write fault\n") status
 
--- standard error was told the cause of a write fault that it was told before, where one is known
+-- the cause of a write fault that was reported before, if it is known
 abbrev pub NotesCause : Option WriteCause → streams.Output → Status → Type 0
 NotesCause (Some Closed) e status = TellsLine e statuses.WriteFault
     (codes "note: standard output: nobody reads it any more\n") status
@@ -43,7 +42,7 @@ NotesCause (Some NoSpace) e status = TellsLine e statuses.WriteFault
 NotesCause (Some Other) e status = (status ≡ statuses.WriteFault) × TellsNothing e
 NotesCause None e status = (status ≡ statuses.WriteFault) × TellsNothing e
 
--- how a command ends by its status, where standard output failed by a cause, if by any
+-- how a command with this status ends, given why standard output failed, if it did
 abbrev pub EndsOutput : Status → Option WriteCause → streams.Output → Status → Type 0
 EndsOutput statuses.Unwritten cause e status = EndsUnwritten (unwrap_or cause Other) e status
 EndsOutput statuses.WriteFault cause e status = NotesCause cause e status

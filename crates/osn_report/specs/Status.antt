@@ -1,4 +1,4 @@
--- The numbers by which the program tells the shell how it ended: this project's profile.
+-- The status numbers of the program: this project's profile.
 use Rattle.std.specs.Prelude.{ℕ}
 use Rattle.osn_report.specs.declared.status.Status.{Status}
 use Rattle.osn_report.specs.declared.status.Status.TheVariants.{Done, Refused, Misused}

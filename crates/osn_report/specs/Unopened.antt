@@ -1,4 +1,4 @@
--- What is told of a file that could not be opened. This project's profile.
+-- What is printed about a file that could not be opened. This project's profile.
 use Rattle.std.specs.Prelude.{ℕ, List, ◌++◌, codes}
 use Rattle.osn_folder.specs.declared.fault.OpenFailed.{OpenFailed}
 use Rattle.osn_folder.specs.declared.fault.OpenFailed.TheVariants.{NotFound, PermissionDenied}

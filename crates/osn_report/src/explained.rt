@@ -1,5 +1,5 @@
-//! How standard error is told why a command ended early at a file: by the line of the fault, and by
-//! one that explains it with the path of the file.
+//! Reports why a command ended early at a file: the line of the fault, and one that explains it
+//! with the path of the file.
 ghost use Rattle.std.specs.Prelude.{◌≡◌, ℕ, List, Option, Some, IfOk, option_map, string_bytes};
 ghost use Rattle.osn_lines.specs.Streams.{output_of};
 ghost use Rattle.osn_report.specs.Explained as spec;
@@ -16,7 +16,7 @@ use osn_lines::Sink;
 use osn_shown::Shown;
 use std::alloc::{AllocError, Global};
 
-/// Why a file could not be made or changed.
+/// Returns the text on why a file could not be made or changed.
 fn change_text(cause: ChangeCause) -> &'static str
     ensures { result.now ≡ spec.change_text cause }
 {
@@ -28,7 +28,7 @@ fn change_text(cause: ChangeCause) -> &'static str
     }
 }
 
-/// The note that says this of the file of a path.
+/// Returns the note that says this of the file of a path.
 fn note(alloc: Global, path: &str, said: &str) -> Result<Option<String>, AllocError>
     ensures { IfOk result (λ text.
         option_map string_bytes text ≡ Some (spec.note path.now said.now)) }
@@ -36,7 +36,7 @@ fn note(alloc: Global, path: &str, said: &str) -> Result<Option<String>, AllocEr
     Ok(Some(format!(in alloc; "note: {}: {said}\n", Shown(path))?))
 }
 
-/// What is no journal, and how one begins.
+/// Returns the text that a file is not a journal, and how one begins.
 fn head_text(alloc: Global, path: &str) -> Result<String, AllocError>
     ensures { IfOk result (λ text. string_bytes text ≡ spec.head_text path.now) }
 {
@@ -46,7 +46,7 @@ fn head_text(alloc: Global, path: &str) -> Result<String, AllocError>
     )
 }
 
-/// What a stop may have left at the end of a journal, and what cuts it off.
+/// Returns what a stop may have left at the end of a journal, and what cuts it off.
 fn torn_text(alloc: Global, line: u64, path: &str) -> Result<String, AllocError>
     ensures { IfOk result (λ text. string_bytes text ≡ spec.torn_text line path.now) }
 {
@@ -57,7 +57,7 @@ fn torn_text(alloc: Global, line: u64, path: &str) -> Result<String, AllocError>
     )
 }
 
-/// The help with the first line of a journal, where it is no head.
+/// Returns the help with the first line of a journal, if it is not a head.
 fn head_help(alloc: Global, path: &str, fault: WireFault) -> Result<Option<String>, AllocError>
     ensures { IfOk result (λ text.
         option_map string_bytes text ≡ spec.head_help path.now fault) }
@@ -70,7 +70,7 @@ fn head_help(alloc: Global, path: &str, fault: WireFault) -> Result<Option<Strin
     }
 }
 
-/// The help with a later line, where it is no text of JSON.
+/// Returns the help with a later line, if it is not JSON.
 fn torn_help(
     alloc: Global,
     path: &str,
@@ -86,7 +86,7 @@ fn torn_help(
     }
 }
 
-/// The help with a bad line of a journal.
+/// Returns the help with a bad line of a journal.
 fn line_help(
     alloc: Global,
     path: &str,
@@ -106,7 +106,7 @@ fn line_help(
     }
 }
 
-/// The help with a bad line of a file, where it is a journal.
+/// Returns the help with a bad line of a file, if it is a journal.
 fn role_help(
     alloc: Global,
     path: &str,
@@ -176,7 +176,7 @@ fn followed_explained(
     }
 }
 
-/// The line that explains a fault of the file of a path, if one does.
+/// Returns the line that explains a fault of the file of a path, if one does.
 fn explained(alloc: Global, path: &str, fault: &CommandFault) -> Result<Option<String>, AllocError>
     ensures { IfOk result (λ text.
         option_map string_bytes text ≡ spec.explained path.now fault.now) }
@@ -192,7 +192,7 @@ fn explained(alloc: Global, path: &str, fault: &CommandFault) -> Result<Option<S
     }
 }
 
-/// Tells the line that explains a fault, if there is one and there was memory for it.
+/// Writes the line that explains a fault, if there is one and there was memory for it.
 fn tell_more<E: Sink>(errors: &mut E, text: Result<Option<String>, AllocError>)
     // Whatever text it is, if it was made.
     ensures { (wanted : Option (List ℕ)) → IfOk text (λ text. option_map string_bytes text ≡ wanted)
@@ -218,8 +218,8 @@ fn report_explained<E: Sink>(
     status
 }
 
-/// Tells standard error why a command ended early at the file of this path: as `report` does, and
-/// then in a line that explains it, if one does and there is memory for it. Answers the status.
+/// Reports on standard error why a command ended early at the file of this path: as `report` does,
+/// and then in a line that explains it, if one does and there is memory for it. Returns the status.
 pub fn report_at<E: Sink>(alloc: Global, errors: &mut E, path: &str, fault: CommandFault) -> Status
     ensures { TellsAt path.now
         (output_of E.contents E.has_failed E.holds_back errors.old errors.new) fault result }

@@ -29,7 +29,7 @@ impl<'a> From<Unopened<'a>> for Failure<'a> {
     }
 }
 
-/// Whether a file of this role is the second that a command reads.
+/// Returns whether a file of this role is the second that a command reads.
 fn is_second(role: Role) -> bool
     ensures { result ≡ spec.is_second role }
 {
@@ -39,7 +39,7 @@ fn is_second(role: Role) -> bool
     }
 }
 
-/// Whether a fault of two files is one of the second, by whether a read of that failed.
+/// Returns whether a fault of two files is one of the second, by whether a read of that failed.
 fn is_at_second(fault: &FileFault, has_failed: bool) -> bool
     ensures { result ≡ spec.is_at_second fault.now has_failed }
 {
@@ -50,8 +50,8 @@ fn is_at_second(fault: &FileFault, has_failed: bool) -> bool
     }
 }
 
-/// Why a command of two files ended early, by this fault, and at which of them: at the second where
-/// a line of it is bad or a read of it failed, or else at the first.
+/// Returns why a command of two files ended early, by this fault, and at which of them: the second
+/// if a line of it is bad or a read of it failed, or else the first.
 pub fn failure_of_two<'a>(
     fault: CommandFault,
     first: &'a str,

@@ -12,7 +12,7 @@ use osn_register::Refusal;
 use osn_service::ServeFault;
 use std::alloc::AllocError;
 
-/// Why a command ended early. It holds the fault that the command met, as it is.
+/// Why a command ended early. It contains the fault that the command met, as it is.
 #[derive(Debug, Drop)]
 pub enum CommandFault {
     /// A file could not be read, or one of its lines is refused.
@@ -23,22 +23,21 @@ pub enum CommandFault {
     Refused(Refusal),
     /// A desk answered nothing.
     Desk(DeskFault),
-    /// A journal is to be kept, and another one to begin with or to be saved.
+    /// A journal to keep is named, and also one to begin with or to save.
     KeptWithOther,
-    /// A journal is to be saved anew as one that is kept, and none is to be kept.
+    /// An upgrade is asked for, and no journal to keep is named.
     UpgradeWithoutKeep,
     /// A file could not be locked, to be kept or to save a journal to it.
     Keep(KeepFault),
     /// The journal that is kept could not be changed, or is another file now.
     KeptFile(KeptFileFault),
-    /// A journal is to be followed, and another one to begin with, to be kept or to be saved.
+    /// A journal to follow is named, and also one to begin with, to keep or to save.
     FollowedWithOther,
     /// The journal that is followed could not be read, or is another file now.
     FollowedFile(FollowFault),
     /// A journal of this version, which lacks words of an edit, is not kept.
     OlderVersion(Version),
-    /// The line of this number was refused, and was to be the last to be answered. Lines are
-    /// counted from 1.
+    /// The line of this number was refused and ended the service. Lines are counted from 1.
     RefusedLine(u64),
     /// A file could not be opened, which the line says with its path.
     NotOpened(OpenFailed),

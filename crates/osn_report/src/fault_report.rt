@@ -1,4 +1,4 @@
-//! How standard error is told why a command ended early.
+//! Reports on standard error why a command ended early.
 ghost use Rattle.std.specs.Prelude.{◌≡◌, ◌++◌, codes, ℕ, List, IfOk, string_bytes};
 ghost use Rattle.osn_lines.specs.Streams.{output_of};
 ghost use Rattle.osn_report.specs.Fault.{bad_line, hinted_line, older_line, refused_line};
@@ -43,7 +43,7 @@ no further line is answered\n";
 const FOLLOWED_REPLACED: &str = "oldstyle: another file, or none, stands where the journal that is \
 followed was: no further line is answered\n";
 
-/// Writes a line. Where standard error fails too, the status alone tells.
+/// Writes a line. If standard error fails too, only the status reports the fault.
 pub fn write_line<E: Sink>(errors: &mut E, line: &str)
     ensures { WritesLine
         (output_of E.contents E.has_failed E.holds_back errors.old errors.new) line.now }
@@ -51,7 +51,7 @@ pub fn write_line<E: Sink>(errors: &mut E, line: &str)
     let _ = write_all(errors, line.as_bytes());
 }
 
-/// Tells a line that takes no memory, and answers this status.
+/// Writes a line that takes no memory, and returns this status.
 pub(crate) fn tell<E: Sink>(errors: &mut E, status: Status, line: &str) -> Status
     ensures status { result ≡ status }
     ensures line { WritesLine
@@ -61,7 +61,7 @@ pub(crate) fn tell<E: Sink>(errors: &mut E, status: Status, line: &str) -> Statu
     status
 }
 
-/// Tells standard error that memory ran out. Answers the status.
+/// Reports on standard error that memory ran out. Returns the status.
 pub fn tell_no_memory<E: Sink>(errors: &mut E) -> Status
     ensures { EndsBy (output_of E.contents E.has_failed E.holds_back errors.old errors.new)
         CommandFault.NoMemory result }
@@ -69,7 +69,7 @@ pub fn tell_no_memory<E: Sink>(errors: &mut E) -> Status
     tell(errors, Status::NoMemory, NO_MEMORY)
 }
 
-/// Tells standard error that a write failed. Answers the status.
+/// Reports on standard error that a write failed. Returns the status.
 pub(crate) fn tell_write_fault<E: Sink>(errors: &mut E) -> Status
     ensures { EndsBy (output_of E.contents E.has_failed E.holds_back errors.old errors.new)
         CommandFault.WriteFault result }
@@ -77,7 +77,7 @@ pub(crate) fn tell_write_fault<E: Sink>(errors: &mut E) -> Status
     tell(errors, Status::WriteFault, WRITE_FAULT)
 }
 
-/// Tells a line, and answers this status; or tells that there was no memory for the line.
+/// Writes a line, and returns this status; or reports that there was no memory for the line.
 pub fn tell_line<E: Sink>(
     errors: &mut E,
     status: Status,
@@ -106,7 +106,7 @@ fn name_of(role: Role) -> &'static str
     }
 }
 
-/// The line on a refused line of a file.
+/// Returns the line on a refused line of a file.
 fn bad_line(alloc: Global, role: Role, line: u64, fault: LineFault) -> Result<String, AllocError>
     ensures { IfOk result (λ text. string_bytes text ≡ bad_line role line fault) }
 {
@@ -117,7 +117,7 @@ fn bad_line(alloc: Global, role: Role, line: u64, fault: LineFault) -> Result<St
     format!(in alloc; "oldstyle: {file} line {line}: {number} {name}{hint}\n")
 }
 
-/// The line on a journal of a version that is not kept.
+/// Returns the line on a journal of a version that is not kept.
 fn older_version(alloc: Global, version: Version) -> Result<String, AllocError>
     ensures { IfOk result (λ text. string_bytes text ≡ older_line version) }
 {
@@ -128,18 +128,18 @@ anew as version 4\n"
     )
 }
 
-/// The line on a refused line that the service ended at.
+/// Returns the line on a refused line that the service ended at.
 fn refused_at(alloc: Global, line: u64) -> Result<String, AllocError>
     ensures { IfOk result (λ text. string_bytes text ≡ refused_line line) }
 {
     format!(in alloc; "oldstyle: line {line} is refused, and no line after it was answered\n")
 }
 
-/// The line on what is refused by this number and name.
+/// Returns the line on what is refused by this number and name.
 ///
 /// # Errors
 ///
-/// Want of memory, and nothing else.
+/// Only that there was no memory for the line.
 pub fn refused(alloc: Global, number: u8, name: &'static str) -> Result<String, AllocError>
     ensures { IfOk result (λ text. string_bytes text
         ≡ codes "oldstyle: " ++ refusal_end number name.now) }
@@ -147,7 +147,7 @@ pub fn refused(alloc: Global, number: u8, name: &'static str) -> Result<String, 
     format!(in alloc; "oldstyle: {number} {name}\n")
 }
 
-/// The line on a refusal, and how more is allowed where that is at a limit.
+/// Returns the line on a refusal, and how more is allowed if that is at a limit.
 fn hinted_line(alloc: Global, refusal: Refusal) -> Result<String, AllocError>
     ensures { IfOk result (λ text. string_bytes text ≡ hinted_line refusal) }
 {
@@ -239,7 +239,7 @@ fn report_followed_file<E: Sink>(errors: &mut E, fault: FollowFault) -> Status
     }
 }
 
-/// Tells standard error in a line why a command ended early. Answers the status.
+/// Reports on standard error in a line why a command ended early. Returns the status.
 pub fn report<E: Sink>(alloc: Global, errors: &mut E, fault: CommandFault) -> Status
     ensures { Tells (output_of E.contents E.has_failed E.holds_back errors.old errors.new)
         fault result }

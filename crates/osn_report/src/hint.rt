@@ -1,11 +1,11 @@
-//! What to do where something is refused, for which standard error has a hint.
+//! What to do if something is refused, for which standard error has a hint.
 ghost use Rattle.std.specs.Prelude.{◌≡◌};
 ghost use Rattle.osn_report.specs.Hint as spec;
 
 use osn_files::LineFault;
 use osn_register::Refusal;
 
-/// How more is allowed, where the refusal is at a limit, and nothing else.
+/// Returns how more is allowed, if the refusal is at a limit, or else an empty text.
 pub fn limit_hint(refusal: Refusal) -> &'static str
     ensures { result.now ≡ spec.limit_hint refusal }
 {
@@ -19,7 +19,7 @@ pub fn limit_hint(refusal: Refusal) -> &'static str
     }
 }
 
-/// What to do where a line is refused, where that has a hint.
+/// Returns what to do if a line is refused, or an empty text if that has no hint.
 pub(crate) fn line_hint(fault: LineFault) -> &'static str
     ensures { result.now ≡ spec.line_hint fault }
 {

@@ -1,6 +1,6 @@
-//! How a command of the program ends: its status, what standard error is told, and the text that it
-//! prints. What the crate promises to those above: each fault has one status and one line, and is
-//! told by that line. A refusal, whose line takes memory, may be told as want of memory.
+//! How a command of the program ends: its status, what it writes to standard error, and the text
+//! that it prints. What the crate promises to those above: each fault has one status and one line,
+//! by which it is reported. A refusal, whose line takes memory, may be reported as NoMemory.
 #![tactic(auto)]
 
 mod explained;

@@ -1,4 +1,4 @@
-//! Words of a command line that are not what their places ask for.
+//! Arguments that are not what their places ask for.
 ghost use Rattle.std.specs.Prelude.{◌≡◌, Some, IfOk, string_bytes};
 ghost use Rattle.osn_lines.specs.Streams.{output_of};
 ghost use Rattle.osn_report.specs.Misuse as spec;
@@ -13,52 +13,52 @@ use osn_written::DateFault;
 use std::alloc::{AllocError, Global};
 use std::fmt;
 
-/// How a word is not what its place asks for. Its text says what is asked for.
+/// How an argument is not what its place asks for. Its text says what is asked for.
 #[derive(Clone, Copy, Debug, PartialEq, Eq)]
 pub enum Misuse {
-    /// It stands for a date, or for a part of one, and has this fault.
+    /// It must be a date, or a part of one, and has this fault.
     Date(DateFault),
-    /// It stands for a weekday, and is no weekday.
+    /// It must be a weekday, and isn't one.
     Weekday,
     /// It is a weekday, and the date names this other one.
     OtherWeekday(Weekday),
-    /// It stands for a calendar, and is no calendar.
+    /// It must be a calendar, and isn't one.
     Calendar,
-    /// It stands for a day number, and is no day number.
+    /// It must be a day number, and isn't one.
     DayNumber,
-    /// It stands for a Julian day number, and is none of a day of the line.
+    /// It must be the Julian day number of a day of the line, and isn't one.
     JulianDayNumber,
     /// It is this number alone, which may be a day number or a Julian day number.
     WhichDayNumber(u32),
-    /// It is such a number, and `convert` is to say the day of it.
+    /// It is such a number, and `convert` is asked for its day.
     WhichConversion(u32),
-    /// It is a date with both years, and stands for one of a calendar.
+    /// It is a date with both years, but must be a date of a calendar.
     DoubleDate,
-    /// The calendar has no such date, or has it off the line of days.
+    /// The calendar has no such date, or the date is off the line of days.
     NoSuchDate(Calendar),
-    /// It stands for a month, and is no month.
+    /// It must be a month, and isn't one.
     Month,
-    /// It stands for a year that has figures, as a territory counted it, and is none.
+    /// It must be a year with figures, as a territory counted it, and isn't one.
     Year,
-    /// It stands for limits, and names no limits.
+    /// It must be limits, and isn't.
     Limits,
-    /// It stands for what separates fields, and is no separator.
+    /// It must be a separator of fields, and isn't one.
     Separator,
-    /// It stands for the order of a date's three numbers, and is no order.
+    /// It must be an order of a date's three numbers, and isn't one.
     Order,
     /// It is a date that may begin with its day or its month, and an order may be named beside it.
     OpenOrder,
-    /// It names a column of dates, beside one of their years, months or days.
+    /// It names a column of dates, together with one of their years, months or days.
     DateAndParts,
-    /// It names a column of months or days, beside none of years.
+    /// It names a column of months or days, without one of years.
     PartWithoutYear,
-    /// It names a column of days, beside none of months.
+    /// It names a column of days, without one of months.
     DayWithoutMonth,
-    /// It stands for a shell, and is no shell.
+    /// It must be a shell, and isn't one.
     Shell,
 }
 
-/// What a date asks for.
+/// Returns the text on what a date asks for.
 fn date_text(fault: DateFault) -> &'static str
     ensures { result.now ≡ spec.date_text fault }
 {
@@ -166,14 +166,15 @@ with a comma between",
     }
 }
 
-/// The line on a word, as it was typed.
+/// Returns the line on an argument, as it was typed.
 fn misuse_line(alloc: Global, misuse: Misuse, typed: &str) -> Result<String, AllocError>
     ensures { IfOk result (λ line. string_bytes line ≡ spec.misuse_line misuse typed.now) }
 {
     format!(in alloc; "oldstyle: {}: {misuse}\n", Shown(typed))
 }
 
-/// Tells standard error of a word, as it was typed, what its place asks for. Answers the status.
+/// Reports on standard error what the place of an argument asks for, with the argument as it was
+/// typed. Returns the status.
 pub fn tell_misuse<E: Sink>(alloc: Global, errors: &mut E, misuse: Misuse, typed: &str) -> Status
     ensures { TellsMisuse
         (output_of E.contents E.has_failed E.holds_back errors.old errors.new) misuse typed.now

@@ -1,4 +1,4 @@
-//! Standard output, and how standard error is told that not all was written to it.
+//! Standard output, and how a failure to write to it is reported.
 ghost use Rattle.std.specs.Prelude.{◌≡◌};
 ghost use Rattle.std.specs.IoError.{error_kind};
 ghost use Rattle.osn_lines.specs.Streams.{output_of};
@@ -15,14 +15,14 @@ use std::io::{ErrorKind, Write};
 pub enum WriteCause {
     /// Nobody reads what is written any more: the other end of a pipe is closed.
     Closed,
-    /// No space is left on the device, or of what the user may take of it.
+    /// No space is left on the device, or within the user's quota.
     NoSpace,
     /// Any other cause.
     Other,
 }
 
 /// A writer as a sink that notes why a write of it failed. Each error of the writer is a failed
-/// call, and so is a write that takes none of some bytes.
+/// call, and so is a write of some bytes that takes none.
 #[derive(Debug, Drop)]
 pub struct StandardOutput<T> {
     inner: T,
@@ -34,7 +34,7 @@ impl<T> StandardOutput<T> {
     ghost use Rattle.std.specs.Prelude.{None};
     ghost use Rattle.osn_report.specs.Output.{inner_of, cause_of};
 
-    /// One that hasn't failed.
+    /// Returns a sink that hasn't failed.
     pub fn new(inner: T) -> StandardOutput<T>
         ensures inner { inner_of result ≡ inner }
         ensures cause { cause_of result ≡ None }
@@ -42,7 +42,7 @@ impl<T> StandardOutput<T> {
         StandardOutput { inner, cause: None }
     }
 
-    /// Why the last call that failed did so, where one did.
+    /// Returns why the last call that failed did so, or `None` if none has.
     pub fn cause(&self) -> Option<WriteCause>
         ensures { result ≡ cause_of self.now }
     {
@@ -87,7 +87,7 @@ impl<T: Write> Sink for StandardOutput<T> {
     }
 }
 
-/// The cause that an error of a writer has.
+/// Returns the cause that an error of a writer has.
 fn cause_of(error: &io::Error) -> WriteCause
     ensures { result ≡ spec.cause_of_kind (error_kind error.now) }
 {
@@ -98,7 +98,8 @@ fn cause_of(error: &io::Error) -> WriteCause
     }
 }
 
-/// Tells standard error that not all could be printed. Nobody is told where nobody reads it.
+/// Reports on standard error that not all could be printed, unless the other end of a pipe is
+/// closed.
 fn end_unwritten<E: Sink>(errors: &mut E, cause: WriteCause) -> Status
     ensures { spec.EndsUnwritten cause
         (output_of E.contents E.has_failed E.holds_back errors.old errors.new) result }
@@ -118,7 +119,7 @@ fn end_unwritten<E: Sink>(errors: &mut E, cause: WriteCause) -> Status
     }
 }
 
-/// Adds the cause to what standard error was told of a write fault, where one is known.
+/// Adds the cause, if it is known, to a write fault that was reported on standard error.
 fn note_cause<E: Sink>(errors: &mut E, cause: Option<WriteCause>) -> Status
     ensures { spec.NotesCause cause
         (output_of E.contents E.has_failed E.holds_back errors.old errors.new) result }
@@ -138,10 +139,10 @@ fn note_cause<E: Sink>(errors: &mut E, cause: Option<WriteCause>) -> Status
     }
 }
 
-/// Ends a command that had this status, where standard output failed by this cause, if by any.
-/// Answers the status of the program. Where the text of a command could not be printed, standard
-/// error is told so with the cause; except where nobody reads it any more, since all else was done
-/// then. What was told as a write fault gets a note with the cause.
+/// Ends a command that had this status, given why standard output failed, if it did. Returns the
+/// status of the program. If the text of a command could not be printed, that is reported with the
+/// cause, unless the other end of a pipe is closed, since all other work was done then. If a write
+/// fault was reported before, a note adds the cause.
 pub fn end_output<E: Sink>(errors: &mut E, status: Status, cause: Option<WriteCause>) -> Status
     ensures { spec.EndsOutput status cause
         (output_of E.contents E.has_failed E.holds_back errors.old errors.new) result }

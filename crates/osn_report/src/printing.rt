@@ -8,8 +8,8 @@ use crate::status::Status;
 use osn_lines::{Sink, write_all};
 use std::alloc::AllocError;
 
-/// Writes a text whole. Where the output failed, the status is `Unwritten`, and standard error is
-/// told nothing: `end_output` does that at the end of the program.
+/// Writes a text whole. If the output failed, the status is `Unwritten`, and nothing is written to
+/// standard error: `end_output` does that at the end of the program.
 pub fn print_text<W: Sink, E: Sink>(text: &str, output: &mut W, errors: &mut E) -> Status
     ensures { Prints text.now
         (output_of W.contents W.has_failed W.holds_back output.old output.new)
@@ -21,8 +21,8 @@ pub fn print_text<W: Sink, E: Sink>(text: &str, output: &mut W, errors: &mut E) 
     }
 }
 
-/// Writes a text whole as `print_text` does, or tells standard error that there was no memory for
-/// it.
+/// Writes a text whole as `print_text` does, or reports on standard error that there was no memory
+/// for it.
 pub fn print<W: Sink, E: Sink>(
     made: Result<String, AllocError>,
     output: &mut W,
@@ -40,7 +40,7 @@ pub fn print<W: Sink, E: Sink>(
     }
 }
 
-/// The same, where standard error is told at once that the output failed.
+/// Does the same, but reports on standard error as soon as the output failed.
 pub fn print_or_report<W: Sink, E: Sink>(
     made: Result<String, AllocError>,
     output: &mut W,

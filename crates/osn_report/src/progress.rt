@@ -5,15 +5,15 @@ use std::alloc::Global;
 
 const MEBIBYTE: u64 = 1 << 20;
 
-/// After how many mebibytes it is said again.
+/// After how many mebibytes it is printed again.
 const STEP: u64 = 64;
 
-/// How much of an input was read, which a terminal is told where there is one. Nothing depends on
-/// what is told, so it is left out where it can't be told.
+/// How much of an input was read, which is printed to a terminal if there is one. Nothing depends
+/// on that output, so it is left out if it can't be written.
 #[derive(Drop)]
 pub struct ReadProgress<P> {
     alloc: Global,
-    /// What is read, as the terminal is told.
+    /// What is read, as the terminal shows it.
     what: &'static str,
     /// The bytes that were read.
     read: u64,
@@ -21,7 +21,7 @@ pub struct ReadProgress<P> {
 }
 
 impl<P: Sink> ReadProgress<P> {
-    /// Of an input of which nothing was read.
+    /// Returns the progress of an input of which nothing was read.
     pub fn new(alloc: Global, what: &'static str, terminal: Option<P>) -> ReadProgress<P> {
         ReadProgress {
             alloc,
@@ -48,7 +48,7 @@ impl<P: Sink> Progress for ReadProgress<P> {
     }
 }
 
-/// A source of which it is told how much was read.
+/// A source that prints how much of it was read.
 #[derive(Drop)]
 pub struct ProgressSource<S, P> {
     source: S,
@@ -59,7 +59,7 @@ impl<S, P: Sink> ProgressSource<S, P> {
     ghost use Rattle.std.specs.Prelude.{◌≡◌};
     ghost use Rattle.osn_report.specs.ProgressSource.{source_of};
 
-    /// One that tells this progress.
+    /// Returns a source that prints this progress.
     pub fn new(source: S, progress: ReadProgress<P>) -> ProgressSource<S, P>
         ensures { source_of result ≡ source }
     {

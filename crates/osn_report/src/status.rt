@@ -2,27 +2,27 @@
 ghost use Rattle.std.specs.Prelude.{◌≡◌};
 ghost use Rattle.osn_report.specs.Status.{status_code};
 
-/// How a run of the program ended, as the shell is told.
+/// How a run of the program ended.
 #[derive(Clone, Copy, Debug, PartialEq, Eq, Hash)]
 pub enum Status {
     /// All was done, or help was asked for and shown.
     Done,
     /// The input was refused.
     Refused,
-    /// The words of the command line ask for nothing that the program does.
+    /// The arguments ask for nothing that the program does.
     Misused,
     /// A read failed, or a file could not be opened, or is kept by another run of the program.
     ReadFault,
     /// A write failed.
     WriteFault,
-    /// Standard output failed, and standard error was not told yet: `end_output` does that.
+    /// Standard output failed, and that was not reported yet: `end_output` does that.
     Unwritten,
     /// Memory ran out.
     NoMemory,
 }
 
 impl Status {
-    /// The number that the shell is told.
+    /// Returns the status number of the program.
     pub fn code(self) -> u8
         ensures { result ≡ status_code self }
     {

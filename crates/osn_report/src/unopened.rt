@@ -1,4 +1,4 @@
-//! How standard error is told of a file that could not be opened or read, by its path.
+//! Reports on standard error, by its path, a file that could not be opened or read.
 ghost use Rattle.std.specs.Prelude.{◌≡◌, IfOk, string_bytes};
 ghost use Rattle.osn_lines.specs.Streams.{output_of};
 ghost use Rattle.osn_report.specs.Messages.{TellsIfMade};
@@ -11,7 +11,7 @@ use osn_lines::Sink;
 use osn_shown::Shown;
 use std::alloc::{AllocError, Global};
 
-/// Why a file could not be opened.
+/// Returns the text on why a file could not be opened.
 pub(crate) fn cause_text(cause: OpenFailed) -> &'static str
     ensures { result.now ≡ spec.cause_text cause }
 {
@@ -24,7 +24,7 @@ pub(crate) fn cause_text(cause: OpenFailed) -> &'static str
     }
 }
 
-/// The line on a file of this path.
+/// Returns the line on a file of this path.
 fn unopened_line(alloc: Global, path: &str, cause: OpenFailed) -> Result<String, AllocError>
     ensures { IfOk result (λ line. string_bytes line ≡ spec.unopened_line path.now cause) }
 {
@@ -32,7 +32,7 @@ fn unopened_line(alloc: Global, path: &str, cause: OpenFailed) -> Result<String,
     format!(in alloc; "oldstyle: {}: {cause}\n", Shown(path))
 }
 
-/// Tells standard error of the file of this path why it could not be opened. Answers the status.
+/// Reports on standard error why the file of this path could not be opened. Returns the status.
 pub fn tell_unopened<E: Sink>(
     alloc: Global,
     errors: &mut E,

@@ -91,7 +91,7 @@ scalar_of_nothing depth = ap scalar_read (value_is depth [])
 pub flat_of_nothing : (depth : ℕ) → flat_read (value depth []) ≡ false
 flat_of_nothing depth = ap flat_read (value_is depth [])
 
--- what follows where there is no value
+-- what follows if there is no value
 pub none_then : {A : Type 0} (o : Option A) {P Q : Type 0} → (P → Q) → IfNone o P → IfNone o Q
 none_then None f h = f h
 none_then (Some x) f h = tt

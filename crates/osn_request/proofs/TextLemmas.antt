@@ -1,4 +1,4 @@
--- The value of a line's bytes, where they are a text and where they are not.
+-- The value of a line's bytes, if they are a text and if they are not.
 use Rattle.std.proofs.Common.{◌≡◌, ◌<◌, Bool, true, false, if◌then◌else◌, None, Some, List, [], ◌∷◌}
 use Rattle.std.proofs.Common.{ℕ, length, ap, refl, arith}
 use Rattle.std.specs.Str.{is_utf8, IsUtf8}

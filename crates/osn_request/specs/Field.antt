@@ -21,7 +21,7 @@ use Rattle.osn_format.specs.declared.version.Version.{Version}
 use Rattle.osn_format.specs.Member.{member_name}
 use Rattle.osn_format.specs.Version.{has_sources}
 
--- one reading after another, where the first one meets no fault
+-- one reading after another, if the first has no fault
 infixl 10 ◌>>=◌
 abbrev pub ◌>>=◌ : {A B : Type 0}
     → Result A WireFault → (A → Result B WireFault) → Result B WireFault
@@ -46,7 +46,7 @@ whole_at m d =
 abbrev pub word_at : {A : Type 0} → Member → (List ℕ → Option A) → Data → Result A WireFault
 word_at m named d = text_at m d >>= λ word. or_fault (BadField m) (named word)
 
--- the weekday that a member names, where the member is there
+-- the weekday that a member names, if the member is there
 abbrev pub weekday_if : Bool → Data → Result (Option Weekday) WireFault
 weekday_if false d = Ok None
 weekday_if true d = word_at members.Weekday weekday_named d >>= λ weekday. Ok (Some weekday)
@@ -55,7 +55,7 @@ weekday_if true d = word_at members.Weekday weekday_named d >>= λ weekday. Ok (
 abbrev pub weekday_at : Data → Result (Option Weekday) WireFault
 weekday_at d = weekday_if (is_some (get (member_name members.Weekday) d)) d
 
--- the member that is a style's word, where the rules have it
+-- the member that is a style's word, if the rules have it
 abbrev pub style_at : Profile → Data → Result Style WireFault
 style_at p d = word_at members.Style (style_named p) d
 
@@ -67,7 +67,7 @@ regime_of p d = do
   rule ← word_at members.Rule rule_named d
   Ok (record { calendar = calendar; style = style; rule = rule })
 
--- the source that a member gives, where the member is there
+-- the source that a member gives, if the member is there
 abbrev pub given_source_at : Data → Result (List ℕ) WireFault
 given_source_at d = text_at members.Source d >>= λ text.
     if is_source text then Ok text else Err (BadField members.Source)

@@ -1,5 +1,5 @@
--- The query that one which borrows from its line stands for: the date that it asks about is the one
--- that its text says.
+-- The query of one that borrows from its line: the date that it asks about is the one that its text
+-- says.
 use Rattle.std.specs.Prelude.{◌≡◌, MatchResult, ℕ, List, Option, Result, Ok, Err}
 use Rattle.osn_days.specs.declared.weekday.Weekday.{Weekday}
 use Rattle.osn_grammar.specs.ReadDate.{date_reading}
@@ -18,6 +18,6 @@ abbrev pub line_query : LineQuery → Query
 line_query (lines.Plain query) = as_query query
 line_query (lines.Written code date weekday) = written_query code.now date.now weekday
 
--- the query that was read stands for the given one, or the fault is the given one
+-- the query that was read means the given one, or the fault is the given one
 abbrev pub Reads : Result LineQuery WireFault → Result Query WireFault → Type 0
 Reads result said = MatchResult result (λ q. said ≡ Ok (line_query q)) (λ f. said ≡ Err f)

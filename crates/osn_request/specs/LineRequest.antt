@@ -1,4 +1,4 @@
--- The request that one which borrows from its line stands for.
+-- The request of one that borrows from its line.
 use Rattle.std.specs.Prelude.{Bool, true, false, Result, Ok, Err}
 use Rattle.osn_format.specs.declared.wire_fault.WireFault.{WireFault}
 use Rattle.osn_request.specs.declared.request.line_request.LineRequest.{LineRequest}

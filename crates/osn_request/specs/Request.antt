@@ -26,7 +26,7 @@ use Rattle.osn_request.specs.QueryRequest.{query_of}
 abbrev pub value_of : List ℕ → Option Data
 value_of line = if is_utf8 line then read line else None
 
--- a line with no value is no JSON
+-- a line with no value is not JSON
 abbrev pub no_value : Option Data → Result Data WireFault
 no_value value = or_fault NotJson value
 
@@ -50,7 +50,7 @@ request_by v readers d (ops.Query op) = query_of readers op d >>= λ asked. Ok (
 abbrev pub request_of : Version → ℕ → Data → Result Request WireFault
 request_of v readers d = op_of d >>= request_by v readers d
 
--- the request of a line, where there are this many readers
+-- the request of a line, with this many readers
 abbrev pub request : Version → ℕ → List ℕ → Result Request WireFault
 request v readers line = object_of line >>= request_of v readers
 
@@ -58,7 +58,7 @@ request v readers line = object_of line >>= request_of v readers
 abbrev pub IsReadable : List ℕ → Type 0
 IsReadable line = (length line ≤ longest_line) × IsUtf8 line × (0 < length line)
 
--- a fault is the given one; want of memory says nothing
+-- a fault is the given one; NoMemory says nothing
 abbrev pub Fails : {A : Type 0} → RequestError → Result A WireFault → Type 0
 Fails errors.NoMemory said = Unit {0}
 Fails (errors.Fault f) said = said ≡ Err f
@@ -68,7 +68,7 @@ abbrev pub Gives : {A : Type 0} → Result A RequestError → Result A WireFault
 Gives (Ok x) said = said ≡ Ok x
 Gives (Err e) said = Fails e said
 
--- the same where memory runs out only once nothing was found at fault
+-- the same, if memory runs out only after no fault was found
 abbrev pub FailsLast : {A : Type 0} → RequestError → Result A WireFault → Type 0
 FailsLast errors.NoMemory said = IsTrue (is_ok said)
 FailsLast (errors.Fault f) said = said ≡ Err f

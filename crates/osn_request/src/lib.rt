@@ -1,6 +1,6 @@
-//! A request line, read: the JSON object of a line, what it asks for, and then an edit, or a query
-//! and the reader who asks it. What the crate promises to those above: each reader gives what the
-//! definition says of the value that `serde_json` reads, or the line's first fault.
+//! Reads a request line: the JSON object of a line, what it asks for, and then an edit, or a query
+//! and the reader who asks it. The crate guarantees that each call returns what the definition says
+//! of the value that `serde_json` reads, or the line's first fault.
 #![tactic(auto)]
 
 mod request;

@@ -1,4 +1,4 @@
-//! Reads one line into a request, or names its first fault.
+//! Reads one line into a request, or returns its first fault.
 ghost use Rattle.std.specs.Prelude.{◌≡◌, ◌<◌, ℕ, List, length, MatchResult, IfErr, IfOk, Ok, Err};
 ghost use Rattle.std.specs.Prelude.{Some, ◌≤◌, true, is_ok};
 ghost use Rattle.json.specs.Scratch.{room};
@@ -56,7 +56,7 @@ pub enum Request {
 pub enum RequestError {
     /// A growth of memory was refused.
     NoMemory,
-    /// The line is no request.
+    /// The line is not a request.
     Fault(WireFault),
 }
 
@@ -82,7 +82,7 @@ impl From<WireFault> for RequestError {
     }
 }
 
-/// The value of a text that is JSON.
+/// Returns the value of a text that is JSON.
 fn value_of(alloc: Global, text: &str) -> Result<Value, RequestError>
     ensures text { MatchResult result
         (λ _. 0 < length text.now)
@@ -98,7 +98,7 @@ fn value_of(alloc: Global, text: &str) -> Result<Value, RequestError>
     }
 }
 
-/// The value of a text that is an object.
+/// Returns the value of a text that is an object.
 fn tree_of(alloc: Global, text: &str) -> Result<Value, RequestError>
     ensures object { MatchResult result
         (λ v. spec.object_in (read text.now) ≡ Ok (view v))
@@ -114,12 +114,12 @@ fn tree_of(alloc: Global, text: &str) -> Result<Value, RequestError>
     Ok(value)
 }
 
-/// The object that a text is. The scratch serves one text after another, and grows to the length of
-/// the longest one. The object may borrow from it.
+/// Returns the object of a text. The scratch serves one text after another, and grows to the length
+/// of the longest one. The object may borrow from it.
 ///
 /// # Errors
-/// `NotJson` and `NotObject`, or want of memory. An empty text takes no memory, and neither does a
-/// flat object where the scratch has room for its text.
+/// Returns `NotJson`, `NotObject` or `NoMemory`. An empty text takes no memory, and neither does a
+/// flat object if the scratch has room for its text.
 pub fn object_in<'a>(
     alloc: Global,
     scratch: &'a mut Scratch,
@@ -140,7 +140,7 @@ pub fn object_in<'a>(
     }
 }
 
-/// The text of a line that is not too long.
+/// Returns the text of a line that is not too long.
 fn text_of_whole(line: &[u8]) -> Result<&str, WireFault>
     ensures object { MatchResult result
         (λ text. spec.object_in (spec.value_of line.now) ≡ spec.object_in (read text.now))
@@ -153,10 +153,10 @@ fn text_of_whole(line: &[u8]) -> Result<&str, WireFault>
     }
 }
 
-/// The text of a line, whose object is that of the line.
+/// Returns the text of a line, whose object is that of the line.
 ///
 /// # Errors
-/// `LineTooLong`, and `NotJson` for a line that is no text.
+/// Returns `LineTooLong`, or `NotJson` for a line that is not UTF-8.
 pub fn text_of<'a>(line: Line<'a>) -> Result<&'a str, WireFault>
     ensures object { (whole : List ℕ) → IsLine line.entry whole → MatchResult result
         (λ text. spec.object_of whole ≡ spec.object_in (read text.now))
@@ -172,12 +172,12 @@ pub fn text_of<'a>(line: Line<'a>) -> Result<&'a str, WireFault>
     }
 }
 
-/// The object of a line. The scratch serves one line after another, and grows to the length of the
-/// longest one. The object may borrow from it.
+/// Returns the object of a line. The scratch serves one line after another, and grows to the length
+/// of the longest one. The object may borrow from it.
 ///
 /// # Errors
-/// The first fault of the line, or want of memory. Only a line that is a text, not empty and not
-/// too long takes memory.
+/// Returns the first fault of the line, or `NoMemory`. Only a line that is a text, not empty and
+/// not too long takes memory.
 pub fn object_of<'a>(
     alloc: Global,
     scratch: &'a mut Scratch,
@@ -196,13 +196,13 @@ pub fn object_of<'a>(
     object_in(alloc, scratch, text)
 }
 
-/// The request of a line, where there are this many readers, or its first fault. The scratch serves
-/// one line after another, as for `object_of`.
+/// Returns the request of a line, with this many readers. The scratch serves one line after
+/// another, as for `object_of`.
 ///
 /// # Errors
-/// The first fault of the line, or want of memory. Only a line that is a text, not empty and not
-/// too long takes memory. A flat object for which the scratch has room takes memory only for the
-/// texts of the request, once nothing was found at fault.
+/// Returns the first fault of the line, or `NoMemory`. Only a line that is a text, not empty and
+/// not too long takes memory. A flat object for which the scratch has room takes memory only for
+/// the texts of the request, after no fault was found.
 pub fn request_of_line(
     alloc: Global,
     scratch: &mut Scratch,
@@ -221,11 +221,11 @@ pub fn request_of_line(
     Ok(line_request_of(alloc, readers, &object)?.to_request(alloc)?)
 }
 
-/// The request of a line of these bytes, as `request_of_line`, with a scratch of its own.
+/// Returns the request of a line of these bytes, as `request_of_line`, with a scratch of its own.
 ///
 /// # Errors
-/// The first fault of the line, or want of memory. Only a line that is a text, not empty and not
-/// too long takes memory.
+/// Returns the first fault of the line, or `NoMemory`. Only a line that is a text, not empty and
+/// not too long takes memory.
 pub fn read_request(alloc: Global, readers: u32, line: &[u8]) -> Result<Request, RequestError>
     ensures request { spec.Gives result (spec.request newest_version readers line.now) }
     ensures memory { IfErr result (λ e. e ≡ NoMemory → spec.IsReadable line.now) }

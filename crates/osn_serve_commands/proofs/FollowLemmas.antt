@@ -22,7 +22,7 @@ pub followed_by : (limits : Limits) (journal save keep given found : Option (Lis
 followed_by limits journal save keep given found service CanFail d i o e status is h =
     subst (λ k. RunsByFiles limits journal save keep k service CanFail d i o e status) (sym is) h
 
--- where none is followed, the files that are opened are those of the other options
+-- if no journal is followed, the files that are opened are those of the other options
 pub unfollowed_by : {T F : Type 0} (result : Result T F) (path : F → List ℕ)
     (fault : F → CommandFault) (journal keep given : Option (List ℕ)) (d : Folders) (P Q : Type 0)
     → given ≡ None
@@ -34,7 +34,7 @@ unfollowed_by result path fault journal keep given d P Q is h =
     subst (λ k. IfErr result (λ failure. IsNotRead (opened_by journal keep k) d (path failure)
     (fault failure) × P × Q)) (sym is) h
 
--- a journal that is followed goes with no other
+-- a journal that is followed can't be used with another
 module _ {P : Type 0} (now : P → List ℕ) (limits : Limits) where
   pub misfollowed : (journal save keep : Option P) (path : List ℕ) (service : ServiceModel)
       (CanFail : Bool → Type 0) (d : Folders) (i : Input) (o e : Output) (status : Status)

@@ -41,7 +41,7 @@ use Rattle.osn_serve_commands.proofs.ResultLemmas.{known_bytes}
 
 -- ---- the object
 
--- the object that bytes make of which there are some is loaded from them, or none is
+-- if there are some bytes, the object that they make, or the failure, is that of loading them
 pub some_loaded : (limits : Limits) (read bytes : List ℕ)
     (r : Result ObjectState (ℕ × LineFault)) → read ≡ bytes → (length bytes == 0) ≡ false
     → load newest_rules limits (lines read) ≡ r → object_of limits bytes ≡ r
@@ -64,7 +64,7 @@ source_of read rest = record {
   unread = false;
 }
 
--- none was loaded from the lines that count
+-- no object was loaded from the lines that count
 pub not_loaded : (limits : Limits) (read bytes held rest : List ℕ) (why : FileFault)
     → read ≡ bytes → (length bytes == 0) ≡ false → bytes ≡ whole_bytes held
     → MakesNoObject limits (source_of read rest) why
@@ -97,7 +97,7 @@ none_held limits held failed file_faults.ReadFault (inl h) = absurd (cc)
 none_held limits held failed file_faults.ReadFault (inr h) = inr h
 none_held limits held failed file_faults.NoMemory h = h
 
--- it is told by the fault itself
+-- the fault itself says so
 pub unread_told : (limits : Limits) (held : List ℕ) (failed : Bool) (why : FileFault)
     (fault : CommandFault) → fault ≡ File why → IsUnread limits held failed why
     → HoldsNoObject limits held failed fault
@@ -153,7 +153,7 @@ whole_within part read whole =
     subst (λ (n : ℕ). n ≤ length read) (sym whole.bytes)
     (by_last_within (last_line_of read) (ended_length read) (length read) (ended_within read))
 
--- what the bytes hold that were read of a file, the file holds
+-- a file contains what the bytes do that were read of it
 pub held_as_read : (limits : Limits) (given : Option (List ℕ)) (held bytes : List ℕ)
     (part : WholePart) (version : Version) (s : ObjectState) → given ≡ Some held
     → AreReadOf given bytes → IsHeldIn limits bytes part version s

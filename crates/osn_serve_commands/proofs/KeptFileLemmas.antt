@@ -24,7 +24,7 @@ none_behind n (b ∷ bs) ended = absurd (elim (is_unfinished n (b ∷ bs)) as
       | false ↦ λ h. cc
     ] ended)
 
--- of a file whose last line is ended all lines count, and so of one whose last line lacks its feed
+-- all lines of a file count if its last line is ended, or lacks only its line feed
 ended_counts : (held : List ℕ) → last_line_of held ≡ Ended → held ≡ whole_bytes held
 ended_counts held is =
     sym (take-append-drop (ended_length held) held)
@@ -65,13 +65,13 @@ unfinished_cut part held new old is cut known whole = (
       ∙ ap (λ (n : ℕ). Some (take n held)) whole.bytes,
 )
 
--- the head that is missing, of no byte that counts
+-- the head that is missing, if no byte counts
 pub head_missing : (part : WholePart) (held text : List ℕ) → part.bytes ≡ 0
     → text ≡ missing_head [] → IsWholePart part held → text ≡ missing_head (whole_bytes held)
 head_missing part held text none is whole =
     is ∙ ap (λ (n : ℕ). missing_head (take n held)) (sym none ∙ whole.bytes)
 
--- of some it is there
+-- it is there, if some do
 head_there : (held : List ℕ) (n : ℕ) → n ≡ whole_length held → (n ≡ 0 → ⊥)
     → [] ≡ missing_head (whole_bytes held)
 head_there [] n is some = absurd (some is)
@@ -82,7 +82,7 @@ pub head_not_missing : (part : WholePart) (held text : List ℕ) → (part.bytes
     → text ≡ [] → IsWholePart part held → text ≡ missing_head (whole_bytes held)
 head_not_missing part held text some is whole = is ∙ head_there held part.bytes whole.bytes some
 
--- what a file holds to which more was appended
+-- what a file contains after more was appended
 appended : (xs ys : List ℕ) (new : Option (List ℕ)) → Appends (Some xs) new ys
     → new ≡ Some (xs ++ ys)
 appended xs ys None h = absurd h
@@ -100,7 +100,7 @@ completed held text old new is known h =
     appended_to (whole_bytes held) text old new known h
     ∙ ap (λ text. Some (whole_bytes held ++ text)) is
 
--- a front of it was
+-- a prefix of it was
 pub completed_in_part : (held text : List ℕ) (old new : Option (List ℕ)) (n : ℕ)
     → text ≡ missing_text held → old ≡ Some (whole_bytes held)
     → Appends old new (take n text)
@@ -111,7 +111,7 @@ completed_in_part held text old new n is known h = (
       ∙ ap (λ text. Some (whole_bytes held ++ take n text)) is,
 )
 
--- none was
+-- nothing was
 pub completed_by_none : (held : List ℕ) (old new : Option (List ℕ)) → old ≡ Some (whole_bytes held)
     → new ≡ old
     → (n : ℕ) × (new ≡ Some (whole_bytes held ++ take n (missing_text held)))

@@ -25,7 +25,7 @@ pub served_by : (limits : Limits) (journal save given found : Option (List ℕ))
 served_by limits journal save given found service CanFail d i o e status is h =
     subst (λ k. RunsEditing limits journal save k service CanFail d i o e status) (sym is) h
 
--- where none is kept, the files that are opened are those of the journal
+-- if no journal is kept, the files that are opened are those of the journal
 pub unserved_by : {T F : Type 0} (result : Result T F) (path : F → List ℕ)
     (fault : F → CommandFault) (journal given : Option (List ℕ)) (d : Folders) (P Q : Type 0)
     → given ≡ None
@@ -36,7 +36,7 @@ unserved_by result path fault journal given d P Q is h =
     subst (λ k. IfErr result (λ failure. IsNotRead (opened_by journal k None) d (path failure)
     (fault failure) × P × Q)) (sym is) h
 
--- a journal that is kept goes with no other
+-- a journal that is kept can't be used with another
 module _ {P : Type 0} (now : P → List ℕ) (limits : Limits) where
   pub misused_with : (journal save : Option P) (path : List ℕ) (service : ServiceModel)
       (CanFail : Bool → Type 0) (d : Folders) (i : Input) (o e : Output) (status : Status)
@@ -58,7 +58,7 @@ module _ {P : Type 0} (now : P → List ℕ) (limits : Limits) where
   runs_alone None (Some save) path service CanFail d i o e status given h = absurd (cc)
   runs_alone (Some journal) save path service CanFail d i o e status given h = absurd (cc)
 
--- a journal that is to be saved anew is one that is kept
+-- an upgrade requires a journal to keep
 module _ (limits : Limits) (journal save kept followed : Option (List ℕ)) (service : ServiceModel)
     (CanFail : Bool → Type 0) (d : Folders) (i : Input) (o e : Output) (status : Status) where
   pub lacking_keep : (lacks : Bool) → lacks ≡ true

@@ -1,10 +1,10 @@
--- What a `?` answers, and facts of bytes that may be known.
+-- What a `?` returns, and facts of bytes that may be known.
 use Rattle.std.proofs.Common.{◌≡◌, ℕ, List, Option, Some, None, Result, IfErr, IfSome}
 use Rattle.std.proofs.Common.{refl, subst, sym}
 use Rattle.std.specs.Result.{IsErrAnd}
 use Rattle.std.proofs.lemmas.Result.{err_from_is_err_and}
 
--- what a `?` answers, where the error that it makes has the property
+-- what a `?` returns, if the error that it makes has the property
 pub if_err_made : {T E : Type 0} {P Q : E → Type 0} (r : Result T E)
     → IsErrAnd r Q → ((e : E) → Q e → P e) → IfErr r P
 if_err_made {P = P} r made goes =

@@ -59,7 +59,7 @@ module _ {F : Type 0} (e f : Output) (was is : Status) (Done Did Rest Rested : T
 
 -- ---- how a run of the service ended, after the journal that was saved or not
 
--- where nothing more was told, it ended as before
+-- if nothing more was written, it ended as before
 as_before : {E : Type 0} (contents : E → Option (List ℕ)) (has_failed holds_back : E → Bool)
     (old mid new : E) (was is : Status) (Told : Output → Status → Type 0) → is ≡ was → new ≡ mid
     → Told (output_of contents has_failed holds_back old mid) was
@@ -68,7 +68,7 @@ as_before contents has_failed holds_back old mid new was is Told e same h =
     subst (λ s. Told (output_of contents has_failed holds_back old new) s) (sym e)
     (subst (λ x. Told (output_of contents has_failed holds_back old x) was) (sym same) h)
 
--- where no journal is left in one form, none is in another
+-- no journal in one form, no journal in another
 none_left : {A B : Type 0} (f : A → B) (journal : Option A) → option_map f journal ≡ None
     → journal ≡ None
 none_left f None h = refl
@@ -84,7 +84,7 @@ module _ {E D J P : Type 0} (contents : E → Option (List ℕ)) (has_failed hol
   abbrev in_all : Output
   in_all = output_of contents has_failed holds_back old new
 
-  -- nothing was done where no journal is left
+  -- nothing was done if no journal is left
   abbrev Unsaved : Option J → Type 0
   Unsaved journal = journal ≡ None → (is ≡ was) × (new ≡ mid) × (after ≡ opened)
 
@@ -97,7 +97,7 @@ module _ {E D J P : Type 0} (contents : E → Option (List ℕ)) (has_failed hol
   abbrev SavesBoth : Option P → Option J → Type 0
   SavesBoth save journal = IfSome save (λ path. IfSome journal (SavesOne path))
 
-  -- that nothing was told before does not count
+  -- output before that is empty does not count
   told_in_all : (Told : Output → Type 0) → TellsNothing before
       → Told (output_of contents has_failed holds_back mid new) → Told in_all
   told_in_all Told same told =
@@ -227,7 +227,7 @@ not_opened save paths path named fault cause old locked new lock is h = (
 
 -- ---- over the files of a folder
 
--- of a file that may be there, a read failed only where one of its kind can
+-- for a file that may be there, a read failed only if one of its kind can
 pub may_fail_if : {S : Type 0} (remaining : S → Option (List ℕ)) (has_failed : S → Bool)
     (old new : Option S) → CanFailIf (MayFail has_failed) (input_if remaining has_failed old new)
 may_fail_if remaining has_failed None new = tt
@@ -258,7 +258,7 @@ replaces_journal None save path h = absurd (cc)
 replaces_journal (Some journal) None path h = absurd (cc)
 replaces_journal (Some journal) (Some save) path h = ap Some (of_journal journal save path h)
 
--- the journal that is to be replaced could not be opened once it was locked
+-- the journal that is replaced could not be opened once it was locked
 pub replaced_unopened : (journal save lock : Option (List ℕ)) (replaced path named : List ℕ)
     (fault : CommandFault) (cause : OpenFailed) (old locked new : Option Known)
     → replaced_path journal save ≡ Some replaced → LocksIf lock old locked
@@ -270,13 +270,13 @@ replaced_unopened journal save lock replaced path named fault cause old locked n
     (sym (replaces_journal journal save replaced by))
     (not_opened lock (replaced ∷ []) path named fault cause old locked new held is h)
 
--- bytes that are known have to stand still
+-- bytes that are known must be unchanged
 stands_as : (bytes : Option (List ℕ)) (held : List ℕ) → bytes ≡ Some held
     → IfSome bytes (λ given. Some held ≡ Some given)
 stands_as None held is = tt
 stands_as (Some given) held is = sym is
 
--- the bytes that were read whole are those that the file holds
+-- the bytes that were read whole are those of the file
 pub read_whole : (known : Option Known) (path held : List ℕ) (bytes begun : Option (List ℕ))
     → IsFileOf known path bytes → IfSome bytes (λ given. held ≡ given) → begun ≡ Some held
     → IsFileOf known path begun

@@ -41,7 +41,8 @@ module _ {F : Type 0} (result : Result Served (Interrupted (ServiceFault F))) (e
       until (Serve why) same by = (rest, subst (λ f. Tells e f status) by h)
       until (NotKept why) same by = by h
 
-  -- not all were, by a fault that was told in one way, or by a loss that was told in another
+  -- not all were, by a fault that was reported in one way, or by a loss that was reported in
+  -- another
   pub ended_early : (end : Interrupted (ServiceFault F)) → result ≡ Err end
       → MatchServiceFault end.cause (λ why. Tells e (Service why) status) Lost → Rest
       → EndsServed result e status Done Rest Lost

@@ -29,12 +29,12 @@ use Rattle.osn_serve_commands.specs.declared.target.TargetFault.{TargetFault}
 use Rattle.osn_serve_commands.specs.declared.target.TargetFault.TheVariants.{NoJournal, NotRead}
 use Rattle.osn_serve_commands.specs.declared.target.TargetFault.TheVariants.{NoMemory}
 
--- where nothing was done, a crash leaves what it left
+-- if nothing was done, a crash leaves what it left
 pub same_safe : (known : Option Known) → Changes LeavesAllSafe known known
 same_safe None = tt
 same_safe (Some k) = (refl, refl, refl)
 
--- what is no file is not opened
+-- what is not a file is not opened
 pub stream_found : (known : Option Known) (path : List ℕ) (found : Bool) → found ≡ true
     → IfSome known (λ k. found ≡ k.paths.is_stream path)
     → Changes (FindsNoFile path) known known
@@ -52,7 +52,7 @@ nothing_found (Some k) (Some n) path opens none why = inr (opens, none, why)
 module _ (limits : Limits) (path held : List ℕ) (before after : Option Known)
     (opens : Changes (Opens (path ∷ [])) before after)
     (file : IsFileOf before path (Some held)) where
-  -- by what its file holds
+  -- by what its file contains
   pub target_held : (found : SaveTarget) → HoldsTarget limits held found
       → IsTarget limits path before after found
   target_held NoFile h = absurd h
@@ -65,7 +65,7 @@ module _ (limits : Limits) (path held : List ℕ) (before after : Option Known)
   no_target_held NotRead h = opens
   no_target_held NoMemory h = opens
 
--- what a file holds makes no object
+-- what a file contains makes no object
 pub not_loaded : (limits : Limits) (held given : List ℕ) (Spared Failed : Type 0)
     (fault : FileFault) (why : TargetFault) → why ≡ by_load fault → given ≡ held
     → MatchFileFault fault Spared Failed (λ named line why. (named ≡ roles.Journal)

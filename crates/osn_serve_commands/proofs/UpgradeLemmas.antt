@@ -1,5 +1,4 @@
--- A journal that is to be kept was saved anew, where its version has no sources, as the contract
--- says.
+-- A journal that will be kept was rewritten, if its version has no sources, as the contract says.
 use Rattle.std.proofs.Common.{◌≡◌, ℕ, Bool, List, Option, Some, None, Result, Ok, Err}
 use Rattle.std.proofs.Common.{OnOk, inl, inr, sym, subst}
 use Rattle.std.specs.Option.{MatchOption}
@@ -16,7 +15,7 @@ use Rattle.osn_serve_commands.specs.Upgrade.{CannotSaveAnew, CannotUpgrade, IsLo
 use Rattle.osn_serve_commands.specs.Upgrade.{SavesIfOlder, Upgrades}
 use Rattle.osn_serve_commands.specs.UpgradeInside.{IsNewest, IsOlder}
 
--- what was told of a line is what its text says
+-- what was written about a line is what its text says
 pub cut_told : (e : Output) (line : Option ℕ) → TellsText e (cut_text line) → TellsCut e line
 cut_told e None h = h
 cut_told e (Some line) h = h
@@ -72,7 +71,7 @@ module _ (limits : Limits) (path : List ℕ) (CanFail : Bool → Type 0) (d : Fo
 
   module _ (bytes text : List ℕ) (cut : Option (List ℕ))
       (is : IsOlder limits given.bytes bytes text cut) where
-    -- it was saved anew
+    -- it was rewritten
     pub upgrade_saved : SavesAnew path bytes text looked d.after → TellsText e cut
         → Upgrades limits path CanFail d e
     upgrade_saved saved told = record {

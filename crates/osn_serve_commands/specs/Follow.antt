@@ -1,4 +1,4 @@
--- What the service has done that follows a journal.
+-- What the service that follows a journal has done.
 use Rattle.std.specs.Prelude.{ℕ, List, None, Option, Result, Ok, Err}
 use Rattle.osn_register.specs.declared.limits.Limits.{Limits}
 use Rattle.osn_lines.specs.Streams.{Output}
@@ -17,13 +17,13 @@ use Rattle.osn_report.specs.declared.fault.CommandFault.TheVariants.{File, Follo
 use Rattle.osn_report.specs.declared.fault.CommandFault.TheVariants.{RefusedLine}
 use Rattle.osn_report.specs.declared.status.Status.{Status}
 
--- the fault of the command where following ended early
+-- the fault of the command if following ended early
 abbrev pub fault_of : FollowerFault → CommandFault
 fault_of (follower.Serve why) = Service why
 fault_of (follower.Journal why) = File why
 fault_of (follower.File why) = FollowedFile why
 
--- what standard error was told where following the file of this path ended so
+-- what was reported on standard error if following the file of this path ended so
 abbrev pub TellsFollowed : List ℕ → Result Served (Interrupted FollowerFault) → Output → Status
     → Type 0
 TellsFollowed path (Ok served) e status =
@@ -32,7 +32,7 @@ TellsFollowed path (Ok served) e status =
 TellsFollowed path (Err end) e status = TellsAt path e (fault_of end.cause) status
 
 -- The journal was followed, and each line of the input answered from it, or it ended early, which
--- standard error was told.
+-- was reported on standard error.
 pub record EndsFollowed (limits : Limits) (path : List ℕ) (service : ServiceModel)
     (before after : Option (List Arrival)) (o e : Output) (status : Status) : Type 0 where
   pub result : Result Served (Interrupted FollowerFault)

@@ -59,14 +59,14 @@ abbrev pub replaced_path : Option (List ℕ) → Option (List ℕ) → Option (L
 replaced_path (Some journal) (Some save) = if bytes_eq journal save then Some journal else None
 replaced_path journal save = None
 
--- the bytes that the file has to hold still that the journal is saved to, which it was loaded from:
--- those that were loaded, where they are known
+-- the bytes that the file which the journal was loaded from and is saved to must still contain:
+-- those that were loaded, if they are known
 abbrev pub IsToStand : Option Input → Option (List ℕ) → Type 0
 IsToStand begun loaded =
     IfSome begun (λ journal. IfSome journal.bytes (λ bytes. loaded ≡ Some bytes))
 
--- the journal of an object was saved to a path, if to any; or standard error was told why it is not
--- saved for sure. Else nothing was written in the folder
+-- the journal of an object was saved to a path, if one is given, or it was reported why that isn't
+-- sure. Otherwise nothing was written in the folder
 abbrev pub EndsSaving : Option (List ℕ) → Option (List ℕ) → Bool → ObjectState → Option Known
     → Option Known → Output → Status → Type 0
 EndsSaving None loaded beside t opened after e status = (after ≡ opened) × Ends e None status
@@ -74,7 +74,7 @@ EndsSaving (Some path) loaded beside t opened after e status =
     ((after ≡ opened) × EndsBy e NoMemory status)
     ⊎ FinishesSave beside loaded path (journal_text t) opened after e status
 
--- The journal, if any, makes an object, and the lines were answered from it. Where all were, its
+-- The journal, if any, makes an object, and the lines were answered from it. If all were, its
 -- journal was saved.
 pub record ServesAndSaves (limits : Limits) (save : Option (List ℕ)) (rules : ServeRules)
     (begun : Option Input) (loaded : Option (List ℕ)) (beside : Bool)
@@ -87,7 +87,7 @@ pub record ServesAndSaves (limits : Limits) (save : Option (List ℕ)) (rules : 
   pub ended : EndsServed result e status (EndsSaving save loaded beside last opened after e status)
       (after ≡ opened) (λ never. ⊥)
 
--- a read of the journal, if there is one, failed only where one of its kind can
+-- a read of the journal, if there is one, failed only if one of its kind can
 abbrev pub CanFailIf : (Bool → Type 0) → Option Input → Type 0
 CanFailIf CanFail begun = IfSome begun (λ journal. CanFail journal.unread)
 
@@ -101,7 +101,7 @@ EndsServing limits path save rules begun loaded beside opened after i o e status
     × PrintsNoneAt path (File fault) o e status)
     ⊎ ServesAndSaves limits save rules begun loaded beside opened after i o e status
 
--- the bytes that a file has to hold still that a journal is saved over, by what was found there
+-- the bytes that a file which a journal is saved over must still contain, by what was found there
 abbrev pub bytes_of : SaveTarget → Option (List ℕ)
 bytes_of Empty = Some []
 bytes_of NoFile = None
@@ -118,8 +118,7 @@ abbrev pub FindsTarget : Limits → Option (List ℕ) → Option Known → Optio
 FindsTarget limits None before after found = (after ≡ before) × (found ≡ NoFile)
 FindsTarget limits (Some path) before after found = IsTarget limits path before after found
 
--- nothing is to be saved over what was found there, which standard error was told before a line was
--- answered
+-- no journal is saved over what was found there, which was reported before a line was answered
 abbrev pub RefusesTarget : Limits → Option (List ℕ) → Option Known → Option Known → Output → Output
     → Status → Type 0
 RefusesTarget limits None before after o e status = ⊥
@@ -137,14 +136,14 @@ SavesOverFound limits path save rules begun opened after i o e status =
     × EndsServing limits path save rules begun (bytes_of found) (is_left_beside found) looked after
     i o e status)
 
--- a journal was to be read whole, and a read of it failed, or there was no memory for it
+-- a journal could not be read whole: a read of it failed, or there was no memory for it
 abbrev pub IsNotReadWhole : Input → CommandFault → Type 0
 IsNotReadWhole journal fault =
     (fault ≡ NoMemory)
     ⊎ ((fault ≡ File ReadFault) × IsReadFault journal.unread journal.bytes)
 
--- a journal that is to be replaced is read whole first: it could not be, and nothing was done; or the
--- service was run, and its journal saved where that stood still
+-- a journal that is replaced is read whole first: it could not be, and nothing was done; or the
+-- service was run, and its journal saved if that file was unchanged
 abbrev pub SavesOverLoaded : Limits → List ℕ → Option (List ℕ) → ServeRules → Option Input
     → Option Known → Option Known → Input → Output → Output → Status → Type 0
 SavesOverLoaded limits path save rules begun opened after i o e status =
@@ -153,8 +152,8 @@ SavesOverLoaded limits path save rules begun opened after i o e status =
     ⊎ ((loaded : Option (List ℕ)) × IsToStand begun loaded
     × EndsServing limits path save rules begun loaded false opened after i o e status)
 
--- the service was run, and its journal saved: over the file that it was loaded from, or over what was
--- found at another path
+-- the service was run, and its journal saved: over the file that it was loaded from, or over what
+-- was found at another path
 abbrev pub ServesOver : Option (List ℕ) → Limits → List ℕ → Option (List ℕ) → ServeRules
     → Option Input → Option Known → Option Known → Input → Output → Output → Status → Type 0
 ServesOver (Some replaced) limits path save rules begun opened after i o e status =
@@ -162,7 +161,7 @@ ServesOver (Some replaced) limits path save rules begun opened after i o e statu
 ServesOver None limits path save rules begun opened after i o e status =
     SavesOverFound limits path save rules begun opened after i o e status
 
--- The service was run, from what the journal holds, and the journal that it left was saved.
+-- The service was run, from what the journal contains, and the journal that it left was saved.
 pub record RunsService (limits : Limits) (journal save : Option (List ℕ)) (rules : ServeRules)
     (CanFail : Bool → Type 0) (d : Folders) (i : Input) (o e : Output) (status : Status) : Type 0
   where
@@ -175,8 +174,7 @@ pub record RunsService (limits : Limits) (journal save : Option (List ℕ)) (rul
     pub ended : ServesOver (replaced_path journal save) limits (unwrap_or journal []) save rules
         begun opened d.after i o e status
 
--- the file that the journal is to be saved to could not be locked; or it was, and the service was
--- run
+-- the file that the journal is saved to could not be locked; or it was, and the service was run
 abbrev pub EndsService : Limits → Option (List ℕ) → Option (List ℕ) → ServeRules → (Bool → Type 0)
     → Folders → Input → Output → Output → Status → Type 0
 EndsService limits journal save rules CanFail d i o e status =
@@ -189,7 +187,7 @@ EndsService limits journal save rules CanFail d i o e status =
 -- ---- the service of a journal that is kept
 
 -- the file of this path could not be kept; or it is, no change of it had failed before, and the
--- service was run with what it holds. The folder has then what the service left in the file
+-- service was run with what it contains. The folder has then what the service left in the file
 abbrev pub EndsKeeping : Limits → List ℕ → ServeRules → (Bool → Type 0) → Folders → Input → Output
     → Output → Status → Type 0
 EndsKeeping limits path rules CanFail d i o e status =
@@ -201,8 +199,7 @@ EndsKeeping limits path rules CanFail d i o e status =
     × (file : FileState) × EndsKept limits path rules begun file given i o e status
     × Changes (Leaves path file.contents) held d.after)
 
--- The file of this path was saved anew first, where its version has no sources, and then it was
--- kept.
+-- The file of this path was rewritten first, if its version has no sources, and then it was kept.
 pub record UpgradesAndKeeps (limits : Limits) (path : List ℕ) (rules : ServeRules)
     (CanFail : Bool → Type 0) (d : Folders) (i : Input) (o e : Output) (status : Status) : Type 0
   where
@@ -215,8 +212,8 @@ pub record UpgradesAndKeeps (limits : Limits) (path : List ℕ) (rules : ServeRu
     pub keeps : EndsKeeping limits path rules CanFail
         (record { before = upgraded; after = d.after }) i o (later_output e between failed) status
 
--- the file of this path was kept, as it is, or after it was saved anew where that was asked for. It
--- could not be, and no line was answered; or that was done
+-- the file of this path was kept, as it is, or after an upgrade if that was asked for. It could not
+-- be, and no line was answered; or that was done
 abbrev pub KeepsAsAsked : Bool → Limits → List ℕ → ServeRules → (Bool → Type 0) → Folders → Input
     → Output → Output → Status → Type 0
 KeepsAsAsked false limits path rules CanFail d i o e status =
@@ -225,8 +222,8 @@ KeepsAsAsked true limits path rules CanFail d i o e status =
     ((o.new ≡ o.old) × CannotUpgrade limits path CanFail d e status)
     ⊎ UpgradesAndKeeps limits path rules CanFail d i o e status
 
--- the service was run, with a journal that is kept or without: a journal that is kept goes with no
--- other
+-- the service was run, with a journal that is kept or without: a journal that is kept can't be used
+-- with another
 abbrev pub RunsEditing : Limits → Option (List ℕ) → Option (List ℕ) → Option (List ℕ)
     → ServiceModel → (Bool → Type 0) → Folders → Input → Output → Output → Status → Type 0
 RunsEditing limits journal save None service CanFail d i o e status =
@@ -256,8 +253,8 @@ opened_by journal None None = path_if journal
 opened_by journal (Some kept) None = []
 opened_by journal kept (Some followed) = []
 
--- the service was run, with a journal that is followed or without: a journal that is followed goes
--- with no other
+-- the service was run, with a journal that is followed or without: a journal that is followed can't
+-- be used with another
 abbrev pub RunsByFiles : Limits → Option (List ℕ) → Option (List ℕ) → Option (List ℕ)
     → Option (List ℕ) → ServiceModel → (Bool → Type 0) → Folders → Input → Output → Output
     → Status → Type 0
@@ -272,7 +269,7 @@ RunsByFiles limits None (Some save) kept (Some path) service CanFail d i o e sta
 RunsByFiles limits None None (Some kept) (Some path) service CanFail d i o e status =
     (d.after ≡ d.before) × PrintsNone FollowedWithOther o e status
 
--- a journal is to be saved anew as one that is kept, and none is to be kept
+-- an upgrade is asked for, and no journal to keep is named
 abbrev pub lacks_keep : Bool → Option (List ℕ) → Bool
 lacks_keep upgrade None = upgrade
 lacks_keep upgrade (Some path) = false

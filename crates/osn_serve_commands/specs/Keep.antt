@@ -1,5 +1,5 @@
--- What the service has done that keeps its journal in a file: which object it began with, what it
--- wrote and told, and what the file holds then.
+-- What the service that keeps its journal in a file has done: which object it began with, what it
+-- wrote and reported, and what the file contains then.
 use Rattle.std.specs.Prelude.{◌≡◌, ◌+◌, ◌⊎◌, ⊤, ℕ, Bool, true, false, List, [], ◌∷◌, ◌++◌}
 use Rattle.std.specs.Prelude.{take, Option, Some, None, Result, Ok, Err, codes}
 use Rattle.std.specs.Fmt.{decimal}
@@ -38,24 +38,23 @@ use Rattle.osn_report.specs.declared.fault.CommandFault.TheVariants.{NoMemory}
 use Rattle.osn_report.specs.declared.status.Status.{Status}
 use Rattle.osn_serve_commands.specs.Serve.{EndsServed}
 
--- ---- what the file holds
+-- ---- what the file contains
 
--- the object that lines make: an empty one where there are none
+-- the object that lines make: an empty one if there are none
 abbrev pub object_of : Limits → List ℕ → Result ObjectState (ℕ × LineFault)
 object_of limits [] = Ok (opened limits)
 object_of limits (b ∷ bs) = load newest_rules limits (lines (b ∷ bs))
 
--- the object that a file holds, by its lines that count, or the first fault and the number of its
--- line
+-- the object of a file, by its lines that count, or the first fault and the number of its line
 abbrev pub kept_object : Limits → List ℕ → Result ObjectState (ℕ × LineFault)
 kept_object limits held = object_of limits (whole_bytes held)
 
--- lines say a version: the first of them does, and where there are no lines it is the plain one
+-- lines say a version: the first of them does, and if there are no lines it is the plain one
 abbrev pub SaysVersion : Version → List ℕ → Type 0
 SaysVersion version [] = version ≡ plain_version
 SaysVersion version (b ∷ bs) = IsOfVersion version (lines (b ∷ bs))
 
--- a file holds this object, in a journal of this version
+-- a file contains this object, in a journal of this version
 pub record HoldsObject (limits : Limits) (held : List ℕ) (version : Version) (s : ObjectState)
     : Type 0 where
   pub object : kept_object limits held ≡ Ok s
@@ -67,12 +66,12 @@ is_kept First = false
 is_kept Second = true
 is_kept Fourth = true
 
--- the head that is missing: that of a journal where there is no line
+-- the head that is missing: that of a journal if there is no line
 abbrev pub missing_head : List ℕ → List ℕ
 missing_head [] = line_text (head_data plain_version)
 missing_head (b ∷ bs) = []
 
--- the text that is missing after these lines, the last of which stands so: its line feed, or the
+-- the text that is missing after these lines, by the state of the last one: its line feed, or the
 -- head
 abbrev pub missing_end : LastLine → List ℕ → List ℕ
 missing_end Ended bytes = missing_head bytes
@@ -83,8 +82,8 @@ missing_end Unfinished bytes = missing_head bytes
 abbrev pub missing_text : List ℕ → List ℕ
 missing_text held = missing_end (last_line_of held) (whole_bytes held)
 
--- what the file holds once the service begins: its lines that count, and the text that is missing
--- there
+-- what the file contains once the service begins: its lines that count, and the text that is
+-- missing there
 abbrev pub kept_text : List ℕ → List ℕ
 kept_text held = whole_bytes held ++ missing_text held
 
@@ -94,18 +93,18 @@ if_unfinished Ended line = None
 if_unfinished LacksFeed line = None
 if_unfinished Unfinished line = Some line
 
--- the number of the last line where that was not finished
+-- the number of the last line if that was not finished
 abbrev pub unfinished_line : List ℕ → Option ℕ
 unfinished_line held = if_unfinished (last_line_of held) (whole_count held + 1)
 
--- ---- what standard error is told
+-- ---- what is written to standard error
 
 -- the line on a line that was cut off
 abbrev pub cut_line : ℕ → List ℕ
 cut_line line = codes "oldstyle: journal line "
     ++ (decimal line ++ codes " was not finished, and is cut off\n")
 
--- which line was cut off was told, if one was
+-- which line was cut off was reported, if one was
 abbrev pub TellsCut : Output → Option ℕ → Type 0
 TellsCut e None = e.new ≡ e.old
 TellsCut e (Some line) = WritesLine e (cut_line line)
@@ -115,14 +114,14 @@ abbrev pub cut_text : Option ℕ → Option (List ℕ)
 cut_text None = None
 cut_text (Some line) = Some (cut_line line)
 
--- a text was told, if there is one
+-- a text was written, if there is one
 abbrev pub TellsText : Output → Option (List ℕ) → Type 0
 TellsText e None = e.new ≡ e.old
 TellsText e (Some text) = WritesLine e text
 
 -- ---- why the service did not begin
 
--- the file holds no object for it, by its first fault, or was not read
+-- the file contains no object for it, by its first fault, or was not read
 abbrev pub IsUnread : Limits → List ℕ → Bool → FileFault → Type 0
 IsUnread limits held failed why =
     MatchFileFault why ⊤ (IsReadFault failed (Some held))
@@ -134,19 +133,19 @@ HoldsNoObject limits held failed fault =
     ((why : FileFault) × (fault ≡ File why) × IsUnread limits held failed why)
     ⊎ (fault ≡ NoMemory)
 
--- it holds an object, in a journal of a version that is not kept
+-- it contains an object, in a journal of a version that is not kept
 abbrev pub HoldsOlder : Limits → List ℕ → CommandFault → Type 0
 HoldsOlder limits held fault =
     (version : Version) × (fault ≡ OlderVersion version) × (is_kept version ≡ false)
     × (s : ObjectState) × HoldsObject limits held version s
 
--- the file could not be changed, or is another one now, as it tells; or there was no memory
+-- the file could not be changed, or is another one now, as it reports; or there was no memory
 abbrev pub IsChangeFault : CommandFault → Option KeptFileFault → Type 0
 IsChangeFault fault told =
     ((why : KeptFileFault) × (told ≡ Some why) × (fault ≡ KeptFile why)) ⊎ (fault ≡ NoMemory)
 
--- the file is as it was; or its last line was cut off, if it was not finished. After the lines that
--- count a front of the missing text may stand then
+-- the file is as it was; or its last line was cut off, if it was not finished. Then a prefix of the
+-- missing text may follow the lines that count
 abbrev pub IsLeft : List ℕ → Option ℕ → Option (List ℕ) → Type 0
 IsLeft held cut contents =
     ((cut ≡ None) × (contents ≡ Some held))
@@ -164,11 +163,11 @@ DoesNotBegin limits held failed cut file fault =
 
 -- ---- the command
 
--- a fact of what a file held that is kept, where that is known, and its source gave it
+-- a fact about the bytes of a kept file, if they are known, and its source gave them
 abbrev pub IfHeld : FileState → Option (List ℕ) → (List ℕ → Type 0) → Type 0
 IfHeld old given P = (held : List ℕ) → old.contents ≡ Some held → given ≡ Some held → P held
 
--- a file that holds this text, all of it on the disk, and that has failed for this reason before,
+-- a file that contains this text, all of it on the disk, and that has failed by this fault before,
 -- if at all
 abbrev pub ready_file : List ℕ → Option KeptFileFault → FileState
 ready_file text before = record { contents = Some text; synced = Some text; fault = before }
@@ -181,7 +180,8 @@ Begins limits held before cut version s ready =
     HoldsObject limits held version s × (is_kept version ≡ true) × (cut ≡ unfinished_line held)
     × (ready ≡ ready_file (kept_text held) before)
 
--- what the lines may do over a file of this version: an edit may give a source where it has them
+-- what the lines may do over a file of this version: an edit may give a source if the version has
+-- sources
 abbrev pub for_version : Version → ServeRules → ServeRules
 for_version version rules = record rules { takes_sources = has_sources version }
 
@@ -195,11 +195,11 @@ pub record KeepsLines (path : List ℕ) (rules : ServeRules) (s : ObjectState)
   pub ended : EndsServed result e status (Ends e None status) ⊤
       (λ why. TellsAt path e (KeptFile why) status)
 
--- How a run of the service ended that keeps the file of this path, which was `old` and is `file`
--- then, and which a source gave.
+-- How a run of the service that keeps the file of this path ended. The file was `old` and is `file`
+-- then, and a source gave it.
 pub record EndsKept (limits : Limits) (path : List ℕ) (rules : ServeRules) (old file : FileState)
     (given i : Input) (o e : Output) (status : Status) : Type 0 where
-  -- which line was cut off was told first, if one was
+  -- which line was cut off was reported first, if one was
   pub cut : Option ℕ
   pub between : Option (List ℕ)
   pub failed : Bool

@@ -1,4 +1,4 @@
--- What the parts of a service have done that keeps a file.
+-- What the parts of a service that keeps a file have done.
 use Rattle.std.specs.Prelude.{◌≡◌, ℕ, Bool, List, ◌++◌, take, Option, Some, IfSome}
 use Rattle.osn_register.specs.declared.limits.Limits.{Limits}
 use Rattle.osn_core.specs.Sequential.{ObjectState}
@@ -35,7 +35,7 @@ IsCompleted part old new synced =
     (held : List ℕ) → old ≡ Some (whole_bytes held) → IsWholePart part held
     → (new ≡ Some (kept_text held)) × (synced ≡ Some (kept_text held))
 
--- a front of the missing text was appended
+-- a prefix of the missing text was appended
 abbrev pub IsCompletedInPart : WholePart → Option (List ℕ) → Option (List ℕ) → Type 0
 IsCompletedInPart part old new =
     (held : List ℕ) → old ≡ Some (whole_bytes held) → IsWholePart part held

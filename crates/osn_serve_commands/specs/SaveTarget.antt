@@ -1,4 +1,4 @@
--- What is at the path that a journal is to be saved to, before a line is answered.
+-- What is at the path that a journal will be saved to, before a line is answered.
 use Rattle.std.specs.Prelude.{◌≡◌, ◌⊎◌, ⊤, ℕ, true, List, [], ◌∷◌, ◌++◌, codes, Option, None, IfSome}
 use Rattle.osn_core.specs.Sequential.{ObjectState}
 use Rattle.osn_folder.specs.Folder.{Known, Changes, HasNoFile, IsFileOf, Opens, Stays}
@@ -58,7 +58,7 @@ abbrev pub ReadsWhole : List ℕ → List ℕ → Option Known → Option Known 
 ReadsWhole path held before after =
     Changes (Opens (path ∷ [])) before after × IsFileOf before path (Some held)
 
--- no file is there: nothing, or what is no file
+-- no file is there: nothing, or what is not a file
 abbrev pub FindsNoFile : List ℕ → Known → Known → Type 0
 FindsNoFile path k n =
     (Stays k n × (k.paths.is_stream path ≡ true))
@@ -70,16 +70,16 @@ IsTarget limits path before after Empty = ReadsWhole path [] before after
 IsTarget limits path before after Journal =
     (held : List ℕ) × ReadsWhole path held before after × HoldsTarget limits held Journal
 
--- a journal is not to be saved over what is there, for this reason
+-- a journal can't be saved over what is there, by this fault
 abbrev pub IsNoTarget : Limits → List ℕ → Option Known → Option Known → TargetFault → Type 0
 IsNoTarget limits path before after NoJournal =
     (held : List ℕ) × ReadsWhole path held before after × HoldsNoTarget limits held NoJournal
 IsNoTarget limits path before after NotRead = Changes (Opens (path ∷ [])) before after
 IsNoTarget limits path before after NoMemory = Changes (Opens (path ∷ [])) before after
 
--- ---- what is told
+-- ---- what is printed
 
--- what is told of a path that no journal is saved to
+-- what is printed about a path that no journal is saved to
 abbrev pub target_text : List ℕ → List ℕ → List ℕ
 target_text path why = codes "oldstyle: write fault\nhelp: "
     ++ (shown path ++ (codes " " ++ (why ++ codes ": name another file for --save\n")))

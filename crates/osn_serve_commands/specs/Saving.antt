@@ -1,5 +1,5 @@
--- The file that a journal is saved to: how it was locked, and how standard error was told that the
--- journal is not saved for sure.
+-- The file that a journal is saved to: how it was locked, and how it was reported that it isn't
+-- sure that the journal is saved.
 use Rattle.std.specs.Prelude.{◌≡◌, ◌⊎◌, ℕ, Bool, true, false, List, ◌++◌, codes}
 use Rattle.std.specs.Prelude.{Option, Some, None}
 use Rattle.std.specs.Prelude.{string_bytes}
@@ -20,7 +20,7 @@ abbrev pub LocksIf : Option (List ℕ) → Option Known → Option Known → Typ
 LocksIf None before after = after ≡ before
 LocksIf (Some path) before after = Changes (Locks path) before after
 
--- it could not be locked, for this reason
+-- it could not be locked, by this fault
 abbrev pub CannotLockIf : Option (List ℕ) → KeepFault → Option Known → Option Known → Type 0
 CannotLockIf None fault before after = ⊥
 CannotLockIf (Some path) fault before after = Changes (CannotLock path fault) before after
@@ -31,11 +31,11 @@ changed_line unfinished =
     codes "oldstyle: the file has changed meanwhile and is left as it is: the journal is in "
     ++ (shown unfinished ++ codes "\n")
 
--- the line on a journal that stands in its file, but maybe not on the disk
+-- the line on a journal that is in its file, but maybe not on the disk
 abbrev pub not_synced_line : List ℕ
 not_synced_line = codes "oldstyle: the journal is saved, and the disk may not have it yet\n"
 
--- standard error was told why the journal is not saved for sure in the file of this path
+-- it was reported why it isn't sure that the journal is saved in the file of this path
 abbrev pub TellsUnsaved : List ℕ → Output → SaveFault → Status → Type 0
 TellsUnsaved path e faults.NoMemory status = EndsBy e NoMemory status
 TellsUnsaved path e (faults.WriteFault cause) status = TellsAt path e (NotSaved cause) status
@@ -52,8 +52,8 @@ beside_line path backup = codes "note: "
     ++ (shown path
     ++ (codes " held another journal, which is now " ++ (shown backup ++ codes "\n")))
 
--- a journal was saved at a path, where what was loaded stood still, if that is given; or in the place
--- of another journal, which is beside it now, and standard error was told where
+-- a journal was saved at a path, and what was loaded was unchanged, if that is given; or in place
+-- of another journal, which is beside it now, and its path was reported
 abbrev pub SavesAs : Bool → Option (List ℕ) → List ℕ → List ℕ → Option Known → Option Known
     → Output → Status → Type 0
 SavesAs false loaded path text before after e status =
@@ -62,7 +62,7 @@ SavesAs true loaded path text before after e status =
     (backup : List ℕ) × Changes (SavesBeside path backup text) before after
     × TellsIfMade e statuses.Done (beside_line path backup) status
 
--- it was not so for sure, for this reason
+-- it isn't sure that it is saved, by this fault
 abbrev pub CannotSaveAs : Bool → Option (List ℕ) → List ℕ → List ℕ → SaveFault → Option Known
     → Option Known → Type 0
 CannotSaveAs false loaded path text fault before after =
@@ -70,7 +70,7 @@ CannotSaveAs false loaded path text fault before after =
 CannotSaveAs true loaded path text fault before after =
     Changes (CannotSaveBeside path text fault) before after
 
--- it was saved; or standard error was told why it is not saved for sure
+-- it was saved; or it was reported why that isn't sure
 abbrev pub FinishesSave : Bool → Option (List ℕ) → List ℕ → List ℕ → Option Known → Option Known
     → Output → Status → Type 0
 FinishesSave beside loaded path text before after e status =

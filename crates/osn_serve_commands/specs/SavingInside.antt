@@ -1,4 +1,4 @@
--- What a service has done that is to replace the journal that it begins with.
+-- What a service that replaces the journal which it begins with has done.
 use Rattle.std.specs.Prelude.{◌≡◌, ◌⊎◌, false, List, ℕ, Option, Some, IfSome}
 use Rattle.osn_folder.specs.Folder.{Known}
 use Rattle.osn_lines.specs.Streams.{Input, Output}
@@ -16,7 +16,7 @@ pub record IsReadWhole (journal begun : Input) (held : List ℕ) : Type 0 where
   pub sound : begun.unread ≡ false
 
 -- the journal could not be read whole, and nothing was done. Or it was, and the service was run,
--- and the file that it replaces has to hold it still
+-- and the file that it replaces must still contain it
 abbrev pub ReplacesRead : Limits → List ℕ → Option (List ℕ) → ServeRules → Input → Option Known
     → Option Known → Input → Output → Output → Status → Type 0
 ReplacesRead limits path save rules journal opened after i o e status =

@@ -1,5 +1,4 @@
--- What the service of a command line has done where it ends, and the journal that it leaves to be
--- saved.
+-- What the service of a command line has done when it ends, and the journal that it leaves to save.
 use Rattle.std.specs.Prelude.{◌≡◌, ◌⊎◌, ◌-◌, ℕ, Bool, true, false, List, Option, Some, None, length}
 use Rattle.std.specs.Prelude.{if◌then◌else◌, Result, MatchResult}
 use Rattle.std.specs.Option.{option_map_or}
@@ -39,7 +38,7 @@ input_if remaining has_failed (Some old) new = Some (record {
 })
 
 -- how the service ended. All lines were answered, and then this was done; or not all were, which
--- standard error was told, and the rest holds. Or the store lost a change for a reason
+-- was reported, and the rest holds. Or the store lost a change for a reason
 abbrev pub EndsServed : {F : Type 0} → Result Served (Interrupted (ServiceFault F)) → Output
     → Status → Type 0 → Type 0 → (F → Type 0) → Type 0
 EndsServed result e status Done Rest Lost = MatchService result
@@ -47,12 +46,12 @@ EndsServed result e status Done Rest Lost = MatchService result
     (λ n. Rest × Tells e (RefusedLine n) status)
     (λ n why. Lost why)
 
--- the journal of an object, where it is to be saved
+-- the journal of an object, if it must be saved
 abbrev pub journal_to_save : Bool → ObjectState → Option (List ℕ)
 journal_to_save saves t = if saves then Some (journal_text t) else None
 
--- the journal of an object is left, where it is to be saved; or there was no memory for it, which
--- standard error was told
+-- the journal of an object is left, if it must be saved; or there was no memory for it, which was
+-- reported
 abbrev pub LeavesJournal : Bool → ObjectState → Option (List ℕ) → Output → Status → Type 0
 LeavesJournal saves t journal e status =
     ((journal ≡ journal_to_save saves t) × Ends e None status)
@@ -64,14 +63,14 @@ pub record ServesLines (rules : ServeRules) (s : ObjectState) (saves : Bool) (i 
   pub object : ObjectState
   pub result : Result Served (Interrupted (ServiceFault Infallible))
   pub serves : ServesStore rules s object i o result
-  -- a journal is left only where all lines were answered, and none was the end
+  -- a journal is left only if all lines were answered, and no line ended the service
   pub ended : EndsServed result e status (LeavesJournal saves object journal e status)
       (journal ≡ None) (λ never. ⊥)
   -- this many editions were published
   pub published : editions ≡ length object.batches - length s.batches
 
--- what the service did that was to begin with this journal of this path, if any. There was no object, and it
--- wrote nothing; or there was one, and it answered the lines
+-- what the service did that should begin with this journal of this path, if any. There was no
+-- object, and it wrote nothing; or there was one, and it answered the lines
 abbrev pub Serves : Limits → List ℕ → ServeRules → Option Input → Bool → Input → Output → Output
     → Option (List ℕ) → ℕ → Status → Type 0
 Serves limits path rules begun saves i o e journal editions status =

@@ -1,5 +1,5 @@
--- What is done in a folder where a journal is saved anew, whole or not at all, and with one that is
--- to be kept and is of a version that has no sources.
+-- What is done in a folder if a journal is rewritten, whole or not at all, and with one that will
+-- be kept and is of a version that has no sources.
 use Rattle.std.specs.Prelude.{◌≡◌, ◌⊎◌, ℕ, Bool, true, false, List, Option, Some, None, IfSome}
 use Rattle.osn_register.specs.declared.limits.Limits.{Limits}
 use Rattle.osn_core.specs.Sequential.{ObjectState}
@@ -20,17 +20,16 @@ use Rattle.osn_report.specs.declared.status.Status.{Status}
 use Rattle.osn_serve_commands.specs.Keep.{HoldsNoObject, HoldsObject, TellsCut, unfinished_line}
 use Rattle.osn_serve_commands.specs.Saving.{TellsUnsaved}
 
--- ---- a text that is saved anew
+-- ---- a text that is rewritten
 
--- the file of this path was locked, and a text put in its place, which held these bytes still. A
--- crash of the machine leaves one of the two
+-- the file of this path was locked, and a text put in its place, which still contained these bytes.
+-- A crash of the machine leaves one of the two
 abbrev pub SavesAnew : List ℕ → List ℕ → List ℕ → Option Known → Option Known → Type 0
 SavesAnew path loaded text before after =
     (locked : Option Known) × Changes (Locks path) before locked
     × SavesSafely path (Some loaded) text locked after
 
--- it could not be locked; or it was, and the text is not saved for sure. Standard error was told
--- why
+-- it could not be locked; or it was, and it isn't sure that the text is saved. It was reported why
 abbrev pub CannotSaveAnew : List ℕ → List ℕ → List ℕ → Option Known → Option Known
     → Output → Status → Type 0
 CannotSaveAnew path loaded text before after e status =
@@ -40,7 +39,7 @@ CannotSaveAnew path loaded text before after e status =
     × (fault : SaveFault) × CannotSaveSafely path (Some loaded) text fault locked after
     × TellsUnsaved path e fault status)
 
--- ---- a journal that is to be kept
+-- ---- a journal that will be kept
 
 -- The file of this path was kept, this was read of it, and it was given back as it was.
 pub record IsLookedAt (path : List ℕ) (CanFail : Bool → Type 0) (before after : Option Known)
@@ -51,13 +50,13 @@ pub record IsLookedAt (path : List ℕ) (CanFail : Bool → Type 0) (before afte
   pub fails : CanFail given.unread
   pub leaves : Changes (Leaves path given.bytes) held after
 
--- what was read are these bytes, and they hold this object, in a journal of this version
+-- what was read are these bytes, and they contain this object, in a journal of this version
 abbrev pub IsReadAs : Limits → Input → List ℕ → Version → ObjectState → Type 0
 IsReadAs limits given bytes version s =
     IfSome given.bytes (λ held. bytes ≡ held) × HoldsObject limits bytes version s
 
--- a journal was left where its version has sources. Else it was saved anew, as one of the newest
--- version, and standard error was told which line was cut off, if the last one was not finished
+-- a journal was left if its version has sources. Otherwise it was rewritten, as one of the newest
+-- version, and it was reported which line was cut off, if the last one was not finished
 abbrev pub SavesIfOlder : Bool → List ℕ → List ℕ → ObjectState → Option Known → Option Known
     → Output → Type 0
 SavesIfOlder true path bytes s before after e = (after ≡ before) × TellsCut e None
@@ -65,7 +64,7 @@ SavesIfOlder false path bytes s before after e =
     SavesAnew path bytes (journal_text_of newest_version s) before after
     × TellsCut e (unfinished_line bytes)
 
--- The file of this path was looked at, and holds a journal of a version that has sources now.
+-- The file of this path was looked at, and contains a journal of a version that has sources now.
 pub record Upgrades (limits : Limits) (path : List ℕ) (CanFail : Bool → Type 0) (d : Folders)
     (e : Output) : Type 0 where
   pub looked : Option Known
@@ -77,7 +76,7 @@ pub record Upgrades (limits : Limits) (path : List ℕ) (CanFail : Bool → Type
   pub reads : IsReadAs limits given bytes version object
   pub saves : SavesIfOlder (has_sources version) path bytes object looked d.after e
 
--- a journal that was read was not saved anew. It makes no object, or memory ran out, and it was
+-- a journal that was read was not rewritten. It makes no object, or memory ran out, and it was
 -- left; or it is of a version that has no sources, and could not be saved
 abbrev pub CannotSaveOlder : Limits → List ℕ → Input → Option Known → Option Known → Output
     → Status → Type 0
@@ -89,8 +88,8 @@ CannotSaveOlder limits path given before after e status =
     × IsReadAs limits given bytes version s × (has_sources version ≡ false)
     × CannotSaveAnew path bytes (journal_text_of newest_version s) before after e status)
 
--- it is not sure that the file of this path holds a journal of a version that has sources. It could
--- not be kept; or it was looked at, and that was done
+-- it is not sure that the file of this path contains a journal of a version that has sources. It
+-- could not be kept; or it was looked at, and that was done
 abbrev pub CannotUpgrade : Limits → List ℕ → (Bool → Type 0) → Folders → Output → Status → Type 0
 CannotUpgrade limits path CanFail d e status =
     ((fault : KeepFault) × Changes (CannotKeep path fault) d.before d.after

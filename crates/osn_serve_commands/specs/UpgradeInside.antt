@@ -1,4 +1,4 @@
--- What the parts have done that save a journal anew.
+-- What the parts that rewrite a journal have done.
 use Rattle.std.specs.Prelude.{◌≡◌, ℕ, true, false, List, Option}
 use Rattle.osn_register.specs.declared.limits.Limits.{Limits}
 use Rattle.osn_core.specs.Sequential.{ObjectState}
@@ -17,7 +17,7 @@ pub record IsNewest (limits : Limits) (given : Option (List ℕ)) : Type 0 where
   pub holds : HoldsObject limits bytes version object
   pub newest : has_sources version ≡ true
 
--- it is of one that has none: these bytes, and the texts of the journal anew and of what is told
+-- it is of one that has none: these bytes, and the texts of the rewritten journal and of the report
 pub record IsOlder (limits : Limits) (given : Option (List ℕ)) (bytes text : List ℕ)
     (cut : Option (List ℕ)) : Type 0 where
   pub version : Version

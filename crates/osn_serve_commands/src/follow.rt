@@ -1,5 +1,5 @@
 //! The command `serve` with a journal that another run keeps: each line is answered from the newest
-//! edition that the file holds.
+//! edition that the file contains.
 ghost use Rattle.osn_follower.specs.Follows.{MatchFollower};
 ghost use Rattle.osn_invocation.specs.Invocation.{service_model};
 ghost use Rattle.osn_lines.specs.Streams.{output_of};
@@ -15,7 +15,7 @@ use osn_register::Limits;
 use osn_report::{CommandFault, Status, report, report_at};
 use std::alloc::Global;
 
-/// The fault of the command where following ended early.
+/// Returns the fault of the command if following ended early.
 fn fault_of(cause: FollowerFault) -> CommandFault
     ensures { result ≡ spec.fault_of cause }
 {
@@ -26,9 +26,9 @@ fn fault_of(cause: FollowerFault) -> CommandFault
     }
 }
 
-/// The command `serve` with a journal of this path that another run keeps. Answers the request
-/// lines as `follow` does; where that ends early, standard error is told why, and the status says
-/// it.
+/// Runs the command `serve` with a journal of this path that another run keeps. Answers the request
+/// lines as `follow` does; if that ends early, the reason is reported on standard error, and the
+/// status says so.
 pub fn follow_command<A: Arrivals, W: Sink, E: Sink>(
     alloc: Global,
     limits: Limits,

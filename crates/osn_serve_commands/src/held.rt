@@ -1,4 +1,4 @@
-//! What a file holds that is to be kept: the journal of its lines that count.
+//! What a file that will be kept contains: the journal of its lines that count.
 ghost use Rattle.std.specs.Prelude.{◌≡◌, ◌^◌, ◌<◌, ℕ, List, Ok, IfOk, IfErr, OnOk, IfSome, true};
 ghost use Rattle.std.specs.Prelude.{false};
 ghost use Rattle.osn_files.specs.WholePart.{whole_bytes};
@@ -14,25 +14,25 @@ use osn_register::Limits;
 use osn_report::CommandFault;
 use std::alloc::Global;
 
-/// What a file holds that is to be kept.
+/// What a file that will be kept contains.
 #[derive(Drop)]
 pub struct HeldJournal {
     /// Its bytes.
     pub bytes: Vec<u8>,
     /// How much of them counts.
     pub part: WholePart,
-    /// The version that the lines say which count, or the plain one where none does.
+    /// The version that the lines that count say, or the plain one if no line counts.
     pub version: Version,
-    /// The object of these lines, which is an empty one where none counts.
+    /// The object of these lines, which is an empty one if no line counts.
     pub object: Object,
 }
 
-/// The object of the lines of a journal that count, and the version that they say. Where there are
-/// no lines, it is an empty object and the plain version.
+/// Returns the object of the lines of a journal that count, and the version that they say. If there
+/// are no lines, it is an empty object and the plain version.
 fn kept_object(alloc: Global, limits: Limits, lines: &[u8]) -> Result<(Object, Version), FileFault>
     ensures object { IfOk result (λ read. object_of limits lines.now ≡ Ok read.0) }
     ensures version { IfOk result (λ read. SaysVersion read.1 lines.now) }
-    // Whatever stands after the lines that count.
+    // Whatever is after the lines that count.
     ensures err { IfErr result (λ fault. (held : List ℕ) → lines.now ≡ whole_bytes held →
         IsUnread limits held false fault) }
 {
@@ -42,7 +42,7 @@ fn kept_object(alloc: Global, limits: Limits, lines: &[u8]) -> Result<(Object, V
     load_with_version(alloc, limits, &mut Bytes::new(lines))
 }
 
-/// What these bytes of a file hold. They are measured and loaded.
+/// Returns what these bytes of a file contain. They are measured and loaded.
 fn held_journal(alloc: Global, limits: Limits, bytes: Vec<u8>) -> Result<HeldJournal, FileFault>
     ensures few { IfOk result (λ held. held.part.lines < 2 ^ 63) }
     ensures bytes { IfOk result (λ held. held.bytes.items ≡ bytes.items) }
@@ -60,8 +60,8 @@ fn held_journal(alloc: Global, limits: Limits, bytes: Vec<u8>) -> Result<HeldJou
     })
 }
 
-/// What a file holds that is to be kept, by the source that gives it. It is read once, then
-/// measured and loaded.
+/// Reads what a file that will be kept contains, from the source that gives it. It is read once,
+/// then measured and loaded.
 ///
 /// # Errors
 ///
@@ -87,7 +87,7 @@ pub fn read_kept<J: Source>(
 ///
 /// # Errors
 ///
-/// `OlderVersion` where it is not.
+/// `OlderVersion` if it is not.
 pub fn check_kept(version: Version) -> Result<(), CommandFault>
     ensures ok { OnOk result (is_kept version ≡ true) }
     ensures err { IfErr result (λ fault. (fault ≡ CommandFault.OlderVersion version)

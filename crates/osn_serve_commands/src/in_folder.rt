@@ -23,16 +23,16 @@ use osn_report::{CommandFault, Failure, Status, report, report_at};
 use osn_service::ServeRules;
 use std::alloc::Global;
 
-/// Whether one of two paths is given.
+/// Returns whether one of two paths is given.
 fn is_given(one: Option<&str>, other: Option<&str>) -> bool
     ensures { result ≡ (is_some one.entry || is_some other.entry) }
 {
     one.is_some() || other.is_some()
 }
 
-/// Opens what is to be read, answers the request lines as `serve_command`, `keep_command` or
-/// `follow_command` does, and keeps or saves the journal. Where that is neither, a terminal, if
-/// there is one, is told how many editions were published.
+/// Opens the files that are read, answers the request lines as `serve_command`, `keep_command` or
+/// `follow_command` does, and keeps or saves the journal. If the journal is neither kept nor saved,
+/// a terminal, if there is one, shows how many editions were published.
 ///
 /// # Errors
 ///
@@ -72,7 +72,7 @@ pub fn serve_in_folder<'a, D: Folder, R: Source, W: Sink, E: Sink, T: Sink + Dro
     )
 }
 
-/// Whether a journal is to be saved anew as one that is kept, and none is to be kept.
+/// Returns whether an upgrade is asked for, and no journal to keep is named.
 fn lacks_keep(options: ServeOptions) -> bool
     ensures { result ≡ lacks_keep options.entry.upgrade
         (option_map (λ path. path.now) options.entry.keep) }
@@ -83,7 +83,7 @@ fn lacks_keep(options: ServeOptions) -> bool
     }
 }
 
-/// The same, by the files that the options name.
+/// Does the same, by the files that the options name.
 fn serve_by_files<'a, D: Folder, R: Source, W: Sink, E: Sink, T: Sink + Drop>(
     alloc: Global,
     limits: Limits,
@@ -119,7 +119,7 @@ fn serve_by_files<'a, D: Folder, R: Source, W: Sink, E: Sink, T: Sink + Drop>(
     }
 }
 
-/// Whether a journal to begin with, to be saved or to be kept is given.
+/// Returns whether a journal to begin with, to save or to keep is given.
 fn names_other(options: ServeOptions) -> bool
     ensures { result ≡ ((is_some options.entry.journal || is_some options.entry.save)
         || is_some options.entry.keep) }
@@ -127,7 +127,7 @@ fn names_other(options: ServeOptions) -> bool
     is_given(options.journal, options.save) || options.keep.is_some()
 }
 
-/// Follows the journal of a path, where no other option names a journal.
+/// Follows the journal of a path, if no other option names a journal.
 fn follow_alone<D: Folder, R: Source, W: Sink, E: Sink>(
     alloc: Global,
     limits: Limits,
@@ -154,7 +154,7 @@ fn follow_alone<D: Folder, R: Source, W: Sink, E: Sink>(
     follow_file(alloc, limits, folder, path, options, input, output, errors)
 }
 
-/// Follows the file of a path, and answers the request lines from what it holds.
+/// Follows the file of a path, and answers the request lines from what it contains.
 fn follow_file<D: Folder, R: Source, W: Sink, E: Sink>(
     alloc: Global,
     limits: Limits,
@@ -179,7 +179,7 @@ fn follow_file<D: Folder, R: Source, W: Sink, E: Sink>(
     }
 }
 
-/// The same, where no journal is followed.
+/// Does the same, if no journal is followed.
 fn serve_edits<'a, D: Folder, R: Source, W: Sink, E: Sink, T: Sink + Drop>(
     alloc: Global,
     limits: Limits,
@@ -213,7 +213,7 @@ fn serve_edits<'a, D: Folder, R: Source, W: Sink, E: Sink, T: Sink + Drop>(
     }
 }
 
-/// Keeps the journal of a path, where no other option names a journal.
+/// Keeps the journal of a path, if no other option names a journal.
 fn keep_alone<D: Folder, R: Source, W: Sink, E: Sink>(
     alloc: Global,
     limits: Limits,
@@ -249,7 +249,7 @@ fn keep_alone<D: Folder, R: Source, W: Sink, E: Sink>(
     )
 }
 
-/// Keeps the file of a path, as it is, or after it was saved anew where that is asked for.
+/// Keeps the file of a path, as it is, or after an upgrade if that is asked for.
 fn keep_as_asked<D: Folder, R: Source, W: Sink, E: Sink>(
     alloc: Global,
     limits: Limits,
@@ -274,7 +274,7 @@ fn keep_as_asked<D: Folder, R: Source, W: Sink, E: Sink>(
     }
 }
 
-/// Saves the file of a path anew, where its version has no sources, and keeps it then.
+/// Rewrites the file of a path, if its version has no sources, and keeps it then.
 fn upgrade_and_keep<D: Folder, R: Source, W: Sink, E: Sink>(
     alloc: Global,
     limits: Limits,
@@ -297,7 +297,8 @@ fn upgrade_and_keep<D: Folder, R: Source, W: Sink, E: Sink>(
     }
 }
 
-/// Keeps the file of a path, answers the request lines from what it holds, and appends each change.
+/// Keeps the file of a path, answers the request lines from what it contains, and appends each
+/// change.
 fn keep<D: Folder, R: Source, W: Sink, E: Sink>(
     alloc: Global,
     limits: Limits,

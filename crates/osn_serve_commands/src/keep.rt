@@ -1,4 +1,4 @@
-//! The command `serve` with a journal that is kept: the service begins with what the file holds,
+//! The command `serve` with a journal that is kept: the service begins with what the file contains,
 //! and each change is in it before its reply is written.
 ghost use Rattle.std.specs.Prelude.{◌≡◌, ◌^◌, ◌<◌, ◌+◌, ℕ, List, Option, IfOk, IfErr, OnOk};
 ghost use Rattle.std.specs.Prelude.{string_bytes, option_map, take};
@@ -29,14 +29,15 @@ use std::alloc::{AllocError, Global};
 /// The room that a head gets at first.
 const HEAD_ROOM: usize = 32;
 
-/// The line on a line that is cut off.
+/// Returns the line on a line that is cut off.
 pub(crate) fn cut_text(alloc: Global, line: u64) -> Result<String, AllocError>
     ensures { IfOk result (λ text. string_bytes text ≡ cut_line line) }
 {
     format!(in alloc; "oldstyle: journal line {line} was not finished, and is cut off\n")
 }
 
-/// Cuts off the last line of a kept file, which was not finished, and tells standard error so.
+/// Cuts off the last line of a kept file, which was not finished, and reports that on standard
+/// error.
 fn cut_last<K: KeptFile, E: Sink>(
     alloc: Global,
     part: WholePart,
@@ -59,7 +60,8 @@ fn cut_last<K: KeptFile, E: Sink>(
     Ok(())
 }
 
-/// Cuts off the last line of a kept file, if it was not finished, and tells standard error so.
+/// Cuts off the last line of a kept file, if it was not finished, and reports that on standard
+/// error.
 pub fn cut_unfinished<K: KeptFile, E: Sink>(
     alloc: Global,
     part: WholePart,
@@ -81,7 +83,7 @@ pub fn cut_unfinished<K: KeptFile, E: Sink>(
     }
 }
 
-/// The head of a journal, where no line counts, and else nothing.
+/// Returns the head of a journal if no line counts, or else nothing.
 fn missing_head(alloc: Global, part: WholePart) -> Result<Vec<u8>, AllocError>
     ensures { IfOk result (λ head. (held : List ℕ) → IsWholePart part held
         → head.items ≡ missing_head (whole_bytes held)) }
@@ -92,8 +94,8 @@ fn missing_head(alloc: Global, part: WholePart) -> Result<Vec<u8>, AllocError>
     Ok(Vec::new(alloc))
 }
 
-/// What is missing after the lines of a kept file that count: the line feed of the last one, or the
-/// head where no line counts.
+/// Returns what is missing after the lines of a kept file that count: the line feed of the last
+/// one, or the head if no line counts.
 pub fn missing_text(alloc: Global, part: WholePart) -> Result<Vec<u8>, AllocError>
     ensures { IfOk result (λ text. (held : List ℕ) → IsWholePart part held
         → text.items ≡ missing_text held) }
@@ -104,7 +106,8 @@ pub fn missing_text(alloc: Global, part: WholePart) -> Result<Vec<u8>, AllocErro
     }
 }
 
-/// Appends to a kept file of lines that count what is missing after them, and has all on the disk.
+/// Appends to a kept file of lines that count what is missing after them, and makes sure that all
+/// is on the disk.
 fn append_missing<K: KeptFile>(
     alloc: Global,
     part: WholePart,
@@ -122,8 +125,8 @@ fn append_missing<K: KeptFile>(
     Ok(())
 }
 
-/// Makes a kept file ready for the service. It then holds the lines that count, each with its line
-/// feed, and a head, and all of it is on the disk.
+/// Makes a kept file ready for the service. It then contains the lines that count, each with its
+/// line feed, and a head, and all of it is on the disk.
 fn make_ready<K: KeptFile, E: Sink>(
     alloc: Global,
     part: WholePart,
@@ -144,7 +147,7 @@ fn make_ready<K: KeptFile, E: Sink>(
     append_missing(alloc, part, keeper)
 }
 
-/// The object that a kept file holds, and the version of its journal, once the file is ready for
+/// Returns the object of a kept file, and the version of its journal, once the file is ready for
 /// the service.
 fn begin<K: KeptFile, J: Source, E: Sink>(
     alloc: Global,
@@ -170,7 +173,7 @@ fn begin<K: KeptFile, J: Source, E: Sink>(
     Ok((held.object, held.version))
 }
 
-/// Tells standard error why a service ended early that keeps the file of this path.
+/// Reports on standard error why a service that keeps the file of this path ended early.
 fn report_end<E: Sink>(
     alloc: Global,
     errors: &mut E,
@@ -221,7 +224,8 @@ fn keep_lines<K: KeptFile, R: Source, W: Sink, E: Sink>(
     }
 }
 
-/// What the lines may do over a file of this version: an edit may give a source where it has them.
+/// Returns what the lines may do over a file of this version: an edit may give a source if the
+/// version has sources.
 fn for_version(rules: ServeRules, version: Version) -> ServeRules
     ensures { result ≡ for_version version rules }
 {
@@ -231,19 +235,19 @@ fn for_version(rules: ServeRules, version: Version) -> ServeRules
     }
 }
 
-/// The command `serve` with a journal of this path that is kept: answers the request lines of the input, by
-/// these rules. The object is the one that the kept file holds, or an empty one under these limits
-/// where no line of it counts. Each change is in the file before its reply is written. All lines
-/// are answered, or those up to the first refused one where the rules say so, which is a fault
-/// then.
+/// Runs the command `serve` with a journal of this path that is kept: answers the request lines of
+/// the input, by these rules. The object is that of the kept file, or an empty one under these
+/// limits if no line of the file counts. Each change is in the file before its reply is written.
+/// All lines are answered, or those up to the first refused one if the rules say so, which is a
+/// fault then.
 ///
-/// The source gives what the file holds, which is loaded as far as lines count. A last line that
-/// was not finished is cut off, and standard error is told so. One that counts and lacks its line
-/// feed gets it. A file with no line gets a head. All of it is on the disk before the first line is
-/// answered. A file with a bad line, or with a head of the first version, is left as it is. An edit
-/// may give a source where the head says a version that has them.
+/// The source gives the bytes of the file, which are loaded as far as lines count. A last line that
+/// was not finished is cut off, which is reported on standard error. One that counts and lacks its
+/// line feed gets it. A file with no line gets a head. All of it is on the disk before the first
+/// line is answered. A file with a bad line, or with a head of the first version, is left as it is.
+/// An edit may give a source if the head says a version that has sources.
 ///
-/// Where the service ends early, standard error is told in a line why, and the status says it.
+/// If the service ends early, a line on standard error reports why, and the status says so.
 pub fn keep_command<K: KeptFile, J: Source, R: Source, W: Sink, E: Sink>(
     alloc: Global,
     limits: Limits,

@@ -19,7 +19,7 @@ pub(crate) struct LockedFile<'a, L> {
     pub(crate) lock: L,
 }
 
-/// Locks the file that the journal is to be saved to, if there is one.
+/// Locks the file that the journal is saved to, if there is one.
 pub(crate) fn lock_if<'a, D: Folder>(
     folder: &mut D,
     path: Option<&'a str>,
@@ -41,7 +41,7 @@ pub(crate) fn lock_if<'a, D: Folder>(
     }
 }
 
-/// The line on a file that is not what it was, and on the one that has the journal.
+/// Returns the line on a file that is not what it was, and on the one that has the journal.
 fn changed(alloc: Global, unfinished: &str) -> Result<String, AllocError>
     ensures { IfOk result (λ text. string_bytes text ≡ changed_line unfinished.now) }
 {
@@ -51,7 +51,7 @@ fn changed(alloc: Global, unfinished: &str) -> Result<String, AllocError>
     )
 }
 
-/// The line on a journal that was there, and on the path that it is at now.
+/// Returns the line on a journal that was there, and on the path that it is at now.
 fn beside_line(alloc: Global, path: &str, backup: &str) -> Result<String, AllocError>
     ensures { IfOk result (λ text. string_bytes text ≡ beside_line path.now backup.now) }
 {
@@ -62,8 +62,8 @@ fn beside_line(alloc: Global, path: &str, backup: &str) -> Result<String, AllocE
     )
 }
 
-/// Tells standard error why the journal is not saved for sure in the file of this path. Answers the
-/// status.
+/// Reports on standard error why it isn't sure that the journal is saved in the file of this path.
+/// Returns the status.
 pub(crate) fn report_unsaved<E: Sink>(
     alloc: Global,
     errors: &mut E,
@@ -92,8 +92,8 @@ pub(crate) fn report_unsaved<E: Sink>(
     }
 }
 
-/// Saves a journal in place of what is at a path, which has to hold still what was loaded, if that
-/// is given; or tells standard error why it could not.
+/// Saves a journal in place of what is at a path, which must still contain what was loaded, if that
+/// is given; or reports on standard error why it could not.
 fn save_over<D: Folder, E: Sink>(
     alloc: Global,
     folder: &mut D,
@@ -112,8 +112,8 @@ fn save_over<D: Folder, E: Sink>(
     }
 }
 
-/// Saves a journal in place of another one, which is left beside it. Standard error is told where
-/// that is; or why it could not be done.
+/// Saves a journal in place of another one, which is left beside it. Standard error names the path
+/// of that one, or reports why this could not be done.
 fn save_and_note<D: Folder, E: Sink>(
     alloc: Global,
     folder: &mut D,
@@ -134,8 +134,8 @@ fn save_and_note<D: Folder, E: Sink>(
     }
 }
 
-/// Saves a journal at a path: in place of another one, which is left beside it, where that is said;
-/// or else in place of what has to hold still what was loaded, if that is given.
+/// Saves a journal at a path: in place of another one, which is left beside it, if that is asked
+/// for; or else in place of a file that must still contain what was loaded, if that is given.
 fn save_journal<D: Folder, E: Sink>(
     alloc: Global,
     folder: &mut D,
@@ -156,9 +156,9 @@ fn save_journal<D: Folder, E: Sink>(
     }
 }
 
-/// Saves the journal that the service left, if any, or tells standard error why it could not. A
-/// journal that it replaces is left beside it, where that is said. Else the file that it replaces
-/// has to hold still what was loaded, if that is given.
+/// Saves the journal that the service left, if any, or reports on standard error why it could not.
+/// A journal that it replaces is left beside it, if that is asked for. Otherwise the file that it
+/// replaces must still contain what was loaded, if that is given.
 pub(crate) fn finish<D: Folder, E: Sink>(
     alloc: Global,
     folder: &mut D,

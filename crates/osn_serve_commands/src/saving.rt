@@ -1,5 +1,5 @@
-//! The command `serve` over the files of a folder, where no journal is kept: the file that the
-//! journal is saved to is locked first.
+//! The command `serve` over the files of a folder, if no journal is kept: the file that the journal
+//! is saved to is locked first.
 ghost use Rattle.std.specs.Prelude.{◌≡◌, [], Some, IfErr, IfOk, option_map, unwrap_or};
 ghost use Rattle.osn_folder.specs.Folder.{MayFail, path_if};
 ghost use Rattle.osn_invocation.specs.Invocation.{service_model};
@@ -21,7 +21,8 @@ use osn_report::{CommandFault, Failure, Status, report_at};
 use osn_service::ServeRules;
 use std::alloc::{AllocError, Global};
 
-/// What the lines of the service may do, and when it ends, by the options. A source is taken.
+/// Returns what the lines of the service may do, and when it ends, by the options. A source is
+/// taken.
 pub(crate) fn rules_of(options: ServeOptions) -> ServeRules
     ensures { result ≡ spec.rules_of (service_model options.entry) }
 {
@@ -33,7 +34,7 @@ pub(crate) fn rules_of(options: ServeOptions) -> ServeRules
     }
 }
 
-/// The line on editions that were published and saved nowhere.
+/// Returns the line on editions that were published and saved nowhere.
 fn unsaved_line(alloc: Global, editions: usize) -> Result<String, AllocError> {
     if editions == 1 {
         return String::from_str(
@@ -46,7 +47,7 @@ fn unsaved_line(alloc: Global, editions: usize) -> Result<String, AllocError> {
     )
 }
 
-/// Tells a terminal, if there is one, how many editions were published, if any, and not saved.
+/// Shows a terminal, if there is one, how many editions were published and not saved, if any.
 fn tell_unsaved<T: Sink + Drop>(alloc: Global, terminal: Option<T>, saves: bool, editions: usize) {
     if saves || editions == 0 {
         return;
@@ -88,8 +89,8 @@ fn serve_opened<D: Folder, J: Source, R: Source, W: Sink, E: Sink, T: Sink + Dro
     finish(alloc, folder, served, locked, loaded, beside, errors)
 }
 
-/// The same, where the journal is saved to the file that it is loaded from: that has to hold still
-/// what was loaded.
+/// Does the same, if the journal is saved to the file that it is loaded from, which must still
+/// contain what was loaded.
 fn serve_replacing<D: Folder, J: Source, R: Source, W: Sink, E: Sink, T: Sink + Drop>(
     alloc: Global,
     limits: Limits,
@@ -131,8 +132,8 @@ fn serve_replacing<D: Folder, J: Source, R: Source, W: Sink, E: Sink, T: Sink + 
     )
 }
 
-/// The same, where the journal is saved to another path than it is loaded from. A journal that is
-/// at that path is left beside the new one, and anything else that a file there holds is refused
+/// Does the same, if the journal is saved to another path than it is loaded from. A journal that is
+/// at that path is left beside the new one, and any other contents of a file there are refused
 /// before a line is answered.
 fn serve_over<D: Folder, J: Source, R: Source, W: Sink, E: Sink, T: Sink + Drop>(
     alloc: Global,
@@ -175,7 +176,7 @@ fn serve_over<D: Folder, J: Source, R: Source, W: Sink, E: Sink, T: Sink + Drop>
     )
 }
 
-/// That, or nothing is saved.
+/// Serves over what was found at the path that the journal is saved to, or saves nothing.
 fn serve_beside<D: Folder, J: Source, R: Source, W: Sink, E: Sink, T: Sink + Drop>(
     alloc: Global,
     limits: Limits,
@@ -207,7 +208,7 @@ fn serve_beside<D: Folder, J: Source, R: Source, W: Sink, E: Sink, T: Sink + Dro
     }
 }
 
-/// The path that a journal is loaded from and saved to, if it is one.
+/// Returns the path that a journal is loaded from and saved to, if it is one.
 fn replaced_path<'a>(journal: Option<&'a str>, save: Option<&str>) -> Option<&'a str>
     ensures { option_map (λ path. path.now) result
         ≡ spec.replaced_path (option_map (λ path. path.now) journal.entry)
@@ -219,7 +220,7 @@ fn replaced_path<'a>(journal: Option<&'a str>, save: Option<&str>) -> Option<&'a
     }
 }
 
-/// A path that may be given, and an empty one where none is.
+/// Returns a path that may be given, or an empty one if it is not.
 fn path_or_none<'a>(path: Option<&'a str>) -> &'a str
     ensures { result.now ≡ unwrap_or (option_map (λ path. path.now) path.entry) [] }
 {

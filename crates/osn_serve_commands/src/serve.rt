@@ -1,4 +1,4 @@
-//! The command `serve`, where no journal is kept.
+//! The command `serve`, if no journal is kept.
 ghost use Rattle.std.specs.Prelude.{◌≡◌, IfOk, IfErr, option_map, string_bytes};
 ghost use Rattle.osn_lines.specs.Streams.{input_of, output_of};
 ghost use Rattle.osn_report.specs.Journal.{Begins, BeginsNot};
@@ -20,14 +20,14 @@ use std::convert::Infallible;
 pub struct ServeResult {
     /// How it ended.
     pub status: Status,
-    /// The journal, where it is to be saved and all lines were answered.
+    /// The journal, if it must be saved and all lines were answered.
     pub journal: Option<String>,
     /// How many editions were published.
     pub editions: usize,
 }
 
 impl ServeResult {
-    /// With no journal.
+    /// Returns the result with no journal.
     fn ended(status: Status, editions: usize) -> ServeResult
         ensures { result ≡ record { status = status; journal = None; editions = editions } }
     {
@@ -39,7 +39,7 @@ impl ServeResult {
     }
 }
 
-/// The object of the journal, where there is one, or else an empty one under these limits.
+/// Returns the object of the journal, if there is one, or else an empty one under these limits.
 ///
 /// # Errors
 ///
@@ -60,7 +60,7 @@ pub fn initial_object<J: Source>(
     }
 }
 
-/// The fault of a service over an object alone.
+/// Returns the fault of a service over an object alone.
 fn fault_of(cause: ServiceFault<Infallible>) -> CommandFault
     ensures { MatchServiceFault cause (λ fault. result ≡ CommandFault.Service fault) (λ never. ⊥) }
 {
@@ -70,7 +70,7 @@ fn fault_of(cause: ServiceFault<Infallible>) -> CommandFault
     }
 }
 
-/// Leaves the journal of an object, where it is to be saved.
+/// Leaves the journal of an object, if it must be saved.
 fn leave_journal<E: Sink>(
     alloc: Global,
     object: &Object,
@@ -129,14 +129,15 @@ fn serve_lines<R: Source, W: Sink, E: Sink>(
     }
 }
 
-/// The command `serve`: answers the request lines of the input, by these rules, from the object of
-/// the journal of this path or from an empty one, under these limits. The journal is read whole before a line
-/// is. Where the journal is to be saved and all lines were answered, its text is answered too.
+/// Runs the command `serve`: answers the request lines of the input, by these rules, from the
+/// object of the journal of this path or from an empty one, under these limits. The journal is read
+/// whole before the first line is read. If the journal must be saved and all lines were answered,
+/// its text is returned too.
 ///
-/// All lines are answered, or those up to the first refused one where the rules say so. That is a
-/// fault then, and there is no journal to be saved.
+/// All lines are answered, or those up to the first refused one if the rules say so. That is a
+/// fault then, and there is no journal to save.
 ///
-/// Where the service ends early, standard error is told in a line why, and the status says it.
+/// If the service ends early, a line on standard error reports why, and the status says so.
 pub fn serve_command<J: Source, R: Source, W: Sink, E: Sink>(
     alloc: Global,
     limits: Limits,

@@ -1,4 +1,4 @@
-//! What is at the path that a journal is to be saved to, before a line is answered.
+//! What is at the path that a journal will be saved to, before a line is answered.
 ghost use Rattle.std.specs.Prelude.{◌≡◌, [], IfErr, IfOk, Some, None, option_map, string_bytes};
 ghost use Rattle.osn_folder.specs.Crash.{LeavesAllSafe};
 ghost use Rattle.osn_folder.specs.Folder.{Changes};
@@ -14,21 +14,21 @@ use osn_report::{Status, tell_line, tell_no_memory};
 use osn_shown::Shown;
 use std::alloc::{AllocError, Global};
 
-/// What a journal is to be saved over.
+/// What a journal will be saved over.
 #[derive(Clone, Copy, Debug, PartialEq, Eq)]
 pub enum SaveTarget {
-    /// Nothing, or what is no file, as a pipe.
+    /// Nothing, or what is not a file, such as a pipe.
     NoFile,
     /// A file without a byte.
     Empty,
-    /// A journal, which is to be left beside the new one.
+    /// A journal, which will be left beside the new one.
     Journal,
 }
 
-/// Why a journal is not to be saved over what is there.
+/// Why a journal can't be saved over what is there.
 #[derive(Clone, Copy, Debug, PartialEq, Eq)]
 pub enum TargetFault {
-    /// It holds something that is no journal under the limits.
+    /// It contains something that is not a journal under the limits.
     NoJournal,
     /// It could not be opened or read.
     NotRead,
@@ -59,12 +59,12 @@ impl From<FileFault> for TargetFault {
     }
 }
 
-/// What is at a path that a journal is to be saved to.
+/// Returns what is at a path that a journal will be saved to.
 ///
 /// # Errors
 ///
-/// `NoJournal` where a file holds something that makes no journal under these limits, `NotRead`
-/// where it can't be read, `NoMemory` where memory ran out.
+/// `NoJournal` if a file contains something that makes no journal under these limits, `NotRead` if
+/// it can't be read, `NoMemory` if memory ran out.
 pub fn save_target<D: Folder>(
     alloc: Global,
     limits: Limits,
@@ -90,7 +90,7 @@ pub fn save_target<D: Folder>(
     }
 }
 
-/// What a file is that holds these bytes.
+/// Returns what a file with these bytes is.
 fn target_of(alloc: Global, limits: Limits, held: &[u8]) -> Result<SaveTarget, TargetFault>
     ensures ok { IfOk result (spec.HoldsTarget limits held.now) }
     ensures err { IfErr result (spec.HoldsNoTarget limits held.now) }
@@ -102,7 +102,7 @@ fn target_of(alloc: Global, limits: Limits, held: &[u8]) -> Result<SaveTarget, T
     Ok(SaveTarget::Journal)
 }
 
-/// What is told of a path that no journal is saved to.
+/// Returns the report on a path that no journal is saved to.
 fn target_text(alloc: Global, path: &str, why: &str) -> Result<String, AllocError>
     ensures { IfOk result (λ text. string_bytes text ≡ spec.target_text path.now why.now) }
 {
@@ -112,7 +112,7 @@ fn target_text(alloc: Global, path: &str, why: &str) -> Result<String, AllocErro
     )
 }
 
-/// Tells standard error why no journal is saved to this path. Answers the status.
+/// Reports on standard error why no journal is saved to this path. Returns the status.
 pub fn tell_target<E: Sink>(alloc: Global, errors: &mut E, path: &str, fault: TargetFault) -> Status
     ensures { spec.TellsTarget path.now
         (output_of E.contents E.has_failed E.holds_back errors.old errors.new) fault result }
@@ -130,7 +130,7 @@ pub fn tell_target<E: Sink>(alloc: Global, errors: &mut E, path: &str, fault: Ta
     }
 }
 
-/// Whether what is found is left beside the journal that is saved.
+/// Returns whether what is found is left beside the journal that is saved.
 pub(crate) fn is_left_beside(found: SaveTarget) -> bool
     ensures { result ≡ in_folder.is_left_beside found }
 {
@@ -140,7 +140,8 @@ pub(crate) fn is_left_beside(found: SaveTarget) -> bool
     }
 }
 
-/// The bytes that a file has to hold still that a journal is saved over, if it is no journal itself.
+/// Returns the bytes that a file which a journal is saved over must still contain, if it is not a
+/// journal itself.
 pub(crate) fn bytes_of(found: SaveTarget) -> Option<&'static [u8]>
     ensures { option_map (λ bytes. bytes.now) result ≡ in_folder.bytes_of found }
 {

@@ -1,4 +1,4 @@
-//! A journal that is to be kept is saved anew first, where it is of a version that has no sources.
+//! A journal that will be kept is rewritten first, if it is of a version that has no sources.
 ghost use Rattle.std.specs.Prelude.{◌≡◌, ◌^◌, ◌<◌, ℕ, List, None, IfErr, IfOk, OnOk};
 ghost use Rattle.std.specs.Prelude.{option_map, string_bytes};
 ghost use Rattle.std.specs.Option.{MatchOption};
@@ -24,11 +24,11 @@ use osn_report::{CommandFault, Status, report_at, write_line};
 use std::alloc::{AllocError, Global};
 
 /// Puts a text in place of the file of a path, which is locked for that, whole or not at all. The
-/// file has to hold exactly the bytes of `loaded`.
+/// file must contain exactly the bytes of `loaded`.
 ///
 /// # Errors
 ///
-/// The status, where it is not saved for sure. Standard error is told why.
+/// The status, if it isn't sure that the text is saved. Standard error reports why.
 pub fn save_anew<D: Folder, E: Sink>(
     alloc: Global,
     folder: &mut D,
@@ -54,7 +54,8 @@ pub fn save_anew<D: Folder, E: Sink>(
     }
 }
 
-/// The text on the last line of a file of which this part counts, if that was not finished.
+/// Returns the text on the last line of a file of which this part counts, if that line was not
+/// finished.
 pub fn cut_text_of(alloc: Global, part: WholePart) -> Result<Option<String>, AllocError>
     requires { part.lines < 2 ^ 63 }
     ensures { IfOk result (λ text. (held : List ℕ) → IsWholePart part held
@@ -66,7 +67,7 @@ pub fn cut_text_of(alloc: Global, part: WholePart) -> Result<Option<String>, All
     }
 }
 
-/// Tells standard error a text on a line that was cut off, if there is one.
+/// Writes a text on a line that was cut off to standard error, if there is one.
 pub fn tell_cut<E: Sink>(errors: &mut E, text: &Option<String>)
     ensures { TellsText (output_of E.contents E.has_failed E.holds_back errors.old errors.new)
         (option_map string_bytes text.now) }
@@ -79,7 +80,7 @@ pub fn tell_cut<E: Sink>(errors: &mut E, text: &Option<String>)
 /// A journal of a version that has no sources.
 #[derive(Drop)]
 struct OlderJournal {
-    /// What its file holds.
+    /// What its file contains.
     bytes: Vec<u8>,
     /// Its text as one of the newest version.
     text: String,
@@ -87,11 +88,11 @@ struct OlderJournal {
     cut: Option<String>,
 }
 
-/// The journal that a source gives, if it is of a version that has no sources.
+/// Returns the journal that a source gives, if it is of a version that has no sources.
 ///
 /// # Errors
 ///
-/// Why it makes no object, or want of memory.
+/// Why it makes no object, or that memory ran out.
 fn older_journal<J: Source>(
     alloc: Global,
     limits: Limits,
@@ -117,7 +118,7 @@ fn older_journal<J: Source>(
     }))
 }
 
-/// Saves an older journal anew in its file, which has to hold still what was read.
+/// Rewrites an older journal in its file, which must still contain what was read.
 fn save_older<D: Folder, E: Sink>(
     alloc: Global,
     folder: &mut D,
@@ -146,14 +147,14 @@ fn save_older<D: Folder, E: Sink>(
     Ok(())
 }
 
-/// Has the file of a path hold a journal of a version that has sources. Where it holds one of
-/// another version, or no line, its journal is saved anew as one of the newest version: the file is
-/// as it was, or holds the journal whole. A file is made where none is there. A last line that was
-/// not finished is left out, and standard error is told so.
+/// Makes the file of a path contain a journal of a version that has sources. If it contains one of
+/// another version, or no line, its journal is rewritten as one of the newest version: the file is
+/// as it was, or contains the journal whole. A file is made if there is none. A last line that was
+/// not finished is left out, which is reported on standard error.
 ///
 /// # Errors
 ///
-/// The status, where that is not sure. Standard error is told why.
+/// The status, if it isn't sure that the journal is rewritten. Standard error reports why.
 pub fn upgrade_file<D: Folder, E: Sink>(
     alloc: Global,
     limits: Limits,

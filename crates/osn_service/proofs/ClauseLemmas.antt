@@ -55,7 +55,7 @@ module _ {rules : ServeRules} {begun now : Moment} {n : ℕ} (i : Input)
       ap (λ l. l ++ drop (length h.lines_taken) all) (sym e)
       ∙ take-append-drop (length h.lines_taken) all
 
-  -- of the replies to all lines a front is written
+  -- a prefix of the replies to all lines is written
   part_of_all : (all : List (List ℕ)) → take (length h.lines_taken) all ≡ h.lines_taken →
       InPart (line_text rules) (line_after rules) begun.object now.object all begun.written
       now.written n
@@ -139,7 +139,7 @@ module _ {F : Type 0} (rules : ServeRules) (begun now : Moment) (holds_back : Bo
       (output_since begun now.written now.failed holds_back) (Err end)
   Serves-passed end h = passed end.lines end.cause h
 
--- ---- what waits was to be written then
+-- ---- what waits must be written then
 
 module _ {rules : ServeRules} {begun now : Moment} {n : ℕ} (i : Input)
     (h : AnswersFirst rules begun now i.bytes n) where
@@ -185,7 +185,7 @@ module _ {rules : ServeRules} {begun now : Moment} {n : ℕ} (i : Input)
               begun.written now.written new now.waiting h.serving.waits written);
         }) firsts
 
-    -- the object stands after them
+    -- the object is in the state after them
     first_reached : IfSome i.bytes (λ bytes. StandsAt rules begun.object now.object (lines bytes) n)
     first_reached =
         IfSome-weaker i.bytes (λ bytes. take n (lines bytes) ≡ h.lines_taken)
@@ -231,7 +231,7 @@ module _ {rules : ServeRules} {begun now : Moment} {n : ℕ} (i : Input)
               (end.3 asked) end.0,
         )
 
-    -- the last of them was refused, and was to be the last
+    -- the last of them was refused and ended the service
     pub Serves-refused : EndsTaking rules begun.object i n AtRefusal →
         ServesToRefusal rules begun.object now.object i
         (output_since begun new unwritten holds_back) n

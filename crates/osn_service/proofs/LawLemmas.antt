@@ -40,7 +40,7 @@ All-second : {A : Type 0} (P : A → Type 0) (xs ys : List A) → All P (xs ++ y
 All-second P [] ys h = h
 All-second P (x ∷ xs) ys h = All-second P xs ys (All-tail P x (xs ++ ys) h)
 
--- after lines that leave the object the same one stands
+-- lines that leave the object leave its state
 left : (rules : ServeRules) (s : ObjectState) (xs : List (List ℕ)) →
     All (LeavesObject rules s) xs → after_lines rules s xs ≡ s
 left rules s [] h = refl
@@ -48,7 +48,7 @@ left rules s (x ∷ xs) h =
     ap (λ v. after_lines rules v xs) (All-head (LeavesObject rules s) x xs h)
     ∙ left rules s xs (All-tail (LeavesObject rules s) x xs h)
 
--- further lines are answered as if they stood alone
+-- later lines are answered as if they were alone
 lines_cut : (rules : ServeRules) (s : ObjectState) (xs ys : List (List ℕ)) →
     All (LeavesObject rules s) xs →
     outputs rules s (xs ++ ys) ≡ outputs rules s xs ++ outputs rules s ys
@@ -64,7 +64,7 @@ object_cut rules s xs ys h =
     fold-append (line_after rules) s xs ys
     ∙ ap (λ v. after_lines rules v ys) (left rules s xs h)
 
--- one part more
+-- another part
 parts_cut : (rules : ServeRules) (s : ObjectState) (parts : List (List ℕ)) (last : List ℕ) →
     All EndsBetweenLines parts → All (LeavesObject rules s) (lines (concat parts)) →
     IsAnsweredInParts rules s parts last
@@ -92,7 +92,7 @@ parts_cut rules s (part ∷ parts) last ends h =
           ∙ (object_cut rules s (lines part) (lines behind) first ∙ rest.object);
     }
 
--- a query leaves the object, and so does no request
+-- a query leaves the object, and so does a line without a request
 query_leaves : (s : ObjectState) (asked : Result Request WireFault) →
     IsQueryOrFault asked → state_after s asked ≡ s
 query_leaves s (Ok (Stage edit)) h = absurd h
@@ -107,7 +107,7 @@ refused_leaves : (refusal : Option Refusal) (done : Outcome) (s t : ObjectState)
 refused_leaves None done s t change h = absurd (change h)
 refused_leaves (Some refusal) done s t change h = refl
 
--- so it is by what a line is told
+-- so it is by the reply to a line
 reply_leaves : (s : ObjectState) (asked : Result Request WireFault) →
     HasChangedNothing (outcome_of s asked) → state_after s asked ≡ s
 reply_leaves s (Ok (Stage edit)) h =

@@ -1,4 +1,4 @@
--- Which replies are written whole, and where the object stands, where a write failed.
+-- Which replies are written whole, and the state of the object, if a write failed.
 use Rattle.std.proofs.Common.{◌≡◌, ◌≤◌, ◌<◌, ◌+◌, ◌⊎◌, ℕ, zero, suc, Bool, true, false, cond, List}
 use Rattle.std.proofs.Common.{[], ◌∷◌, ◌++◌, Option, length, take, fold, refl, sym, ap, subst, ◌∙◌}
 use Rattle.std.proofs.Common.{length-append, arith, ⊎_elim, inl, inr, add-one}
@@ -22,19 +22,19 @@ use Rattle.osn_service.proofs.WaitLemmas.{Waits-at}
 abbrev pub whole_in : List ℕ → ℕ → ℕ
 whole_in ends bytes = count_by (λ end. nat_le end bytes) ends
 
--- one reply more, which ends within the bytes or not
+-- another reply, which ends within the bytes or not
 whole_cons : (end : ℕ) (ends : List ℕ) (bytes : ℕ) (t : Bool) → nat_le end bytes ≡ t →
     whole_in (end ∷ ends) bytes ≡ cond t 1 0 + whole_in ends bytes
 whole_cons end ends bytes t h =
     sum_by-cons (λ e. cond (nat_le e bytes) 1 0) end ends
     ∙ ap (λ b. cond b 1 0 + whole_in ends bytes) h
 
--- one more that does
+-- another one that does
 whole_yes : (end : ℕ) (ends : List ℕ) (bytes : ℕ) → nat_le end bytes ≡ true →
     whole_in (end ∷ ends) bytes ≡ whole_in ends bytes + 1
 whole_yes end ends bytes h = omega (arith, whole_cons end ends bytes true h)
 
--- one more that does not
+-- another one that does not
 whole_no : (end : ℕ) (ends : List ℕ) (bytes : ℕ) → nat_le end bytes ≡ false →
     whole_in (end ∷ ends) bytes ≡ whole_in ends bytes
 whole_no end ends bytes h = omega (arith, whole_cons end ends bytes false h)
@@ -78,7 +78,7 @@ Whole-more text after from to s x xs bytes i is_to h = record {
       );
 }
 
--- or where the first does not
+-- or if the first does not
 Whole-none : {S : Type 0} (text : S → List ℕ → List ℕ) (after : S → List ℕ → S) (from : ℕ) (s : S)
     (x : List ℕ) (xs : List (List ℕ)) (bytes : ℕ) → from ≤ bytes →
     bytes < from + length (text s x) → Whole text after from s (x ∷ xs) bytes 0
@@ -115,7 +115,7 @@ ChangesNothing-take after s [] (suc i) h = tt
 ChangesNothing-take after s (x ∷ xs) zero h = tt
 ChangesNothing-take after s (x ∷ xs) (suc i) h = (h.0, ChangesNothing-take after s xs i h.1)
 
--- what stands after all of them stands after the first j or the first j + 1
+-- the state after all of them is the one after the first j or the first j + 1
 reached_at : {S : Type 0} (after : S → List ℕ → S) (s : S) (xs : List (List ℕ)) (j : ℕ) →
     ChangesFirst after s xs → (fold after s xs ≡ fold after s (take j xs))
     ⊎ ((j < length xs) × (fold after s xs ≡ fold after s (take (suc j) xs)))
@@ -212,7 +212,7 @@ next_is_past text after some begun lines (x ∷ xs) bytes n e le lt =
     ∙ length-append (replies text after begun lines) (text s x ++ [])) in
     omega (arith, size, some s x, length-append (text s x) [])
 
--- further lines, of which none was answered
+-- more lines, which were not answered
 pub InPart-more : {S : Type 0} (text : S → List ℕ → List ℕ) (after : S → List ℕ → S) →
     ((s : S) (line : List ℕ) → 0 < length (text s line)) →
     (begun now : S) (lines more : List (List ℕ)) (a b : Option (List ℕ)) (n : ℕ) →

@@ -1,4 +1,4 @@
--- How serving lines goes on from one moment to the next.
+-- How serving lines continues from one moment to the next.
 use Rattle.std.proofs.Common.{◌≡◌, ◌≤◌, ◌<◌, ◌-◌, ◌∙◌, ℕ, Bool, false, List, [], ◌∷◌, ◌++◌, length}
 use Rattle.std.proofs.Common.{fold, Option, refl, sym, ap, subst, length-append, arith}
 use Rattle.std.proofs.Common.{⊎_elim, inl, inr}
@@ -37,7 +37,7 @@ RepliesFail-from : (rules : ServeRules) (s : ObjectState) (lines : List (List �
 RepliesFail-from rules s lines text old mid new same short h =
     ⊎_elim (λ k. inl k) (λ k. inr (k.0 ∙ same, long_of rules s lines text short k.1)) h
 
--- a reply more, where less waited than with which it is written
+-- another reply, if fewer bytes waited than are written together
 reply_more : (old new reply : List ℕ) → new ≡ old ++ reply → length old < full →
     length new - 65535 ≤ length reply
 reply_more old new reply more less = omega (arith, ap length more, length-append old reply, less)
@@ -155,7 +155,7 @@ Serving-few rules begun s lines h =
           (fold (line_after rules) begun.object w.done) w.rest,
     )
 
--- a line more that is not refused
+-- another line, which is not refused
 pub NoneRefused-more : (rules : ServeRules) (s : ObjectState) (lines : List (List ℕ))
     (line : List ℕ) → NoneRefused rules s lines →
     is_refused (line_outcome rules (after_lines rules s lines) line) ≡ false →

@@ -1,4 +1,4 @@
--- How a session goes on from one line to the next.
+-- How a session continues from one line to the next.
 use Rattle.std.proofs.Common.{◌≡◌, ◌<◌, ◌∙◌, ℕ, Bool, true, false, List, [], ◌∷◌, ◌++◌, length}
 use Rattle.std.proofs.Common.{Option, Some, Ok, Err, refl, sym, ap, subst}
 use Rattle.osn_core.specs.Sequential.{ObjectState}
@@ -31,7 +31,7 @@ IsSame-then h k = record {
 module _ {W S F : Type 0} (contents : W → Option (List ℕ)) (has_failed holds_back : W → Bool)
     (state : S → ObjectState) (lends has_kept : S → S → Type 0)
     (has_lost : S → ObjectState → S → F → Type 0) where
-  -- what became of a session by lines, or where it stopped
+  -- what became of a session by lines, or why it stopped
   abbrev pub Served : Session W S → List (List ℕ) → Session W S → Type 0
   Served = HasServed contents has_failed holds_back state lends has_kept has_lost
 

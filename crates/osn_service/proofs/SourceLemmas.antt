@@ -22,7 +22,7 @@ use Rattle.osn_service.specs.Served.{after_lines}
 use Rattle.osn_service.specs.Session.{allowed, state_after, line_after}
 use Rattle.osn_service.specs.Sources.{GivesNoSource, KeepsSourceless}
 
--- an edit that gives none was staged or not
+-- an edit without a source was staged or not
 staged : (s : ObjectState) (e : Edit) (refused : Option Refusal) → source_given e ≡ None
     → GivesNoSource s → GivesNoSource (state_unless refused (with_pending s e) s)
 staged s e None none h =
@@ -40,7 +40,7 @@ published s None h =
     (sym (append-nil _ ∙ joined-push s.batches s.pending)) h
 published s (Some f) h = h
 
--- an edit is let in that gives none
+-- an edit without a source is let in
 edit_leaves : (s : ObjectState) (e : Edit) (given : Option (List ℕ)) → source_given e ≡ given
     → GivesNoSource s
     → GivesNoSource
@@ -48,7 +48,7 @@ edit_leaves : (s : ObjectState) (e : Edit) (given : Option (List ℕ)) → sourc
 edit_leaves s e None none h = staged s e (stage_refusal newest_rules s e) none h
 edit_leaves s e (Some source) given h = h
 
--- a request, where no source is taken
+-- a request, if no source is taken
 request_leaves : (read_only : Bool) (s : ObjectState) (asked : Result Request WireFault)
     → GivesNoSource s → GivesNoSource (state_after s (allowed read_only false asked))
 request_leaves true s (Ok (Stage e)) h = h
@@ -75,7 +75,7 @@ lines_leave rules s [] none h = h
 lines_leave rules s (l ∷ ls) none h =
     lines_leave rules (line_after rules s l) ls none (line_leaves rules s l none h)
 
--- so it is with what stands after lines
+-- so it is with the state after lines
 pub Sourceless-after : (rules : ServeRules) (s t : ObjectState) (ls : List (List ℕ))
     → t ≡ after_lines rules s ls → KeepsSourceless rules s t
 Sourceless-after rules s t ls reached none h =

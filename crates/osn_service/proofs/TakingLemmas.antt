@@ -38,7 +38,7 @@ use Rattle.osn_service.proofs.ServeLemmas.{Serving-few}
 use Rattle.osn_service.proofs.SessionLemmas.{Served, Stopped, Served-nothing}
 use Rattle.osn_service.proofs.SourceLemmas.{Sourceless-after, Sourceless-near}
 
--- what follows where a value is known
+-- what follows if a value is known
 pub IfSome-weaker : {A : Type 0} (o : Option A) (P Q : A → Type 0) → ((x : A) → P x → Q x) →
     IfSome o P → IfSome o Q
 IfSome-weaker None P Q f h = tt
@@ -132,7 +132,7 @@ module _ {W S F : Type 0} (contents : W → Option (List ℕ)) (has_failed holds
         subst (λ (m : ℕ). IfSome i.bytes (λ bytes. take m (lines bytes) ≡ taken)) count first;
   }
 
-  -- none of them was refused where a refusal is to be the end
+  -- none of them was refused if a refusal ends the service
   spared_first : (taken : List (List ℕ)) (n : ℕ) →
       (s.rules.stop_at_refusal ≡ true → NoneRefused s.rules (state s.store.now) taken) →
       IfSome i.bytes (λ bytes. take n (lines bytes) ≡ taken) →
@@ -204,7 +204,7 @@ module _ {W S F : Type 0} (contents : W → Option (List ℕ)) (has_failed holds
         );
       }
 
-  -- a line was refused, and was to be the last
+  -- a line was refused and ended the service
   ends_refused : (n : ℕ) (taken : List (List ℕ)) (at : Option (List ℕ)) →
       HasRefused contents has_failed holds_back state lends has_kept has_lost s taken at t →
       n ≡ length taken → IfSome i.bytes (λ bytes. take n (lines bytes) ≡ taken) →

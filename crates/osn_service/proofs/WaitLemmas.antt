@@ -19,7 +19,7 @@ replies-append text after s (x ∷ xs) ys =
     ∙ sym (append_assoc (text s x) (replies text after (after s x) xs)
     (replies text after (fold after (after s x) xs) ys))
 
--- where they end with a line more
+-- where they end if there is another line
 ends-append : {S : Type 0} (text : S → List ℕ → List ℕ) (after : S → List ℕ → S) (from : ℕ) (s : S)
     (xs : List (List ℕ)) (line : List ℕ) →
     ends_from text after from s (xs ++ line ∷ []) ≡ ends_from text after from s xs ++
@@ -40,7 +40,7 @@ length-ends text after from s [] = refl
 length-ends text after from s (x ∷ xs) =
     omega (arith, length-ends text after (from + length (text s x)) (after s x) xs)
 
--- a line more that changes nothing
+-- another line, which changes nothing
 ChangesNothing-append : {S : Type 0} (after : S → List ℕ → S) (s : S) (xs : List (List ℕ))
     (line : List ℕ) → ChangesNothing after s xs → after s line ≡ s →
     ChangesNothing after s (xs ++ line ∷ [])
@@ -87,7 +87,7 @@ Waits-all text after begun now lines a b w h =
     ∙ (sym (replies-append text after begun h.done h.rest)
     ∙ ap (replies text after begun) (sym h.split))
 
--- what stands after the lines that were written and those whose replies wait
+-- the state after the lines that were written and those whose replies wait
 pub Waits-at : {S : Type 0} (text : S → List ℕ → List ℕ) (after : S → List ℕ → S) (begun now : S)
     (lines : List (List ℕ)) (a b : Option (List ℕ)) (w : ReplyBuffer)
     (h : Waits text after begun now lines a b w) → now ≡ fold after (fold after begun h.done) h.rest
@@ -142,14 +142,14 @@ Waits-settle {S} text after begun now u lines a b c w w' h settled same =
     (λ k. Waits-write text after begun now lines a b c w w' h k)
     settled)
 
--- a line more
+-- another line
 pub after_one : {S : Type 0} (after : S → List ℕ → S) (begun s u : S) (lines : List (List ℕ))
     (line : List ℕ) → s ≡ fold after begun lines → u ≡ after s line →
     u ≡ fold after begun (lines ++ line ∷ [])
 after_one after begun s u lines line h e =
     e ∙ (ap (λ v. after v line) h ∙ sym (fold-append after begun lines (line ∷ [])))
 
--- a reply more that changes nothing
+-- another reply, which changes nothing
 Waits-behind : {S : Type 0} (text : S → List ℕ → List ℕ) (after : S → List ℕ → S) (begun s u : S)
     (lines : List (List ℕ)) (line : List ℕ) (a b c : Option (List ℕ)) (w w' : ReplyBuffer) →
     Waits text after begun s lines a b w → u ≡ s → c ≡ b →
@@ -184,7 +184,7 @@ Waits-behind text after begun s u lines line a b c w w' h same kept pushed ended
           (ap (λ t. after t line) (sym at) ∙ (sym e ∙ (same ∙ at)));
     }
 
--- what waited was written before a reply more
+-- what waited was written before another reply
 Waits-first : {S : Type 0} (text : S → List ℕ → List ℕ) (after : S → List ℕ → S) (begun s u : S)
     (lines : List (List ℕ)) (line : List ℕ) (a b c : Option (List ℕ)) (w w' : ReplyBuffer) →
     Waits text after begun s lines a b w → Appends b c w.text.items → w'.text.items ≡ text s line →
@@ -204,7 +204,7 @@ Waits-first text after begun s u lines line a b c w w' h k texts ends e =
       changes = tt;
     }
 
--- a reply more
+-- another reply
 pub Waits-add : {S : Type 0} (text : S → List ℕ → List ℕ) (after : S → List ℕ → S) (begun s u : S)
     (reply : List ℕ) (lines : List (List ℕ)) (line : List ℕ) (a b c : Option (List ℕ))
     (w w' : ReplyBuffer) → Waits text after begun s lines a b w → Adds s u reply b c w w' →

@@ -1,4 +1,4 @@
--- What holds where answering lines ended, by its end, and why a write fails.
+-- What holds when answering lines ended, by its end, and why a write fails.
 use Rattle.std.specs.Prelude.{◌≡◌, ◌≤◌, ◌⊎◌, ℕ, Bool, true, false, List, ◌∷◌, ◌++◌, length}
 use Rattle.std.specs.Prelude.{Option, IfSome, Result, Ok, Err}
 use Rattle.osn_lines.specs.declared.fault.Interrupted.{Interrupted}
@@ -18,14 +18,14 @@ MatchFault NoMemory P Q R = P
 MatchFault ReadFault P Q R = Q
 MatchFault WriteFault P Q R = R
 
--- a fact of the number of lines, where all were answered, and for each cause for which not all were
+-- a fact about the number of lines, if all were answered, and for each cause for which not all were
 abbrev pub MatchEnd : Result ℕ (Interrupted ServeFault) → (ℕ → Type 0) → (ℕ → Type 0) →
     (ℕ → Type 0) → (ℕ → Type 0) → Type 0
 MatchEnd (Ok n) All P Q R = All n
 MatchEnd (Err end) All P Q R = MatchFault end.cause (P end.lines) (Q end.lines) (R end.lines)
 
--- a fact for each end. One is of an end that an object by itself has too. One is of the number of
--- lines, where the last of them was refused and was to be the last. One is where a change was not
+-- a fact for each end. One is for an end that an object alone has too. One is for the number of
+-- lines, if the last of them was refused and ended the service. One is for a change that was not
 -- kept
 abbrev pub MatchServed : Bool → (ℕ → Type 0) → (ℕ → Type 0) → ℕ → Type 0
 MatchServed false P Q n = P n

@@ -53,19 +53,19 @@ pub record IsAnsweredInParts (rules : ServeRules) (s : ObjectState) (parts : Lis
 
 -- How an input is cut that is answered from the object s by these rules.
 pub record MayBeCut (rules : ServeRules) (s : ObjectState) : Type 0 where
-  -- After lines that leave the object further lines are answered as if they stood alone.
+  -- After lines that leave the object, later lines are answered as if they were alone.
   pub lists : (first rest : List (List ℕ)) → All (LeavesObject rules s) first
       → outputs rules s (first ++ rest)
       ≡ outputs rules s first ++ outputs rules s rest
-  -- An input is answered in parts wherever it is cut between its lines, where each line before the
+  -- An input is answered in parts wherever it is cut between its lines, if each line before the
   -- last part leaves the object.
   pub inputs : (parts : List (List ℕ)) (last : List ℕ) → All EndsBetweenLines parts
       → All (LeavesObject rules s) (lines (concat parts))
       → IsAnsweredInParts rules s parts last
-  -- A query leaves the object, and so does a line that is no request, whatever its fault.
+  -- A query leaves the object, and so does a line that is not a request, whatever its fault.
   pub queries : (line : List ℕ) → IsQueryOrFault (line_request rules line)
       → LeavesObject rules s line
-  -- So does each line whose reply tells of no staged edit and of no published edition.
+  -- So does each line whose reply names no staged edit and no published edition.
   pub replies : (line : List ℕ) → HasChangedNothing (line_outcome rules s line)
       → LeavesObject rules s line
 

@@ -32,7 +32,7 @@ pub record WritesFirst (rules : ServeRules) (s : ObjectState) (old new : Option 
   pub enough : n ≤ length lines
   pub written : Appends old new (outputs rules s (take n lines))
 
--- a front of the replies to all lines is written, with those to n lines whole and no more
+-- a prefix of the replies to all lines is written, with those to n lines whole and no more
 pub record WritesInPart (rules : ServeRules) (s : ObjectState) (old new : Option (List ℕ))
     (lines : List (List ℕ)) (n : ℕ) : Type 0 where
   pub bytes : ℕ
@@ -41,7 +41,7 @@ pub record WritesInPart (rules : ServeRules) (s : ObjectState) (old new : Option
   pub whole : length (outputs rules s (take n lines)) ≤ bytes
   pub no_more : n < length lines → bytes < length (outputs rules s (take (n + 1) lines))
 
--- the object stands after the lines
+-- the object is in the state after the lines
 abbrev pub StandsAfter : ServeRules → ObjectState → ObjectState → List (List ℕ) → Type 0
 StandsAfter rules s t lines = t ≡ after_lines rules s lines
 

@@ -1,4 +1,4 @@
--- What a service has done where it ended.
+-- What a service has done when it ended.
 use Rattle.std.specs.Prelude.{◌≡◌, ◌<◌, ◌+◌, ℕ, true, false, IfSome, Result, ⊤, length, take}
 use Rattle.std.specs.Io.KnownBytes.{IsAtEnd}
 use Rattle.osn_core.specs.Sequential.{ObjectState}
@@ -19,37 +19,37 @@ use Rattle.osn_service.specs.Served.{StandsNear, after_lines}
 -- The lines of an input were answered by these rules from the object s, and the object is t then.
 pub record Serves (rules : ServeRules) (s t : ObjectState) (i : Input) (o : Output)
     (end : Result ℕ (Interrupted ServeFault)) : Type 0 where
-  -- Exactly the replies to all lines are written, and their number is answered. Where it ended
-  -- early, exactly those to the first lines are written. Where a write failed it is a front of all
-  -- replies, with those to as many lines whole as are told.
+  -- Exactly the replies to all lines are written, and their number is returned. If it ended early,
+  -- exactly those to the first lines are written. If a write failed, a prefix of all replies is
+  -- written, with those to as many lines whole as the number says.
   pub written : IfSome i.bytes (λ bytes. MatchEnd end
       (WritesAll rules s o.old o.new (lines bytes))
       (WritesFirst rules s o.old o.new (lines bytes))
       (WritesFirst rules s o.old o.new (lines bytes))
       (WritesInPart rules s o.old o.new (lines bytes)))
-  -- The object stands after all lines. Where it ended early, it stands after those. Where a write
-  -- failed, it stands after those or one more.
+  -- The object is in the state after all lines. If it ended early, in that after those lines. If a
+  -- write failed, in that after those lines or one more.
   pub object : IfSome i.bytes (λ bytes. MatchEnd end
       (λ _. StandsAfter rules s t (lines bytes))
       (StandsAt rules s t (lines bytes))
       (StandsAt rules s t (lines bytes))
       (StandsNear rules s t (lines bytes)))
-  -- The bytes that are written are passed on, but after a failed write.
+  -- The bytes that are written are passed on, except after a failed write.
   pub passed : MatchEnd end (λ _. o.holds_back ≡ false) (λ _. o.holds_back ≡ false)
       (λ _. o.holds_back ≡ false) (λ _. ⊤)
-  -- The source is read to its end. Of the line that a failed read cut short nothing is answered.
+  -- The source is read to its end. A line that a failed read cut short is not answered.
   pub read : MatchEnd end (λ _. IsAtEnd i.rest) (λ _. ⊤) (HasRead i.bytes i.rest) (λ _. ⊤)
-  -- The source failed where a read fault says so, or gave no end in 4,294,967,295 reads, and
-  -- nowhere else, but maybe where a write failed.
+  -- If a read fault says so, the source failed or gave no end in 4,294,967,295 reads. Otherwise it
+  -- did not fail, except perhaps if a write failed.
   pub source : MatchEnd end (λ _. i.unread ≡ i.unread_before) (λ _. i.unread ≡ i.unread_before)
       (λ _. IsReadFault i.unread i.bytes) (λ _. ⊤)
-  -- Where a write fault says so the sink failed, or it may take a reply, with those that wait
-  -- before it, in more writes than the 4,294,967,295 that are made. Elsewhere it did not fail.
+  -- If a write fault says so the sink failed, or it may take a reply, with those that wait before
+  -- it, in more writes than the 4,294,967,295 that are made. Otherwise it did not fail.
   pub sink : MatchEnd end (λ _. o.unwritten ≡ o.unwritten_before)
       (λ _. o.unwritten ≡ o.unwritten_before) (λ _. o.unwritten ≡ o.unwritten_before)
       (λ _. IsUnwritten rules s i.bytes o.unwritten)
 
--- Where the service is to end at a refusal, no line that was answered is refused.
+-- If the service ends at a refusal, no line that was answered is refused.
 abbrev pub RefusesNone : ServeRules → ObjectState → Input → Result ℕ (Interrupted ServeFault)
     → Type 0
 RefusesNone rules s i end =
@@ -88,8 +88,8 @@ ServesStore rules s t i o result =
     MatchService result (λ end. Serves rules s t i o end × RefusesNone rules s i end)
     (ServesToRefusal rules s t i o) (λ n why. ServesUnkept rules s t i o n)
 
--- What a store has kept where answering lines ended, and where it has not kept all what the object
--- was up to which it has.
+-- What a store has kept when answering lines ended, and if it has not kept all, the state of the
+-- object up to which it has.
 abbrev pub KeepsStore : {S F : Type 0} → (S → S → Type 0) → (S → ObjectState → S → F → Type 0)
     → ServeRules → ObjectState → S → S → Input → Result Served (Interrupted (ServiceFault F))
     → Type 0

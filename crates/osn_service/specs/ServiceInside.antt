@@ -1,5 +1,4 @@
--- What holds while lines are served: the replies that wait to be written, and what stands after
--- them.
+-- What holds while lines are served: the replies that wait to be written, and the state after them.
 use Rattle.std.specs.Prelude.{◌≡◌, ◌≤◌, ◌<◌, ◌+◌, ◌⊎◌, ℕ, nat_le, List, [], ◌∷◌, ◌++◌}
 use Rattle.std.specs.Prelude.{Option, length, take, fold}
 use Rattle.std.specs.List.{count_by}
@@ -7,7 +6,7 @@ use Rattle.std.specs.Io.KnownBytes.{Appends}
 use Rattle.osn_service.specs.declared.reply_buffer.ReplyBuffer.{ReplyBuffer}
 use Rattle.osn_service.specs.Replies.{replies}
 
--- with as many bytes what waits is written
+-- the number of bytes at which the replies that wait are written
 abbrev pub full : ℕ
 full = 65536
 
@@ -24,7 +23,7 @@ abbrev pub ChangesNothing : {S : Type 0} → (S → List ℕ → S) → S → Li
 ChangesNothing after s [] = Unit {0}
 ChangesNothing after s (line ∷ rest) = (after s line ≡ s) × ChangesNothing after s rest
 
--- no line of these but the first changes anything
+-- no line of these except the first changes anything
 abbrev pub ChangesFirst : {S : Type 0} → (S → List ℕ → S) → S → List (List ℕ) → Type 0
 ChangesFirst after s [] = Unit {0}
 ChangesFirst after s (line ∷ rest) = ChangesNothing after (after s line) rest
@@ -42,7 +41,7 @@ pub record Waits {S : Type 0} (text : S → List ℕ → List ℕ) (after : S �
   pub reached : now ≡ fold after begun lines
   pub changes : ChangesFirst after (fold after begun done) rest
 
--- a reply more waits
+-- another reply waits
 pub record Pushes (old new : ReplyBuffer) (reply : List ℕ) : Type 0 where
   pub text : new.text.items ≡ old.text.items ++ reply
   pub ends : new.ends.items ≡ old.ends.items ++ length new.text.items ∷ []
@@ -76,7 +75,7 @@ Settles written now old new =
     ((now ≡ written) × (new.text.items ≡ old.text.items) × (new.ends.items ≡ old.ends.items))
     ⊎ Writes written now old new
 
--- a front of the replies is written, with those to n lines whole and no more, and no line after
+-- a prefix of the replies is written, with those to n lines whole and no more, and no line after
 -- the next has changed anything
 pub record InPart {S : Type 0} (text : S → List ℕ → List ℕ) (after : S → List ℕ → S) (begun now : S)
     (lines : List (List ℕ)) (old new : Option (List ℕ)) (n : ℕ) : Type 0 where

@@ -1,4 +1,4 @@
--- What a line is told: the sequential object's reply to its request, or its fault, which leaves the
+-- The reply to a line: the sequential object's reply to its request, or its fault, which leaves the
 -- object. The newest rules are those of every line.
 use Rattle.std.specs.Prelude.{ℕ, Bool, true, false, if◌then◌else◌, List, length, Option, Some}
 use Rattle.std.specs.Prelude.{None, is_some, Result, Ok, Err, ◌+◌}
@@ -44,7 +44,7 @@ publish_outcome s = unless_refused (publish_refusal s) (Published (length s.batc
 abbrev pub ask_outcome : ObjectState → ℕ → Query → Outcome
 ask_outcome s reader q = Replied reader (reply_at newest_rules s.limits s.batches q)
 
--- what a request is told, and what it leaves
+-- the reply to a request, and the state that it leaves
 abbrev pub request_outcome : ObjectState → Request → Outcome
 request_outcome s (Stage e) = stage_outcome s e
 request_outcome s Publish = publish_outcome s
@@ -63,13 +63,13 @@ abbrev pub state_after : ObjectState → Result Request WireFault → ObjectStat
 state_after s (Ok r) = request_after s r
 state_after s (Err f) = s
 
--- a request where edits and publishes are refused
+-- a request if edits and publishes are refused
 abbrev pub reading : Request → Result Request WireFault
 reading (Stage e) = Err ReadOnly
 reading Publish = Err ReadOnly
 reading (Ask reader q) = Ok (Ask reader q)
 
--- a request where edits that give a source are refused
+-- a request if edits that give a source are refused
 abbrev pub without_source : Request → Result Request WireFault
 without_source (Stage e) = if is_some (source_given e) then Err NeedsUpgrade else Ok (Stage e)
 without_source Publish = Ok Publish
@@ -86,7 +86,7 @@ abbrev pub line_request : ServeRules → List ℕ → Result Request WireFault
 line_request rules line =
     allowed rules.read_only rules.takes_sources (request newest_version rules.readers line)
 
--- what a line is told, and what it leaves
+-- the reply to a line, and the state that it leaves
 abbrev pub line_outcome : ServeRules → ObjectState → List ℕ → Outcome
 line_outcome rules s line = outcome_of s (line_request rules line)
 

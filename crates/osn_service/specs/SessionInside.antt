@@ -66,13 +66,13 @@ pub record TakenBack (after : ObjectState) (s t : Moment) (holds_back : Bool) : 
   pub sound : t.failed ≡ s.failed
   pub passed : holds_back ≡ false
 
--- the changes that were kept since any moment are so no longer, for this reason
+-- the changes that were kept since any moment are so no longer, by this fault
 abbrev pub KeepsNoMore : {S F : Type 0} → (S → S → Type 0) → (S → ObjectState → S → F → Type 0)
     → S → ObjectState → S → F → Type 0
 KeepsNoMore {S} has_kept has_lost old before new why =
     (begun : S) → has_kept begun old → has_lost begun before new why
 
--- what became of a line that is told this and after which the object is this one, by whether it was
+-- what became of a line with this outcome and after which the object is this one, by whether it was
 -- answered
 abbrev pub Answers : {S F : Type 0} → (S → S → Type 0) → (S → S → Type 0)
     → (S → ObjectState → S → F → Type 0) → Outcome → ObjectState → Moment → Moment → Bool → S → S
@@ -90,7 +90,8 @@ Answers lends has_kept has_lost outcome after s t holds_back old new (Err stop) 
 
 -- ---- all lines so far
 
--- what waits is less than with which it is written, but for the reply to one of the lines
+-- the replies that wait are shorter than those that are written together, except for the reply to
+-- one of the lines
 abbrev pub IsShort : ServeRules → ObjectState → List (List ℕ) → List ℕ → Type 0
 IsShort rules s lines text =
     (length text < full) ⊎ HasReply rules s lines (length text - 65535)
@@ -121,11 +122,11 @@ pub record Unkept (rules : ServeRules) (begun : Moment) (lines : List (List ℕ)
   pub passed : holds_back ≡ false
   pub reached : now.object ≡ after_lines rules begun.object (lines ++ line ∷ [])
 
--- where a refusal is to be the end, no line of these was refused
+-- if a refusal ends the service, no line of these was refused
 abbrev pub Spared : ServeRules → ObjectState → List (List ℕ) → Type 0
 Spared rules s lines = rules.stop_at_refusal ≡ true → NoneRefused rules s lines
 
--- a line was refused, after lines that were not, and is to be the last
+-- a line was refused, after lines that were not, and is the last
 pub record Refused (rules : ServeRules) (s : ObjectState) (lines : List (List ℕ)) (line : List ℕ)
     : Type 0 where
   pub stops_at_refusal : rules.stop_at_refusal ≡ true
@@ -146,7 +147,7 @@ abbrev pub moment_of : {W S : Type 0} → (W → Option (List ℕ)) → (W → B
 moment_of contents has_failed state s =
     moment contents has_failed state s.store.now s.sink.now s.waiting.now
 
--- no reply waits, and none is held back
+-- no reply waits, and no reply is held back
 pub record IsReady {W S : Type 0} (holds_back : W → Bool) (now : Session W S) : Type 0 where
   pub text : now.waiting.now.text.items ≡ []
   pub ends : now.waiting.now.ends.items ≡ []

@@ -9,6 +9,6 @@ use Rattle.osn_service.specs.declared.rules.ServeRules.{ServeRules}
 abbrev pub GivesNoSource : ObjectState → Type 0
 GivesNoSource s = All (λ e. source_given e ≡ None) (joined s.batches ++ s.pending)
 
--- Where the rules take no source, and no edit of the object s gives one, none of t does.
+-- If the rules take no source, and no edit of the object s gives one, none of t does.
 abbrev pub KeepsSourceless : ServeRules → ObjectState → ObjectState → Type 0
 KeepsSourceless rules s t = rules.takes_sources ≡ false → GivesNoSource s → GivesNoSource t

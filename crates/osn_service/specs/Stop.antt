@@ -1,11 +1,12 @@
--- What holds where the service stopped, by the reason.
+-- What holds if the service stopped, by the reason.
 use Rattle.std.specs.Prelude.{ℕ}
 use Rattle.osn_service.specs.declared.stop.Stop.{Stop}
 use Rattle.osn_service.specs.declared.stop.Stop.TheVariants as stop
 use Rattle.osn_service.specs.declared.store.StoreFault.{StoreFault}
 use Rattle.osn_service.specs.declared.store.StoreFault.TheVariants.{NoMemory, NotKept}
 
--- a fact for each reason: a failed write's is of the number of replies that were not written whole
+-- a fact for each reason: for a failed write, about the number of replies that were not written
+-- whole
 abbrev pub MatchStop : {F : Type 0} → Stop F → Type 0 → (ℕ → Type 0) → (F → Type 0) → Type 0
     → Type 0
 MatchStop stop.NoMemory P Q R T = P

@@ -4,7 +4,7 @@ use Rattle.osn_core.specs.Sequential.{ObjectState}
 use Rattle.osn_service.specs.declared.store.StoreFault.{StoreFault}
 use Rattle.osn_service.specs.declared.store.StoreFault.TheVariants.{NoMemory, NotKept}
 
--- a fact for want of memory, and one of the reason for which a change was not kept
+-- a fact if memory ran out, and one for the reason for which a change was not kept
 abbrev pub MatchStoreFault : {F : Type 0} → StoreFault F → Type 0 → (F → Type 0) → Type 0
 MatchStoreFault NoMemory P Q = P
 MatchStoreFault (NotKept why) P Q = Q why

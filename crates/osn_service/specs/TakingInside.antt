@@ -50,8 +50,8 @@ IsWithin n (take.Stopped (stop.WriteFailed failed)) = failed.unwritten ≤ n
 IsWithin n (take.Stopped (stop.NotKept why)) = ⊤
 IsWithin n (take.Stopped stop.Refused) = ⊤
 
--- n lines were answered, the first n of the input where that is known, and their replies are
--- written or wait
+-- n lines were answered, the first n of the input if that is known, and their replies are written
+-- or wait
 pub record AnswersFirst (rules : ServeRules) (begun now : Moment) (input : Option (List ℕ)) (n : ℕ)
     : Type 0 where
   pub lines_taken : List (List ℕ)
@@ -59,7 +59,7 @@ pub record AnswersFirst (rules : ServeRules) (begun now : Moment) (input : Optio
   pub count : n ≡ length lines_taken
   pub first : IfSome input (λ bytes. take (length lines_taken) (lines bytes) ≡ lines_taken)
 
--- the first lines of the input were answered, a write failed, and of their replies a front with
+-- the first lines of the input were answered, a write failed, and a prefix of their replies with
 -- those to n lines is written
 pub record AnswersInPart (rules : ServeRules) (begun now : Moment) (input : Option (List ℕ)) (n : ℕ)
     : Type 0 where
@@ -69,13 +69,13 @@ pub record AnswersInPart (rules : ServeRules) (begun now : Moment) (input : Opti
   pub reason : RepliesFail rules begun.object begun.failed now.failed lines_taken
   pub first : IfSome input (λ bytes. take (length lines_taken) (lines bytes) ≡ lines_taken)
 
--- where a refusal is to be the end, none of the first n lines was refused
+-- if a refusal ends the service, none of the first n lines was refused
 abbrev pub SparedFirst : ServeRules → ObjectState → Option (List ℕ) → ℕ → Type 0
 SparedFirst rules s input n =
     rules.stop_at_refusal ≡ true
     → IfSome input (λ bytes. NoneRefused rules s (take n (lines bytes)))
 
--- why no more than n lines were answered where no write failed, and how far the source was read
+-- why no more than n lines were answered if no write failed, and how far the source was read
 abbrev pub EndsTaking : ServeRules → ObjectState → Input → ℕ → End → Type 0
 EndsTaking rules s i n AtEnd =
     IfSome i.bytes (λ bytes. n ≡ length (lines bytes)) × IsAtEnd i.rest
@@ -113,7 +113,7 @@ HasTaken rules begun now holds_back i (Err end) =
     (λ why. ServesUnkept rules begun.object now.object i
     (output_since begun now.written now.failed holds_back) end.lines)
 
--- what a store has kept where taking lines ended
+-- what a store has kept when taking lines ended
 abbrev pub HasKept : {S F : Type 0} → (S → S → Type 0) → (S → ObjectState → S → F → Type 0)
     → ServeRules → ObjectState → S → S → Input → Result LinesTaken (Interrupted (ServiceFault F))
     → Type 0

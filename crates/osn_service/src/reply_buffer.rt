@@ -20,7 +20,7 @@ pub(crate) struct ReplyBuffer {
 }
 
 impl ReplyBuffer {
-    /// With no reply.
+    /// Returns a buffer with no reply.
     pub(crate) fn new(alloc: Global) -> ReplyBuffer
         ensures text { result.text.items ≡ [] }
         ensures ends { result.ends.items ≡ [] }
@@ -31,7 +31,7 @@ impl ReplyBuffer {
         }
     }
 
-    /// Whether enough waits to be written.
+    /// Returns whether enough waits to be written.
     pub(crate) fn is_full(&self) -> bool
         ensures { result ≡ nat_le full (length self.now.text.items) }
     {

@@ -7,16 +7,17 @@ ghost use Rattle.osn_service.specs.Session as spec;
 pub struct ServeRules {
     /// The number of readers; they are counted from 1.
     pub readers: u32,
-    /// Whether each edit and each publish is told the fault `ReadOnly`.
+    /// Whether the reply to each edit and each publish is the fault `ReadOnly`.
     pub read_only: bool,
-    /// Whether an edit may give a source. Where not, one that does is told `NeedsUpgrade`.
+    /// Whether an edit may give a source. Otherwise the reply to one that does is `NeedsUpgrade`.
     pub takes_sources: bool,
-    /// Whether the first line whose reply tells a refusal or a fault is the last to be answered.
+    /// Whether the first line whose reply is a refusal or a fault is the last to be answered.
     pub stop_at_refusal: bool,
 }
 
 impl ServeRules {
-    /// Edits are taken, those that give a source too, and all lines are answered.
+    /// Returns the rules by which edits are taken, those that give a source too, and all lines are
+    /// answered.
     pub fn editing(readers: u32) -> ServeRules
         ensures { result ≡ spec.editing readers }
     {

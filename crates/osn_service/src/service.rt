@@ -24,21 +24,21 @@ use osn_lines::{Interrupted, Sink, Source, TakeFault, take_lines};
 use osn_register::Limits;
 use std::alloc::Global;
 
-/// What was answered where nothing failed.
+/// What was answered if nothing failed.
 #[derive(Clone, Copy, Debug, PartialEq, Eq)]
 pub struct Served {
     /// The number of lines that were answered.
     pub lines: u64,
-    /// Whether the last of them was refused, and was to be the last to be answered.
+    /// Whether the last of them was refused and ended the service.
     pub refused: bool,
 }
 
-/// Why no more lines were taken, where no write failed and each change was kept.
+/// Why no more lines were taken, if no write failed and each change was kept.
 #[derive(Clone, Copy)]
 pub(crate) enum End {
     /// There are no more.
     AtEnd,
-    /// The last one was refused, and was to be the last.
+    /// The last one was refused and ended the service.
     AtRefusal,
     /// Memory ran out, or the source failed.
     ByFault(ServeFault),
@@ -51,7 +51,7 @@ pub(crate) struct LinesTaken {
     pub(crate) end: End,
 }
 
-/// The result of taking lines that ended early, after this many lines.
+/// Returns the result of taking lines that ended early, after this many lines.
 fn early_end<F>(
     lines: u64,
     cause: TakeFault<Stop<F>>,
@@ -113,8 +113,8 @@ fn take_all<R: Source, W: Sink, S: Store>(
     }
 }
 
-/// Writes the replies that wait, where no write has failed. Answers how many lines were answered,
-/// if no more were to be.
+/// Writes the replies that wait, if no write has failed. Returns how many lines were answered, if
+/// no more had to be.
 fn write_rest<W: Sink, S: Store>(
     sink: &mut W,
     waiting: &mut ReplyBuffer,
@@ -158,7 +158,7 @@ fn write_rest<W: Sink, S: Store>(
     }
 }
 
-/// Answers every line of the source up to its end, and writes each reply. Answers their number.
+/// Answers every line of the source up to its end, and writes each reply. Returns their number.
 fn run<R: Source, W: Sink, S: Store>(
     session: &mut Session<'_, '_, '_, W, S>,
     source: &mut R,
@@ -183,19 +183,19 @@ fn run<R: Source, W: Sink, S: Store>(
 }
 
 /// Answers every line of the source up to its end, by these rules, from the store that is given.
-/// Answers how many were answered.
+/// Returns how many were answered.
 ///
 /// What is written is the text of each outcome of the sequential object run on the requests of the
-/// lines read, in order, and nothing else. The pieces in which the bytes come make no difference. A
-/// line that is no request is told its fault and leaves the object. So does an edit that gives a
-/// source, where the rules take none: no edit of the object gives one then that gave none before.
-/// Replies wait until more is to be read, a line is to change the object, or 65,536 bytes of them
-/// wait. The reply to a change is written only after the store has kept it.
+/// lines read, in order, and nothing else. The pieces in which the bytes come make no difference.
+/// The reply to a line that is not a request is its fault, and the line leaves the object. So does
+/// an edit that gives a source, if the rules take none: if no edit of the object gave one before,
+/// none does then. Replies wait until more must be read, a line will change the object, or 65,536
+/// bytes of them wait. The reply to a change is written only after the store has kept it.
 ///
 /// # Errors
 ///
 /// The number of lines whose reply was written whole, and why no more. It is `Serve` for what ends
-/// `serve_from` too, and `NotKept` where the store could not keep what the next line changed.
+/// `serve_from` too, and `NotKept` if the store could not keep what the next line changed.
 pub fn serve_store<R: Source, W: Sink, S: Store>(
     alloc: Global,
     store: &mut S,
@@ -228,14 +228,14 @@ pub fn serve_store<R: Source, W: Sink, S: Store>(
 }
 
 /// Answers every line of the source up to its end, from the object that is given, for readers that
-/// are counted from 1. Answers the number of lines. What is written, and when, `serve_store` says.
+/// are counted from 1. Returns the number of lines. What is written, and when, `serve_store` says.
 ///
 /// # Errors
 ///
-/// The number of lines whose reply was written whole, and why no more. `NoMemory` where memory ran
-/// out. `ReadFault` where the source failed or gave no end within 4,294,967,295 reads. `WriteFault`
-/// where the sink failed or did not take a text within as many writes. The object stands after
-/// those lines, or after a failed write one line further.
+/// The number of lines whose reply was written whole, and why no more. `NoMemory` if memory ran
+/// out. `ReadFault` if the source failed or gave no end within 4,294,967,295 reads. `WriteFault` if
+/// the sink failed or did not take a text within as many writes. The object is in the state after
+/// those lines, or after a failed write one line later.
 #[tactic(auto, using(crate::proofs::LawLemmas::each_input_may_be_cut))]
 pub fn serve_from<R: Source, W: Sink>(
     alloc: Global,
@@ -263,7 +263,7 @@ pub fn serve_from<R: Source, W: Sink>(
 ///
 /// # Errors
 ///
-/// As `serve_from`. The object is dropped then, so what is sent again has to begin with the first
+/// As `serve_from`. The object is dropped then, so what is sent again must begin with the first
 /// line.
 pub fn serve<R: Source, W: Sink>(
     alloc: Global,
@@ -272,7 +272,7 @@ pub fn serve<R: Source, W: Sink>(
     source: &mut R,
     sink: &mut W,
 ) -> Result<u64, Interrupted<ServeFault>>
-    // Of an object that is dropped then.
+    // About an object that is dropped then.
     ensures { (object : ObjectState) × Serves (editing readers) (opened limits) object
         (input_of R.remaining R.has_failed source.old source.new)
         (output_of W.contents W.has_failed W.holds_back sink.old sink.new) result }

@@ -32,7 +32,7 @@ use osn_reply::Outcome;
 use osn_request::{LineObject, LineQuery, LineRequest, RequestError, line_request_of, object_of};
 use std::alloc::{AllocError, Global};
 
-/// Adds the reply to a line that changes nothing, and answers whether it was refused.
+/// Adds the reply to a line that changes nothing, and returns whether it was refused.
 fn tell(alloc: Global, waiting: &mut ReplyBuffer, outcome: Outcome) -> Result<bool, AllocError>
     ensures refused { IfOk result (λ refused. refused ≡ is_refused outcome) }
     ensures ok { OnOk result (Pushes waiting.old waiting.new (reply_line outcome)) }
@@ -45,7 +45,7 @@ fn tell(alloc: Global, waiting: &mut ReplyBuffer, outcome: Outcome) -> Result<bo
 }
 
 /// Makes a change that is not refused, after what waits is written, and adds its reply, which is
-/// taken back where the change fails. Answers whether it was refused.
+/// taken back if the change fails. Returns whether it was refused.
 fn change<W: Sink, S: Store>(
     alloc: Global,
     store: &mut S,
@@ -74,7 +74,7 @@ fn change<W: Sink, S: Store>(
     }
 }
 
-/// What a query of a line is told.
+/// Returns the reply to a query of a line.
 fn reply_to<S: Store>(alloc: Global, store: &S, query: LineQuery<'_>) -> Result<Reply, AllocError>
     ensures { IfOk result (λ r. r ≡ reply_at newest_rules (S.state store.now).limits
         (S.state store.now).batches (line_query query.entry)) }
@@ -85,7 +85,7 @@ fn reply_to<S: Store>(alloc: Global, store: &S, query: LineQuery<'_>) -> Result<
     }
 }
 
-/// Adds the reply to a query, and answers whether it was refused.
+/// Adds the reply to a query, and returns whether it was refused.
 fn ask<S: Store>(
     alloc: Global,
     store: &S,
@@ -104,7 +104,7 @@ fn ask<S: Store>(
     tell(alloc, waiting, Outcome::Replied { reader, reply })
 }
 
-/// What a line asks for, where the rules let it in.
+/// Returns what a line asks for, if the rules let it in.
 fn allowed(rules: ServeRules, request: LineRequest<'_>) -> Result<LineRequest<'_>, WireFault>
     ensures { MatchResult result
         (λ r. spec.allowed rules.read_only rules.takes_sources (Ok (as_request request.entry))
@@ -123,8 +123,8 @@ fn allowed(rules: ServeRules, request: LineRequest<'_>) -> Result<LineRequest<'_
     }
 }
 
-/// The request of a line of which this was read, or the fault as which it was read. It wants memory
-/// only for a line that has a request.
+/// Returns the request of a line of which this was read, or the fault as which it was read. It
+/// requires memory only for a line that has a request.
 fn request_in<'a>(
     alloc: Global,
     rules: ServeRules,
@@ -143,7 +143,7 @@ fn request_in<'a>(
 }
 
 /// Answers a line by its object: adds the reply to its request, or to its first fault, which leaves
-/// the object. Answers whether it was refused.
+/// the object. Returns whether it was refused.
 fn answer_read<W: Sink, S: Store>(
     alloc: Global,
     rules: ServeRules,
@@ -190,7 +190,7 @@ fn answer<W: Sink, S: Store>(
     answer_read(alloc, rules, store, sink, waiting, &read)
 }
 
-/// Writes what waits where enough waits to be written, so that less waits then.
+/// Writes what waits if enough waits to be written, so that less waits then.
 fn make_room<W: Sink>(sink: &mut W, waiting: &mut ReplyBuffer) -> Result<(), UnwrittenReplies>
     ensures ok { OnOk result
         (Settles (W.contents sink.old) (W.contents sink.new) waiting.old waiting.new) }

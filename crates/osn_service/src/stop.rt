@@ -17,7 +17,7 @@ pub(crate) enum Stop<F> {
     WriteFailed(UnwrittenReplies),
     /// A change was made and could not be kept.
     NotKept(F),
-    /// The line was refused, and is to be the last one.
+    /// The line was refused and ends the service.
     Refused,
 }
 

@@ -25,7 +25,7 @@ pub enum Change {
 }
 
 impl Change {
-    /// What is told of a change, by the number of pending edits or of editions after it.
+    /// Returns the reply to a change, by the number of pending edits or of editions after it.
     pub(crate) fn outcome(&self, number: u32) -> Outcome
         ensures { result ≡ spec.outcome self.now number }
     {
@@ -71,10 +71,11 @@ pub trait Store {
     ghost has_kept: { Self → Self → Type 0 };
 
     // `has_lost begun before now why`: each change was kept up to where the object was `before`,
-    // and the one that made it `now` was not, for this reason.
+    // and the one that made it `now` was not, because of `why`.
     ghost has_lost: { Self → ObjectState → Self → Self.Fault → Type 0 };
 
-    /// How many edits would be pending, or which edition there would be, if this change were made.
+    /// Returns how many edits would be pending, or which edition there would be, if this change
+    /// were made.
     ///
     /// # Errors
     ///
@@ -87,8 +88,8 @@ pub trait Store {
     ///
     /// # Errors
     ///
-    /// `NoMemory` where none is found, and nothing has changed then. `NotKept` where the change was
-    /// made and could not be kept.
+    /// `NoMemory` if memory ran out, and nothing has changed then. `NotKept` if the change was made
+    /// and could not be kept.
     fn make(&mut self, change: Change) -> Result<(), StoreFault<Self::Fault>>
         requires { change_refusal (state self.old) change ≡ None }
         ensures lent { KeepsSince lends self.old self.new }
@@ -99,12 +100,12 @@ pub trait Store {
             (FailsToKeep state has_kept has_lost self.old self.new
             (changed (state self.old) change))) };
 
-    /// What a query is told of the published register.
+    /// Returns the reply to a query on the published register.
     ///
     /// # Errors
     ///
-    /// Only where no memory is found, of which a refused query, the figures of a year and an empty
-    /// list of territories take none.
+    /// Only if memory ran out. A refused query, the figures of a year and an empty list of
+    /// territories take none.
     fn ask(&self, query: BorrowedQuery<'_>) -> Result<Reply, AllocError>
         ensures value { IfOk result (λ r. r ≡ reply_at newest_rules (state self.now).limits
             (state self.now).batches (as_query query.entry)) }
@@ -112,7 +113,7 @@ pub trait Store {
             (state self.now).batches (as_query query.entry)).answer ≡ true) };
 }
 
-/// An object by itself is kept nowhere, so no change of it fails to be kept.
+/// An object alone is kept nowhere, so no change of it fails to be kept.
 impl Store for Object {
     ghost use Rattle.std.specs.Prelude.{⊤};
 

@@ -1,5 +1,5 @@
 //! The service over streams of which each call fails in turn: how it ends, what it has written and
-//! passed on then, and where the object stands.
+//! passed on then, and the state of the object.
 use crate::support::compare::same;
 use crate::support::failing::{Course, FailingSink, FailingSource, reads_of};
 use osn_core::Object;
@@ -33,7 +33,7 @@ enum End {
     WriteFault(u64),
 }
 
-/// How what the service answered ends.
+/// Returns how the result of the service ends.
 fn end_of(answered: Result<u64, Interrupted<ServeFault>>) -> End {
     match answered {
         Ok(lines) => End::Answered(lines),
@@ -48,8 +48,8 @@ fn end_of(answered: Result<u64, Interrupted<ServeFault>>) -> End {
 /// How many bytes are read, or written, at a time at most.
 const STEPS: [usize; 3] = [1, 50, usize::MAX];
 
-/// Where the lines of the session end, how many bytes of replies there are then, and how many
-/// batches and pending edits.
+/// The place of each line's end in the session, the number of bytes of replies there, and the
+/// numbers of batches and pending edits.
 const LINES: [(usize, usize, (usize, usize)); 4] = [
     (0, 0, (0, 0)),
     (98, 28, (0, 1)),
@@ -57,7 +57,7 @@ const LINES: [(usize, usize, (usize, usize)); 4] = [
     (141, 133, (1, 0)),
 ];
 
-/// What came of a session: how it ended, how many batches and pending edits there are where the
+/// The result of a session: how it ended, how many batches and pending edits there are if the
 /// object is kept, and which side had failed.
 #[derive(Clone, Copy, Debug, PartialEq, Eq)]
 struct Came {
@@ -67,7 +67,7 @@ struct Came {
     output_failed: bool,
 }
 
-/// What comes of the session over these streams, from an object that is kept, or from none.
+/// Returns the result of the session over these streams, from an object that is kept, or from none.
 fn session(alloc: Global, keeps: bool, source: &mut FailingSource, sink: &mut FailingSink) -> Came {
     let mut object = Object::new(alloc, Limits::standard());
     let answered = if keeps {
@@ -84,22 +84,22 @@ fn session(alloc: Global, keeps: bool, source: &mut FailingSource, sink: &mut Fa
     }
 }
 
-/// What there is after this many lines.
+/// Returns what there is after this many lines.
 fn standing_after(lines: usize) -> (usize, usize, (usize, usize)) {
     *LINES.get(lines).unwrap_or(&LINES[3])
 }
 
-/// How many lines are whole in this many bytes of the input.
+/// Returns how many lines are whole in this many bytes of the input.
 fn lines_in(given: usize) -> usize {
     LINES[1..].iter().filter(|line| line.0 <= given).count()
 }
 
-/// How many replies are whole in this many bytes of them.
+/// Returns how many replies are whole in this many bytes of them.
 fn replies_in(taken: usize) -> usize {
     LINES[1..].iter().filter(|line| line.1 <= taken).count()
 }
 
-/// Checks that reading fails after this many reads, and the lines before that are answered whole:
+/// Checks that reading fails after this many reads, and that the lines before are answered whole:
 /// their replies are written, and passed on before the read.
 fn fails_in_reading(rt: &impl Abort, alloc: Global, keeps: bool, course: Course, step: usize) {
     let mut source = FailingSource::new(READ.as_bytes(), course);
@@ -136,7 +136,7 @@ fn each_read_fails_in_turn(rt: HostRuntime) {
     fail_at_each_read(&rt, rt.alloc(), false);
 }
 
-/// Checks that a session goes well, and everything is passed on. Answers how often the sink was
+/// Checks that a session succeeds, and everything is passed on. Returns how often the sink was
 /// called.
 fn goes_well(rt: &impl Abort, alloc: Global, keeps: bool, read_step: usize, step: usize) -> usize {
     let mut source = FailingSource::new(READ.as_bytes(), Course::sound(read_step));
@@ -158,9 +158,9 @@ fn goes_well(rt: &impl Abort, alloc: Global, keeps: bool, read_step: usize, step
     sink.calls()
 }
 
-/// Checks that writing or passing on fails after this many calls of the sink, and the sink is
-/// called no more. The replies are counted that were taken whole, and the object is at most one
-/// line further.
+/// Checks that writing or passing on fails after this many calls of the sink, and the sink is not
+/// called again. The replies that were taken whole are counted, and the object is at most one line
+/// ahead.
 fn fails_in_writing(rt: &impl Abort, alloc: Global, keeps: bool, read_step: usize, course: Course) {
     let mut source = FailingSource::new(READ.as_bytes(), Course::sound(read_step));
     let mut sink = FailingSink::new(alloc, course);

@@ -1,4 +1,4 @@
-//! Files of which each read fails in turn: none is taken for a shorter file.
+//! Files of which each read fails in turn: a failed read is not the end of a shorter file.
 use crate::support::compare::same;
 use crate::support::failing::{Course, FailingSource, reads_of};
 use osn_register::Limits;
@@ -65,8 +65,8 @@ const TRANSCRIPT: &str = concat!(
 "#
 );
 
-/// Files, each by its role, how it ends where no read fails, and how many bytes are to come before
-/// it ends so. A file that is read has to end, and one that is refused needs its first bad line.
+/// Files, each with its role, how it ends if no read fails, and how many bytes are read before it
+/// ends so. A file that is read must end, and one that is refused needs its first bad line.
 const FILES: [(Role, &str, End, usize); 9] = [
     (Role::Journal, JOURNAL, End::Read, usize::MAX),
     (Role::Script, JOURNAL, End::Read, usize::MAX),
@@ -99,7 +99,7 @@ const FILES: [(Role, &str, End, usize); 9] = [
     ),
 ];
 
-/// Checks that the file ends so where this many reads go well.
+/// Checks how the file ends if this many reads succeed.
 fn ends(rt: &impl Abort, alloc: Global, file: (Role, &str), course: Course, wanted: End) {
     let (role, text) = file;
     let mut source = FailingSource::new(text.as_bytes(), course);
@@ -112,7 +112,7 @@ fn ends(rt: &impl Abort, alloc: Global, file: (Role, &str), course: Course, want
     );
 }
 
-/// Checks that a read that fails is told, wherever it comes before the file ends by itself.
+/// Checks that a read that fails is reported, wherever it comes before the end of the file.
 fn fail_at_each_read(rt: &impl Abort, alloc: Global, rows: &[(Role, &str, End, usize)]) {
     for (role, text, end, needed) in rows {
         for step in STEPS {

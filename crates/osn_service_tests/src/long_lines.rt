@@ -8,7 +8,7 @@ use std::alloc::{AllocError, Global};
 use std::process::Abort;
 use std::test::Fail;
 
-/// A query for the territories, of this many bytes, with or without its line feed.
+/// Returns a query for the territories, of this many bytes, with or without its line feed.
 fn line_of(alloc: Global, length: usize, feeds: bool) -> Result<Vec<u8>, AllocError> {
     let mut line = Vec::from_slice(alloc, br#"{"op":"lands","reader":1,"x":""#)?;
     line.resize(length.saturating_sub(2), b'a')?;
@@ -54,7 +54,8 @@ fn long_lines(rt: HostRuntime) -> Result<(), Fail> {
     are_long(&rt, rt.alloc(), &LONG, false)
 }
 
-/// The line and the number of the fault of a journal with a line of 65,537 bytes after its head.
+/// Returns the line and the number of the fault of a journal with a line of 65,537 bytes after its
+/// head.
 fn fault_after(alloc: Global, head: &str) -> Result<(u64, u8), AllocError> {
     let mut bytes = Vec::from_slice(alloc, head.as_bytes())?;
     bytes.extend_from_slice(&vec![in alloc; b'x'; 65_537]?)?;

@@ -6,10 +6,10 @@ use osn_service::serve;
 use std::alloc::{AllocError, Global};
 use std::test::Fail;
 
-/// The reply to a line that is no JSON.
+/// The reply to a line that is not JSON.
 const NOT_JSON: &str = "{\"fault\":32,\"name\":\"NotJson\"}\n";
 
-/// What is written for this input where each read gives at most this many bytes.
+/// Returns what is written for this input if each read gives at most this many bytes.
 fn written(alloc: Global, input: &[u8], read_step: usize) -> Result<FailingSink, Fail> {
     let mut source = FailingSource::new(input, Course::sound(read_step));
     let mut sink = FailingSink::new(alloc, Course::sound(usize::MAX));
@@ -28,7 +28,7 @@ fn replies_to_a_read_are_written_together(rt: HostRuntime) -> Result<(), Fail> {
     Ok(())
 }
 
-/// The text this many times.
+/// Returns the text, repeated this many times.
 fn repeated(alloc: Global, text: &str, count: usize) -> Result<Vec<u8>, AllocError> {
     let mut whole = Vec::new(alloc);
     for _time in 0..count {

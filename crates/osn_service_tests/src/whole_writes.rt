@@ -5,7 +5,7 @@ use osn_lines::{Sink, write_all};
 use std::alloc::Global;
 use std::process::Abort;
 
-/// How `write_all` ends for seven bytes, by the bytes a write and how many calls go well.
+/// How `write_all` ends for seven bytes, by the bytes of a write and how many calls succeed.
 const WRITTEN_WHOLE: [(usize, usize, Result<(), usize>); 5] = [
     (1, usize::MAX, Ok(())),
     (usize::MAX, usize::MAX, Ok(())),

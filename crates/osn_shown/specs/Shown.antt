@@ -1,5 +1,5 @@
--- How a message has a text that somebody wrote: on one line, and so that a terminal shows all of
--- it. This project's profile.
+-- How a message prints a text of a user: on one line, and so that a terminal shows all of it. This
+-- project's profile.
 use Rattle.std.specs.Prelude.{ℕ, Bool, ◌||◌, ◌==◌, nat_le, nat_lt, ◌&&◌}
 use Rattle.std.specs.Prelude.{if◌then◌else◌, List}
 use Rattle.std.specs.Char.Escape.{escape_default}

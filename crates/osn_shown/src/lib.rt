@@ -1,4 +1,4 @@
-//! Texts that somebody wrote, as messages have them: so that a terminal isn't steered by them.
+//! Texts of users, as messages print them, so that they can't control a terminal.
 #![tactic(auto)]
 
 mod shown;

@@ -1,4 +1,4 @@
-//! A text that somebody wrote, as a message has it.
+//! A text of a user, as a message prints it.
 ghost use Rattle.std.specs.Prelude.{◌≡◌, Some};
 ghost use Rattle.std.specs.Fmt.{WritesOnOk};
 ghost use Rattle.osn_shown.specs.Shown as spec;
@@ -6,13 +6,13 @@ ghost use Rattle.osn_shown.specs.Shown as spec;
 use std::fmt;
 
 /// A text that prints on one line: characters on which a terminal acts are written as Rust's
-/// `char::escape_default` writes them, as `\u{1b}` and `\n`. They are those of control, those that
-/// change the direction of writing (UAX #9, table 1), and the ends of a line and of a paragraph,
-/// U+2028 and U+2029.
+/// `char::escape_default` writes them, such as `\u{1b}` and `\n`. They are those of control, those
+/// that change the direction of writing (UAX #9, table 1), and the ends of a line and of a
+/// paragraph, U+2028 and U+2029.
 #[derive(Clone, Copy)]
 pub struct Shown<'a>(pub &'a str);
 
-/// The same of a text that has lines: line feeds are written as they are.
+/// The same for a text that has lines: line feeds are written as they are.
 #[derive(Clone, Copy)]
 pub struct ShownLines<'a>(pub &'a str);
 
@@ -40,7 +40,7 @@ impl<'a> fmt::Display for ShownLines<'a> {
     }
 }
 
-/// Whether a terminal acts on the character.
+/// Returns whether a terminal acts on the character.
 fn is_escaped(c: char) -> bool
     ensures { result ≡ spec.is_escaped c }
 {

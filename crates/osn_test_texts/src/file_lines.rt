@@ -8,11 +8,11 @@ use std::alloc::{AllocError, Global};
 /// The most bytes of a text that are looked at.
 const MOST: usize = 65_536;
 
-/// The lines of a text that have ended, of its first 65,536 bytes.
+/// Returns the lines of a text that have ended, of its first 65,536 bytes.
 ///
 /// # Errors
 ///
-/// Want of memory, and nothing else.
+/// Returns `AllocError` if memory runs out.
 pub fn whole_lines(alloc: Global, text: &str) -> Result<Vec<u8>, AllocError>
     ensures lines { IfOk result (λ lines. IsOfWholeLines lines.items) }
     ensures few { IfOk result (λ lines. length lines.items < 4294967295) }

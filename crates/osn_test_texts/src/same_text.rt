@@ -3,7 +3,8 @@ ghost use Rattle.std.specs.Prelude.{◌≡◌, IfOk};
 
 use std::test::Fail;
 
-/// The first line of each text that the other has not in its place, or nothing after a text's end.
+/// Returns the first line of each text that differs from the other's in its place, or nothing after
+/// a text's end.
 fn first_apart<'a>(found: &'a str, wanted: &'a str) -> (Option<&'a str>, Option<&'a str>) {
     let mut rest = wanted.lines();
     for line in found.lines() {
@@ -19,7 +20,8 @@ fn first_apart<'a>(found: &'a str, wanted: &'a str) -> (Option<&'a str>, Option<
 ///
 /// # Errors
 ///
-/// The first line of each that differs. There is none where their last line feeds alone differ.
+/// Returns the first line of each that differs. There is no such line if only their last line feeds
+/// differ.
 pub fn is_text(found: &str, wanted: &str) -> Result<(), Fail>
     ensures { IfOk result (λ _. found.now ≡ wanted.now) }
 {

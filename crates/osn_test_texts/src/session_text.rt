@@ -11,13 +11,13 @@ const ENDS: [(&str, &str); 5] = [
     ("LABEL_PAST", "10001"),
 ];
 
-/// A text with its broken lines whole again, and with the ends of the line as numbers. What begins
-/// with two spaces is the rest of the line before. A line that has spaces of its own in front
+/// Returns a text with its broken lines whole again, and with the ends of the line as numbers. What
+/// begins with two spaces is the rest of the line before. A line that begins with spaces of its own
 /// begins with `MARGIN`.
 ///
 /// # Errors
 ///
-/// Want of memory, and nothing else.
+/// Returns `AllocError` if memory runs out.
 pub fn joined(alloc: Global, text: &str) -> Result<String, AllocError> {
     let mut whole = text.replace(alloc, "\n  ", "")?;
     whole = whole.replace(alloc, "MARGIN", "")?;
@@ -52,12 +52,13 @@ fn take_apart(
     Ok(())
 }
 
-/// A session's requests and replies apart, a line feed after each. A request stands after `> ` and
-/// a reply after `< `. Empty lines, and lines that begin with a number sign, are passed over.
+/// Returns a session's requests and its replies, with a line feed after each. In the session
+/// `> ` comes before a request, and `< ` before a reply. Empty lines, and lines that begin with a
+/// number sign, are ignored.
 ///
 /// # Errors
 ///
-/// Want of memory, and nothing else.
+/// Returns `AllocError` if memory runs out.
 pub fn apart(alloc: Global, session: &str) -> Result<(String, String), AllocError> {
     let text = joined(alloc, session)?;
     let mut requests = String::new(alloc);

@@ -39,7 +39,7 @@ staged-edition s (e ∷ es) =
     ∙ ap (λ (p : List Edit). with_edition (record s { pending = p }))
     (append_assoc s.pending (e ∷ []) es)
 
--- where nothing is pending, they are the next edition
+-- if nothing is pending, they are the next edition
 staged-alone : (s : ObjectState) (es : List Edit) → s.pending ≡ []
     → staged_all s es ≡ with_batch s es
 staged-alone s es none =

@@ -1,4 +1,4 @@
--- A journal that is to be saved anew is as the contract says.
+-- The rewritten journal is as the contract says.
 use Rattle.std.proofs.Common.{◌∙◌, ℕ, List, Option, Some, None, ap, subst, sym}
 use Rattle.osn_core.specs.Sequential.{ObjectState}
 use Rattle.osn_files.specs.WholePart.{IsWholePart}

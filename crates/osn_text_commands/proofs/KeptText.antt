@@ -1,4 +1,4 @@
--- What a kept file holds once it is ready is loaded as the object that it held.
+-- What a kept file contains once it is ready is loaded as the object that it contained.
 use Rattle.std.proofs.Common.{◌≡◌, ◌⊎◌, ◌==◌, ◌∙◌, ℕ, zero, suc, Bool, true, false, cond}
 use Rattle.std.proofs.Common.{List, [], ◌∷◌, ◌++◌, length, take, drop, Ok, refl, sym, ap, subst}
 use Rattle.std.proofs.Common.{inl, inr, arith, append-nil, eqb-true, take_all}
@@ -67,7 +67,7 @@ lines_fed (b ∷ bs) some = by_rest (ended_length bs) refl some (lines_fed bs)
         → lines (b ∷ (bs ++ 10 ∷ [])) ≡ lines (b ∷ bs)
     onto same = ap (λ ls. cond (b == 10) ([] ∷ ls) (onto_first b ls)) same
 
-    -- a last byte that is no line feed
+    -- a last byte that is not a line feed
     last : (b == 10) ≡ false → bs ≡ [] → lines (b ∷ (bs ++ 10 ∷ [])) ≡ lines (b ∷ bs)
     last other none =
         let cut : (ys : List ℕ) → lines (b ∷ ys) ≡ onto_first b (lines ys) =
@@ -97,7 +97,7 @@ lines_fed (b ∷ bs) some = by_rest (ended_length bs) refl some (lines_fed bs)
 
 -- ---- the lines that count
 
--- bytes with a last line that stands so, if they are those that count
+-- bytes whose last line ends like this, if they are those that count
 record Counts (last : LastLine) (bytes : List ℕ) : Type 0 where
   fed : last ≡ LacksFeed → (lines (bytes ++ 10 ∷ []) ≡ lines bytes) × (bytes ≡ [] → ⊥)
   ended : (last ≡ LacksFeed → ⊥) → EndsOrNone bytes
@@ -147,7 +147,7 @@ head_loaded limits =
     (IsJournalOf-written plain_version (opened limits) empty (All-nil (HasEdit plain_version)))
 
 module _ (limits : Limits) (version : Version) (s : ObjectState) where
-  -- lines that end with their line feeds get a head where there are none, and else nothing
+  -- lines that end with their line feeds get a head if there are none, or else nothing
   whole_loaded : (bytes : List ℕ) → EndsOrNone bytes → object_of limits bytes ≡ Ok s
       → SaysVersion version bytes
       → IsJournalOf version limits s (bytes ++ missing_head bytes)
@@ -177,7 +177,7 @@ module _ (limits : Limits) (version : Version) (s : ObjectState) where
         loads = ap (load newest_rules limits) same ∙ loads;
       }
 
-  -- what a file holds once it is ready is loaded as the object that it held
+  -- what a file contains once it is ready is loaded as the object that it contained
   pub kept_loaded : (held : List ℕ) → HoldsObject limits held version s
       → IsJournalOf version limits s (kept_text held)
   kept_loaded held h =

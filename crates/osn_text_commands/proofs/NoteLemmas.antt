@@ -1,4 +1,4 @@
--- The note beside a plan is the one that its definition says, and was told.
+-- The note beside a plan is the one that its definition says, and was written.
 use Rattle.std.proofs.Common.{◌≡◌, ◌==◌, ◌∙◌, ℕ, Bool, true, false, List, [], ◌∷◌, length, Option}
 use Rattle.std.proofs.Common.{Some, None, ap, arith, eqb-true, inl, inr, refl, subst, sym}
 use Rattle.osn_core.specs.Sequential.{ObjectState}
@@ -96,7 +96,7 @@ module _ (s : ObjectState) (found : Note) where
 
 -- ---- its line
 
--- a note was told that is not want of memory
+-- a note that is not NoMemory was written
 pub note_told : (path line : List ℕ) (note is wanted : Note) (e : Output) (status : Status)
     → note ≡ is → (is ≡ notes.Refused refusals.NoMemory → ⊥) → note_line path is ≡ Some line
     → IsNoteOf wanted note → TellsIfMade e statuses.Done line status
@@ -106,13 +106,13 @@ note_told path line note is wanted e status same other says (inl found) h =
 note_told path line note is wanted e status same other says (inr none) h =
     absurd (other (sym same ∙ none))
 
--- want of memory was
+-- that memory ran out was
 memory_told : (line : Option (List ℕ)) (e : Output) (status : Status)
     → EndsBy e faults.NoMemory status → TellsNote line e status
 memory_told None e status h = inr h
 memory_told (Some line) e status h = inr h
 
--- that a publish refuses edits was, or want of memory
+-- that a publish refuses edits was, or that memory ran out
 pub refused_told : (path : List ℕ) (refusal : Refusal) (wanted : Note) (e : Output)
     (status : Status) → IsNoteOf wanted (notes.Refused refusal) → TellsRefused refusal e status
     → TellsNote (note_line path wanted) e status
@@ -127,7 +127,7 @@ refused_told path refusal wanted e status (inl found) h =
     other f h = h
 refused_told path refusal wanted e status (inr none) h = absurd (cc)
 
--- nothing was, where that was the note
+-- nothing was, if that was the note
 pub nothing_told : (path : List ℕ) (note wanted : Note) (e : Output) (status : Status)
     → note ≡ notes.Nothing → IsNoteOf wanted note → Ends e None status
     → TellsNote (note_line path wanted) e status
@@ -135,7 +135,7 @@ nothing_told path note wanted e status same (inl found) h =
     subst (λ n. TellsNote (note_line path n) e status) (sym same ∙ found) (inl h)
 nothing_told path note wanted e status same (inr none) h = absurd (cc)
 
--- a refusal other than want of memory was
+-- a refusal other than NoMemory was
 pub other_told : (refusal : Refusal) (e : Output) (status : Status)
     → (refusal ≡ refusals.NoMemory → ⊥)
     → TellsIfMade e statuses.Done (refused_edits_line refusal) status

@@ -47,7 +47,7 @@ module _ {S : Type 0} (remaining : S → Option (List ℕ)) (has_failed : S → 
       by None h = h
       by (Some source) h = h
 
--- ---- what is told
+-- ---- what is written
 
 -- after a plan that was not printed nothing more is
 pub hindrance_untold : (printed : Status) (path : List ℕ) (there : Bool) (known : Option Known)

@@ -36,7 +36,7 @@ module _ (Stays : Type 0) (journal : List ℕ) (s : ObjectState) (wanted : Regis
   nothing_published (edit ∷ edits) none same h =
       absurd (omega (arith, eqb-true (length (edit ∷ edits)) 0 none))
 
-  -- the edits were to be written
+  -- the edits had to be written
   pub edition_written : (edits : List Edit) → (length edits == 0) ≡ false
       → edition_refusal s edits ≡ None → All HasLawfulSource edits
       → WritesEdition Stays old file given edits (published_text journal s wanted edits) o e status
@@ -95,7 +95,7 @@ module _ (Stays : Type 0) (asked : RequestModel) (version : Version) (s : Object
   pending_told [] some h = absurd (cc)
   pending_told (edit ∷ edits) some h = h
 
--- of no edits there is none
+-- there are no pending edits, if their number is 0
 pub none_pending : (pending : List Edit) → (length pending == 0) ≡ true → pending ≡ []
 none_pending [] none = refl
 none_pending (edit ∷ edits) none =

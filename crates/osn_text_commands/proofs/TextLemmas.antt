@@ -1,4 +1,4 @@
--- The text of a territory was printed, or told of, as its contract says.
+-- The text of a territory was printed, or reported, as its contract says.
 use Rattle.std.proofs.Common.{◌≡◌, ℕ, List, Some, None}
 use Rattle.osn_days.specs.Profile.{newest_rules}
 use Rattle.osn_lines.specs.Streams.{Output}

@@ -16,13 +16,13 @@ use Rattle.osn_register.specs.declared.refusal.Refusal.{Refusal}
 use Rattle.osn_register.specs.declared.refusal.Refusal.TheVariants.{NoMemory}
 use Rattle.osn_serve_commands.specs.Keep.{HoldsObject, is_kept, kept_text, missing_text}
 
--- the first refusal, where edits are staged in turn and then published
+-- the first refusal, if edits are staged in turn and then published
 abbrev pub edition_refusal : ObjectState → List Edit → Option Refusal
 edition_refusal s [] = publish_refusal s
 edition_refusal s (e ∷ es) =
     or_else (stage_refusal newest_rules s e) (edition_refusal (with_pending s e) es)
 
--- want of memory, or what refuses
+-- NoMemory, or what refuses
 abbrev pub IsNoMemoryOr : Option Refusal → Refusal → Type 0
 IsNoMemoryOr refused f = (f ≡ NoMemory) ⊎ (refused ≡ Some f)
 
@@ -30,20 +30,20 @@ IsNoMemoryOr refused f = (f ≡ NoMemory) ⊎ (refused ≡ Some f)
 abbrev pub needs_sources : Version → List Edit → Bool
 needs_sources version edits = not (has_sources version) && give_source edits
 
--- the object with one edition more, which has these edits
+-- the object with another edition, which has these edits
 abbrev pub with_batch : ObjectState → List Edit → ObjectState
 with_batch s edits = record s { batches = s.batches ++ edits ∷ [] }
 
--- what is appended to a file that holds this: what is missing after its lines that count, then the
+-- what is appended to a file of these bytes: what is missing after its lines that count, then the
 -- lines of the edits and that of their publish
 abbrev pub appended_text : List ℕ → List Edit → List ℕ
 appended_text held edits = missing_text held ++ batch_text edits
 
--- what the file holds then
+-- what the file contains then
 abbrev pub edition_text : List ℕ → List Edit → List ℕ
 edition_text held edits = kept_text held ++ batch_text edits
 
--- A file that holds an object with nothing pending, in a journal of a version that is kept, is
+-- A file that contains an object with nothing pending, in a journal of a version that is kept, is
 -- loaded, with edits that are published as one edition, as the object with that edition. The edits
 -- need no sources that the version lacks, and each source is one that may be given.
 unfoldable pub IsEachEditionLoaded : Type 0

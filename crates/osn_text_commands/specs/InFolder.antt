@@ -20,13 +20,13 @@ IsOpened path None before after = CannotOpen (path ∷ []) before after
 IsOpened path (Some bytes) before after =
     IsFileOf before path bytes × Changes (Opens (path ∷ [])) before after
 
--- the text of a path could not be opened, which standard error was told, and nothing was written
+-- the text of a path could not be opened, which was reported, and nothing was written
 abbrev pub MissesText : List ℕ → Folders → Output → Output → Status → Type 0
 MissesText path d o e status =
     CannotOpen (path ∷ []) d.before d.after × (o.new ≡ o.old)
     × (cause : OpenFailed) × TellsIfMade e statuses.ReadFault (unopened_line path cause) status
 
--- the plan for a journal of this path, which is there or not, was printed, where the text could be
+-- the plan for a journal of this path, which is there or not, was printed, if the text could be
 -- opened
 abbrev pub PrintsPlanBy : Limits → List ℕ → Option Input → List ℕ → (Bool → Type 0) → Folders
     → Output → Output → Status → Type 0
@@ -35,7 +35,8 @@ PrintsPlanBy limits path journal text_path CanFail d o e status =
     ⊎ ReadsOne text_path CanFail d
     (λ text. PrintsPlan limits path journal text_path text o e status)
 
--- after a plan that was printed it was told why the journal could not be kept, if that was found
+-- after a plan that was printed it was reported why the journal could not be kept, if that was
+-- found
 abbrev pub TellsHindranceAfter : Status → List ℕ → Bool → Option Known → Option Known → Output
     → Status → Type 0
 TellsHindranceAfter statuses.Done path is_there before after e status =
@@ -44,7 +45,7 @@ TellsHindranceAfter printed path is_there before after e status =
     (status ≡ printed) × (after ≡ before) × TellsNothing e
 
 -- The journal was opened, if it is there, and then the text, and the plan was printed. Then it was
--- told why the journal could not be kept, if that was found.
+-- reported why the journal could not be kept, if that was found.
 pub record PlansInFolder (limits : Limits) (path text_path : List ℕ) (CanFail : Bool → Type 0)
     (d : Folders) (o e : Output) (status : Status) : Type 0 where
   pub journal : Option Input

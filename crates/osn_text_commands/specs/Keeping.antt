@@ -1,5 +1,5 @@
 -- Why the file of a journal is not kept, as far as that was found out by opening files, and what is
--- told of it. This project's profile.
+-- printed about it. This project's profile.
 use Rattle.std.specs.Prelude.{◌≡◌, ⊤, ◌==◌, if◌then◌else◌, ℕ, Bool, true, false, List, [], ◌∷◌}
 use Rattle.std.specs.Prelude.{◌++◌, length, codes, Option, Some, None, option_map, option_and_then}
 use Rattle.std.specs.Path.{path_parent}
@@ -14,7 +14,7 @@ use Rattle.osn_text_commands.specs.Note.{TellsNote}
 use Rattle.osn_text_commands.specs.declared.keeping.KeepCause.{KeepCause}
 use Rattle.osn_text_commands.specs.declared.keeping.KeepCause.TheVariants as causes
 
--- a folder that has a name, which the one of a bare name has not
+-- a folder that has a name: the folder of a bare name has none
 abbrev pub if_named : List ℕ → Option (List ℕ)
 if_named folder = if length folder == 0 then None else Some folder
 
@@ -24,7 +24,7 @@ folder_of path = option_and_then if_named (path_parent path)
 
 -- ---- the cause
 
--- what is at the path is no file
+-- what is at the path is not a file
 abbrev pub FindsStream : List ℕ → Known → Known → Type 0
 FindsStream path k n = Stays k n × (k.paths.is_stream path ≡ true)
 
@@ -35,7 +35,7 @@ LooksBeside path before after =
     × (between : Option Known) × Changes (Opens (path ∷ [])) before between
     × Changes (Opens (path_if (folder_of path))) between after
 
--- why a file is not kept that no other run has
+-- why a file that no other run has is not kept
 abbrev pub FindsCause : List ℕ → Option Known → Option Known → KeepCause → Type 0
 FindsCause path before after causes.Held = ⊥
 FindsCause path before after causes.NoFile = Changes (FindsStream path) before after
@@ -74,7 +74,7 @@ abbrev pub IsNoFolderIf : Option KeepCause → Type 0
 IsNoFolderIf None = ⊤
 IsNoFolderIf (Some cause) = cause ≡ causes.NoFolder
 
--- why the file of a path would not be kept, which is there or not. Where it is not, none was made
+-- why the file of a path would not be kept, which is there or not. If it is not, it was not made
 abbrev pub FindsHindrance : List ℕ → Bool → Option Known → Option Known → Option KeepCause
     → Type 0
 FindsHindrance path false before after cause =
@@ -82,7 +82,7 @@ FindsHindrance path false before after cause =
 FindsHindrance path true before after None = KeepsForNow path before after
 FindsHindrance path true before after (Some cause) = CannotKeepBy path before after cause
 
--- ---- what is told
+-- ---- what is printed
 
 abbrev pub cause_words : KeepCause → List ℕ
 cause_words causes.Held = codes "another run of the program keeps that journal"
@@ -113,7 +113,7 @@ abbrev pub unkept_line : List ℕ → KeepCause → List ℕ
 unkept_line path causes.NoFolder = folder_line path (folder_of path)
 unkept_line path cause = cause_line path cause
 
--- why the file would not be kept was found, and told
+-- it was found why the file would not be kept, and reported
 abbrev pub TellsHindrance : List ℕ → Bool → Option Known → Option Known → Output → Status → Type 0
 TellsHindrance path is_there before after e status =
     (cause : Option KeepCause) × FindsHindrance path is_there before after cause

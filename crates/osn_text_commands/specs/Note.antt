@@ -1,4 +1,4 @@
--- What standard error is told beside a plan: what a publish of its edits refuses, or does first.
+-- The note on standard error beside a plan: what a publish of its edits refuses, or does first.
 use Rattle.std.specs.Prelude.{◌≡◌, ◌⊎◌, ℕ, Bool, true, false, List, [], ◌∷◌, length}
 use Rattle.std.specs.Prelude.{Option, Some, None, if◌then◌else◌}
 use Rattle.osn_core.specs.Sequential.{ObjectState}
@@ -71,12 +71,12 @@ note_line path (notes.Refused refusal) = Some (refused_edits_line refusal)
 note_line path (notes.Anew version) = Some (anew_line version)
 note_line path (notes.NotKept version) = Some (not_kept_line path version)
 
--- the line was told, if there is one; or that memory ran out
+-- the line was written, if there is one; or it was reported that memory ran out
 abbrev pub TellsNote : Option (List ℕ) → Output → Status → Type 0
 TellsNote None e status = Ends e None status ⊎ EndsBy e faults.NoMemory status
 TellsNote (Some line) e status = TellsIfMade e statuses.Done line status
 
--- that a publish refuses edits was told; or that memory ran out
+-- it was reported that a publish refuses edits, or that memory ran out
 abbrev pub TellsRefused : Refusal → Output → Status → Type 0
 TellsRefused refusals.NoMemory e status = EndsBy e faults.NoMemory status
 TellsRefused refusal e status =

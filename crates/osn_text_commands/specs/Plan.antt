@@ -1,4 +1,4 @@
--- What the command `plan` prints, and what standard error is told.
+-- What the command `plan` prints, and what it writes to standard error.
 use Rattle.std.specs.Prelude.{◌≡◌, ◌⊎◌, ◌+◌, ◌++◌, ⊤, ℕ, Bool, List, length}
 use Rattle.std.specs.Prelude.{Option, Some, None, IfSome, is_some}
 use Rattle.osn_days.specs.Profile.{newest_rules}
@@ -36,14 +36,14 @@ plan_text s wanted edits =
     plan_page newest_rules (published s) wanted.lands edits
     ++ plan_end (length edits) (length s.batches + 1)
 
--- ---- what is told beside a plan
+-- ---- what is written beside a plan
 
--- it was told where all was printed, and else nothing more
+-- a line was written if all was printed, or else nothing more
 abbrev pub TellsNoteAfter : Status → Option (List ℕ) → Output → Status → Type 0
 TellsNoteAfter statuses.Done line e status = TellsNote line e status
 TellsNoteAfter printed line e status = (status ≡ printed) × TellsNothing e
 
--- A text was printed, and then a line told, if there is one.
+-- A text was printed, and then a line written to standard error, if there is one.
 pub record PrintsNoted (text : List ℕ) (note : Option (List ℕ)) (o e : Output) (status : Status)
     : Type 0 where
   pub between : Option (List ℕ)
@@ -62,23 +62,23 @@ behind_or journal text s (Some edition) other =
 
 -- ---- how the command ends
 
--- the line on the edits of a plan to a text of an edition, for the journal of this version that makes
--- an object, and is there or not; the paths are those of the journal and of the text
+-- the line on the edits of a plan to a text of an edition, for the journal of this version that
+-- makes an object, and is there or not; the paths are those of the journal and of the text
 abbrev pub edits_line : List ℕ → List ℕ → Bool → Version → ObjectState → Option ℕ → List Edit
     → Option (List ℕ)
 edits_line journal text is_there version s edition edits =
     behind_or journal text s (behind edition s.batches edits)
     (note_line journal (note_of is_there version s edits))
 
--- there is no plan from the published register to the wanted one, which standard error was told
--- with the path of the text
+-- there is no plan from the published register to the wanted one, which was reported with the path
+-- of the text
 abbrev pub RefusesPlan : ObjectState → List ℕ → RegisterModel → Output → Output → Status → Type 0
 RefusesPlan s path wanted o e status =
     (fault : PlanFault) × IsFault s.limits wanted.lands (published s) fault × (o.new ≡ o.old)
     × TellsPlanFault path e fault status
 
 -- the plan from what an object has published to the register that is wanted was printed, and then
--- lines on its edits told, if there are some; or there is none
+-- lines on its edits were written, if there are some; or there is no plan
 abbrev pub PrintsPlanTo : ObjectState → List ℕ → RegisterModel → (List Edit → Option (List ℕ))
     → Output → Output → Status → Type 0
 PrintsPlanTo s path wanted note o e status =
@@ -86,13 +86,13 @@ PrintsPlanTo s path wanted note o e status =
     ⊎ ((edits : List Edit) × IsPlan s.limits wanted.lands (published s) edits
     × PrintsNoted (plan_text s wanted edits) (note edits) o e status)
 
--- the file of this path says no register, which standard error was told
+-- the file of this path says no register, which was reported
 abbrev pub RefusesText : Limits → List ℕ → Input → Output → Output → Status → Type 0
 RefusesText limits path text o e status =
     (fault : TextFileFault) × IsTextFileFault limits text fault × (o.new ≡ o.old)
     × TellsTextFile path e fault status
 
--- that, unless the text is of an edition that the journal lacks, which standard error was told
+-- that, unless the text is of an edition that the journal lacks, which was reported
 abbrev pub PrintsUnlessLater : Option ℕ → ObjectState → List ℕ → List ℕ → RegisterModel
     → (List Edit → Option (List ℕ)) → Output → Output → Status → Type 0
 PrintsUnlessLater None s journal path wanted note o e status =
@@ -101,7 +101,7 @@ PrintsUnlessLater (Some edition) s journal path wanted note o e status =
     (o.new ≡ o.old)
     × TellsIfMade e statuses.Refused (later_lines path journal edition (length s.batches)) status
 
--- the same of what the text of this path says, which may be nothing, by the edition that it says
+-- the same for what the text of this path says, which may be nothing, by the edition that it says
 abbrev pub PrintsPlanOf : Limits → ObjectState → List ℕ → List ℕ → Input
     → (Option ℕ → List Edit → Option (List ℕ)) → Output → Output → Status → Type 0
 PrintsPlanOf limits s journal path text note o e status =
@@ -116,7 +116,7 @@ IsOfVersionIf None version = ⊤
 IsOfVersionIf (Some journal) version =
     IfSome journal.bytes (λ bytes. IsOfVersion version (lines bytes))
 
--- of a journal, and of a text, each of its path: the journal is refused; or it makes an object, or
+-- for a journal and a text, each with its path: the journal is refused; or it makes an object, or
 -- there is none, and that was done with an empty one
 abbrev pub PrintsPlan : Limits → List ℕ → Option Input → List ℕ → Input → Output → Output
     → Status → Type 0

@@ -1,4 +1,4 @@
--- What standard error is told where there is no plan. This project's profile.
+-- What is written to standard error if there is no plan. This project's profile.
 use Rattle.std.specs.Prelude.{ℕ, List, ◌++◌, codes}
 use Rattle.osn_lines.specs.Streams.{Output}
 use Rattle.osn_plan.specs.declared.fault.PlanFault.{PlanFault}
@@ -30,7 +30,7 @@ renamed_line path code name wanted = codes "oldstyle: "
     ++ (codes ", and the text has " ++ (shown wanted ++ renamed_help name wanted)))))))
 
 -- the line on an edit that is refused, of the territory of this code that the text of this path
--- has, and how more is allowed where that is at a limit
+-- has, and how more is allowed if that is at a limit
 abbrev pub refused_line : List ℕ → List ℕ → Refusal → List ℕ
 refused_line path code refusal = codes "oldstyle: "
     ++ (shown path
@@ -39,7 +39,7 @@ refused_line path code refusal = codes "oldstyle: "
     ++ (codes ": "
     ++ refusal_end (refusal_number refusal) (refusal_name refusal ++ limit_hint refusal)))))
 
--- standard error was told why there is no plan to what the text of this path says
+-- it was reported why there is no plan to what the text of this path says
 abbrev pub TellsPlanFault : List ℕ → Output → PlanFault → Status → Type 0
 TellsPlanFault path e (faults.Renamed code name wanted) status =
     TellsIfMade e statuses.Refused (renamed_line path code name wanted) status

@@ -35,7 +35,7 @@ abbrev pub standing_line : ℕ → List ℕ
 standing_line editions =
     codes "nothing to change: edition " ++ (decimal editions ++ codes " stands\n")
 
--- ---- what standard error is told
+-- ---- what is written to standard error
 
 abbrev pub edits_word : ℕ → List ℕ
 edits_word edits = if edits == 1 then codes "edit" else codes "edits"
@@ -59,7 +59,7 @@ abbrev pub refused_edits_line : Refusal → List ℕ
 refused_edits_line refusal = codes "oldstyle: publish refuses the edits: "
     ++ refusal_end (refusal_number refusal) (refusal_name refusal ++ limit_hint refusal)
 
--- the line on a journal of this version that a publish saves anew
+-- the line on a journal of this version that a publish rewrites
 abbrev pub anew_line : Version → List ℕ
 anew_line version = codes "oldstyle: the journal is of version "
     ++ (decimal (version_number version)

@@ -1,4 +1,4 @@
--- How a publish ends: what it printed and told, and what the file of the journal holds then.
+-- How a publish ends: what it printed and reported, and what the file of the journal contains then.
 use Rattle.std.specs.Prelude.{◌≡◌, ◌⊎◌, ◌+◌, ◌++◌, ℕ, Bool, true, false, List, [], ◌∷◌, length}
 use Rattle.std.specs.Prelude.{take, codes, Option, Some, None, IfSome}
 use Rattle.std.specs.Io.KnownBytes.{Appends}
@@ -50,7 +50,7 @@ abbrev pub published_text : List ℕ → ObjectState → RegisterModel → List 
 published_text path s wanted edits =
     begun_text path s wanted edits ++ published_line (length s.batches + 1)
 
--- the lines of a plan without edits, and that the last edition stands
+-- the lines of a plan without edits, and the line that there is nothing to change
 abbrev pub standing_text : ObjectState → RegisterModel → List ℕ
 standing_text s wanted =
     plan_page newest_rules (published s) wanted.lands [] ++ standing_line (length s.batches)
@@ -60,17 +60,17 @@ abbrev pub unprinted_line : List ℕ
 unprinted_line =
     codes "oldstyle: the edition is in the journal, but its report could not be printed\n"
 
--- of an edition that is in the journal this text was printed; or a front of it, where the output
--- failed, which standard error was told. The publish is done either way
+-- the text of an edition in the journal was printed; or the output failed after a prefix, which was
+-- reported. The publish is done either way
 abbrev pub PrintsReport : List ℕ → Output → Output → Status → Type 0
 PrintsReport text o e status =
     (Ends e None status × Appends o.old o.new text)
     ⊎ (TellsLine e statuses.Done unprinted_line status × FailsToPrint text o)
 
--- ---- what the file holds
+-- ---- what the file contains
 
 -- The file is as it was; or its last line was cut off, if it was not finished, and else it is as it
--- was. Where it can be that it is not cut back, a front of the edition's lines may stand there too.
+-- was. If cutting it back may fail, a prefix of the edition's lines may be there too.
 abbrev pub IsLeftWhole : Type 0 → List ℕ → List Edit → Option ℕ → Option (List ℕ) → Type 0
 IsLeftWhole CanStay held edits cut contents =
     ((cut ≡ None) × (contents ≡ Some held))
@@ -89,9 +89,9 @@ abbrev pub LosesEdition : Type 0 → List ℕ → List Edit → CommandFault →
 LosesEdition CanStay held edits fault cut file =
     IsChangeFault fault file.fault × IsLeftWhole CanStay held edits cut file.contents
 
--- Edits were to be written to the file as an edition, and this text to be printed. Which line was
--- cut off was told first, if one was. The edition is in the file and the text was printed, if it
--- could be; or it is not, which standard error was told.
+-- Edits had to be written to the file as an edition, and this text printed. Which line was cut off
+-- was reported first, if one was. The edition is in the file and the text was printed, if it could
+-- be; or the edition is not in the file, which was reported.
 pub record WritesEdition (CanStay : Type 0) (old file : FileState) (given : Option (List ℕ))
     (edits : List Edit) (text : List ℕ) (o e : Output) (status : Status) : Type 0 where
   pub cut : Option ℕ
@@ -106,7 +106,7 @@ pub record WritesEdition (CanStay : Type 0) (old file : FileState) (given : Opti
 
 -- ---- how the command ends
 
--- nothing was changed in the file, nothing was printed, and standard error was told why
+-- nothing was changed in the file, nothing was printed, and it was reported why
 abbrev pub Refuses : CommandFault → FileState → FileState → Output → Output → Status → Type 0
 Refuses fault old file o e status = (file ≡ old) × PrintsNone fault o e status
 
@@ -129,8 +129,8 @@ AppendsEdits CanStay path s wanted old file given (edit ∷ edits) o e status =
     (published_text path s wanted (edit ∷ edits)) o e status)
     (λ refusal. Refuses (Refused refusal) old file o e status)
 
--- that, where a journal of this version is kept; or it is not, which standard error was told with
--- the path of the journal
+-- that, if a journal of this version is kept; or it is not, which was reported with the path of the
+-- journal
 abbrev pub AppendsIfKept : Bool → Type 0 → List ℕ → Version → ObjectState → RegisterModel
     → FileState → FileState → Option (List ℕ) → List Edit → Output → Output → Status → Type 0
 AppendsIfKept true CanStay path version s wanted old file given edits o e status =
@@ -138,8 +138,8 @@ AppendsIfKept true CanStay path version s wanted old file given edits o e status
 AppendsIfKept false CanStay path version s wanted old file given edits o e status =
     RefusesBy (not_kept_line path version) old file o e status
 
--- where edits need sources that the version lacks, one of them is refused, or memory ran out; else
--- that was done
+-- if edits need sources that the version lacks, one of them is refused, or memory ran out;
+-- otherwise that was done
 abbrev pub PublishesEdits : Bool → Type 0 → List ℕ → Version → ObjectState → RegisterModel
     → FileState → FileState → Option (List ℕ) → List Edit → Output → Output → Status → Type 0
 PublishesEdits true CanStay path version s wanted old file given edits o e status =
@@ -148,7 +148,7 @@ PublishesEdits true CanStay path version s wanted old file given edits o e statu
 PublishesEdits false CanStay path version s wanted old file given edits o e status =
     AppendsIfKept (is_kept version) CanStay path version s wanted old file given edits o e status
 
--- that, unless the text is behind an edition, which standard error was told
+-- that, unless the text is behind an edition, which was reported
 abbrev pub PublishesUnlessBehind : Option ℕ → Type 0 → RequestModel → Version → ObjectState
     → RegisterModel → FileState → FileState → Option (List ℕ) → List Edit → Output → Output
     → Status → Type 0
@@ -170,7 +170,7 @@ PublishesPlan CanStay version s asked wanted old file given o e status =
     × PublishesUnlessBehind (hindered asked s.batches edits) CanStay asked version s wanted old
     file given edits o e status)
 
--- that, unless the text is of an edition that the journal lacks, which standard error was told
+-- that, unless the text is of an edition that the journal lacks, which was reported
 abbrev pub PublishesUnlessLater : Option ℕ → Type 0 → Version → ObjectState → RequestModel
     → RegisterModel → FileState → FileState → Option (List ℕ) → Output → Output → Status → Type 0
 PublishesUnlessLater None CanStay version s asked wanted old file given o e status =
@@ -178,7 +178,7 @@ PublishesUnlessLater None CanStay version s asked wanted old file given o e stat
 PublishesUnlessLater (Some edition) CanStay version s asked wanted old file given o e status =
     RefusesBy (later_lines asked.text asked.journal edition (length s.batches)) old file o e status
 
--- that, unless edits are pending, which standard error was told
+-- that, unless edits are pending, which was reported
 abbrev pub PublishesUnlessPending : Type 0 → Version → ObjectState → List Edit → RequestModel
     → RegisterModel → FileState → FileState → Option (List ℕ) → Output → Output → Status → Type 0
 PublishesUnlessPending CanStay version s [] asked wanted old file given o e status =
@@ -188,8 +188,8 @@ PublishesUnlessPending CanStay version s (edit ∷ edits) asked wanted old file 
     RefusesBy (pending_line (length (edit ∷ edits))) old file o e status
 
 -- How a publish ends over a file that was `old` and is `file` then, and which a source gave. It
--- holds no object, and is as it was; or it holds one, in a journal of some version, and that was
--- done.
+-- contains no object, and is as it was; or it contains one, in a journal of some version, and that
+-- was done.
 abbrev pub EndsPublish : Type 0 → Limits → RequestModel → RegisterModel → FileState → FileState
     → Input → Output → Output → Status → Type 0
 EndsPublish CanStay limits asked wanted old file given o e status =
@@ -203,8 +203,8 @@ EndsPublish CanStay limits asked wanted old file given o e status =
 -- ---- an edition that the file can't take
 
 -- A source gave these bytes, of a journal with nothing pending whose version has no sources, and
--- edits of a plan need them. The journal that is to be saved anew has them as its next edition. And
--- there are the text that is to be printed then, and the one on a last line that was not finished.
+-- edits of a plan need them. The rewritten journal has them as its next edition. And there are the
+-- text that is printed then, and the one on a last line that was not finished.
 pub record IsOlderEdition (limits : Limits) (asked : RequestModel) (wanted : RegisterModel)
     (given : Option (List ℕ)) (bytes journal text : List ℕ) (cut : Option (List ℕ)) : Type 0 where
   pub read : IfSome given (λ held. bytes ≡ held)

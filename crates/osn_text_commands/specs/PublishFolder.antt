@@ -21,8 +21,8 @@ use Rattle.osn_text_commands.specs.TextFile.{Says}
 
 -- ---- a journal that is saved with its edition
 
--- a text on a last line that was not finished was told first, if there is one, and then the text of
--- the edition printed
+-- a text on a last line that was not finished was written to standard error first, if there is one,
+-- and then the text of the edition printed
 pub record TellsAndPrints (cut : Option (List ℕ)) (text : List ℕ) (o e : Output) (status : Status)
     : Type 0 where
   pub between : Option (List ℕ)
@@ -32,7 +32,7 @@ pub record TellsAndPrints (cut : Option (List ℕ)) (text : List ℕ) (o e : Out
   pub prints : PrintsReport text o (later_output e between failed) status
 
 -- a journal was saved in the file of this path, which held these bytes, whole, and then the text of
--- its edition printed; or it is not saved for sure, and nothing was printed
+-- its edition printed; or it isn't sure that it is saved, and nothing was printed
 abbrev pub SavesEdition : List ℕ → List ℕ → List ℕ → List ℕ → Option (List ℕ) → Folders → Output
     → Output → Status → Type 0
 SavesEdition path loaded journal text cut d o e status =
@@ -42,8 +42,8 @@ SavesEdition path loaded journal text cut d o e status =
 -- ---- a journal that is there
 
 -- what was published in a file that was kept, of which a source gave this. The folder has then what
--- that left in the file; or the file was given back as it was, and the journal saved anew in its
--- place, where its version lacks the sources of an edit
+-- that left in the file; or the file was given back as it was, and the rewritten journal is in its
+-- place, if its version lacks the sources of an edit
 abbrev pub PublishesKept : Limits → RequestModel → RegisterModel → Type 0 → FileState → Input
     → Folders → Output → Output → Status → Type 0
 PublishesKept limits asked wanted CanStay begun given d o e status =
@@ -55,8 +55,8 @@ PublishesKept limits asked wanted CanStay begun given d o e status =
     × SavesEdition asked.journal bytes journal text cut
     (record { before = released; after = d.after }) o e status)
 
--- the file of the journal could not be kept, which standard error was told; or it is, no change of
--- it had failed before, and what the text says was published there
+-- the file of the journal could not be kept, which was reported; or it is, no change of it had
+-- failed before, and what the text says was published there
 abbrev pub KeepsAndPublishes : Limits → RequestModel → RegisterModel → (Bool → Type 0) → Type 0
     → Folders → Output → Output → Status → Type 0
 KeepsAndPublishes limits asked wanted CanFail CanStay d o e status =

@@ -19,7 +19,7 @@ use Rattle.osn_text_commands.specs.Publish.{HoldsEdition, LosesEdition, publishe
 use Rattle.osn_text_commands.specs.Since.{RequestModel, hindered, later_than}
 use Rattle.osn_text_commands.specs.Text.{published}
 
--- of files of a kind one may not be cut back
+-- some file of a kind may fail to be cut back
 abbrev pub CanStay : {K : Type 0} → (K → Bool) → Type 0
 CanStay {K} may_fail = (file : K) × (may_fail file ≡ true)
 
@@ -32,8 +32,8 @@ abbrev pub AreLinesOf : WholePart → List Edit → List ℕ → Type 0
 AreLinesOf part edits lines =
     (held : List ℕ) → IsWholePart part held → lines ≡ appended_text held edits
 
--- a file of this many bytes is as it was, or a front of the lines stands after them where it can be
--- that it is not cut back
+-- a file of this many bytes is as it was; or, if cutting it back may fail, a prefix of the lines is
+-- after them
 abbrev pub IsCutBack : Type 0 → ℕ → List ℕ → Option (List ℕ) → Option (List ℕ) → Type 0
 IsCutBack Stays size lines old new =
     (held : List ℕ) → old ≡ Some held → length held ≡ size
@@ -56,7 +56,7 @@ abbrev pub IsCutOf : WholePart → Option (List ℕ) → Type 0
 IsCutOf part cut =
     (held : List ℕ) → IsWholePart part held → cut ≡ cut_text (unfinished_line held)
 
--- The journal of a path that held these bytes is to be saved anew with these edits as its next edition.
+-- The journal of a path that held these bytes is rewritten with these edits as its next edition.
 pub record IsOlderOf (path held : List ℕ) (part : WholePart) (version : Version) (s : ObjectState)
     (wanted : RegisterModel) (edits : List Edit) (bytes journal text : List ℕ)
     (cut : Option (List ℕ)) : Type 0 where

@@ -1,5 +1,5 @@
 -- Whether the edits of a text's plan would change again what editions after that of the text
--- changed, and what is told then. This project's profile.
+-- changed, and what is reported then. This project's profile.
 use Rattle.std.specs.Prelude.{ℕ, ◌+◌, pos, nat_lt, Bool, false, ◌&&◌, if◌then◌else◌}
 use Rattle.std.specs.Prelude.{List, [], ◌∷◌, ◌++◌, length, drop, codes, Option, Some, None}
 use Rattle.std.specs.Fmt.{decimal}
@@ -63,7 +63,7 @@ change_again edits batch = list_any (λ edit. list_any (change_same edit) batch)
 
 -- ---- by editions
 
--- the edition of a text, if it says one that a journal of so many editions lacks
+-- the edition of a text, if it says one that a journal of this many editions lacks
 abbrev pub later_than : Option ℕ → ℕ → Option ℕ
 later_than None editions = None
 later_than (Some edition) editions = if nat_lt editions edition then Some edition else None
@@ -79,9 +79,9 @@ abbrev pub hindered : RequestModel → List (List Edit) → List Edit → Option
 hindered asked batches edits =
     if asked.onto_newest then None else behind asked.edition batches edits
 
--- ---- what is told
+-- ---- what is printed
 
--- the lines on a text of an edition that the journal lacks, which has so many
+-- the lines on a text of an edition that the journal lacks, which has this many
 unfoldable pub later_lines : List ℕ → List ℕ → ℕ → ℕ → List ℕ
 later_lines text journal edition editions = codes "oldstyle: "
     ++ (shown text

@@ -20,8 +20,8 @@ use Rattle.osn_text_writer.specs.TerritoryText.{register_text, text_of_code}
 abbrev pub published : ObjectState → List LandModel
 published s = lands_of newest_rules s.limits s.batches
 
--- the text of the territory of a code, made of an edition, was printed; or none of these has the code, which standard
--- error was told, with the path of the journal
+-- the text of the territory of a code, made of an edition, was printed; or none of these has the
+-- code, which was reported with the path of the journal
 abbrev pub PrintsLand : ℕ → List LandModel → List ℕ → List ℕ → Output → Output → Status → Type 0
 PrintsLand edition lands path code o e status = MatchOption (code_refusal lands code)
     (PrintsIfMade (text_of_code newest_rules edition code lands) o e status)
@@ -36,8 +36,8 @@ PrintsLands edition lands path None o e status =
 PrintsLands edition lands path (Some code) o e status =
     PrintsLand edition lands path code o e status
 
--- of a journal of this path: it is refused; or it makes an object, and that was done of its newest
--- edition
+-- for a journal of this path: it is refused; or it makes an object, and that was done for its
+-- newest edition
 abbrev pub PrintsText : Limits → List ℕ → Input → Option (List ℕ) → Output → Output → Status
     → Type 0
 PrintsText limits path journal code o e status =

@@ -1,5 +1,5 @@
--- What the text of a file says, why it says nothing, and what standard error is told of that. This
--- project's profile.
+-- What the text of a file says, why it says nothing, and how that is reported. This project's
+-- profile.
 use Rattle.std.specs.Prelude.{◌≡◌, ◌⊎◌, ⊤, ℕ, List, ◌++◌, Option, Some, Ok, IfSome, IsUtf8, codes}
 use Rattle.osn_folder.specs.declared.fault.OpenFailed.TheVariants.{Other}
 use Rattle.osn_lines.specs.Faults.{IsReadFault}
@@ -21,7 +21,7 @@ use Rattle.osn_text_reader.specs.declared.fault.TextFault.TheVariants as text_fa
 use Rattle.osn_text_commands.specs.declared.text_file.TextFileFault.{TextFileFault}
 use Rattle.osn_text_commands.specs.declared.text_file.TextFileFault.TheVariants as faults
 
--- why it says none, where its bytes were not read
+-- why it says none, if its bytes were not read
 abbrev pub by_read : ReadAllFault → TextFileFault
 by_read read_faults.NoMemory = faults.NoMemory
 by_read read_faults.ReadFault = faults.ReadFault
@@ -31,7 +31,7 @@ abbrev pub BytesSay : Limits → List ℕ → Option ℕ → RegisterModel → T
 BytesSay limits bytes edition r =
     (r.limits ≡ limits) × IsUtf8 bytes × (said_by limits bytes ≡ Some (Ok (edition, r.lands)))
 
--- they say no register, for this reason
+-- they say no register, by this fault
 abbrev pub BytesSayNone : Limits → List ℕ → TextFileFault → Type 0
 BytesSayNone limits bytes faults.NoMemory = ⊤
 BytesSayNone limits bytes faults.ReadFault = ⊥
@@ -43,19 +43,19 @@ BytesSayNone limits bytes (faults.Text why) =
 abbrev pub Says : Limits → Option (List ℕ) → Option ℕ → RegisterModel → Type 0
 Says limits bytes edition r = IfSome bytes (λ bytes. BytesSay limits bytes edition r)
 
--- a file says none, for this reason: a read of it failed, or its bytes say none
+-- a file says none, by this fault: a read of it failed, or its bytes say none
 abbrev pub IsTextFileFault : Limits → Input → TextFileFault → Type 0
 IsTextFileFault limits text fault =
     ((fault ≡ faults.ReadFault) × IsReadFault text.unread text.bytes)
     ⊎ IfSome text.bytes (λ bytes. BytesSayNone limits bytes fault)
 
--- ---- what standard error is told
+-- ---- what is written to standard error
 
 -- the line on a text of this path
 abbrev pub text_line : List ℕ → List ℕ → List ℕ
 text_line path said = codes "oldstyle: " ++ (shown path ++ (codes ": " ++ (said ++ codes "\n")))
 
--- standard error was told what a text says wrongly, or that memory ran out
+-- it was reported what a text says wrongly, or that memory ran out
 abbrev pub TellsText : List ℕ → Output → TextFault → Status → Type 0
 TellsText path e (text_faults.Toml why) status = TellsIfMade e statuses.Refused
     (text_line path (text_fault_text (text_faults.Toml why))) status
@@ -63,7 +63,7 @@ TellsText path e (text_faults.Key why) status = TellsIfMade e statuses.Refused
     (text_line path (text_fault_text (text_faults.Key why))) status
 TellsText path e text_faults.NoMemory status = EndsBy e command_faults.NoMemory status
 
--- standard error was told why the file of this path says no register
+-- it was reported why the file of this path says no register
 abbrev pub TellsTextFile : List ℕ → Output → TextFileFault → Status → Type 0
 TellsTextFile path e faults.NoMemory status = EndsBy e command_faults.NoMemory status
 TellsTextFile path e faults.ReadFault status =

@@ -26,7 +26,7 @@ use osn_report::CommandFault;
 use osn_serve_commands::{cut_unfinished, missing_text};
 use std::alloc::{AllocError, Global};
 
-/// Stages edits in turn, and publishes them. Answers the number of their edition.
+/// Stages edits in turn, and publishes them. Returns the number of their edition.
 ///
 /// # Errors
 ///
@@ -50,8 +50,8 @@ pub(crate) fn make_edition(object: &mut Object, edits: Vec<Edit>) -> Result<u32,
     Ok(object.make_edition()?)
 }
 
-/// What a file gets of which this part counts: what is missing there, then the lines of edits and
-/// that of their publish.
+/// Returns what a file of which this part counts gets: what is missing there, then the lines of
+/// edits and that of their publish.
 fn edition_lines(alloc: Global, part: WholePart, edits: &[Edit]) -> Result<Vec<u8>, AllocError>
     ensures { IfOk result (λ lines. inside.AreLinesOf part edits.now lines.items) }
 {
@@ -59,8 +59,8 @@ fn edition_lines(alloc: Global, part: WholePart, edits: &[Edit]) -> Result<Vec<u
     with_publish(with_edits(missing, edits)?)
 }
 
-/// What is printed before the line on the edition that these edits make of an object, whose journal
-/// has this path.
+/// Returns what is printed before the line on the edition that these edits make of an object, whose
+/// journal has this path.
 fn begun_text(
     alloc: Global,
     path: &str,
@@ -87,8 +87,8 @@ pub(crate) struct Edition {
     pub(crate) text: String,
 }
 
-/// The edits as the next edition of an object, which then has it. It is for the file of this path,
-/// of which this part counts.
+/// Returns the edits as the next edition of an object, which then has it. It is for the file of
+/// this path, of which this part counts.
 ///
 /// # Errors
 ///
@@ -126,8 +126,8 @@ pub struct WholeEdition {
     pub text: String,
 }
 
-/// The edits as the next edition of an object with nothing pending, which then has it, and the
-/// whole journal of this path.
+/// Returns the edits as the next edition of an object with nothing pending, which then has it, and
+/// the whole journal of this path.
 ///
 /// # Errors
 ///
@@ -156,12 +156,12 @@ pub(crate) fn whole_edition_of(
     Ok(WholeEdition { journal, text })
 }
 
-/// Appends lines to a file of this many bytes, and answers once they are on the disk. Where that
+/// Appends lines to a file of this many bytes, and returns once they are on the disk. If that
 /// fails, the file is cut back.
 ///
 /// # Errors
 ///
-/// Where the file failed.
+/// If the file failed.
 fn append_whole<K: KeptFile>(keeper: &mut K, size: u64, lines: &[u8]) -> Result<(), KeptFileFault>
     ensures sound { OnOk result (K.fault keeper.new ≡ K.fault keeper.old) }
     ensures ok { OnOk result (Appends (K.contents keeper.old) (K.contents keeper.new) lines.now) }
@@ -179,12 +179,13 @@ fn append_whole<K: KeptFile>(keeper: &mut K, size: u64, lines: &[u8]) -> Result<
     }
 }
 
-/// Writes the lines of an edition to the file of which this part counts, and answers once they are
-/// on the disk. A last line that was not finished is cut off first, and standard error is told so.
+/// Writes the lines of an edition to the file of which this part counts, and returns once they are
+/// on the disk. A last line that was not finished is cut off first, which is reported on standard
+/// error.
 ///
 /// # Errors
 ///
-/// Where the file failed. It is cut back then. Or want of memory, and nothing has changed then.
+/// If the file failed; it is cut back then. If memory ran out; nothing has changed then.
 pub(crate) fn write_edition<K: KeptFile, E: Sink>(
     alloc: Global,
     part: WholePart,

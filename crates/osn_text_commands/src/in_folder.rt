@@ -90,8 +90,8 @@ fn plan_by<D: Folder, W: Sink, E: Sink>(
 }
 
 /// Opens the journal of a path, if one is there, and then a text, and does what `plan_command`
-/// does. Where the text could not be opened, standard error is told why by its path. After a plan
-/// it is told why the journal could not be kept, as far as that is found out without making one.
+/// does. If the text could not be opened, standard error reports why, with its path. After a plan
+/// it reports why the journal could not be kept, as far as that is found out without making one.
 ///
 /// # Errors
 ///

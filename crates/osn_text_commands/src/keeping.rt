@@ -16,7 +16,7 @@ use std::path::Path;
 pub(crate) enum KeepCause {
     /// Another run of the program keeps it.
     Held,
-    /// It is no file, as a folder or a pipe.
+    /// It is not a file, such as a folder or a pipe.
     NoFile,
     /// It may not be read.
     Denied,
@@ -30,7 +30,7 @@ pub(crate) enum KeepCause {
     NotMade,
 }
 
-/// A folder that has a name, which the one of a bare name has not.
+/// Returns a folder that has a name: the folder of a bare name has none.
 fn if_named(folder: &str) -> Option<&str>
     ensures { option_map (λ folder. folder.now) result ≡ spec.if_named folder.now }
 {
@@ -40,7 +40,7 @@ fn if_named(folder: &str) -> Option<&str>
     Some(folder)
 }
 
-/// The folder that a path names before its last part, if it names one.
+/// Returns the folder that a path names before its last part, if it names one.
 fn folder_of(path: &str) -> Option<&str>
     ensures { option_map (λ folder. folder.now) result ≡ spec.folder_of path.now }
 {
@@ -50,7 +50,7 @@ fn folder_of(path: &str) -> Option<&str>
     }
 }
 
-/// Whether the folder that a path names is not there.
+/// Returns whether the folder that a path names is not there.
 fn lacks_folder<D: Folder>(folder: &mut D, path: &str) -> bool
     ensures { Changes (Opens (path_if (spec.folder_of path.now)))
         (D.known folder.old) (D.known folder.new) }
@@ -64,7 +64,7 @@ fn lacks_folder<D: Folder>(folder: &mut D, path: &str) -> bool
     }
 }
 
-/// Why a file is not kept that no other run has.
+/// Returns why a file that no other run has is not kept.
 fn cause_at<D: Folder>(folder: &mut D, path: &str) -> KeepCause
     ensures { spec.FindsCause path.now (D.known folder.old) (D.known folder.new) result }
 {
@@ -85,7 +85,7 @@ fn cause_at<D: Folder>(folder: &mut D, path: &str) -> KeepCause
     }
 }
 
-/// Why a file is not kept, after the fault of that.
+/// Returns why a file is not kept, after the fault of that.
 pub(crate) fn cause_of<D: Folder>(folder: &mut D, path: &str, fault: KeepFault) -> KeepCause
     ensures { spec.IsCauseOf path.now (D.known folder.old) (D.known folder.new) fault result }
 {
@@ -95,8 +95,8 @@ pub(crate) fn cause_of<D: Folder>(folder: &mut D, path: &str, fault: KeepFault) 
     }
 }
 
-/// Why the file of a journal would not be kept, as far as that is found out without making one. It
-/// is there or not.
+/// Returns why the file of a journal would not be kept, as far as that is found out without making
+/// one. It is there or not.
 fn hindrance<D: Folder>(folder: &mut D, path: &str, is_there: bool) -> Option<KeepCause>
     ensures { spec.FindsHindrance path.now is_there
         (D.known folder.old) (D.known folder.new) result }
@@ -119,7 +119,7 @@ fn hindrance<D: Folder>(folder: &mut D, path: &str, is_there: bool) -> Option<Ke
     }
 }
 
-/// The words on why a file is not kept whose folder is there.
+/// Returns the words on why a file whose folder is there is not kept.
 fn cause_words(cause: KeepCause) -> &'static str
     ensures { result.now ≡ spec.cause_words cause }
 {
@@ -138,7 +138,7 @@ fn cause_words(cause: KeepCause) -> &'static str
     }
 }
 
-/// The line on a path of which the folder is not there.
+/// Returns the line on a path whose folder is not there.
 #[tactic(auto, unfolding(crate::specs::Keeping::no_folder_line))]
 fn no_folder_line(alloc: Global, path: &str, folder: &str) -> Result<String, AllocError>
     ensures { IfOk result (λ line. string_bytes line
@@ -149,7 +149,7 @@ fn no_folder_line(alloc: Global, path: &str, folder: &str) -> Result<String, All
     format!(in alloc; "oldstyle: {path}: there is no folder {folder}: make it first\n")
 }
 
-/// The line on why the file of this path is not kept.
+/// Returns the line on why the file of this path is not kept.
 pub(crate) fn unkept_line(alloc: Global, path: &str, cause: KeepCause) -> Result<String, AllocError>
     ensures { IfOk result (λ line. string_bytes line ≡ spec.unkept_line path.now cause) }
 {
@@ -162,8 +162,8 @@ pub(crate) fn unkept_line(alloc: Global, path: &str, cause: KeepCause) -> Result
     }
 }
 
-/// Tells standard error why the file of a journal would not be kept, as far as that is found out
-/// without making one. It is there or not. Answers the status.
+/// Reports on standard error why the file of a journal would not be kept, as far as that is found
+/// out without making one. It is there or not. Returns the status.
 pub(crate) fn tell_hindrance<D: Folder, E: Sink>(
     alloc: Global,
     folder: &mut D,

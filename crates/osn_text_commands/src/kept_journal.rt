@@ -21,7 +21,7 @@ use osn_report::{Status, tell_line};
 use osn_serve_commands::{save_anew, tell_cut};
 use std::alloc::Global;
 
-/// Saves the whole journal of an edition in the file of a path, which has to hold still these
+/// Saves the whole journal of an edition in the file of a path, which must still contain these
 /// bytes, and prints its text.
 fn save_edition<D: Folder, W: Sink, E: Sink>(
     alloc: Global,
@@ -50,7 +50,7 @@ fn save_edition<D: Folder, W: Sink, E: Sink>(
 }
 
 /// Keeps the file of the journal, and does what `publish_command` does with what the text says. A
-/// journal that is to be saved anew is saved then.
+/// journal that must be rewritten is rewritten then.
 fn keep_and_publish<D: Folder, W: Sink, E: Sink>(
     alloc: Global,
     limits: Limits,
@@ -103,12 +103,13 @@ fn keep_and_publish<D: Folder, W: Sink, E: Sink>(
 }
 
 /// Reads the text of a path, keeps the file of the journal's path, and does what `publish_command`
-/// does. Where the text says no register, the journal is not touched, and standard error is told
-/// why. Where the journal can't be kept, as where another run keeps it, that is told at once.
+/// does. If the text says no register, the journal is not touched, and standard error reports why.
+/// If the journal can't be kept, for example because another run keeps it, that is reported
+/// immediately.
 ///
-/// Where no file is at the journal's path, an empty one is made first, which stays where there is
-/// no edition. Where an edit gives a source, and the journal is empty or of a version that has
-/// none, it is saved anew with the edition, whole or not at all.
+/// If there is no file at the journal's path, an empty one is made first, which stays if there is
+/// no edition. If an edit gives a source, and the journal is empty or of a version that has none,
+/// it is rewritten with the edition, whole or not at all.
 ///
 /// # Errors
 ///

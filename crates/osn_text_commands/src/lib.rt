@@ -1,8 +1,8 @@
 //! The commands of the register as a text: `text` prints it, `plan` prints the edits that change a
 //! journal into what a text says, and `publish` makes them one edition. What the crate promises to
 //! those above: a publish leaves the file of the journal with the whole edition, or as it was, also
-//! where the journal is new or is saved anew. A command that ends early tells standard error why in
-//! one line.
+//! if the journal is new or is rewritten. A command that ends early reports why in one line on
+//! standard error.
 #![tactic(auto)]
 
 mod edition;

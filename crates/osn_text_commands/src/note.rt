@@ -1,4 +1,4 @@
-//! What standard error is told beside a plan: what a publish of its edits refuses, or does first.
+//! The note on standard error beside a plan: what a publish of its edits refuses, or does first.
 ghost use Rattle.osn_lines.specs.Streams.{output_of};
 ghost use Rattle.osn_text_commands.specs.Edition.{edition_refusal};
 ghost use Rattle.osn_text_commands.specs.Note as spec;
@@ -15,7 +15,7 @@ use osn_report::{Status, tell_line, tell_no_memory};
 use osn_serve_commands::check_kept;
 use std::alloc::Global;
 
-/// What is told beside a plan.
+/// The note beside a plan.
 #[derive(Clone, Copy, Debug, PartialEq, Eq)]
 pub(crate) enum Note {
     /// Nothing.
@@ -26,13 +26,13 @@ pub(crate) enum Note {
     New,
     /// A publish refuses the edits.
     Refused(Refusal),
-    /// A publish saves the journal of this version anew.
+    /// A publish rewrites the journal of this version.
     Anew(Version),
     /// A publish refuses a journal of this version.
     NotKept(Version),
 }
 
-/// That a publish refuses these edits, or else another note.
+/// Returns the note that a publish refuses these edits, or else another note.
 fn refusal_or(object: &mut Object, edits: Vec<Edit>, other: Note) -> Note
     ensures { spec.IsNoteOf (spec.refusal_or (edition_refusal object.old edits.items) other)
         result }
@@ -43,7 +43,7 @@ fn refusal_or(object: &mut Object, edits: Vec<Edit>, other: Note) -> Note
     }
 }
 
-/// The note on edits for a journal that is not there.
+/// Returns the note on edits for a journal that is not there.
 fn missing_note(object: &mut Object, edits: Vec<Edit>) -> Note
     ensures { spec.IsNoteOf (spec.missing_note object.old edits.items) result }
 {
@@ -53,7 +53,7 @@ fn missing_note(object: &mut Object, edits: Vec<Edit>) -> Note
     refusal_or(object, edits, Note::New)
 }
 
-/// The note on edits that a journal of this version takes.
+/// Returns the note on edits that a journal of this version takes.
 fn kept_note(object: &mut Object, edits: Vec<Edit>) -> Note
     ensures { spec.IsNoteOf (spec.kept_note object.old edits.items) result }
 {
@@ -63,7 +63,7 @@ fn kept_note(object: &mut Object, edits: Vec<Edit>) -> Note
     refusal_or(object, edits, Note::Nothing)
 }
 
-/// The note on edits for a journal of this version.
+/// Returns the note on edits for a journal of this version.
 fn version_note(version: Version, object: &mut Object, edits: Vec<Edit>) -> Note
     ensures { spec.IsNoteOf (spec.version_note version object.old edits.items) result }
 {
@@ -76,7 +76,8 @@ fn version_note(version: Version, object: &mut Object, edits: Vec<Edit>) -> Note
     }
 }
 
-/// The note on edits for the journal of this version that makes an object, and is there or not.
+/// Returns the note on edits for the journal of this version that makes an object, and is there or
+/// not.
 pub(crate) fn note_of(
     is_there: bool,
     version: Version,
@@ -96,7 +97,8 @@ pub(crate) fn note_of(
     }
 }
 
-/// Tells standard error that a publish refuses edits, or that memory ran out. Answers the status.
+/// Reports on standard error that a publish refuses edits, or that memory ran out. Returns the
+/// status.
 fn tell_refused<E: Sink>(alloc: Global, errors: &mut E, refusal: Refusal) -> Status
     ensures { spec.TellsRefused refusal
         (output_of E.contents E.has_failed E.holds_back errors.old errors.new) result }
@@ -107,7 +109,7 @@ fn tell_refused<E: Sink>(alloc: Global, errors: &mut E, refusal: Refusal) -> Sta
     }
 }
 
-/// Tells standard error a note on the journal of this path. Answers the status.
+/// Writes a note on the journal of this path to standard error. Returns the status.
 pub(crate) fn tell_note<E: Sink>(alloc: Global, errors: &mut E, path: &str, note: Note) -> Status
     // Whatever note was to be found.
     ensures { (wanted : Note) → spec.IsNoteOf wanted note

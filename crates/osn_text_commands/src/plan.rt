@@ -22,7 +22,7 @@ use osn_register::{Edit, Limits, Register};
 use osn_report::{CommandFault, Status, print, report, tell_line};
 use std::alloc::{AllocError, Global};
 
-/// The lines of a plan, which would be the next edition of the object.
+/// Returns the lines of a plan, which would be the next edition of the object.
 fn plan_text(
     alloc: Global,
     object: &Object,
@@ -37,8 +37,8 @@ fn plan_text(
     Ok(text)
 }
 
-/// Tells standard error that the text of a plan is behind an edition, or else a note on its edits
-/// for the journal of this version. Answers the status.
+/// Reports on standard error that the text of a plan is behind an edition, or else writes a note on
+/// its edits for the journal of this version. Returns the status.
 fn tell_edits<E: Sink>(
     alloc: Global,
     asked: PublishRequest<'_>,
@@ -64,7 +64,7 @@ fn tell_edits<E: Sink>(
     }
 }
 
-/// Prints a plan, and tells of its edits where that was done.
+/// Prints a plan, and then reports on its edits if all was printed.
 fn print_edits<W: Sink, E: Sink>(
     alloc: Global,
     asked: PublishRequest<'_>,
@@ -113,7 +113,7 @@ fn print_plan<W: Sink, E: Sink>(
     }
 }
 
-/// The same, unless the text is of an edition that the object lacks.
+/// Does the same, unless the text is of an edition that the object lacks.
 fn print_unless_later<W: Sink, E: Sink>(
     alloc: Global,
     asked: PublishRequest<'_>,
@@ -180,8 +180,8 @@ fn plan_text_file<T: Source, W: Sink, E: Sink>(
     }
 }
 
-/// The object of the journal, where there is one, and its version. Else it is an empty object under
-/// these limits.
+/// Returns the object of the journal, if there is one, and its version. Otherwise it is an empty
+/// object under these limits.
 fn planned_journal<J: Source>(
     alloc: Global,
     limits: Limits,
@@ -200,12 +200,12 @@ fn planned_journal<J: Source>(
     }
 }
 
-/// The command `plan`: prints the edits that change what the journal of a path published into what
-/// the text of a path says, under these limits. Where there is no journal, it has published
+/// Runs the command `plan`: prints the edits that change what the journal of a path published into
+/// what the text of a path says, under these limits. If there is no journal, it has published
 /// nothing. Both files are read whole before anything is printed, the journal first.
 ///
-/// After the plan standard error is told what a publish of the edits would refuse, or do first.
-/// Where no plan is printed, standard error is told why, and the status says it.
+/// After the plan standard error reports what a publish of the edits would refuse, or do first. If
+/// no plan is printed, standard error reports why, and the status says so.
 pub fn plan_command<J: Source, T: Source, W: Sink, E: Sink>(
     alloc: Global,
     limits: Limits,

@@ -1,4 +1,4 @@
-//! What standard error is told where there is no plan.
+//! What is written to standard error if there is no plan.
 ghost use Rattle.std.specs.Prelude.{◌≡◌, IfOk, string_bytes};
 ghost use Rattle.osn_lines.specs.Streams.{output_of};
 ghost use Rattle.osn_text_commands.specs.PlanFault as spec;
@@ -10,7 +10,7 @@ use osn_report::{Status, limit_hint, tell_line, tell_no_memory};
 use osn_shown::Shown;
 use std::alloc::{AllocError, Global};
 
-/// What to do about a name that a text changes.
+/// Returns what to do about a name that a text changes.
 #[tactic(auto, unfolding(crate::specs::PlanFault::renamed_help))]
 fn renamed_help(alloc: Global, name: &str, wanted: &str) -> Result<String, AllocError>
     ensures { IfOk result (λ help. string_bytes help ≡ spec.renamed_help name.now wanted.now) }
@@ -20,7 +20,7 @@ fn renamed_help(alloc: Global, name: &str, wanted: &str) -> Result<String, Alloc
     format!(in alloc; "\nhelp: write {name} again, or give {wanted} a code of its own\n")
 }
 
-/// The lines on a name that the text of this path changes.
+/// Returns the lines on a name that the text of this path changes.
 fn renamed_line(
     alloc: Global,
     path: &str,
@@ -41,8 +41,8 @@ fn renamed_line(
     )
 }
 
-/// The line on an edit that is refused, of the territory of a code that the text of this path has,
-/// and how more is allowed where that is at a limit.
+/// Returns the line on an edit that is refused, of the territory of a code that the text of this
+/// path has, and how more is allowed if that is at a limit.
 fn refused_line(
     alloc: Global,
     path: &str,
@@ -60,7 +60,7 @@ fn refused_line(
     format!(in alloc; "oldstyle: {path}: {code}: {number} {name}{hint}\n")
 }
 
-/// Tells standard error why there is no plan to what the text of this path says. Answers the
+/// Reports on standard error why there is no plan to what the text of this path says. Returns the
 /// status.
 pub(crate) fn tell_plan<E: Sink>(
     alloc: Global,

@@ -63,7 +63,7 @@ fn edits_word(edits: usize) -> &'static str
 const ADVICE: &str = ": publish what is pending by serve --keep with {\"op\":\"publish\"}, \
 or take the lines after the last publish out of the journal\n";
 
-/// The line on a journal with this many pending edits, which are so called.
+/// Returns the line on a journal with this many pending edits, which are so called.
 #[tactic(auto, unfolding(crate::specs::PlanWords::pending_text))]
 fn pending_text(
     alloc: Global,
@@ -77,14 +77,14 @@ fn pending_text(
     format!(in alloc; "oldstyle: publish refuses a journal with {pending} pending {edits}{advice}")
 }
 
-/// The line on a journal with this many pending edits.
+/// Returns the line on a journal with this many pending edits.
 pub(crate) fn pending_line(alloc: Global, pending: usize) -> Result<String, AllocError>
     ensures { IfOk result (λ line. string_bytes line ≡ spec.pending_line pending) }
 {
     pending_text(alloc, pending, edits_word(pending), ADVICE)
 }
 
-/// The line on a journal of this path that is not there.
+/// Returns the line on a journal of this path that is not there.
 #[tactic(auto, unfolding(crate::specs::PlanWords::new_line))]
 pub(crate) fn new_line(alloc: Global, path: &str) -> Result<String, AllocError>
     ensures { IfOk result (λ line. string_bytes line ≡ spec.new_line path.now) }
@@ -92,7 +92,7 @@ pub(crate) fn new_line(alloc: Global, path: &str) -> Result<String, AllocError>
     format!(in alloc; "note: {} is a new journal\n", Shown(path))
 }
 
-/// The line on edits that a publish refuses.
+/// Returns the line on edits that a publish refuses.
 pub(crate) fn refused_edits_line(alloc: Global, refusal: Refusal) -> Result<String, AllocError>
     ensures { IfOk result (λ line. string_bytes line ≡ spec.refused_edits_line refusal) }
 {
@@ -102,7 +102,7 @@ pub(crate) fn refused_edits_line(alloc: Global, refusal: Refusal) -> Result<Stri
     format!(in alloc; "oldstyle: publish refuses the edits: {number} {name}{hint}\n")
 }
 
-/// The line on a journal of this version that a publish saves anew.
+/// Returns the line on a journal of this version that a publish rewrites.
 pub(crate) fn anew_line(alloc: Global, version: Version) -> Result<String, AllocError>
     ensures { IfOk result (λ line. string_bytes line ≡ spec.anew_line version) }
 {
@@ -113,7 +113,7 @@ as version 4\n"
     )
 }
 
-/// The lines on a journal of this path and version that a publish refuses.
+/// Returns the lines on a journal of this path and version that a publish refuses.
 pub(crate) fn not_kept_line(
     alloc: Global,
     path: &str,

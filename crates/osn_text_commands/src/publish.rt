@@ -25,7 +25,7 @@ use std::alloc::Global;
 ///
 /// # Errors
 ///
-/// The journal to be saved anew, where an edit gives a source that its version lacks.
+/// The rewritten journal, if an edit gives a source that its version lacks.
 fn publish_unless_behind<K: KeptFile, W: Sink, E: Sink>(
     alloc: Global,
     keeper: &mut K,
@@ -80,7 +80,7 @@ fn publish_unless_behind<K: KeptFile, W: Sink, E: Sink>(
 ///
 /// # Errors
 ///
-/// The journal to be saved anew, where an edit gives a source that its version lacks.
+/// The rewritten journal, if an edit gives a source that its version lacks.
 fn publish_plan<K: KeptFile, W: Sink, E: Sink>(
     alloc: Global,
     keeper: &mut K,
@@ -116,11 +116,11 @@ fn publish_plan<K: KeptFile, W: Sink, E: Sink>(
     }
 }
 
-/// The same, unless the text is of an edition that the journal lacks.
+/// Does the same, unless the text is of an edition that the journal lacks.
 ///
 /// # Errors
 ///
-/// The journal to be saved anew, where an edit gives a source that its version lacks.
+/// The rewritten journal, if an edit gives a source that its version lacks.
 fn publish_unless_later<K: KeptFile, W: Sink, E: Sink>(
     alloc: Global,
     keeper: &mut K,
@@ -162,11 +162,11 @@ fn publish_unless_later<K: KeptFile, W: Sink, E: Sink>(
     }
 }
 
-/// The same of a journal that may have pending edits.
+/// Does the same for a journal that may have pending edits.
 ///
 /// # Errors
 ///
-/// The journal to be saved anew, where an edit gives a source that its version lacks.
+/// The rewritten journal, if an edit gives a source that its version lacks.
 fn publish_held<K: KeptFile, W: Sink, E: Sink>(
     alloc: Global,
     keeper: &mut K,
@@ -200,24 +200,23 @@ fn publish_held<K: KeptFile, W: Sink, E: Sink>(
     publish_unless_later(alloc, keeper, held, asked, wanted, output, errors)
 }
 
-/// The command `publish`: makes the edits that change what a journal published into a register that
-/// is wanted one edition of the journal, under these limits. The request names the paths of the
-/// journal and of the text that says the register, and the edition that the text was made of. The
-/// source gives what the file of the journal holds.
+/// Runs the command `publish`: makes the edits that change what a journal published into a register
+/// that is wanted one edition of the journal, under these limits. The request names the paths of
+/// the journal and of the text that says the register, and the edition that the text was made of.
+/// The source gives the bytes of the journal's file.
 ///
 /// What the edits do is printed once all their lines are in the file with that of their publish,
-/// and on the disk. They are appended at once. Where nothing is to change, the file is left as it
-/// is.
+/// and on the disk. They are appended together. If nothing is to change, the file is left as it is.
 ///
-/// Where the file holds no object, or one with pending edits, or an edit is refused, the file is
+/// If the file contains no object, or one with pending edits, or an edit is refused, the file is
 /// left as it is. So is a journal of the first version, and one whose editions after that of the
-/// text changed what the edits change, unless that is asked for. Where the file can't be changed,
-/// it is cut back to what it held. Standard error is told why, and the status says it.
+/// text changed what the edits change, unless that is asked for. If the file can't be changed, it
+/// is cut back to what it contained. Standard error reports why, and the status says so.
 ///
 /// # Errors
 ///
-/// The journal that is to be saved anew, where an edit gives a source and the file is of a version
-/// that has none. Nothing was changed or told then.
+/// The rewritten journal, if an edit gives a source and the file is of a version that has none.
+/// Nothing was changed or printed then.
 #[tactic(auto, using(crate::proofs::EditionLaw::each_edition_loaded))]
 pub fn publish_command<K: KeptFile, J: Source, W: Sink, E: Sink>(
     alloc: Global,
@@ -241,7 +240,7 @@ pub fn publish_command<K: KeptFile, J: Source, W: Sink, E: Sink>(
         (string_bytes older.edition.text) (option_map string_bytes older.cut)) }
     ensures quiet { OnErr result ((keeper.new ≡ keeper.old) × (output.new ≡ output.old)
         × (errors.new ≡ errors.old)) }
-    // as a law: what the file holds after an edition is loaded as the object with that edition
+    // as a law: what the file contains after an edition is loaded as the object with that edition
     ensures loads { IsEachEditionLoaded }
 {
     match read_kept(alloc, limits, journal) {

@@ -1,5 +1,5 @@
 //! The edits of a plan, published in the journal that is kept: appended as an edition, or with a
-//! journal that is to be saved anew.
+//! journal that must be rewritten.
 ghost use Rattle.std.specs.Prelude.{◌≡◌, ◌^◌, ◌<◌, ℕ, List, [], Option, IfErr, IfOk, OnErr, OnOk};
 ghost use Rattle.std.specs.Prelude.{None, option_map, string_bytes};
 ghost use Rattle.std.specs.List.{All};
@@ -27,7 +27,7 @@ use osn_report::{CommandFault, Status, print, report, tell_line, write_line};
 use osn_serve_commands::{HeldJournal, check_kept, cut_text_of};
 use std::alloc::{AllocError, Global};
 
-/// The lines of a plan without edits, and that the last edition of the object stands.
+/// Returns the lines of a plan without edits, and the line that there is nothing to change.
 pub(crate) fn standing_text(
     alloc: Global,
     object: &Object,
@@ -41,8 +41,8 @@ pub(crate) fn standing_text(
     Ok(text)
 }
 
-/// Prints the text of an edition that is in the journal. Where the output failed, standard error is
-/// told so, and the publish is done all the same.
+/// Prints the text of an edition that is in the journal. If the output failed, standard error
+/// reports that, and the publish is done all the same.
 pub(crate) fn print_report<W: Sink, E: Sink>(text: &str, output: &mut W, errors: &mut E) -> Status
     ensures { spec.PrintsReport text.now
         (output_of W.contents W.has_failed W.holds_back output.old output.new)
@@ -116,7 +116,7 @@ fn append_edits<K: KeptFile, W: Sink, E: Sink>(
     }
 }
 
-/// The same, where a journal of this version is kept.
+/// Does the same, if a journal of this version is kept.
 fn append_if_kept<K: KeptFile, W: Sink, E: Sink>(
     alloc: Global,
     path: &str,
@@ -153,22 +153,23 @@ fn append_if_kept<K: KeptFile, W: Sink, E: Sink>(
 /// A journal of a version that has no sources, and an edition that needs them.
 #[derive(Drop)]
 pub struct OlderEdition {
-    /// What the file of the journal holds.
+    /// What the file of the journal contains.
     pub bytes: Vec<u8>,
-    /// The edition, and the journal that is to be saved anew.
+    /// The edition, and the rewritten journal.
     pub edition: WholeEdition,
     /// The text on a last line that was not finished, if that is so.
     pub cut: Option<String>,
 }
 
-/// Whether an edit gives a source, and a journal of this version has none.
+/// Returns whether an edit gives a source, and a journal of this version has none.
 pub(crate) fn needs_sources(version: Version, edits: &[Edit]) -> bool
     ensures { result ≡ needs_sources version edits.now }
 {
     !version.has_sources() && give_source(edits)
 }
 
-/// The edits of a plan as the next edition of the journal of this path, which is to be saved anew.
+/// Returns the edits of a plan as the next edition of the journal of this path, which must be
+/// rewritten.
 ///
 /// # Errors
 ///
@@ -212,7 +213,7 @@ fn older_edition(
 ///
 /// # Errors
 ///
-/// The journal to be saved anew, where an edit gives a source that its version lacks.
+/// The rewritten journal, if an edit gives a source that its version lacks.
 pub(crate) fn publish_edits<K: KeptFile, W: Sink, E: Sink>(
     alloc: Global,
     path: &str,

@@ -25,7 +25,7 @@ pub struct PublishRequest<'a> {
     pub onto_newest: bool,
 }
 
-/// What of a territory an edit changes.
+/// What an edit changes of a territory.
 #[derive(Clone, Copy, Debug)]
 pub(crate) enum Item {
     /// The period that begins on the day of this number.
@@ -34,7 +34,7 @@ pub(crate) enum Item {
     Easter(i64),
 }
 
-/// What an edit changes.
+/// Returns what an edit changes.
 fn item_of(edit: &Edit) -> Item
     ensures { result ≡ spec.item_of edit.now }
 {
@@ -57,28 +57,28 @@ fn is_same_item(item: Item, other: Item) -> bool
     }
 }
 
-/// Whether two edits change the same, of one territory.
+/// Returns whether two edits change the same thing, of one territory.
 fn change_same(edit: &Edit, other: &Edit) -> bool
     ensures { result ≡ spec.change_same edit.now other.now }
 {
     edit.code().as_str() == other.code().as_str() && is_same_item(item_of(edit), item_of(other))
 }
 
-/// Whether an edit changes what one of a batch changed.
+/// Returns whether an edit changes what one of a batch changed.
 fn changes_any(edit: &Edit, batch: &[Edit]) -> bool
     ensures { result ≡ list_any (spec.change_same edit.now) batch.now }
 {
     batch.iter().any(|other| change_same(edit, other))
 }
 
-/// Whether one of some edits changes what one of a batch changed.
+/// Returns whether one of some edits changes what one of a batch changed.
 fn change_again(edits: &[Edit], batch: &[Edit]) -> bool
     ensures { result ≡ spec.change_again edits.now batch.now }
 {
     edits.iter().any(|edit| changes_any(edit, batch))
 }
 
-/// Whether one of some edits changes what one of some batches changed.
+/// Returns whether one of some edits changes what one of some batches changed.
 fn change_any_again(edits: &[Edit], batches: &[Batch]) -> bool
     ensures { result ≡ list_any (spec.change_again edits.now) batches.now }
 {
@@ -87,7 +87,7 @@ fn change_any_again(edits: &[Edit], batches: &[Batch]) -> bool
         .any(|batch| change_again(edits, batch.edits()))
 }
 
-/// The edition of a text, if a journal of so many editions lacks it.
+/// Returns the edition of a text, if a journal of this many editions lacks it.
 pub(crate) fn later_than(edition: Option<u64>, editions: usize) -> Option<u64>
     ensures { result ≡ spec.later_than edition editions }
 {
@@ -97,7 +97,7 @@ pub(crate) fn later_than(edition: Option<u64>, editions: usize) -> Option<u64>
     }
 }
 
-/// The batches after those of so many editions.
+/// Returns the batches after those of this many editions.
 fn batches_after(batches: &[Batch], edition: u64) -> &[Batch]
     ensures { result.now ≡ drop edition batches.now }
 {
@@ -107,7 +107,8 @@ fn batches_after(batches: &[Batch], edition: u64) -> &[Batch]
     &batches[edition as usize..]
 }
 
-/// The edition of a text, if these edits of its plan change again what a later edition changed.
+/// Returns the edition of a text, if these edits of its plan change again what a later edition
+/// changed.
 pub(crate) fn behind(edition: Option<u64>, batches: &[Batch], edits: &[Edit]) -> Option<u64>
     ensures { result ≡ spec.behind edition batches.now edits.now }
 {
@@ -117,7 +118,7 @@ pub(crate) fn behind(edition: Option<u64>, batches: &[Batch], edits: &[Edit]) ->
     }
 }
 
-/// The same, if that hinders a publish.
+/// Returns the same, but only if that hinders a publish.
 pub(crate) fn hindered(asked: PublishRequest<'_>, batches: &[Batch], edits: &[Edit]) -> Option<u64>
     ensures { result ≡ spec.hindered (spec.request_of asked.entry) batches.now edits.now }
 {
@@ -127,7 +128,7 @@ pub(crate) fn hindered(asked: PublishRequest<'_>, batches: &[Batch], edits: &[Ed
     behind(asked.edition, batches, edits)
 }
 
-/// The lines on a text of an edition that the journal lacks, which has so many.
+/// Returns the lines on a text of an edition that the journal lacks, which has this many.
 #[tactic(auto, unfolding(crate::specs::Since::later_lines))]
 pub(crate) fn later_lines(
     alloc: Global,
@@ -209,7 +210,8 @@ it, if it has these edits; or publish by --onto-newest all the same"
     )
 }
 
-/// The lines on a text of an edition, and what later ones of the journal of an object changed.
+/// Returns the lines on a text of an edition, and what later ones of the journal of an object
+/// changed.
 pub(crate) fn behind_lines(
     alloc: Global,
     asked: PublishRequest<'_>,

@@ -61,11 +61,11 @@ fn print_lands<W: Sink, E: Sink>(
     }
 }
 
-/// The command `text`: prints the territories that the journal of this path published under these
-/// limits, or the one of a code, as a text that says them and the newest edition. The journal is
-/// read whole before anything is printed.
+/// Runs the command `text`: prints the territories that the journal of this path published under
+/// these limits, or the one of a code, as a text that says them and the newest edition. The journal
+/// is read whole before anything is printed.
 ///
-/// Where no text is printed, standard error is told in a line why, and the status says it.
+/// If no text is printed, a line on standard error reports why, and the status says so.
 pub fn text_command<J: Source, W: Sink, E: Sink>(
     alloc: Global,
     limits: Limits,

@@ -1,4 +1,4 @@
-//! The file of a text: read, and what standard error is told where it says no register.
+//! The file of a text: read, and what is written to standard error if it says no register.
 ghost use Rattle.std.specs.Prelude.{◌≡◌, IfErr, IfOk, string_bytes};
 ghost use Rattle.osn_lines.specs.Streams.{input_of, output_of};
 ghost use Rattle.osn_text_commands.specs.TextFile as spec;
@@ -37,7 +37,7 @@ impl From<ReadAllFault> for TextFileFault {
     }
 }
 
-/// What these bytes say.
+/// Returns what these bytes say.
 fn said_in(alloc: Global, limits: Limits, bytes: &[u8]) -> Result<RegisterText, TextFileFault>
     ensures ok { IfOk result
         (λ said. spec.BytesSay limits bytes.now said.edition said.register) }
@@ -49,7 +49,7 @@ fn said_in(alloc: Global, limits: Limits, bytes: &[u8]) -> Result<RegisterText, 
     }
 }
 
-/// What the text of a file says.
+/// Returns what the text of a file says.
 ///
 /// # Errors
 ///
@@ -68,14 +68,14 @@ pub(crate) fn read_said<T: Source>(
     said_in(alloc, limits, &bytes)
 }
 
-/// The line on what is wrong with the text of this path.
+/// Returns the line on what is wrong with the text of this path.
 fn text_line(alloc: Global, path: &str, said: &str) -> Result<String, AllocError>
     ensures { IfOk result (λ line. string_bytes line ≡ spec.text_line path.now said.now) }
 {
     format!(in alloc; "oldstyle: {}: {said}\n", Shown(path))
 }
 
-/// The line on a fault of the text of this path.
+/// Returns the line on a fault of the text of this path.
 fn fault_line(alloc: Global, path: &str, fault: &TextFault) -> Result<String, AllocError>
     ensures { IfOk result (λ line.
         string_bytes line ≡ spec.text_line path.now (text_fault_text fault.now)) }
@@ -83,7 +83,7 @@ fn fault_line(alloc: Global, path: &str, fault: &TextFault) -> Result<String, Al
     format!(in alloc; "oldstyle: {}: {fault}\n", Shown(path))
 }
 
-/// Tells standard error what the text of this path says wrongly. Answers the status.
+/// Reports on standard error the fault in the text of this path. Returns the status.
 fn tell_text<E: Sink>(alloc: Global, errors: &mut E, path: &str, fault: &TextFault) -> Status
     ensures { spec.TellsText path.now
         (output_of E.contents E.has_failed E.holds_back errors.old errors.new) fault.now result }
@@ -96,7 +96,7 @@ fn tell_text<E: Sink>(alloc: Global, errors: &mut E, path: &str, fault: &TextFau
     }
 }
 
-/// Tells standard error why the file of this path says no register. Answers the status.
+/// Reports on standard error why the file of this path says no register. Returns the status.
 pub(crate) fn tell_text_file<E: Sink>(
     alloc: Global,
     errors: &mut E,

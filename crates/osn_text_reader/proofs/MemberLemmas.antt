@@ -1,4 +1,4 @@
--- The members of a table, in the words of the map that it is.
+-- The members of a table, as the entries of its map.
 use Rattle.std.proofs.Common.{◌≡◌, ℕ, if◌then◌else◌, List, [], ◌∷◌, length, slice_get, Option, Some}
 use Rattle.std.proofs.Common.{None, String, Global, string_bytes, refl, ap, arith}
 use Rattle.std.specs.Map.{keys_of}

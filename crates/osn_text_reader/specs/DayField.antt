@@ -36,7 +36,7 @@ date_of_parts year month day =
     option_map (λ d. record { year = pos y; month = m; day = d })
     (short_number_of day)) (short_number_of month)) (year_of year)
 
--- a date as `1752-09-14`: a year, a month and a day with `-` between them
+-- a date such as `1752-09-14`: a year, a month and a day with `-` between them
 abbrev pub date_of : List ℕ → Option Date
 date_of text =
     option_and_then (λ years.

@@ -26,7 +26,7 @@ pub record Place : Type 0 where
   pub code : List ℕ
   pub part : Part
 
--- one reading after another, where the first one meets no fault
+-- one reading after another, if the first has no fault
 infixl 10 ◌>>=◌
 abbrev pub ◌>>=◌ : {A B E : Type 0} → Result A E → (A → Result B E) → Result B E
 (Ok x) >>= f = f x
@@ -55,17 +55,17 @@ abbrev pub unless_unknown : Place → Members → Option (List ℕ) → Result M
 unless_unknown at ms None = Ok ms
 unless_unknown at ms (Some k) = Err (fault_of at (UnknownKey k))
 
--- the members of a table that has no key but those that it may have
+-- the members of a table that has only keys that it may have
 abbrev pub table_of : Place → Data → Result Members KeyFault
 table_of at d =
     or_fault (fault_of at NotTable) (as_table d)
     >>= λ ms. unless_unknown at ms (unknown_key at.part ms)
 
--- what stands at a key
+-- the value at a key
 abbrev pub value_at : Key → Members → Option Data
 value_at key ms = get_member (key_name key) ms
 
--- what stands at a key that has to be there
+-- the value at a required key
 abbrev pub needed : Place → Key → Members → Result Data KeyFault
 needed at key ms = or_fault (fault_at at key Missing) (value_at key ms)
 
@@ -90,7 +90,7 @@ note_in at (Some d) = text_in at keys.Note d >>= λ note. Ok (Some note)
 abbrev pub note_of : Place → Members → Result (Option (List ℕ)) KeyFault
 note_of at ms = note_in at (value_at keys.Note ms)
 
--- a text, where it may be a source
+-- a text, if it may be a source
 abbrev pub if_source : Place → List ℕ → Result (List ℕ) KeyFault
 if_source at text = if is_source text then Ok text else Err (fault_at at keys.Source Form)
 
@@ -107,7 +107,7 @@ abbrev pub items_in : Place → Key → Option Data → Result Items KeyFault
 items_in at key None = Ok no_items
 items_in at key (Some d) = or_fault (fault_at at key Form) (as_array d)
 
--- the list at a key, an empty one where the key is left out
+-- the list at a key, or an empty one if the key is left out
 abbrev pub items_at : Place → Key → Members → Result Items KeyFault
 items_at at key ms = items_in at key (value_at key ms)
 
@@ -118,7 +118,7 @@ abbrev pub meaning_in : {A : Type 0} → Place → Key → (List ℕ → Option 
 meaning_in at key named d =
     text_in at key d >>= λ word. or_fault (fault_at at key (UnknownWord word)) (named word)
 
--- what a key's word means, and where the key is left out what held before
+-- what a key's word means, or what held before if the key is left out
 abbrev pub meaning_or : {A : Type 0}
     → Place → Key → (List ℕ → Option A) → Option A → Option Data → Result A KeyFault
 meaning_or at key named before (Some d) = meaning_in at key named d
@@ -138,7 +138,7 @@ style_at at before ms = word_at at keys.Style style_written (option_map (λ r. r
 abbrev pub rule_at : Place → Option Regime → Members → Result Rule KeyFault
 rule_at at before ms = word_at at keys.Rule rule_named (option_map (λ r. r.rule) before) ms
 
--- the regime of a table: what it says of one, and else what held before
+-- the regime of a table: what it says of one, and otherwise what held before
 unfoldable pub regime_of : Place → Option Regime → Members → Result Regime KeyFault
 regime_of at before ms = do
   calendar ← calendar_at at before ms

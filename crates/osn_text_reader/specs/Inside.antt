@@ -1,4 +1,4 @@
--- What the readers inside the crate answer: what the definitions say, unless memory runs out.
+-- What the readers inside the crate return: what the definitions say, unless memory runs out.
 use Rattle.std.specs.Prelude.{◌≡◌, List, ◌++◌, Result, Ok, Err}
 use Rattle.osn_text_reader.specs.declared.fault.KeyFault.{KeyFault}
 use Rattle.osn_text_reader.specs.declared.fault.TextFault.{TextFault}
@@ -12,19 +12,19 @@ use Rattle.osn_text_reader.specs.TerritoryText.{Placed}
 abbrev pub place_of : Place → field.Place
 place_of at = record { code = at.code.now; part = at.part }
 
--- a fault is the given one, or want of memory
+-- a fault is the given one, or NoMemory
 abbrev pub Means : TextFault → KeyFault → Type 0
 Means (faults.Toml fault) said = ⊥
 Means (faults.Key fault) said = fault ≡ said
 Means faults.NoMemory said = Unit {0}
 
--- a fault of a reading is the one that is said; want of memory says nothing
+-- a fault is that of a reading; NoMemory says nothing
 abbrev pub Fails : {A : Type 0} → TextFault → Result A KeyFault → Type 0
 Fails (faults.Toml fault) said = ⊥
 Fails (faults.Key fault) said = said ≡ Err fault
 Fails faults.NoMemory said = Unit {0}
 
--- the result is the one that is said, unless memory runs out
+-- the result is the given one, unless memory runs out
 abbrev pub Gives : {A : Type 0} → Result A TextFault → Result A KeyFault → Type 0
 Gives (Ok x) said = said ≡ Ok x
 Gives (Err e) said = Fails e said

@@ -1,4 +1,4 @@
--- The tables of a text, which keys each may have, and what a key asks for: this project's profile.
+-- The tables of a text, which keys each may have, and what a key requires: this project's profile.
 use Rattle.std.specs.Prelude.{ℕ, Bool, List, [], ◌∷◌, ◌++◌, codes}
 use Rattle.std.specs.Fmt.{decimal}
 use Rattle.std.specs.List.{list_any}

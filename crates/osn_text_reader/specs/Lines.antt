@@ -1,4 +1,4 @@
--- The line and the column of a place in a text, and the fault of a text that is no TOML.
+-- The line and the column of a place in a text, and the fault of a text that is not TOML.
 use Rattle.std.specs.Prelude.{◌≡◌, ℕ, ◌+◌, ◌==◌, nat_lt, nat_le, Bool, not, ◌||◌, List, take}
 use Rattle.std.specs.Prelude.{reverse, count_by, take_while}
 use Rattle.toml.specs.declared.de.error.Error.{Error}
@@ -19,7 +19,7 @@ abbrev pub column_after : List ℕ → ℕ
 column_after before =
     count_by begins_character (take_while (λ b. not (b == 10)) (reverse before)) + 1
 
--- the fault of a text that is no TOML, by what `toml` says of it: its place, unless memory ran out
+-- the fault of a text that is not TOML, from the error of `toml`: its place, unless memory ran out
 abbrev pub IsFaultBy : List ℕ → Error → TextFault → Type 0
 IsFaultBy text e (faults.Toml f) =
     (¬ IsMemory e) × (f.line ≡ line_after (take (span_start e) text))

@@ -21,7 +21,7 @@ use Rattle.osn_text_reader.specs.TerritoryText.{Placed, territory_edits}
 
 -- ---- the edition that it was made of
 
--- the key of its number, beside the codes of territories, which are of other letters
+-- the key of its number, next to the codes of territories, which are of other letters
 abbrev pub edition_key : List ℕ
 edition_key = codes "edition"
 
@@ -44,7 +44,7 @@ text_edition ms = edition_in (get_member edition_key ms)
 
 -- ---- its territories
 
--- the edits of what stands at a key, which are none at that of the edition
+-- the edits of the value at a key: no edits for the key of the edition
 abbrev pub member_edits : List ℕ → Data → Result (List Placed) KeyFault
 member_edits code d = if bytes_eq code edition_key then Ok [] else territory_edits code d
 
@@ -86,7 +86,7 @@ text_says limits ms = do
 abbrev pub said_by : Limits → List ℕ → Option (Result (Option ℕ × List LandModel) KeyFault)
 said_by limits text = option_map (text_says limits) (parse_document text)
 
--- why a text says no territories, unless memory ran out
+-- why a text doesn't describe territories, unless memory runs out
 abbrev pub IsFaultOf : Option (Result (Option ℕ × List LandModel) KeyFault) → TextFault → Type 0
 IsFaultOf said (faults.Toml fault) = said ≡ None
 IsFaultOf said (faults.Key fault) = said ≡ Some (Err fault)

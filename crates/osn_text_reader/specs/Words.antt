@@ -1,4 +1,4 @@
--- The words for a text that says no territories: this project's profile.
+-- The words for a text that doesn't describe territories: this project's profile.
 use Rattle.std.specs.Prelude.{ℕ, List, ◌++◌, codes}
 use Rattle.std.specs.Fmt.{decimal}
 use Rattle.osn_days.specs.CalendarWords.{calendar_word}

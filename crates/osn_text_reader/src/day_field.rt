@@ -12,7 +12,7 @@ use osn_days::{Calendar, Date, Keyword, day_of};
 use osn_written::{number_of, parts_at};
 use toml::{Table, Value};
 
-/// A year of three digits or more.
+/// Returns a year of three digits or more.
 fn year_of(part: &str) -> Option<i32>
     ensures { result ≡ option_map pos (spec.year_of part.now) }
 {
@@ -22,7 +22,7 @@ fn year_of(part: &str) -> Option<i32>
     Some(number_of(part)? as i32)
 }
 
-/// A month or a day of one or two digits.
+/// Returns a month or a day of one or two digits.
 fn short_number_of(part: &str) -> Option<u8>
     ensures { result ≡ spec.short_number_of part.now }
 {
@@ -32,7 +32,7 @@ fn short_number_of(part: &str) -> Option<u8>
     Some(number_of(part)? as u8)
 }
 
-/// The date of these parts.
+/// Returns the date of these parts.
 fn date_of_parts(year: &str, month: &str, day: &str) -> Option<Date>
     ensures { result ≡ spec.date_of_parts year.now month.now day.now }
 {
@@ -42,7 +42,7 @@ fn date_of_parts(year: &str, month: &str, day: &str) -> Option<Date>
     Some(Date { year, month, day })
 }
 
-/// A date as `1752-09-14`. Whether a calendar has it is not tested.
+/// Returns a date such as `1752-09-14`. Whether a calendar has it is not tested.
 fn date_of(text: &str) -> Option<Date>
     ensures { result ≡ spec.date_of text.now }
 {
@@ -51,14 +51,14 @@ fn date_of(text: &str) -> Option<Date>
     date_of_parts(year, month, day)
 }
 
-/// The day that has the date in a calendar.
+/// Returns the day that has the date in a calendar.
 fn day_with(calendar: Calendar, date: Date) -> Option<i64>
     ensures { result ≡ spec.day_with calendar date }
 {
     Some(i64::from(day_of(calendar, date)?.number()))
 }
 
-/// The day of a date's text in a calendar.
+/// Returns the day of a date's text in a calendar.
 fn day_of_text(calendar: Calendar, text: &str) -> Result<i64, ValueFault>
     ensures { result ≡ spec.day_of_text calendar text.now }
 {
@@ -68,7 +68,7 @@ fn day_of_text(calendar: Calendar, text: &str) -> Result<i64, ValueFault>
     day_with(calendar, date).ok_or(ValueFault::NoSuchDate(calendar))
 }
 
-/// The day of a date in a calendar.
+/// Returns the day of a date in a calendar.
 fn day_in_calendar(calendar: Calendar, value: &Value) -> Result<i64, ValueFault>
     ensures { result ≡ spec.day_in_calendar calendar (view value.now) }
 {
@@ -79,7 +79,7 @@ fn day_in_calendar(calendar: Calendar, value: &Value) -> Result<i64, ValueFault>
     }
 }
 
-/// The day of a member: a calendar with a date, or `day` with a day number.
+/// Returns the day of a member: a calendar with a date, or `day` with a day number.
 fn day_of_member(name: &str, value: &Value) -> Result<i64, ValueFault>
     ensures { result ≡ spec.day_of_member name.now (view value.now) }
 {
@@ -92,7 +92,7 @@ fn day_of_member(name: &str, value: &Value) -> Result<i64, ValueFault>
     }
 }
 
-/// The only member of a table.
+/// Returns the only member of a table.
 fn only_member(table: &Table) -> Option<(&str, &Value)>
     ensures { option_map (λ m. (m.0.now, view m.1.now)) result
         ≡ spec.only_member (table_view table.now) }
@@ -103,7 +103,7 @@ fn only_member(table: &Table) -> Option<(&str, &Value)>
     }
 }
 
-/// The day of a table of one member.
+/// Returns the day of a table of one member.
 fn day_in(value: &Value) -> Result<i64, ValueFault>
     ensures { result ≡ spec.day_in (view value.now) }
 {
@@ -113,7 +113,7 @@ fn day_in(value: &Value) -> Result<i64, ValueFault>
     day_of_member(name, value)
 }
 
-/// The day at a key.
+/// Returns the day at a key.
 pub(crate) fn day_at(at: Place<'_>, table: &Table, key: Key) -> Result<i64, TextFault>
     ensures { Gives result (spec.day_at (place_of at.entry) key (table_view table.now)) }
 {

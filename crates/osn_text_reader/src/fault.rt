@@ -1,4 +1,4 @@
-//! Why a text says no territories, and where in it.
+//! Why a text doesn't describe territories, and where in it.
 ghost use Rattle.std.specs.Prelude.{Some};
 
 use crate::key::{Key, Part};
@@ -12,28 +12,28 @@ use std::fmt;
 /// What is wrong with the value at a key.
 #[derive(Debug, Drop)]
 pub enum ValueFault {
-    /// There is none, and there has to be one.
+    /// It is missing, and it is required.
     Missing,
-    /// It has another form than the key asks for.
+    /// It has another form than the key requires.
     Form,
-    /// It is this word, which is none of the key's words.
+    /// It is this word, which is not one of the key's words.
     UnknownWord(Text),
     /// It is a date without quotes.
     Unquoted,
-    /// The calendar has no such date, or has it off the line of days.
+    /// The calendar has no such date, or the date is off the line of days.
     NoSuchDate(Calendar),
 }
 
 /// What is wrong with a table.
 #[derive(Debug, Drop)]
 pub enum Reason {
-    /// It is no table.
+    /// It is not a table.
     NotTable,
     /// It has this key, which it may not have.
     UnknownKey(Text),
     /// The value at a key is wrong.
     Value(Key, ValueFault),
-    /// It is the key of an edition, and its value is the number of none.
+    /// It is the key of an edition, and its value is not the number of an edition.
     NotEdition,
     /// It is a change that isn't later than the change before it.
     NotLater,
@@ -52,7 +52,7 @@ pub struct KeyFault {
     pub reason: Reason,
 }
 
-/// Where a text is no TOML, and why. Lines and columns are counted from 1.
+/// The place where a text is not TOML, and why. Lines and columns are counted from 1.
 #[derive(Debug, Drop)]
 pub struct TomlFault {
     pub line: usize,
@@ -60,12 +60,12 @@ pub struct TomlFault {
     pub message: Text,
 }
 
-/// Why a text says no territories.
+/// Why a text doesn't describe territories.
 #[derive(Debug, Drop)]
 pub enum TextFault {
-    /// It is no TOML.
+    /// It is not TOML.
     Toml(TomlFault),
-    /// It is TOML, and says no territories.
+    /// It is TOML, and doesn't describe territories.
     Key(KeyFault),
     /// A growth of memory was refused.
     NoMemory,

@@ -13,7 +13,7 @@ use osn_lands::{Regime, Style};
 use osn_register::{Source, Text};
 use toml::{Table, Value};
 
-/// The first key that a table may not have.
+/// Returns the first key that a table may not have.
 fn unknown_key(part: Part, table: &Table) -> Option<&str>
     ensures { option_map (λ name. name.now) result ≡ spec.unknown_key part (table_view table.now) }
 {
@@ -25,7 +25,7 @@ fn unknown_key(part: Part, table: &Table) -> Option<&str>
     None
 }
 
-/// The table that a value is, where it has no key but those that it may have.
+/// Returns the table of a value, if it has only keys that it may have.
 pub(crate) fn table_of<'a>(at: Place<'_>, value: &'a Value) -> Result<&'a Table, TextFault>
     ensures { MatchResult result
         (λ table. spec.table_of (place_of at.entry) (view value.now) ≡ Ok (table_view table.now))
@@ -40,14 +40,14 @@ pub(crate) fn table_of<'a>(at: Place<'_>, value: &'a Value) -> Result<&'a Table,
     }
 }
 
-/// What stands at a key.
+/// Returns the value at a key.
 fn value_at<'a>(table: &'a Table, key: Key) -> Option<&'a Value>
     ensures { option_map (λ v. view v.now) result ≡ spec.value_at key (table_view table.now) }
 {
     table.get(key.name())
 }
 
-/// What stands at a key that has to be there.
+/// Returns the value at a required key.
 pub(crate) fn needed<'a>(at: Place<'_>, table: &'a Table, key: Key) -> Result<&'a Value, TextFault>
     ensures { MatchResult result
         (λ v. spec.needed (place_of at.entry) key (table_view table.now) ≡ Ok (view v.now))
@@ -70,7 +70,7 @@ fn text_in<'a>(at: Place<'_>, key: Key, value: &'a Value) -> Result<&'a str, Tex
     }
 }
 
-/// The text at a key.
+/// Returns the text at a key.
 pub(crate) fn text_at<'a>(at: Place<'_>, table: &'a Table, key: Key) -> Result<&'a str, TextFault>
     ensures { MatchResult result
         (λ s. spec.text_at (place_of at.entry) key (table_view table.now) ≡ Ok s.now)
@@ -79,7 +79,7 @@ pub(crate) fn text_at<'a>(at: Place<'_>, table: &'a Table, key: Key) -> Result<&
     text_in(at, key, needed(at, table, key)?)
 }
 
-/// The whole number at a key.
+/// Returns the whole number at a key.
 pub(crate) fn whole_at(at: Place<'_>, table: &Table, key: Key) -> Result<i64, TextFault>
     ensures { Gives result (spec.whole_at (place_of at.entry) key (table_view table.now)) }
 {
@@ -89,7 +89,7 @@ pub(crate) fn whole_at(at: Place<'_>, table: &Table, key: Key) -> Result<i64, Te
     }
 }
 
-/// The note, a text that may be left out.
+/// Returns the note, an optional text.
 pub(crate) fn note_of<'a>(at: Place<'_>, table: &'a Table) -> Result<Option<&'a str>, TextFault>
     ensures { MatchResult result
         (λ note. spec.note_of (place_of at.entry) (table_view table.now) ≡ Ok (option_copied note))
@@ -101,7 +101,7 @@ pub(crate) fn note_of<'a>(at: Place<'_>, table: &'a Table) -> Result<Option<&'a 
     }
 }
 
-/// The source, which may be left out.
+/// Returns the source, which is optional.
 pub(crate) fn source_at(at: Place<'_>, table: &Table) -> Result<Option<Source>, TextFault>
     ensures { Gives result (spec.source_at (place_of at.entry) (table_view table.now)) }
 {
@@ -115,7 +115,7 @@ pub(crate) fn source_at(at: Place<'_>, table: &Table) -> Result<Option<Source>, 
     Ok(Some(Source::from_str(at.alloc, text)?))
 }
 
-/// The list at a key, an empty one where the key is left out.
+/// Returns the list at a key, or an empty one if the key is left out.
 pub(crate) fn items_at<'a>(
     at: Place<'_>,
     table: &'a Table,
@@ -135,7 +135,7 @@ pub(crate) fn items_at<'a>(
     }
 }
 
-/// What a word means.
+/// Returns what a word means.
 fn meaning_in<W: Keyword>(at: Place<'_>, key: Key, value: &Value) -> Result<W, TextFault>
     ensures { Gives result (spec.meaning_in (place_of at.entry) key W.meaning (view value.now)) }
 {
@@ -149,7 +149,7 @@ fn meaning_in<W: Keyword>(at: Place<'_>, key: Key, value: &Value) -> Result<W, T
     }
 }
 
-/// What the word at a key means, and where the key is left out what held before.
+/// Returns what the word at a key means, or what held before if the key is left out.
 fn word_at<W: Keyword + Copy>(
     at: Place<'_>,
     table: &Table,
@@ -168,7 +168,7 @@ fn word_at<W: Keyword + Copy>(
     }
 }
 
-/// The calendar of a table, and where it names none that of the regime before.
+/// Returns the calendar of a table, or that of the regime before if the table names none.
 fn calendar_at(at: Place<'_>, table: &Table, before: Option<Regime>) -> Result<Calendar, TextFault>
     ensures { Gives result (spec.calendar_at (place_of at.entry) before (table_view table.now)) }
 {
@@ -180,21 +180,21 @@ fn calendar_at(at: Place<'_>, table: &Table, before: Option<Regime>) -> Result<C
     )
 }
 
-/// The style of a table, and where it names none that of the regime before.
+/// Returns the style of a table, or that of the regime before if the table names none.
 fn style_at(at: Place<'_>, table: &Table, before: Option<Regime>) -> Result<Style, TextFault>
     ensures { Gives result (spec.style_at (place_of at.entry) before (table_view table.now)) }
 {
     word_at(at, table, Key::Style, before.map(|regime| regime.style))
 }
 
-/// The rule of Easter of a table, and where it names none that of the regime before.
+/// Returns the rule of Easter of a table, or that of the regime before if the table names none.
 fn rule_at(at: Place<'_>, table: &Table, before: Option<Regime>) -> Result<Rule, TextFault>
     ensures { Gives result (spec.rule_at (place_of at.entry) before (table_view table.now)) }
 {
     word_at(at, table, Key::Rule, before.map(|regime| regime.rule))
 }
 
-/// The regime of a table: what it says of one, and else what held before.
+/// Returns the regime of a table: what it says of one, and otherwise what held before.
 #[tactic(auto, unfolding(crate::specs::Field::regime_of))]
 pub(crate) fn regime_of(
     at: Place<'_>,

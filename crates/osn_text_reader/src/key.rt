@@ -1,4 +1,4 @@
-//! The tables of a text, which keys each may have, and what a key asks for.
+//! The tables of a text, which keys each may have, and what a key requires.
 ghost use Rattle.std.specs.Prelude.{◌≡◌, Some};
 ghost use Rattle.osn_text_reader.specs.Key as spec;
 
@@ -32,7 +32,7 @@ pub enum Key {
 }
 
 impl Key {
-    /// The key, as a text has it.
+    /// Returns the key's name in a text.
     pub fn name(self) -> &'static str
         ensures { result.now ≡ spec.key_name self }
     {
@@ -51,7 +51,7 @@ impl Key {
         }
     }
 
-    /// What is written at the key.
+    /// Returns what is written at the key.
     pub(crate) fn allowed(self) -> &'static str
         ensures { result.now ≡ spec.allowed_at self }
     {
@@ -72,7 +72,7 @@ impl Key {
 }
 
 impl Part {
-    /// Whether the table may have a key of this name.
+    /// Returns whether the table may have a key of this name.
     pub(crate) fn has_key(self, name: &str) -> bool
         ensures { result ≡ spec.is_key_of self name.now }
     {
@@ -89,7 +89,7 @@ impl Part {
         }
     }
 
-    /// Which keys the table may have, in words.
+    /// Returns which keys the table may have, in words.
     pub(crate) fn keys_text(self) -> &'static str
         ensures { result.now ≡ spec.keys_text self }
     {
@@ -103,7 +103,7 @@ impl Part {
     }
 }
 
-/// Writes the path from a territory to the table, as `.changes.2`.
+/// Writes the path from a territory to the table, such as `.changes.2`.
 impl fmt::Display for Part {
     ghost output = { λ x. Some (spec.part_text x) };
 

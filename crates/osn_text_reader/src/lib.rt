@@ -1,6 +1,6 @@
-//! A text of territories, read: TOML that an editor writes. What the crate promises to those
-//! above: the register that it reads is that of the edits which the text says, in turn, and the
-//! edition is the one that it names. Else it names the first fault, with its place.
+//! Reads a text of territories: TOML that an editor writes. The crate guarantees that the register
+//! is that of the text's edits, in turn, and that the edition is the one that the text names.
+//! Otherwise it returns the first fault, with its place.
 #![tactic(auto)]
 
 mod day_field;

@@ -29,7 +29,7 @@ pub struct RegisterText {
     pub register: Register,
 }
 
-/// The number of an edition, if this number is one.
+/// Returns the number of an edition, if this number is one.
 fn edition_number(number: i64) -> Option<u64>
     ensures { result ≡ spec.edition_number number }
 {
@@ -39,7 +39,7 @@ fn edition_number(number: i64) -> Option<u64>
     Some(number.unsigned_abs())
 }
 
-/// What stands at the key of the edition.
+/// Returns the value at the key of the edition.
 fn edition_value(table: &Table) -> Option<&Value>
     ensures { option_map (λ v. view v.now) result
         ≡ get_member spec.edition_key (table_view table.now) }
@@ -47,14 +47,14 @@ fn edition_value(table: &Table) -> Option<&Value>
     table.get(EDITION)
 }
 
-/// The number of an edition, if the value is one.
+/// Returns the number of an edition, if the value is one.
 fn edition_in(value: &Value) -> Option<u64>
     ensures { result ≡ option_and_then spec.edition_number (as_integer (view value.now)) }
 {
     edition_number(value.as_integer()?)
 }
 
-/// The edition that a text was made of, if it names one.
+/// Returns the edition that a text was made of, if it names one.
 fn edition_of(alloc: Global, table: &Table) -> Result<Option<u64>, TextFault>
     ensures { Gives result (spec.text_edition (table_view table.now)) }
 {
@@ -70,7 +70,7 @@ fn edition_of(alloc: Global, table: &Table) -> Result<Option<u64>, TextFault>
     }
 }
 
-/// Adds the edits of what stands at a key of a text, which are none at that of the edition.
+/// Adds the edits of the value at a key of a text: no edits for the key of the edition.
 fn push_member(
     edits: &mut Vec<Placed>,
     alloc: Global,
@@ -88,7 +88,7 @@ fn push_member(
     push_territory(edits, alloc, code, value)
 }
 
-/// The edits of a text's territories, in the order of their codes.
+/// Returns the edits of a text's territories, in the order of their codes.
 fn edits_of(alloc: Global, table: &Table) -> Result<Vec<Placed>, TextFault>
     ensures { MatchResult result
         (λ edits. spec.text_edits (table_view table.now) ≡ Ok edits.items)
@@ -120,7 +120,7 @@ fn apply(alloc: Global, register: &mut Register, part: Part, edit: &Edit) -> Res
     }
 }
 
-/// The register after edits in turn, from the empty one.
+/// Returns the register after edits in turn, from the empty one.
 fn register_of(alloc: Global, limits: Limits, edits: &[Placed]) -> Result<Register, TextFault>
     ensures limits { IfOk result (λ r. r.limits ≡ limits) }
     ensures lands { MatchResult result
@@ -134,7 +134,7 @@ fn register_of(alloc: Global, limits: Limits, edits: &[Placed]) -> Result<Regist
     Ok(register)
 }
 
-/// What the table of a text says, under limits.
+/// Returns what the table of a text says, under limits.
 #[tactic(auto, unfolding(crate::specs::Text::text_says))]
 fn said_by(alloc: Global, limits: Limits, table: &Table) -> Result<RegisterText, TextFault>
     ensures limits { IfOk result (λ said. said.register.limits ≡ limits) }
@@ -149,13 +149,13 @@ fn said_by(alloc: Global, limits: Limits, table: &Table) -> Result<RegisterText,
     Ok(RegisterText { edition, register })
 }
 
-/// What a text of territories says, under limits.
+/// Reads a text of territories, under limits.
 ///
 /// # Errors
 ///
-/// `Toml` for a text that is no TOML. `Key` for one that says no territories: its edition where
-/// that is none, else what is wrong with the first table in order, and where none is wrong the
-/// first refusal of the register. `NoMemory` for want of memory.
+/// Returns `Toml` if the text is not TOML, and `NoMemory` if memory runs out. Returns `Key` if the
+/// text doesn't describe territories: for a wrong edition, otherwise for the first wrong table in
+/// order, and if all tables are right for the first refusal of the register.
 pub fn parse_text(alloc: Global, limits: Limits, text: &str) -> Result<RegisterText, TextFault>
     ensures ok { IfOk result (λ said. spec.said_by limits text.now
         ≡ Some (Ok (said.edition, said.register.lands))) }

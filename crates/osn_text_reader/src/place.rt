@@ -18,7 +18,7 @@ impl<'a> Place<'a> {
     ghost use Rattle.osn_text_reader.specs.Field as field;
     ghost use Rattle.osn_text_reader.specs.Inside.{Means, place_of};
 
-    /// What is wrong with the table.
+    /// Returns what is wrong with the table.
     pub(crate) fn fault(self, reason: Reason) -> TextFault
         ensures { Means result (field.fault_of (place_of self.entry) reason) }
     {
@@ -32,7 +32,7 @@ impl<'a> Place<'a> {
         }
     }
 
-    /// What is wrong with the value at a key of the table.
+    /// Returns what is wrong with the value at a key of the table.
     pub(crate) fn fault_at(self, key: Key, fault: ValueFault) -> TextFault
         ensures { Means result (field.fault_at (place_of self.entry) key fault) }
     {

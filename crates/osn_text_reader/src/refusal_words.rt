@@ -4,7 +4,7 @@ ghost use Rattle.osn_text_reader.specs.RefusalWords as spec;
 
 use osn_register::Refusal;
 
-/// What the register allows, where it refuses so.
+/// Returns the words for a refusal, which say what the register allows.
 pub(crate) fn refusal_words(refusal: Refusal) -> &'static str
     ensures { result.now ≡ spec.refusal_words refusal }
 {

@@ -26,7 +26,7 @@ fn push_edit(edits: &mut Vec<Placed>, part: Part, edit: Edit) -> Result<(), Allo
     Ok(())
 }
 
-/// The day of a change, which is later than that of the change before it.
+/// Returns the day of a change, if it is later than that of the change before it.
 fn if_later(at: Place<'_>, before: Option<i64>, day: i64) -> Result<i64, TextFault>
     ensures { Gives result (spec.if_later (place_of at.entry) before day) }
 {
@@ -36,7 +36,7 @@ fn if_later(at: Place<'_>, before: Option<i64>, day: i64) -> Result<i64, TextFau
     }
 }
 
-/// The day, the regime and the source of a change, after the period before it.
+/// Returns the day, the regime and the source of a change, after the period before it.
 #[tactic(auto, unfolding(crate::specs::TerritoryText::change_of))]
 fn change_of(
     at: Place<'_>,
@@ -88,7 +88,7 @@ fn push_changes(
     Ok(())
 }
 
-/// The year, the day and the source of a listed Easter.
+/// Returns the year, the day and the source of a listed Easter.
 #[tactic(auto, unfolding(crate::specs::TerritoryText::easter_of))]
 fn easter_of(at: Place<'_>, table: &Table) -> Result<(i64, i64, Option<Source>), TextFault>
     ensures { Gives result (spec.easter_of (place_of at.entry) (table_view table.now)) }
@@ -129,7 +129,7 @@ fn push_easters(
     Ok(())
 }
 
-/// The name of a territory, its opening regime and the source of that.
+/// Returns the name of a territory, its opening regime and the source of that.
 #[tactic(auto, unfolding(crate::specs::TerritoryText::opening_of))]
 fn opening_of(at: Place<'_>, table: &Table) -> Result<(Text, Regime, Option<Source>), TextFault>
     ensures { Gives result (spec.opening_of (place_of at.entry) (table_view table.now)) }

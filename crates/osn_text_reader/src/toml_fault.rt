@@ -1,4 +1,4 @@
-//! Where a text is no TOML.
+//! The fault of a text that is not TOML.
 ghost use Rattle.std.specs.Prelude.{◌≡◌};
 ghost use Rattle.toml.specs.Errors.{IsWithin};
 ghost use Rattle.osn_text_reader.specs.Lines as spec;
@@ -8,21 +8,21 @@ use osn_register::Text;
 use std::alloc::Global;
 use toml::de::Error;
 
-/// The line of the place after these bytes, counted from 1.
+/// Returns the line of the place after these bytes, counted from 1.
 fn line_after(before: &[u8]) -> usize
     ensures { result ≡ spec.line_after before.now }
 {
     before.iter().filter(|byte| **byte == b'\n').count() + 1
 }
 
-/// Whether a character of a text begins with the byte.
+/// Returns whether a character of a text begins with the byte.
 fn begins_character(byte: u8) -> bool
     ensures { result ≡ spec.begins_character byte }
 {
     byte < 0x80 || byte >= 0xC0
 }
 
-/// The column of the place after these bytes, counted from 1. A column is a character.
+/// Returns the column of the place after these bytes, counted from 1. A column is a character.
 fn column_after(before: &[u8]) -> usize
     ensures { result ≡ spec.column_after before.now }
 {
@@ -35,7 +35,7 @@ fn column_after(before: &[u8]) -> usize
         + 1
 }
 
-/// Where the text is no TOML, or want of memory.
+/// Returns the place where the text is not TOML, or `NoMemory`.
 pub(crate) fn toml_fault(alloc: Global, text: &str, error: &Error) -> TextFault
     requires { IsWithin text.now error.now }
     ensures { spec.IsFaultBy text.now error.now result }

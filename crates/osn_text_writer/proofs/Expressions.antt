@@ -23,7 +23,7 @@ use Rattle.osn_register.specs.Sources.{SourcesModel}
 abbrev pub pair : List ℕ → Data → Expression
 pair key d = (([], key), key_value d)
 
--- the header of the next table in a list, before the code stands in front of it
+-- the header of the next table in a list, without the code in front of it
 abbrev pub next_in : List ℕ → Expression
 next_in key = (([], key), array_table)
 
@@ -47,7 +47,7 @@ changed_pairs before r =
     ++ (changed_pair (codes "style") (style_word before.style) (style_word r.style)
     ++ changed_pair (codes "rule") (rule_word before.rule) (rule_word r.rule))
 
--- a source, where one is given
+-- a source, if one is given
 abbrev pub source_pair : Option (List ℕ) → List Expression
 source_pair None = []
 source_pair (Some source) = pair (codes "source") (string source) ∷ []

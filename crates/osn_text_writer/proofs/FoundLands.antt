@@ -38,7 +38,7 @@ later_by true m ms l same none there =
     ∙ ap (λ c. land_of c ms) (sym ((bytes_eq-Decides l.code m.code).0 same)) ∙ there))
 later_by false m ms l same none there = there
 
--- where no two have one code, the code of each finds it
+-- if all codes are distinct, the code of each territory finds it
 pub land_of-at : (ls : List LandModel) (i : ℕ) (l : LandModel) → AreDistinct ls
     → slice_get ls i ≡ Some l → land_of l.code ls ≡ Some l
 land_of-at [] i l distinct at = absurd (none-some l at)

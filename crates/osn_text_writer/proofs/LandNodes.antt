@@ -27,16 +27,16 @@ abbrev pub items_of : Tables → Items
 items_of None = no_items
 items_of (Some ts) = push_item ts.0 (table (close ts.1))
 
--- a list of tables stands at a key once it has one
+-- a node for a list of tables, if there is one
 abbrev pub list_at : List ℕ → Tables → Nodes → Nodes
 list_at key None rest = rest
 list_at key (Some ts) rest = node key (open_array ts.0 ts.1) rest
 
--- a pair stands at its key, where it was written
+-- a node for a pair, if it was written
 abbrev pub unless : Bool → List ℕ → Data → Nodes → Nodes
 unless same key d rest = if same then rest else node key (value d) rest
 
--- a source stands at its key, where one was written
+-- a node for a source, if one was written
 abbrev pub if_given : Option (List ℕ) → Nodes → Nodes
 if_given None rest = rest
 if_given (Some source) rest = node (codes "source") (value (string source)) rest
@@ -72,7 +72,7 @@ easter_table t cited e =
     easter_nodes (easter_source cited e.0) (integer (pos e.0))
     (lines.date_data (regime_at t e.1).calendar e.1)
 
--- the tables of some changes after others, and where the lines of them end
+-- the tables of some changes after others, and the table in which their lines end
 abbrev pub changes_after : Tables → Option SourcesModel → Regime → List Period → Tables
 changes_after ts cited before [] = ts
 changes_after ts cited before (p ∷ ps) =
@@ -225,7 +225,7 @@ land_nodes name t cited (p ∷ ps) =
     (period_source cited p.first) (changes_after None cited p.regime ps)
     (easters_after None t cited t.exceptions)
 
--- where the lines of a territory end
+-- the table in which the lines of a territory end
 abbrev pub land_end : TerritoryModel → List Period → List (List ℕ)
 land_end t [] = []
 land_end t (p ∷ ps) = at_easters (at_changes [] ps) t.exceptions

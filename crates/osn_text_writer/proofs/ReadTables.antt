@@ -74,13 +74,13 @@ same_meaning word_of named back x y same =
     let both : Some x ≡ Some y = sym (back x) ∙ ap named words ∙ back y in
     cc
 
--- the word that stands at a key
+-- the word at a key
 word_read : {A : Type 0} (at : Place) (key : Key) (named : List ℕ → Option A) (before : Option A)
     (word : List ℕ) (x : A) (ms : Members) → value_at key ms ≡ Some (string word)
     → named word ≡ Some x → word_at at key named before ms ≡ Ok x
 word_read at key named before word x ms there back = rw (there, back)
 
--- the same where the word of what held before is left out
+-- the same, if the word of what held before is left out
 word_kept : {A : Type 0} (at : Place) (key : Key) (named : List ℕ → Option A) (old : A)
     (word : List ℕ) (x : A) (ms : Members) (same : Bool)
     → value_at key ms ≡ cond same None (Some (string word)) → (same ≡ true → old ≡ x)
@@ -90,7 +90,7 @@ word_kept at key named old word x ms false there kept back = rw (there, back)
 
 -- ---- sources and notes
 
--- the source of a number, where it may be given
+-- each number's source is one that may be given
 abbrev pub AreGiven : (ℕ → Option (List ℕ)) → Type 0
 AreGiven source = (n : ℕ) → IsGiven (source n)
 
@@ -217,7 +217,7 @@ abbrev pub Ascend : ℕ → List Period → Type 0
 Ascend before [] = Unit {0}
 Ascend before (p ∷ ps) = (before < p.first) × IsDay newest_rules p.first × Ascend p.first ps
 
--- the day of the change before, if one was
+-- the day of the change before, if there was one
 abbrev pub Follows : Option ℤ → ℕ → Type 0
 Follows None day = Unit {0}
 Follows (Some d) day = d ≡ pos day

@@ -15,7 +15,7 @@ use Rattle.osn_register.specs.Plain.{LandModel, land_of, AreDistinct, IsSoundTer
 use Rattle.osn_register.specs.Sources.{HasSources}
 use Rattle.osn_register.proofs.LandFacts.{apart_first}
 
--- where a territory goes: before the first, in its place, or among those after it
+-- puts a territory before the first, in its place, or among those after it
 abbrev pub insert_land_by : Ordering → LandModel → LandModel → List LandModel → List LandModel
     → List LandModel
 insert_land_by Less l m ms more = l ∷ m ∷ ms

@@ -1,4 +1,4 @@
--- What stands at the keys of the table of a territory, of a change and of a listed Easter.
+-- The values at the keys of the table of a territory, of a change and of a listed Easter.
 use Rattle.std.proofs.Common.{◌≡◌, ℕ, Bool, true, false, cond, List, Option, Some, None, option_map}
 use Rattle.std.proofs.Common.{codes, refl, sym, ap, ◌∙◌, Ordering, Less, Equal, Greater, nat_cmp}
 use Rattle.std.proofs.Common.{is_eq}
@@ -97,7 +97,7 @@ module _ (name calendar style rule : Data) (o : Option (List ℕ)) (changes east
   abbrev after_changes : Nodes
   after_changes = list_at (codes "easters") easters after_easters
 
-  -- a key that is none of a list
+  -- a key that is not one of a list
   after_lists : (k : List ℕ) → same_key k (codes "changes") ≡ false
       → same_key k (codes "easters") ≡ false
       → get_member k (close (list_at (codes "changes") changes after_changes))
@@ -139,7 +139,7 @@ module _ (name calendar style rule : Data) (o : Option (List ℕ)) (changes east
       after_lists (codes "note") refl refl
       ∙ past_source (codes "note") o (node (codes "style") (value style) no_nodes) refl
 
--- a list of tables, where there is one
+-- a list of tables, if there is one
 abbrev pub list_of : Tables → Option Data
 list_of ts = option_map (λ ts. array (push_item ts.0 (table (close ts.1)))) ts
 

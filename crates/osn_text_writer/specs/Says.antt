@@ -8,8 +8,8 @@ use Rattle.osn_text_reader.specs.Text.{said_by}
 use Rattle.osn_text_writer.specs.TerritoryText.{if_there}
 
 -- the text is read, under the limits, as of this edition and as these territories with their
--- sources. Those of a text are in the order of their codes, so it is said of each code that it has
--- the same territory, or none
+-- sources. Those of a text are in the order of their codes, so each code has the same territory in
+-- both, or in neither
 pub record SaysLands (limits : Limits) (text : List ℕ) (edition : ℕ) (lands : List LandModel)
     : Type 0 where
   pub territories : List LandModel
@@ -21,6 +21,6 @@ abbrev pub SaysRegister : RegisterModel → List ℕ → ℕ → List LandModel 
 SaysRegister r text edition lands =
     edition < 2 ^ 63 → IsWellFormed newest_rules r → SaysLands r.limits text edition lands
 
--- as its territory of the code alone, and as none where none has it
+-- as its territory of the code alone, or as no territory if the code is unknown
 abbrev pub SaysLand : RegisterModel → List ℕ → ℕ → List ℕ → Type 0
 SaysLand r text edition code = SaysRegister r text edition (if_there (land_of code r.lands))

@@ -25,11 +25,11 @@ use Rattle.osn_register.specs.Sources.{SourcesModel}
 unfoldable pub word_line : List ℕ → List ℕ → List ℕ
 word_line key word = key ++ (codes " = \"" ++ (word ++ codes "\"\n"))
 
--- the same, where the word is not the one before
+-- the same, if the word is not the one before
 unfoldable pub changed_line : List ℕ → List ℕ → List ℕ → List ℕ
 changed_line key before word = if bytes_eq before word then [] else word_line key word
 
--- a source, where one is given: source = "24 Geo. II c. 23"
+-- a source, if one is given: source = "24 Geo. II c. 23"
 unfoldable pub source_line : Option (List ℕ) → List ℕ
 source_line None = []
 source_line (Some source) = codes "source = " ++ (string_text source ++ codes "\n")
@@ -55,7 +55,7 @@ regime_text regime =
     ++ (word_line (codes "style") (style_word regime.style)
     ++ word_line (codes "rule") (rule_word regime.rule))
 
--- what a regime has that the one before it has not
+-- what differs in a regime from the one before it
 unfoldable pub changed_lines : Regime → Regime → List ℕ
 changed_lines before regime =
     changed_line (codes "calendar") (calendar_word before.calendar) (calendar_word regime.calendar)
@@ -135,6 +135,6 @@ lands_text p (l ∷ ls) = codes "\n" ++ (land_text p l ++ lands_text p ls)
 unfoldable pub register_text : Profile → ℕ → List LandModel → List ℕ
 register_text p edition lands = edition_line edition ++ lands_text p lands
 
--- the same of the territory of a code alone, and of none where none has it
+-- the text of a register's territory of a code alone, without territories if the code is unknown
 abbrev pub text_of_code : Profile → ℕ → List ℕ → List LandModel → List ℕ
 text_of_code p edition code lands = register_text p edition (if_there (land_of code lands))

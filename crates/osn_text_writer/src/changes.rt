@@ -12,7 +12,7 @@ use osn_register::Register;
 use std::alloc::AllocError;
 use std::fmt::Write;
 
-/// Appends what a regime has that the one before it has not.
+/// Appends what differs in a regime from the one before it.
 #[tactic(auto, unfolding(crate::specs::TerritoryText::changed_lines))]
 fn push_changed_lines(out: &mut String, before: Regime, regime: Regime) -> Result<(), AllocError>
     ensures { OnOk result (string_bytes out.new

@@ -1,7 +1,6 @@
 //! The register as a text in TOML, as an editor writes one: a table for each territory, with its
-//! regime at first, its changes, its listed Easters, and their sources. What the crate promises to
-//! those above is the text, line by line, and that it says the edition and the territories that it
-//! was written of.
+//! regime at first, its changes, its listed Easters, and their sources. The crate guarantees the
+//! text, line by line, and that it says the edition and the territories of which it was written.
 #![tactic(auto)]
 
 mod changes;

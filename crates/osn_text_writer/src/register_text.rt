@@ -40,13 +40,13 @@ fn push_land(
     push_territory(out, register, code, name, territory)
 }
 
-/// The text of a register that is made of this edition, its territories in the order in which they
-/// were added. A change is dated by the calendar that it brings, a listed Easter by the one in
-/// force on its day.
+/// Returns the text of a register that is made of this edition, with its territories in the order
+/// in which they were added. A change is dated by the calendar that it brings, a listed Easter by
+/// the one in force on its day.
 ///
 /// # Errors
 ///
-/// Want of memory, and nothing else.
+/// Returns `AllocError` if memory runs out.
 pub fn write_text(alloc: Global, edition: usize, register: &Register) -> Result<String, AllocError>
     ensures text { IfOk result (λ s. string_bytes s
         ≡ spec.register_text newest_rules edition register.now.lands) }
@@ -68,7 +68,7 @@ pub fn write_text(alloc: Global, edition: usize, register: &Register) -> Result<
 /// The room that the text of a territory gets at first: one with two changes takes some 250 bytes.
 const LAND_ROOM: usize = 256;
 
-/// Appends the territory of a code, and nothing where none has it.
+/// Appends the territory of a code, if a territory has it.
 fn push_of_code(out: &mut String, register: &Register, code: &str) -> Result<(), AllocError>
     ensures { OnOk result (string_bytes out.new ≡ string_bytes out.old
         ++ spec.lands_text newest_rules (spec.if_there (land_of code.now register.now.lands))) }
@@ -79,13 +79,13 @@ fn push_of_code(out: &mut String, register: &Register, code: &str) -> Result<(),
     }
 }
 
-/// The text of the territory that a register has of a code, which is made of this edition, and a
-/// text of no territory where it has none. A change is dated by the calendar that it brings, a
-/// listed Easter by the one in force on its day.
+/// Returns the text of the territory that a register has of a code, which is made of this edition,
+/// or a text without territories if it has none. A change is dated by the calendar that it brings,
+/// a listed Easter by the one in force on its day.
 ///
 /// # Errors
 ///
-/// Want of memory, and nothing else.
+/// Returns `AllocError` if memory runs out.
 #[tactic(auto, unfolding(crate::specs::TerritoryText::register_text))]
 pub fn write_territory(
     alloc: Global,

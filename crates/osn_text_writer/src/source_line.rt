@@ -7,7 +7,7 @@ use osn_register::Source;
 use std::alloc::AllocError;
 use std::fmt::Write;
 
-/// Appends the line of a source, where one is given.
+/// Appends the line of a source, if one is given.
 #[tactic(auto, unfolding(crate::specs::TerritoryText::source_line))]
 pub(crate) fn push_source(out: &mut String, source: Option<&Source>) -> Result<(), AllocError>
     ensures { OnOk result (string_bytes out.new ≡ string_bytes out.old

@@ -5,7 +5,7 @@ ghost use Rattle.toml_writer.specs.Text.{string_text};
 use std::fmt;
 use toml_writer::write_string;
 
-/// A text that prints as a string of TOML, quoted and with escapes where it needs them.
+/// A text that prints as a string of TOML, quoted and with escapes if it needs them.
 #[derive(Clone, Copy)]
 pub(crate) struct TomlString<'a>(pub(crate) &'a str);
 

@@ -14,7 +14,7 @@ pub(crate) fn push_word(out: &mut String, key: &str, word: &str) -> Result<(), A
     writeln!(out, "{key} = \"{word}\"")
 }
 
-/// The same, where the word is not the one before.
+/// Appends the same line, unless the word is the one before.
 #[tactic(auto, unfolding(crate::specs::TerritoryText::changed_line))]
 pub(crate) fn push_changed(
     out: &mut String,

@@ -1,6 +1,6 @@
 //! The public names of lines, requests, replies, the service, files, the kept journal, audits and
-//! the almanac, for callers who want one crate to name. It has no code of its own, and no crate of
-//! the program uses it.
+//! the almanac, for callers that name one crate. It has no code of its own, and no crate of the
+//! program uses it.
 #![tactic(auto)]
 
 pub use osn_almanac::almanac_text;

@@ -43,7 +43,7 @@ of_later before a j true m false apart same = refl
 of_later before true j true m true apart same = absurd (apart refl refl)
 of_later before false j true m true apart same = later_tests before j m (same refl)
 
--- the day of the month tells whether it is before 25 March
+-- the day of the month decides whether it is before 25 March
 parts_of : (x y : Bool) → (x && y) ≡ true → (x ≡ true) × (y ≡ true)
 parts_of true true h = (refl, refl)
 parts_of true false h = absurd (cc h)
@@ -67,7 +67,7 @@ and_none true true = refl
 and_none true false = refl
 and_none false y = refl
 
--- days that are taken where something holds, and none where it doesn't
+-- days that are taken if something holds, and none if it doesn't
 taken_where : (f j : ℕ → Bool) (a n : ℕ) (before : Bool)
     → filter (λ d. f d && (j d && before)) (range_with_len a n)
     ≡ (if before then filter j (filter f (range_with_len a n)) else [])

@@ -53,7 +53,7 @@ ascends_filter test (suc n) a b low =
     ascends_step a b (filter test (range_with_len (a + 1) n)) (test a) low
     (λ c less. ascends_filter test n (a + 1) c less)
 
--- ---- how often a number stands in a list
+-- ---- how often a number is in a list
 
 abbrev is_at : ℕ → ℕ → ℕ
 is_at x d = if d == x then 1 else 0

@@ -30,7 +30,7 @@ same_number n = (Decides-eqb n n).1 refl
 abbrev run : ℕ → ℕ → Run
 run first last = record { first = first; last = last }
 
--- a run, a day and days after it, where the day follows the run at once or not
+-- a run, a day and the days after it, whether or not the day is the next one after the run
 abbrev next : ℕ → ℕ → ℕ → List ℕ → Bool → List Run
 next f l d ds follows =
     if follows then runs_from (run f d) ds else run f l ∷ runs_from (run d d) ds
@@ -230,7 +230,7 @@ labelled_year p t year y =
     (λ d. int_eq (dated_on p t d).label.year y && true) 1 p.high
     (λ d low high. sym (and-true (int_eq (dated_on p t d).label.year y)))
 
--- the days that a date means, where its year is double and where it is single
+-- the days that a date means, if its year is double and if it is single
 pub meant_double : (p : Profile) (t : TerritoryModel) (date : SimpleDate) (year : written.Year)
     → year ≡ year_of date → year.is_double ≡ true → all_double p t date ≡ all_meant p t date
 unfolding all_double all_meant

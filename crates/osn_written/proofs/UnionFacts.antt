@@ -100,7 +100,7 @@ some_left high next first r rs order low begun before some most =
     (filter_same f g (r.last + 1) (high + 1 - (r.last + 1)) (λ d from until.
     ap (λ b. b || g d) (ends_before d r (omega (arith, from))))))
 
--- both, by where the days that are left begin and whether there are any
+-- both, by the first day that is left and by whether there are any
 left_by : (high next first : ℕ) (r : Run) (rs : List Run) (some : Bool)
     → nat_le first r.last ≡ some → Ascend r.first rs → next ≤ first → r.first ≤ first
     → ((d : ℕ) → next ≤ d → d < first → d < r.first) → r.last ≤ high
@@ -124,7 +124,7 @@ left_by high next first r rs false is order low begun before most after others =
     (λ within. begins_after d r (before d from (omega (arith, over, within))))
     (cases_lt r.last d))
 
--- where the run begins at the first day that is left or after it, and where it begins before it
+-- if the run begins at the first day that is left or after it, and if it begins before it
 first_by : (high next : ℕ) (r : Run) (rs : List Run) (here : Bool) → nat_le next r.first ≡ here
     → Ascend r.first rs → r.last ≤ high
     → days_in (rest_from (r.last + 1) rs)
@@ -220,7 +220,7 @@ one_rest p runs rest next i r first within at so_far high is some =
       on = λ on. now.on (high, on);
     }
 
--- a run of which none is left
+-- a run with no day left
 pub no_rest : (p : Profile) (runs rest : List Run) (next i : ℕ) (r : Run) (first : ℕ)
     → i < length runs → r ≡ get_or runs i r → IsRestBefore p runs rest next (drop i runs)
     → r.last ≤ p.high → first ≡ first_from r next → r.last < first

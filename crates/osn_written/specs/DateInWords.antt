@@ -31,7 +31,7 @@ zeros_before year =
 abbrev pub last_year : Year → ℕ
 last_year y = if y.is_double then y.first + 1 else y.first
 
--- a year: 1731, 0045, and where it is double 1731/2, 1699/700, 0009/10
+-- a year: 1731, 0045, and if it is double 1731/2, 1699/700, 0009/10
 unfoldable pub words_of_year : Year → List ℕ
 words_of_year y = zeros_before y.first ++ year_text (pos y.first) (pos (last_year y))
 
@@ -58,7 +58,7 @@ words_of_extent (extent.NotBefore d) = codes "not before " ++ words_of_date d
 
 -- ---- what is said beside it
 
--- a word where something is said, and nothing where it isn't
+-- a word if something is said, and nothing otherwise
 abbrev pub optional_word : Bool → List ℕ → List ℕ
 optional_word applies word = if applies then word else []
 

@@ -63,7 +63,7 @@ ends_of (extent.NotAfter date) = (date, date)
 ends_of (extent.After date) = (date, date)
 ends_of (extent.NotBefore date) = (date, date)
 
--- why what is written is no span of days
+-- why what is written is not a span of days
 abbrev pub reason_of : Profile → TerritoryModel → Extent → NoSpan → NoDay
 reason_of p t e spans.NoDay = Absent (absence_in p t (ends_of e).0)
 reason_of p t e spans.NoLastDay = LastAbsent (absence_in p t (ends_of e).1)
@@ -78,7 +78,7 @@ abbrev pub of_span : Profile → TerritoryModel → Extent → Result Run NoSpan
 of_span p t e (Ok run) = Ok (run ∷ [])
 of_span p t e (Err no_span) = Err (reason_of p t e no_span)
 
--- runs, or a reason where there are no runs
+-- runs, or a reason if there are no runs
 abbrev pub unless_none : List Run → NoDay → Result (List Run) NoDay
 unless_none [] reason = Err reason
 unless_none (r ∷ rs) reason = Ok (r ∷ rs)
@@ -86,7 +86,7 @@ unless_none (r ∷ rs) reason = Ok (r ∷ rs)
 abbrev pub of_date : Profile → TerritoryModel → SimpleDate → Result (List Run) NoDay
 of_date p t date = unless_none (runs_meant p t date) (Absent (absence_in p t date))
 
--- the date, where what is written is one
+-- the date, if what is written is one
 abbrev pub one_date : Extent → Option SimpleDate
 one_date (extent.On date) = Some date
 one_date e = None

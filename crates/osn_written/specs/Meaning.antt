@@ -36,8 +36,8 @@ read_in_later_year p t w label =
 abbrev pub counted_double : Profile → TerritoryModel → WrittenDate → List ℕ
 counted_double p t w = read_in_later_year p t w (label_of w)
 
--- of a double date before 25 March, the days on which the territory's own year was the later one
--- too, as where it counted from 1 January. It wrote that year alone then
+-- the days of a double date before 25 March on which the territory's own year was the later one
+-- too, such as in a territory that counted from 1 January. It wrote that year alone then
 abbrev pub not_counted_double : Profile → TerritoryModel → WrittenDate → List ℕ
 not_counted_double p t w =
     if is_before_25_march w.month w.day then read_in_later_year p t w (later_label w) else []
@@ -61,7 +61,7 @@ dated_by p t days = map (λ day. dated_on p t day.day) days
 
 -- ---- weekdays
 
--- the day is of the weekday, where one is given
+-- the day is on the weekday, if one is given
 abbrev pub is_on : Option Weekday → ℕ → Bool
 is_on None d = true
 is_on (Some given) d =

@@ -23,7 +23,7 @@ year_of (Day year month day) = year
 year_of (Month year month) = year
 year_of (Year year) = year
 
--- the label has the month and the day of the month, where they are written
+-- the label has the month and the day of the month, if they are written
 abbrev pub has_month_and_day : SimpleDate → Label → Bool
 has_month_and_day (Day year month day) label = (label.month == month) && (label.day == day)
 has_month_and_day (Month year month) label = label.month == month
@@ -31,7 +31,7 @@ has_month_and_day (Year year) label = true
 
 -- the day is of the double year that begins with this one. Its year counted from 1 January is the
 -- later one, and the year of its label is the first one. From 1 January to 24 March that may be the
--- later one too, where the territory wrote the later year alone
+-- later one too, if the territory wrote the later year alone
 abbrev pub is_in_double_year : ℕ → DatedDay → Bool
 is_in_double_year first day =
     int_eq day.january_year (pos (first + 1))
@@ -39,7 +39,7 @@ is_in_double_year first day =
     || (int_eq day.label.year (pos (first + 1))
     && is_before_25_march day.label.month day.label.day))
 
--- the day is of the year: of a single one where that is the year of its label
+-- the day is of the year: for a single one, that is the year of its label
 abbrev pub is_in_year : written.Year → DatedDay → Bool
 is_in_year year day =
     if year.is_double then is_in_double_year year.first day
@@ -55,8 +55,8 @@ all_meant p t date = filter (λ d. is_meant date (dated_on p t d)) (line p)
 
 -- ---- their runs
 
--- a run and days after it. A day that follows the run at once is one more of it, and any other one
--- begins the next run
+-- a run and days after it. A day directly after the run is one more of it, and any other one begins
+-- the next run
 abbrev pub runs_from : Run → List ℕ → List Run
 runs_from run [] = run ∷ []
 runs_from run (d ∷ ds) =

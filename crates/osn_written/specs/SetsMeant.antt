@@ -63,7 +63,7 @@ set_list_of = result_map_both (λ runs. runs.items) (λ absent. absent)
 abbrev pub first_from : Run → ℕ → ℕ
 first_from run next = if nat_le next run.first then run.first else next
 
--- a run from a day on, before the rest of others, where it has such a day
+-- what is left of a run, if it has a day left, and of the others
 abbrev pub with_rest : ℕ → ℕ → List Run → List Run → List Run
 with_rest first last after before =
     if nat_le first last then record { first = first; last = last } ∷ after else before

@@ -33,7 +33,7 @@ last_meant p t date = last_of (runs_meant p t date)
 
 -- ---- spans
 
--- from one day to another one, which is no earlier
+-- from one day to another one, which is not earlier
 abbrev pub from_to : Option ℕ → Option ℕ → Result Run NoSpan
 from_to None last = Err NoDay
 from_to (Some first) None = Err NoLastDay

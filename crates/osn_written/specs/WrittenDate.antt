@@ -8,11 +8,11 @@ use Rattle.std.specs.Str.Parse.{digits_value}
 use Rattle.osn_days.specs.declared.weekday.Weekday.{Weekday}
 use Rattle.osn_days.specs.Weekday.{weekday_name, weekday_numbered}
 
--- parts of which the first begins with a further byte
+-- parts with one more byte at the beginning of the first
 abbrev pub with_first : ℕ → List ℕ × List ℕ → List ℕ × List ℕ
 with_first c parts = (c ∷ parts.0, parts.1)
 
--- the parts of a text before and after the first such byte, where it has one
+-- the parts of a text before and after the first such byte, if it has one
 abbrev pub parts_at : ℕ → List ℕ → Option (List ℕ × List ℕ)
 parts_at c [] = None
 parts_at c (b ∷ rest) =

@@ -18,13 +18,13 @@ pub enum Absence {
     NotOfItsCalendar,
     /// The date is before the first day of the line or after the last.
     OffTheLine,
-    /// The date lies in the gap of a change: the territory passed over it.
+    /// The date lies in the gap of a change: the territory skipped it.
     Skipped,
     /// The territory has the month and day in other years, and not in that one.
     NotInThatYear,
 }
 
-/// Whether the territory dates a day with the label.
+/// Returns whether the territory dates a day with the label.
 fn is_read(territory: &Territory, label: Label) -> Result<bool, AllocError>
     ensures { IfOk result (λ read.
         read ≡ not (is_empty (reading newest_rules territory.now label))) }
@@ -33,7 +33,7 @@ fn is_read(territory: &Territory, label: Label) -> Result<bool, AllocError>
     Ok(!days.is_empty())
 }
 
-/// The absence of a label that is skipped at a change, or is lacking in its year.
+/// Returns the absence of a label that is skipped at a change, or is missing in its year.
 fn by_gaps(territory: &Territory, label: Label) -> Result<Absence, AllocError>
     ensures { IfOk result (λ absence.
         absence ≡ spec.by_gaps (gaps newest_rules territory.now label)) }
@@ -46,7 +46,7 @@ fn by_gaps(territory: &Territory, label: Label) -> Result<Absence, AllocError>
     }
 }
 
-/// Why no day is dated with the label.
+/// Returns why no day is dated with the label.
 fn absence_of_label(territory: &Territory, label: Label) -> Result<Absence, AllocError>
     ensures { IfOk result (λ absence.
         absence ≡ spec.absence_of_label newest_rules territory.now label) }
@@ -60,11 +60,12 @@ fn absence_of_label(territory: &Territory, label: Label) -> Result<Absence, Allo
     by_gaps(territory, label)
 }
 
-/// Why a date that means no day in a territory means none: the first of the reasons that applies.
+/// Returns why a date that means no day in a territory means none: the first of the reasons that
+/// applies.
 ///
 /// # Errors
 ///
-/// `AllocError` where there is no memory for a list of days.
+/// `AllocError` if there is no memory for a list of days.
 #[tactic(auto, unfolding(crate::specs::Absence::absence))]
 pub fn absence_of(territory: &Territory, date: WrittenDate) -> Result<Absence, AllocError>
     ensures { IfOk result (λ a. a ≡ spec.absence newest_rules territory.now date) }

@@ -4,14 +4,14 @@ ghost use Rattle.osn_written.specs.AnyDate as spec;
 
 use osn_days::Weekday;
 
-/// A year as it is written. Of a double year, as `1731/2`, it is the first one.
+/// A year as it is written. For a double year, such as `1731/2`, it is the first one.
 #[derive(Clone, Copy, Debug, PartialEq, Eq)]
 pub struct Year {
     pub first: u16,
     /// Whether the year that follows is written too.
     pub is_double: bool,
-    /// Whether it is written with three digits and no zero before them, as `173`, so that it may
-    /// lack its last one.
+    /// Whether it is written with three digits and no zero before them, such as `173`, so that it
+    /// may lack its last one.
     pub has_three_digits: bool,
 }
 
@@ -35,7 +35,7 @@ pub enum Extent {
 }
 
 impl SimpleDate {
-    /// Whether the year is written with three digits and no zero before them.
+    /// Returns whether the year is written with three digits and no zero before them.
     fn has_year_of_three_digits(self) -> bool
         ensures { result ≡ spec.has_year_of_three_digits self }
     {
@@ -47,7 +47,7 @@ impl SimpleDate {
 }
 
 impl Extent {
-    /// Whether a year of it is written with three digits and no zero before them.
+    /// Returns whether a year of it is written with three digits and no zero before them.
     pub fn has_year_of_three_digits(self) -> bool
         ensures { result ≡ spec.has_three_digits self }
     {
@@ -64,7 +64,7 @@ impl Extent {
     }
 }
 
-/// By which calendar a date is written, where it says so.
+/// By which calendar a date is written, if it says so.
 #[derive(Clone, Copy, Debug, PartialEq, Eq)]
 pub enum Reckoning {
     OldStyle,

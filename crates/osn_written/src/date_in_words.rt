@@ -9,7 +9,7 @@ use osn_days::{Day, Weekday, month_name};
 use osn_lands::{DatedDay, DatedYears, Label};
 use std::fmt;
 
-/// The zeros that bring a year to four digits.
+/// Returns the zeros that bring a year to four digits.
 fn zeros_before(year: u16) -> &'static str
     ensures { result.now ≡ spec.zeros_before year }
 {
@@ -24,7 +24,8 @@ fn zeros_before(year: u16) -> &'static str
     }
 }
 
-/// The years of a dated day that is in the year. Which day it is makes no difference to them.
+/// Returns the years of a dated day that is in the year. Which day it is makes no difference to
+/// them.
 #[tactic(auto, unfolding(osn_lands::specs::Dated::years_text))]
 fn years(year: Year) -> DatedYears
     ensures { years_text result.0 ≡ year_text (pos year.first) (pos (spec.last_year year)) }
@@ -113,7 +114,7 @@ impl fmt::Display for WeekdayBefore {
     }
 }
 
-/// The calendar after a date, if one is named.
+/// Returns the calendar after a date, if one is named.
 fn calendar_after(reckoning: Option<Reckoning>) -> &'static str
     ensures { result.now ≡ spec.calendar_after reckoning }
 {
@@ -124,17 +125,18 @@ fn calendar_after(reckoning: Option<Reckoning>) -> &'static str
     }
 }
 
-/// A word where something is said, and nothing where it isn't.
+/// Returns a word if something is said, and nothing otherwise.
 fn optional_word(applies: bool, word: &'static str) -> &'static str
     ensures { result.now ≡ spec.optional_word applies word.now }
 {
     if applies { word } else { "" }
 }
 
-/// Writes a date in words, with all that is said of it: `[about Friday 11 February 1731/2 O.S.?]`,
-/// `February 1731/2 to 1735`, `not after 1640`. A year below 1000 has zeros before it, as `0045`,
-/// since a shorter number is read as no year, or as one that may lack a digit. A month that is not 1 to 12 is taken for
-/// 12, and `is_writable` tells of which dates the words are read back.
+/// Writes a date in words, with its signs: `[about Friday 11 February 1731/2 O.S.?]`,
+/// `February 1731/2 to 1735`, `not after 1640`. A year below 1000 has zeros before it, such as
+/// `0045`, since a shorter number is not read as a year, or is read as one that may lack a digit. A
+/// month that is not 1 to 12 is written as 12. `is_writable` returns whether the words of a date
+/// are read back.
 #[derive(Clone, Copy, Debug, PartialEq, Eq)]
 pub struct DateInWords(pub AnyDate);
 

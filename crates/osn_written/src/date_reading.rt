@@ -1,4 +1,4 @@
-//! The date that a text is, or why it is none.
+//! The date that a text is, or why it is not a date.
 ghost use Rattle.std.specs.Prelude.{◌≡◌, IfOk};
 
 use crate::any_date::AnyDate;
@@ -17,7 +17,7 @@ pub enum DateReading {
     Fault(DateFault),
 }
 
-/// A list of the same dates.
+/// Returns a list of the same dates.
 fn copy_of(alloc: Global, dates: &[AnyDate]) -> Result<Vec<AnyDate>, AllocError>
     ensures { IfOk result (λ copy. copy.items ≡ dates.now) }
 {
@@ -25,11 +25,11 @@ fn copy_of(alloc: Global, dates: &[AnyDate]) -> Result<Vec<AnyDate>, AllocError>
 }
 
 impl DateReading {
-    /// A reading equal to this one.
+    /// Returns a reading equal to this one.
     ///
     /// # Errors
     ///
-    /// Only where no memory is found.
+    /// If memory runs out.
     pub fn copy(&self, alloc: Global) -> Result<DateReading, AllocError>
         ensures { IfOk result (λ reading. reading ≡ self.now) }
     {

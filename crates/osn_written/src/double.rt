@@ -11,22 +11,22 @@ use osn_days::Day;
 use osn_lands::Territory;
 use std::alloc::{AllocError, Global};
 
-/// Whether the place dated the day by another year.
+/// Returns whether the place dated the day by another year.
 fn is_dated_otherwise(own: &Territory, first: u16, day: Day) -> bool
     ensures { result ≡ spec.is_dated_otherwise newest_rules own.now first day }
 {
     own.dated(day).label.year != i32::from(first)
 }
 
-/// Whether the place dated one of the days by another year.
+/// Returns whether the place dated one of the days by another year.
 fn has_dated_otherwise(own: &Territory, first: u16, days: &[Day]) -> bool
     ensures { result ≡ list_any (spec.is_dated_otherwise newest_rules own.now first) days.now }
 {
     days.iter().any(|day| is_dated_otherwise(own, first, *day))
 }
 
-/// Whether a date has both years, and a place dated one of the days that it means by another year
-/// than the first one: it did not count that day double.
+/// Returns whether a date has both years, and a place dated one of the days that it means by
+/// another year than the first one: it did not count that day double.
 fn is_date_not_counted_double(
     alloc: Global,
     own: &Territory,
@@ -44,8 +44,8 @@ fn is_date_not_counted_double(
     Ok(has_dated_otherwise(own, year.first, days.as_slice()))
 }
 
-/// Whether a date of what is written has both years, and means by the reckoning of a territory a
-/// day that the place itself dated by another year than the first one.
+/// Returns whether a date of what is written has both years, and means by the reckoning of a
+/// territory a day that the place itself dated by another year than the first one.
 ///
 /// # Errors
 ///

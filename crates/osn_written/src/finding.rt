@@ -16,14 +16,14 @@ use std::alloc::{AllocError, Global};
 /// Why a written date means no day in a territory.
 #[derive(Clone, Copy, Debug, PartialEq, Eq)]
 pub enum NoDay {
-    /// The date, the first one of a range or that of a bound means no day. Of a month or a year it
-    /// is told why its first day is lacking.
+    /// The date, the first one of a range or that of a bound means no day. For a month or a year,
+    /// this is why its first day is missing.
     Absent(Absence),
     /// The last date of a range means no day.
     LastAbsent(Absence),
     /// The first day of a range is after its last day.
     OutOfOrder,
-    /// No day of the line is before the date, or none is after it.
+    /// The line has no day before the date, or no day after it.
     OffTheLine,
 }
 
@@ -34,13 +34,13 @@ const NEW_STYLE: Regime = Regime {
     rule: Rule::Gregorian,
 };
 
-/// The territory as if it had gone by the calendar that a date names. By the old style that is the
-/// Julian calendar with the territory's own beginnings of the year. By the new style it is the
+/// Returns the territory as if it had used the calendar that a date names. By the old style that is
+/// the Julian calendar with the territory's own beginnings of the year. By the new style it is the
 /// Gregorian calendar with the year from 1 January.
 ///
 /// # Errors
 ///
-/// `AllocError` where there is no memory for its periods.
+/// `AllocError` if there is no memory for its periods.
 pub fn by_reckoning(
     alloc: Global,
     territory: &Territory,
@@ -54,7 +54,7 @@ pub fn by_reckoning(
     }
 }
 
-/// The first day of a date, as it is written: of a month or a year its day 1.
+/// Returns the first day of a date, as it is written: for a month or a year its day 1.
 pub fn first_day_of(date: SimpleDate) -> WrittenDate
     ensures { result ≡ spec.first_day_of date }
 {
@@ -72,7 +72,7 @@ pub fn first_day_of(date: SimpleDate) -> WrittenDate
     }
 }
 
-/// Why a date means no day.
+/// Returns why a date means no day.
 fn absence_in(territory: &Territory, date: SimpleDate) -> Result<Absence, AllocError>
     ensures { IfOk result (λ absence.
         absence ≡ spec.absence_in newest_rules territory.now date) }
@@ -80,7 +80,8 @@ fn absence_in(territory: &Territory, date: SimpleDate) -> Result<Absence, AllocE
     absence_of(territory, first_day_of(date))
 }
 
-/// The first date of what is written, and the last one. For one date or a bound both are that one.
+/// Returns the first date of what is written, and the last one. For one date or a bound both are
+/// that one.
 pub fn ends_of(extent: Extent) -> (SimpleDate, SimpleDate)
     ensures { result ≡ spec.ends_of extent }
 {
@@ -94,7 +95,7 @@ pub fn ends_of(extent: Extent) -> (SimpleDate, SimpleDate)
     }
 }
 
-/// Why there is no span of days.
+/// Returns why there is no span of days.
 fn reason_of(territory: &Territory, extent: Extent, no_span: NoSpan) -> Result<NoDay, AllocError>
     ensures { IfOk result (λ reason.
         reason ≡ spec.reason_of newest_rules territory.now extent no_span) }
@@ -108,7 +109,7 @@ fn reason_of(territory: &Territory, extent: Extent, no_span: NoSpan) -> Result<N
     }
 }
 
-/// One run, or why no day is meant.
+/// Returns one run, or why no day is meant.
 fn of_span(
     alloc: Global,
     territory: &Territory,
@@ -128,7 +129,7 @@ fn of_span(
     }
 }
 
-/// The runs of one date, or why it means no day.
+/// Returns the runs of one date, or why it means no day.
 fn of_date(
     alloc: Global,
     territory: &Territory,
@@ -144,7 +145,7 @@ fn of_date(
     Ok(Ok(runs))
 }
 
-/// The date, where what is written is one.
+/// Returns the date, if what is written is one.
 fn one_date(extent: Extent) -> Option<SimpleDate>
     ensures { result ≡ spec.one_date extent }
 {
@@ -154,12 +155,12 @@ fn one_date(extent: Extent) -> Option<SimpleDate>
     }
 }
 
-/// The days that what is written means in a territory, as runs in order, or why it means none. One
-/// date has the runs of `runs_meant`, a range or a bound is the one of `span_meant`.
+/// Returns the days that what is written means in a territory, as runs in order, or why it means
+/// none. One date has the runs of `runs_meant`, a range or a bound is the one of `span_meant`.
 ///
 /// # Errors
 ///
-/// `AllocError` where there is no memory for the list.
+/// `AllocError` if there is no memory for the list.
 #[tactic(auto, unfolding(crate::specs::Finding::extent_meant))]
 pub fn find_runs(
     alloc: Global,
@@ -178,7 +179,7 @@ pub fn find_runs(
     }
 }
 
-/// Whether both are the same runs. Where neither means a day, the reasons may differ.
+/// Returns whether both are the same runs. If neither means a day, the reasons may differ.
 fn are_same(own: &Result<Vec<Run>, NoDay>, named: &Result<Vec<Run>, NoDay>) -> bool
     ensures { result ≡ spec.are_same (spec.list_of own.now) (spec.list_of named.now) }
 {
@@ -189,11 +190,12 @@ fn are_same(own: &Result<Vec<Run>, NoDay>, named: &Result<Vec<Run>, NoDay>) -> b
     }
 }
 
-/// Whether a date that names a calendar means other days by it than by the place's own reckoning.
+/// Returns whether a date that names a calendar means other days by it than by the place's own
+/// reckoning.
 ///
 /// # Errors
 ///
-/// `AllocError` where there is no memory for the lists that are compared.
+/// `AllocError` if there is no memory for the lists that are compared.
 pub fn is_by_other_calendar(
     alloc: Global,
     territory: &Territory,

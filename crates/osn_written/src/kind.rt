@@ -21,7 +21,7 @@ pub enum Kind {
 }
 
 impl Kind {
-    /// The word of the kind: `day`, `month`, `year`, `range`, `before`, `after` or `set`.
+    /// Returns the word of the kind: `day`, `month`, `year`, `range`, `before`, `after` or `set`.
     pub fn word(self) -> &'static str
         ensures { result.now ≡ spec.kind_word self }
     {
@@ -37,7 +37,7 @@ impl Kind {
     }
 }
 
-/// The kind of one date.
+/// Returns the kind of one date.
 fn kind_of_date(date: SimpleDate) -> Kind
     ensures { result ≡ spec.kind_of_date date }
 {
@@ -48,7 +48,7 @@ fn kind_of_date(date: SimpleDate) -> Kind
     }
 }
 
-/// The kind of what is written.
+/// Returns the kind of what is written.
 pub fn kind_of(extent: Extent) -> Kind
     ensures { result ≡ spec.kind_of extent }
 {

@@ -18,14 +18,14 @@ impl<T> Model for Listing<T> {
 }
 
 impl<T> Listing<T> {
-    /// The items that were moved in.
+    /// Returns the items that were moved in.
     pub fn new(items: Vec<T>) -> Listing<T>
         ensures { result ≡ items.items }
     {
         Listing { items }
     }
 
-    /// The items, to read.
+    /// Returns the items, to read.
     pub fn as_slice(&self) -> &[T]
         ensures { result.now ≡ self.now }
     {

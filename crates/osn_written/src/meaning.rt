@@ -12,7 +12,7 @@ use osn_lands::{DatedDay, Label, Territory};
 use std::alloc::{AllocError, Global};
 
 impl WrittenDate {
-    /// The label that the date has by its first year, or its only one.
+    /// Returns the label that the date has by its first year, or its only one.
     pub fn label(self) -> Label
         ensures { result ≡ spec.label_of self }
     {
@@ -23,7 +23,7 @@ impl WrittenDate {
         }
     }
 
-    /// The label of the same month and day in the later year.
+    /// Returns the label of the same month and day in the later year.
     fn later_label(self) -> Label
         ensures { result ≡ spec.later_label self }
     {
@@ -33,7 +33,7 @@ impl WrittenDate {
         }
     }
 
-    /// Whether the date is from 1 January to 24 March.
+    /// Returns whether the date is from 1 January to 24 March.
     fn is_before_25_march(self) -> bool
         ensures { result ≡ is_before_25_march self.month self.day }
     {
@@ -41,15 +41,15 @@ impl WrittenDate {
     }
 }
 
-/// Whether the year of a day, counted from 1 January, is the later one of a double date.
+/// Returns whether the year of a day, counted from 1 January, is the later one of a double date.
 fn is_of_later_year(date: WrittenDate, day: DatedDay) -> bool
     ensures { result ≡ spec.is_of_later_year date day }
 {
     day.january_year == i32::from(date.year) + 1
 }
 
-/// The days of a label whose year, counted from 1 January, is the later one of a double date, in
-/// order.
+/// Returns the days of a label whose year, counted from 1 January, is the later one of a double
+/// date, in order.
 fn read_in_later_year(
     territory: &Territory,
     date: WrittenDate,
@@ -63,7 +63,8 @@ fn read_in_later_year(
     Ok(days)
 }
 
-/// The days of a double date before 25 March where the territory wrote the later year alone.
+/// Returns the days of a double date before 25 March on which the territory wrote the later year
+/// alone.
 fn not_counted_double(
     alloc: Global,
     territory: &Territory,
@@ -79,7 +80,7 @@ fn not_counted_double(
     }
 }
 
-/// The days that a double date means.
+/// Returns the days that a double date means.
 fn double_meant(
     alloc: Global,
     territory: &Territory,
@@ -94,7 +95,7 @@ fn double_meant(
     Ok(days)
 }
 
-/// The days that a date means, before any weekday is looked for.
+/// Returns the days that a date means, before any weekday is looked for.
 #[tactic(auto, unfolding(crate::specs::Meaning::days_meant))]
 fn plain_days_meant(
     alloc: Global,
@@ -111,7 +112,7 @@ fn plain_days_meant(
     }
 }
 
-/// Whether a day is of a weekday, where one is given.
+/// Returns whether a day is on a weekday, if one is given.
 pub fn is_on(given: Option<Weekday>, day: Day) -> bool
     ensures { result ≡ spec.is_on given day }
 {
@@ -121,21 +122,22 @@ pub fn is_on(given: Option<Weekday>, day: Day) -> bool
     }
 }
 
-/// Whether a day is of the weekday that the date names, and of the one that is given beside it.
+/// Returns whether a day is of the weekday that the date names, and of the one that is given beside
+/// it.
 pub fn has_weekday(date: WrittenDate, given: Option<Weekday>, day: &DatedDay) -> bool
     ensures { result ≡ spec.has_weekday date given day.now }
 {
     is_on(date.weekday, day.day) && is_on(given, day.day)
 }
 
-/// Whether a double date means the day although the territory wrote the later year alone.
+/// Returns whether a double date means the day although the territory wrote the later year alone.
 pub fn is_not_counted_double(date: WrittenDate, day: &DatedDay) -> bool
     ensures { result ≡ spec.is_not_counted_double date day.now }
 {
     date.is_double && day.label.year != i32::from(date.year)
 }
 
-/// The days as the territory dated them.
+/// Returns the days as the territory dated them.
 fn dated_days(
     alloc: Global,
     territory: &Territory,
@@ -147,7 +149,7 @@ fn dated_days(
     days.iter().map(|day| territory.dated(*day)).collect(alloc)
 }
 
-/// These days as a territory dated them, whatever reckoning they were found by.
+/// Returns these days as a territory dated them, whatever reckoning they were found by.
 ///
 /// # Errors
 ///
@@ -165,7 +167,7 @@ pub fn dated_by(
         .collect(alloc)
 }
 
-/// The days, those first that have the weekday.
+/// Returns the days, those first that have the weekday.
 fn first_by_weekday(
     alloc: Global,
     date: WrittenDate,
@@ -180,16 +182,16 @@ fn first_by_weekday(
     of_weekday.chain(others).copied().collect(alloc)
 }
 
-/// The days that a date means in a territory, as the territory dated them. Those come first that
-/// have the weekday which the date names, and the one that is given beside it.
+/// Returns the days that a date means in a territory, as the territory dated them. Those come first
+/// that have the weekday which the date names, and the one that is given beside it.
 ///
 /// A double date means the days whose year is its first one by the style that was in force, and is
 /// the later one when counted from 1 January. Before 25 March it also means the days on which the
-/// territory's own year was the later one too, as where it counted from 1 January.
+/// territory's own year was the later one too, such as in a territory that counted from 1 January.
 ///
 /// # Errors
 ///
-/// `AllocError` where there is no memory for the list.
+/// `AllocError` if there is no memory for the list.
 #[tactic(auto, using(crate::proofs::OneDayFacts::same_days), unfolding(crate::specs::Meaning::meaning))]
 pub fn days_meant(
     alloc: Global,

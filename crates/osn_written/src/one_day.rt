@@ -6,7 +6,7 @@ use crate::any_date::{AnyDate, Extent, SimpleDate};
 use crate::written_date::{DateFault, WrittenDate};
 use osn_days::Weekday;
 
-/// The date of one day, with the weekday that is named beside it, if any.
+/// Returns the date of one day, with the weekday that is named beside it, if any.
 fn day_in(extent: Extent, weekday: Option<Weekday>) -> Result<WrittenDate, DateFault>
     ensures { result ≡ spec.day_in extent weekday }
 {
@@ -22,18 +22,18 @@ fn day_in(extent: Extent, weekday: Option<Weekday>) -> Result<WrittenDate, DateF
     }
 }
 
-/// Whether more is said of a date than which it is.
+/// Returns whether more is said of a date than which it is.
 fn has_qualifier(date: AnyDate) -> bool
     ensures { result ≡ spec.has_qualifier date }
 {
     date.reckoning.is_some() || date.is_approximate || date.is_uncertain || date.is_supplied
 }
 
-/// The date of one day with its weekday, if nothing more is said of it.
+/// Returns the date of one day with its weekday, if nothing more is said of it.
 ///
 /// # Errors
 ///
-/// `NotOneDay` for a month, a year, a range or a bound, then `Qualifier` where more is said.
+/// `NotOneDay` for a month, a year, a range or a bound, then `Qualifier` if more is said.
 pub fn plain_day(date: AnyDate) -> Result<WrittenDate, DateFault>
     ensures { result ≡ spec.plain_day date }
 {
@@ -45,7 +45,7 @@ pub fn plain_day(date: AnyDate) -> Result<WrittenDate, DateFault>
 }
 
 impl WrittenDate {
-    /// The day of a date that is one day, with the weekday that it names, if any.
+    /// Returns the day of a date that is one day, with the weekday that it names, if any.
     pub fn of_one_day(date: AnyDate) -> Option<WrittenDate>
         ensures { result ≡ spec.one_day date }
     {

@@ -12,7 +12,7 @@ use osn_days::Day;
 use osn_lands::{DatedDay, Label, Run, Territory};
 use std::alloc::{AllocError, Global};
 
-/// The year that is written.
+/// Returns the year that is written.
 pub(crate) fn year_of(date: SimpleDate) -> Year
     ensures { result ≡ spec.year_of date }
 {
@@ -23,7 +23,7 @@ pub(crate) fn year_of(date: SimpleDate) -> Year
     }
 }
 
-/// Whether the label has the month and the day of the month, where they are written.
+/// Returns whether the label has the month and the day of the month, if they are written.
 fn has_month_and_day(date: SimpleDate, label: Label) -> bool
     ensures { result ≡ spec.has_month_and_day date label }
 {
@@ -34,14 +34,14 @@ fn has_month_and_day(date: SimpleDate, label: Label) -> bool
     }
 }
 
-/// Whether a label is of a day from 1 January to 24 March.
+/// Returns whether a label is of a day from 1 January to 24 March.
 fn is_before_25_march(label: Label) -> bool
     ensures { result ≡ is_before_25_march label.month label.day }
 {
     label.month < 3 || label.month == 3 && label.day < 25
 }
 
-/// Whether the day is of the double year that begins with this one.
+/// Returns whether the day is of the double year that begins with this one.
 fn is_in_double_year(first: u16, day: &DatedDay) -> bool
     ensures { result ≡ spec.is_in_double_year first day.now }
 {
@@ -50,14 +50,14 @@ fn is_in_double_year(first: u16, day: &DatedDay) -> bool
         && (day.label.year == year || day.label.year == year + 1 && is_before_25_march(day.label))
 }
 
-/// Whether a date of a double year means the day.
+/// Returns whether a date of a double year means the day.
 fn is_meant_double(date: SimpleDate, day: &DatedDay) -> bool
     ensures { result ≡ spec.is_meant_double date day.now }
 {
     is_in_double_year(year_of(date).first, day) && has_month_and_day(date, day.label)
 }
 
-/// Each of these days as a run.
+/// Returns each of these days as a run.
 fn single_runs(alloc: Global, days: &[Day]) -> Result<Vec<Run>, AllocError>
     ensures { IfOk result (λ runs. runs.items ≡ map spec.run_of_day days.now) }
 {
@@ -69,7 +69,7 @@ fn single_runs(alloc: Global, days: &[Day]) -> Result<Vec<Run>, AllocError>
         .collect(alloc)
 }
 
-/// The days with a label, each as a run.
+/// Returns the days with a label, each as a run.
 fn runs_of_label(alloc: Global, territory: &Territory, label: Label) -> Result<Vec<Run>, AllocError>
     ensures days { IfOk result (λ runs.
         days_in runs.items ≡ reading newest_rules territory.now label) }
@@ -79,8 +79,8 @@ fn runs_of_label(alloc: Global, territory: &Territory, label: Label) -> Result<V
     single_runs(alloc, days.as_slice())
 }
 
-/// The days whose label has that year, and the month and the day that are written, as runs that may
-/// touch.
+/// Returns the days whose label has that year, and the month and the day that are written, as runs
+/// that may touch.
 fn runs_labelled(
     alloc: Global,
     territory: &Territory,
@@ -139,7 +139,7 @@ fn push_meant_of_year(
     Ok(())
 }
 
-/// The days that a date of a double year means, in order.
+/// Returns the days that a date of a double year means, in order.
 pub(crate) fn double_days(
     alloc: Global,
     territory: &Territory,
@@ -156,7 +156,7 @@ pub(crate) fn double_days(
     Ok(days)
 }
 
-/// The days that a date of a double year means, each as a run.
+/// Returns the days that a date of a double year means, each as a run.
 fn double_runs(
     alloc: Global,
     territory: &Territory,
@@ -170,7 +170,7 @@ fn double_runs(
     single_runs(alloc, days.as_slice())
 }
 
-/// The days that a date means, as runs that may touch.
+/// Returns the days that a date means, as runs that may touch.
 fn touching_runs(
     alloc: Global,
     territory: &Territory,
@@ -188,7 +188,7 @@ fn touching_runs(
     }
 }
 
-/// A run and others after it in order, those as one that touch.
+/// Returns a run and others after it in order, those as one that touch.
 fn joined_after(alloc: Global, first: Run, others: &[Run]) -> Result<Vec<Run>, AllocError>
     requires { spec.HaveDays others.now }
     ensures { IfOk result (λ joined.
@@ -219,9 +219,10 @@ pub(crate) fn joined(alloc: Global, runs: &[Run]) -> Result<Vec<Run>, AllocError
     }
 }
 
-/// The days that a written day, month or year means in a territory, as runs in order. Each is a day
-/// whose label has the year that is written, and the month and the day where they are, by the
-/// regime that was in force on it. A day that is not meant lies between each run and the next one.
+/// Returns the days that a written day, month or year means in a territory, as runs in order. Each
+/// is a day whose label has the year that is written, and the month and the day if they are
+/// written, by the regime that was in force on it. A day that is not meant is between each run and
+/// the next one.
 ///
 /// A double year is that of the days whose label has the first year, and whose year counted from 1
 /// January is the later one. From 1 January to 24 March it is also that of the days which the
@@ -229,7 +230,7 @@ pub(crate) fn joined(alloc: Global, runs: &[Run]) -> Result<Vec<Run>, AllocError
 ///
 /// # Errors
 ///
-/// `AllocError` where there is no memory for the list.
+/// `AllocError` if there is no memory for the list.
 #[tactic(auto, unfolding(crate::specs::Runs::runs_meant))]
 pub fn runs_meant(
     alloc: Global,

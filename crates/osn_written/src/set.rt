@@ -18,21 +18,21 @@ pub struct AbsentMember {
     pub reason: NoDay,
 }
 
-/// Whether one of the dates is approximate.
+/// Returns whether one of the dates is approximate.
 pub fn is_set_approximate(members: &[AnyDate]) -> bool
     ensures { result ≡ spec.is_set_approximate members.now }
 {
     members.iter().any(|date| date.is_approximate)
 }
 
-/// Whether one of the dates is in doubt.
+/// Returns whether one of the dates is in doubt.
 pub fn is_set_uncertain(members: &[AnyDate]) -> bool
     ensures { result ≡ spec.is_set_uncertain members.now }
 {
     members.iter().any(|date| date.is_uncertain)
 }
 
-/// The runs of all dates, one date after another, or the first one that means no day.
+/// Returns the runs of all dates, one date after another, or the first one that means no day.
 fn members_meant(
     alloc: Global,
     territory: &Territory,
@@ -63,7 +63,7 @@ fn sort_by_first(runs: &mut Vec<Run>) -> Result<(), AllocError>
     Ok(())
 }
 
-/// The first day of a run from a number on.
+/// Returns the first day of a run from a number on.
 fn first_from(run: Run, next: u32) -> u32
     ensures { result ≡ spec.first_from run next }
 {
@@ -87,7 +87,8 @@ fn push_from(rest: &mut Vec<Run>, first: u32, last: Day) -> Result<(), AllocErro
     Ok(())
 }
 
-/// Of runs in the order of their first days, each without the days that the runs before it have.
+/// Returns runs that are in the order of their first days, each without the days of the runs before
+/// it.
 fn without_overlap(alloc: Global, runs: &[Run]) -> Result<Vec<Run>, AllocError>
     ensures value { IfOk result (λ rest. rest.items ≡ spec.rest_from 1 runs.now) }
     ensures within { IfOk result (λ rest. spec.EndOnLine newest_rules runs.now) }
@@ -105,7 +106,7 @@ fn without_overlap(alloc: Global, runs: &[Run]) -> Result<Vec<Run>, AllocError>
     Ok(rest)
 }
 
-/// The days of runs in any order, as runs in order.
+/// Returns the days of runs in any order, as runs in order.
 fn union(alloc: Global, mut runs: Vec<Run>) -> Result<Vec<Run>, AllocError>
     ensures { IfOk result (λ union. union.items ≡ spec.union newest_rules runs.items) }
 {
@@ -114,13 +115,13 @@ fn union(alloc: Global, mut runs: Vec<Run>) -> Result<Vec<Run>, AllocError>
     joined(alloc, rest.as_slice())
 }
 
-/// The days of a set of dates in a territory, of which one is meant: those that any of the dates
-/// means, as runs in order. No two of the runs touch. Where a date means no day, it is told which
+/// Returns the days of a set of dates in a territory, of which one is meant: those that any of the
+/// dates means, as runs in order. No two of the runs touch. If a date means no day, returns which
 /// is the first such date, and why.
 ///
 /// # Errors
 ///
-/// `AllocError` where there is no memory for the list.
+/// `AllocError` if there is no memory for the list.
 pub fn find_set(
     alloc: Global,
     territory: &Territory,

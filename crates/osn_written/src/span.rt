@@ -9,7 +9,7 @@ use osn_days::{Day, HIGH};
 use osn_lands::{Run, Territory};
 use std::alloc::{AllocError, Global};
 
-/// Why a date, a range or a bound is no span of days.
+/// Why a date, a range or a bound is not a span of days.
 #[derive(Clone, Copy, Debug, PartialEq, Eq)]
 pub enum NoSpan {
     /// The date, or the first one of a range, means no day.
@@ -18,11 +18,11 @@ pub enum NoSpan {
     NoLastDay,
     /// The first day of a range is after its last day.
     OutOfOrder,
-    /// No day of the line is before the date, or none is after it.
+    /// The line has no day before the date, or no day after it.
     OffTheLine,
 }
 
-/// The first day of runs in order.
+/// Returns the first day of runs in order.
 pub fn first_of(runs: &[Run]) -> Option<Day>
     ensures { result ≡ spec.first_of runs.now }
 {
@@ -32,7 +32,7 @@ pub fn first_of(runs: &[Run]) -> Option<Day>
     }
 }
 
-/// The last day of runs in order.
+/// Returns the last day of runs in order.
 pub fn last_of(runs: &[Run]) -> Option<Day>
     ensures { result ≡ spec.last_of runs.now }
 {
@@ -42,7 +42,7 @@ pub fn last_of(runs: &[Run]) -> Option<Day>
     }
 }
 
-/// The first day that a date means.
+/// Returns the first day that a date means.
 fn first_meant(
     alloc: Global,
     territory: &Territory,
@@ -54,7 +54,7 @@ fn first_meant(
     Ok(first_of(runs.as_slice()))
 }
 
-/// The last day that a date means.
+/// Returns the last day that a date means.
 fn last_meant(
     alloc: Global,
     territory: &Territory,
@@ -66,7 +66,7 @@ fn last_meant(
     Ok(last_of(runs.as_slice()))
 }
 
-/// From one day to another one, which is no earlier.
+/// Returns the run from one day to another one, which is not earlier.
 fn from_to(first: Option<Day>, last: Option<Day>) -> Result<Run, NoSpan>
     ensures { result ≡ spec.from_to first last }
 {
@@ -79,7 +79,7 @@ fn from_to(first: Option<Day>, last: Option<Day>) -> Result<Run, NoSpan>
     }
 }
 
-/// From the first day of the line to the day before one.
+/// Returns the run from the first day of the line to the day before one.
 fn before(day: Option<Day>) -> Result<Run, NoSpan>
     ensures { result ≡ spec.before day }
 {
@@ -94,7 +94,7 @@ fn before(day: Option<Day>) -> Result<Run, NoSpan>
     }
 }
 
-/// From the first day of the line to one.
+/// Returns the run from the first day of the line to one.
 fn not_after(day: Option<Day>) -> Result<Run, NoSpan>
     ensures { result ≡ spec.not_after day }
 {
@@ -104,7 +104,7 @@ fn not_after(day: Option<Day>) -> Result<Run, NoSpan>
     })
 }
 
-/// From the day after one to the last day of the line.
+/// Returns the run from the day after one to the last day of the line.
 fn after(day: Option<Day>) -> Result<Run, NoSpan>
     ensures { result ≡ spec.after newest_rules day }
 {
@@ -119,7 +119,7 @@ fn after(day: Option<Day>) -> Result<Run, NoSpan>
     }
 }
 
-/// From one day to the last day of the line.
+/// Returns the run from one day to the last day of the line.
 fn not_before(day: Option<Day>) -> Result<Run, NoSpan>
     ensures { result ≡ spec.not_before newest_rules day }
 {
@@ -129,7 +129,7 @@ fn not_before(day: Option<Day>) -> Result<Run, NoSpan>
     })
 }
 
-/// From the first day that one date means to the last day that another one means.
+/// Returns the run from the first day that one date means to the last day that another one means.
 fn range_meant(
     alloc: Global,
     territory: &Territory,
@@ -145,13 +145,13 @@ fn range_meant(
     Ok(from_to(first, last))
 }
 
-/// The days from the first one that a date, a range or a bound may mean in a territory to the last
-/// one, or why no day is meant. A range lasts from the first day of its first date to the last day
-/// of its last date. A bound reaches to the first or the last day of the line.
+/// Returns the days from the first one that a date, a range or a bound may mean in a territory to
+/// the last one, or why no day is meant. A range lasts from the first day of its first date to the
+/// last day of its last date. A bound reaches to the first or the last day of the line.
 ///
 /// # Errors
 ///
-/// `AllocError` where there is no memory for the runs of a date.
+/// `AllocError` if there is no memory for the runs of a date.
 pub fn span_meant(
     alloc: Global,
     territory: &Territory,

@@ -7,7 +7,7 @@ use crate::finding::NoDay;
 use crate::written_date::DateFault;
 
 impl Absence {
-    /// Why one date means no day, as `skipped`.
+    /// Returns why one date means no day, such as `skipped`.
     fn words(self) -> &'static str
         ensures { result.now ≡ spec.absence_words self }
     {
@@ -20,7 +20,7 @@ impl Absence {
         }
     }
 
-    /// The same of the last date of a range.
+    /// Returns the same for the last date of a range.
     fn words_of_last(self) -> &'static str
         ensures { result.now ≡ spec.last_absence_words self }
     {
@@ -35,7 +35,7 @@ impl Absence {
 }
 
 impl NoDay {
-    /// Why a written date means no day, as `skipped` or `first date after the last`.
+    /// Returns why a written date means no day, such as `skipped` or `first date after the last`.
     pub fn words(self) -> &'static str
         ensures { result.now ≡ spec.no_day_words self }
     {
@@ -49,7 +49,8 @@ impl NoDay {
 }
 
 impl DateFault {
-    /// Why a text says nothing of a date, as `malformed date` or `open between day and month`.
+    /// Returns why a text says nothing of a date, such as `malformed date` or
+    /// `open between day and month`.
     pub fn words(self) -> &'static str
         ensures { result.now ≡ spec.fault_words self }
     {

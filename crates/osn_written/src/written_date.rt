@@ -5,7 +5,7 @@ ghost use Rattle.osn_written.specs.WrittenDate as spec;
 
 use osn_days::Weekday;
 
-/// A date as people write it: a year, a month and a day, and whether it is a double date as
+/// A date as people write it: a year, a month and a day, and whether it is a double date such as
 /// `11 February 1731/2`, whose year is the first one. It has the weekday before it too, if one is
 /// written. Whether a calendar has the date is not tested.
 #[derive(Clone, Copy, Debug, PartialEq, Eq)]
@@ -17,12 +17,12 @@ pub struct WrittenDate {
     pub weekday: Option<Weekday>,
 }
 
-/// Why a text is no written date.
+/// Why a text is not a written date.
 #[derive(Clone, Copy, Debug, PartialEq, Eq)]
 pub enum DateFault {
     /// The text has none of the forms of a date.
     Malformed,
-    /// After the `/` stand the last digits of the year that follows, one digit or more.
+    /// After the `/` come the last digits of the year that follows, one digit or more.
     LaterYear,
     /// A year is 0 to 10000.
     Year,
@@ -30,16 +30,16 @@ pub enum DateFault {
     Month,
     /// A day is 1 to 31.
     Day,
-    /// The text is empty or says that there is no date, as `n.d.`.
+    /// The text is empty or says that there is no date, such as `n.d.`.
     NoDate,
     /// It is a month, a year, a range, a bound or a set.
     NotOneDay,
     /// More is said of the day than which it is: `about`, `?`, `[ ]`, `O.S.` or `N.S.`.
     Qualifier,
-    /// A year of one or two digits has its zeros, as `0045`.
+    /// A year of one or two digits has its zeros, such as `0045`.
     ShortYear,
     /// A digit of the year is open, as in `173-` and `173X`, or a year of three digits is in doubt
-    /// or stands in brackets, as `173?`.
+    /// or in brackets, as in `173?`.
     OpenYear,
     /// `11/2/1731` may be 11 February or 2 November.
     DayOrMonth,
@@ -51,7 +51,7 @@ pub enum DateFault {
     RomanNumeral,
 }
 
-/// The parts before and after the first such character.
+/// Returns the parts before and after the first such character.
 pub fn parts_at(text: &str, separator: char) -> Option<(&str, &str)>
     requires { separator < 128 }
     ensures { option_map (λ x. (x.0.now, x.1.now)) result ≡ spec.parts_at separator text.now }
@@ -59,7 +59,7 @@ pub fn parts_at(text: &str, separator: char) -> Option<(&str, &str)>
     text.split_once(separator)
 }
 
-/// Whether each byte is a digit.
+/// Returns whether each byte is a digit.
 fn are_digits(part: &[u8]) -> bool
     ensures { result ≡ all_ascii_digits part.now }
 {
@@ -71,7 +71,7 @@ fn are_digits(part: &[u8]) -> bool
     true
 }
 
-/// The number that a text is, of 1 to 9 digits, if it is one. Zeros may stand before it.
+/// Returns the number that a text is, of 1 to 9 digits, if it is one. Zeros may come before it.
 pub fn number_of(part: &str) -> Option<u32>
     ensures value { result ≡ spec.number_of part.now }
     ensures small { IfSome result (λ n. n < 10 ^ 9) }
@@ -93,14 +93,14 @@ const WEEKDAYS: [Weekday; 7] = [
     Weekday::Saturday,
 ];
 
-/// Whether a weekday has the name, whose letters may be capital or small.
+/// Returns whether a weekday has the name, whose letters may be capital or small.
 fn has_name(name: &str, weekday: Weekday) -> bool
     ensures { result ≡ spec.has_name name.now weekday }
 {
     weekday.name().eq_ignore_ascii_case(name)
 }
 
-/// The first weekday, of these, that has the name.
+/// Returns the first weekday, of these, that has the name.
 fn first_named(weekdays: &[Weekday], name: &str) -> Option<Weekday>
     ensures { result ≡ find (spec.has_name name.now) weekdays.now }
 {
@@ -110,7 +110,7 @@ fn first_named(weekdays: &[Weekday], name: &str) -> Option<Weekday>
         .find(|weekday| has_name(name, *weekday))
 }
 
-/// The weekday of an English name. Its letters may be capital or small.
+/// Returns the weekday of an English name. Its letters may be capital or small.
 #[tactic(auto, using(crate::proofs::WeekdayFacts::weekday_found))]
 pub fn weekday_named(name: &str) -> Option<Weekday>
     ensures { result ≡ spec.weekday_named name.now }

@@ -1,4 +1,4 @@
-//! Folders of the system for tests, their files, and what these hold after a run.
+//! Folders of the system for tests, their files, and what these contain after a run.
 use crate::support::runs::{RunRow, are_run};
 use osn_test_texts::{is_text, joined};
 use std::path::PathBuf;
@@ -15,7 +15,7 @@ pub type File = (&'static str, &'static str);
 ///
 /// # Errors
 ///
-/// What the system refuses, and want of memory.
+/// Returns an error of the system, or an error if memory runs out.
 pub fn entered(rt: &HostRuntime, test: &str, files: &[File]) -> Result<PathBuf, Fail> {
     let alloc = rt.alloc();
     let id = process::id(rt.process());
@@ -32,11 +32,12 @@ pub fn entered(rt: &HostRuntime, test: &str, files: &[File]) -> Result<PathBuf, 
     Ok(folder)
 }
 
-/// Checks that a file has this text, and that none is left beside it.
+/// Checks that a file has this text, and that no unfinished file is left beside it.
 ///
 /// # Errors
 ///
-/// The first lines that differ, the file beside it, what the system refuses, and want of memory.
+/// Returns the first lines that differ, the file beside it, an error of the system, or an error if
+/// memory runs out.
 pub fn has_text<R: Files + AllocGlobal>(rt: &R, path: &str, text: &str) -> Result<(), Fail> {
     is_text(fs::read_to_string(rt, path)?.as_str(), text)?;
     let beside = format!(in rt.alloc(); "{path}.unfinished")?;
@@ -46,14 +47,14 @@ pub fn has_text<R: Files + AllocGlobal>(rt: &R, path: &str, text: &str) -> Resul
     Ok(())
 }
 
-/// A run that keeps the file of a path, and what the file holds then.
+/// A run that keeps the file of a path, and what the file contains then.
 pub type KeptRow = (RunRow, &'static str, &'static str);
 
-/// Checks that runs leave this, one after another, and what each file holds then.
+/// Checks that runs leave this, one after another, and what each file contains then.
 ///
 /// # Errors
 ///
-/// Those of `is_left`, the first lines that differ, and what the system refuses.
+/// Returns the errors of `is_left`, the first lines that differ, or an error of the system.
 pub fn are_kept<R: Files<File = fs::File> + Threads + Wait + AllocGlobal>(
     rt: &R,
     rows: &[KeptRow],

@@ -16,12 +16,12 @@ pub struct Left {
 
 type Memory = Plain<Vec<u8>>;
 
-/// Memory that a run writes to.
+/// Returns memory that a run writes to.
 pub fn sink(alloc: Global) -> Memory {
     Plain::new(Vec::new(alloc))
 }
 
-/// What a run left, by its status and what it wrote.
+/// Returns what a run left, by its status and what it wrote.
 pub fn left_by(status: Status, output: Memory, errors: Memory) -> Left {
     Left {
         status,
@@ -37,8 +37,8 @@ pub type Wanted = (u8, &'static str, &'static str);
 ///
 /// # Errors
 ///
-/// What differs first: of the text on standard error, of the status, or of the output. Also what is
-/// no UTF-8.
+/// Returns the first difference: in the text on standard error, in the status, or in the output.
+/// Returns an error also for a text that is not UTF-8.
 pub fn is_outcome(left: &Left, wanted: (u8, &str, &str)) -> Result<(), Fail> {
     let (status, written, told) = wanted;
     is_text(str::from_utf8(&left.errors)?, told)?;
@@ -49,11 +49,11 @@ pub fn is_outcome(left: &Left, wanted: (u8, &str, &str)) -> Result<(), Fail> {
     is_text(str::from_utf8(&left.written)?, written)
 }
 
-/// The same, where the lines of the output are broken as `joined` says.
+/// Checks the same, if the lines of the output are broken as `joined` says.
 ///
 /// # Errors
 ///
-/// The same, and want of memory.
+/// Returns the same, or an error if memory runs out.
 pub fn is_left(alloc: Global, left: Left, wanted: &Wanted) -> Result<(), Fail> {
     let (status, written, told) = wanted;
     let written = joined(alloc, written)?;

@@ -9,11 +9,11 @@ use std::sync::Wait;
 use std::test::Fail;
 use std::thread::Threads;
 
-/// What a command line leaves, with a space between two words, over this input.
+/// Returns what a command line leaves, with a space between two words, over this input.
 ///
 /// # Errors
 ///
-/// Want of memory, and nothing else.
+/// Returns `AllocError` if memory runs out.
 pub fn left_over<R: Files<File = fs::File> + Threads + Wait + AllocGlobal>(
     rt: &R,
     line: &str,
@@ -41,7 +41,7 @@ pub type RunRow = (&'static str, &'static str, Wanted);
 ///
 /// # Errors
 ///
-/// Those of `is_left`.
+/// Returns the errors of `is_left`.
 pub fn are_run<R: Files<File = fs::File> + Threads + Wait + AllocGlobal>(
     rt: &R,
     rows: &[RunRow],

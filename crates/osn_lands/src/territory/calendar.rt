@@ -9,7 +9,7 @@ use osn_days::Calendar;
 use std::alloc::{AllocError, Global};
 use std::collections::BTreeMap;
 
-/// The same periods by the Julian calendar.
+/// Returns the same periods by the Julian calendar.
 fn julian_periods(alloc: Global, periods: &[Period]) -> Result<Vec<Period>, AllocError>
     ensures { IfOk result (λ julian. julian.items ≡ map period_in_julian periods.now) }
 {
@@ -26,12 +26,12 @@ fn julian_periods(alloc: Global, periods: &[Period]) -> Result<Vec<Period>, Allo
 }
 
 impl Territory {
-    /// The territory as if it had dated all its days by the Julian calendar: its years begin where
-    /// they began. No Easter is listed.
+    /// Returns the territory as if it had dated all its days by the Julian calendar: its years
+    /// begin as they began. No Easter is listed.
     ///
     /// # Errors
     ///
-    /// `AllocError` where there is no memory for as many periods.
+    /// `AllocError` if there is no memory for as many periods.
     pub fn in_julian_calendar(&self) -> Result<Territory, AllocError>
         ensures { IfOk result (λ t. t ≡ in_julian_calendar self.now) }
     {

@@ -12,22 +12,23 @@ use osn_days::{Day, Year};
 use std::collections::BTreeMap;
 
 impl Territory {
-    /// The day as the territory dates it, by the regime in force on it.
+    /// Returns the day as the territory dates it, by the regime in force on it.
     pub fn dated(&self, day: Day) -> DatedDay
         ensures { result ≡ spec.dated_on newest_rules self.now day }
     {
         dated_day(self.regime_at(day), day)
     }
 
-    /// The years with a listed Easter, in ascending order, each with the day that is listed.
+    /// Returns the years with a listed Easter, in ascending order, each with the day that is
+    /// listed.
     pub fn exceptions(&self) -> &BTreeMap<Year, Day>
         ensures { result.now.entries ≡ self.now.exceptions }
     {
         &self.exceptions
     }
 
-    /// Whether some regime of the territory has the month and day in some year, be it in force then
-    /// or not.
+    /// Returns whether some regime of the territory has the month and day in some year, be it in
+    /// force then or not.
     pub fn has_month_day(&self, month: u8, day: u8) -> bool
         ensures { result ≡ list_any (λ s. has_month_day newest_rules s.1.calendar month day)
             self.now.starts }

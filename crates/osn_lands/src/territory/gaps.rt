@@ -10,7 +10,8 @@ use osn_days::Day;
 use std::alloc::AllocError;
 
 impl Territory {
-    /// Whether the label comes after the day before a change and before the day of the change.
+    /// Returns whether the label comes after the day before a change and before the day of the
+    /// change.
     fn is_in_gap(&self, label: Label, change: Day) -> bool
         ensures { result ≡ order.is_in_gap newest_rules self.now label change }
     {
@@ -23,12 +24,12 @@ impl Territory {
         }
     }
 
-    /// The days of the changes at which the label is skipped and in whose gap it lies, in order. It
-    /// comes after the last date before the change, and before the first date from it on.
+    /// Returns the days of the changes at which the label is skipped and in whose gap it lies, in
+    /// order. It comes after the last date before the change, and before the first date from it on.
     ///
     /// # Errors
     ///
-    /// `AllocError` where there is no memory for the list.
+    /// `AllocError` if there is no memory for the list.
     pub fn gaps(&self, label: Label) -> Result<Vec<Day>, AllocError>
         ensures value { IfOk result (λ days.
             days.items ≡ order.gaps newest_rules self.now label) }
@@ -40,8 +41,8 @@ impl Territory {
         Ok(days)
     }
 
-    /// Whether the label comes before the first day of the line or after the last, by the regimes
-    /// that are in force there.
+    /// Returns whether the label comes before the first day of the line or after the last, by the
+    /// regimes that are in force there.
     pub fn is_off_line(&self, label: Label) -> bool
         ensures { result ≡ order.is_off_line newest_rules self.now label }
     {

@@ -14,11 +14,11 @@ use osn_days::Day;
 use std::alloc::AllocError;
 
 impl Territory {
-    /// The days that the territory dates with the label, in order.
+    /// Returns the days that the territory dates with the label, in order.
     ///
     /// # Errors
     ///
-    /// `AllocError` where there is no memory for the list.
+    /// `AllocError` if there is no memory for the list.
     pub fn read(&self, label: Label) -> Result<Vec<Day>, AllocError>
         ensures value { IfOk result (λ days.
             days.items ≡ plain.reading newest_rules self.now label) }
@@ -30,11 +30,11 @@ impl Territory {
         Ok(days)
     }
 
-    /// The same, and how many dates were tested to find them: at most three a period.
+    /// Returns the same, and how many dates were tested to find them: at most three a period.
     ///
     /// # Errors
     ///
-    /// `AllocError` where there is no memory for the list.
+    /// `AllocError` if there is no memory for the list.
     pub fn read_counted(&self, label: Label) -> Result<(Vec<Day>, u32), AllocError>
         ensures value { IfOk result (λ read. read.0.items
             ≡ plain.reading newest_rules self.now label) }
@@ -44,7 +44,7 @@ impl Territory {
         self.read_by(&LabelSearch::new(label, self.periods()))
     }
 
-    /// The days that are found by a search, and how many dates were tested in all.
+    /// Returns the days that are found by a search, and how many dates were tested in all.
     fn read_by(&self, search: &LabelSearch) -> Result<(Vec<Day>, u32), AllocError>
         requires search { IsSearchIn self.now search.now }
         requires tested { search.now.tested
@@ -62,11 +62,11 @@ impl Territory {
         Ok((days, tested))
     }
 
-    /// The days of the changes at which the label is skipped, in order.
+    /// Returns the days of the changes at which the label is skipped, in order.
     ///
     /// # Errors
     ///
-    /// `AllocError` where there is no memory for the list.
+    /// `AllocError` if there is no memory for the list.
     pub fn skipped(&self, label: Label) -> Result<Vec<Day>, AllocError>
         ensures value { IfOk result (λ days. days.items
             ≡ plain.skipped newest_rules self.now label) }
@@ -76,7 +76,7 @@ impl Territory {
         self.skipped_by(&LabelSearch::new(label, self.periods()))
     }
 
-    /// The days of the changes at which the label of a search is skipped.
+    /// Returns the days of the changes at which the label of a search is skipped.
     fn skipped_by(&self, search: &LabelSearch) -> Result<Vec<Day>, AllocError>
         requires { IsSearchIn self.now search.now }
         ensures value { IfOk result (λ days.
@@ -94,13 +94,13 @@ impl Territory {
         Ok(days)
     }
 
-    /// The days that the territory dates with the label, and the days of the changes at which it is
-    /// skipped, both in order. They are what `read` and `skipped` answer, by one search. The number
-    /// says how many dates were tested to find both: at most three a period.
+    /// Returns the days that the territory dates with the label, and the days of the changes at
+    /// which it is skipped, both in order. They are what `read` and `skipped` answer, by one
+    /// search. The number says how many dates were tested to find both: at most three a period.
     ///
     /// # Errors
     ///
-    /// `AllocError` where there is no memory for the lists.
+    /// `AllocError` if there is no memory for the lists.
     pub fn read_and_skipped(&self, label: Label) -> Result<(Vec<Day>, Vec<Day>, u32), AllocError>
         ensures read { IfOk result (λ found.
             found.0.items ≡ plain.reading newest_rules self.now label) }

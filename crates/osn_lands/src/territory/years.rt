@@ -10,12 +10,12 @@ use crate::territory::Territory;
 use std::alloc::AllocError;
 
 impl Territory {
-    /// The days that the territory dates in a year, as runs in ascending order: at most one a
-    /// period.
+    /// Returns the days that the territory dates in a year, as runs in ascending order: at most one
+    /// a period.
     ///
     /// # Errors
     ///
-    /// `AllocError` where there is no memory for the list.
+    /// `AllocError` if there is no memory for the list.
     pub fn days_of_year(&self, year: i32) -> Result<Vec<Run>, AllocError>
         ensures days { IfOk result (λ runs.
             plain.days_in runs.items ≡ plain.days_of_year newest_rules self.now year) }
@@ -26,12 +26,13 @@ impl Territory {
         self.runs_of(Sought { year, month: None })
     }
 
-    /// The days that the territory dates in a month of a year, as runs in ascending order. They are
-    /// at most two a period, since a year that begins within a month has days of it at both ends.
+    /// Returns the days that the territory dates in a month of a year, as runs in ascending order.
+    /// They are at most two a period, since a year that begins within a month has days of it at
+    /// both ends.
     ///
     /// # Errors
     ///
-    /// `AllocError` where there is no memory for the list.
+    /// `AllocError` if there is no memory for the list.
     pub fn days_of_month(&self, year: i32, month: u8) -> Result<Vec<Run>, AllocError>
         ensures days { IfOk result (λ runs.
             plain.days_in runs.items ≡ plain.days_of_month newest_rules self.now year month) }
@@ -45,7 +46,7 @@ impl Territory {
         })
     }
 
-    /// The days that are sought, as runs in ascending order.
+    /// Returns the days that are sought, as runs in ascending order.
     fn runs_of(&self, sought: Sought) -> Result<Vec<Run>, AllocError>
         ensures days { IfOk result (λ runs.
             plain.days_in runs.items ≡ days_sought newest_rules self.now sought) }

@@ -5,12 +5,12 @@ use std::alloc::Global;
 use std::fmt::Debug;
 use std::test::Fail;
 
-/// A call that changes nothing, and that may answer want of memory.
+/// A call that changes nothing, and that may lack memory.
 pub trait Reading {
-    /// What it answers where it finds memory.
+    /// What it returns with enough memory.
     type Answer: Debug + Drop;
 
-    /// Makes the call, and answers nothing where it wants memory.
+    /// Makes the call, and returns `None` if it lacks memory.
     fn read(&self, alloc: Global) -> Option<Self::Answer>;
 }
 
@@ -44,7 +44,7 @@ impl<R: Reading> Change for ChangeOfNothing<'_, R> {
 ///
 /// # Errors
 ///
-/// As there.
+/// Returns the errors of `is_sound_change`.
 pub fn is_sound_reading<R: Reading>(alloc: Global, reading: &R) -> Result<(), Fail> {
     is_sound_change(alloc, &ChangeOfNothing { reading })
 }

@@ -1,10 +1,10 @@
-//! All memory that the process can have, of which a test leaves as much as it wants to.
+//! All memory that the process can have, of which a test leaves as much as it needs.
 use std::alloc::{AllocError, Global};
 
 /// The largest blocks that are asked for: no process can have one.
 const LARGEST: usize = 0x4000_0000_0000;
 
-/// How often their size is halved for the largest blocks that are asked for anew for each call.
+/// How often their size is halved for the largest blocks that are requested for each call.
 const LARGE: u32 = 23;
 
 /// How often it is halved for those that an allocator may keep for the next block of their size.
@@ -54,11 +54,11 @@ fn take_all(alloc: Global, blocks: &mut Vec<Vec<u8>>, first: u32) {
 }
 
 impl ScarceMemory {
-    /// Holds all memory but what is left to the test.
+    /// Takes all memory except what is left to the test.
     ///
     /// # Errors
     ///
-    /// Want of memory for the list of what is held.
+    /// Returns `AllocError` if there is no memory for the list of what is taken.
     pub fn new(alloc: Global) -> Result<ScarceMemory, AllocError> {
         let mut for_good = Vec::with_capacity(alloc, MOST_BLOCKS)?;
         let for_a_call = Vec::with_capacity(alloc, MOST_BLOCKS)?;
@@ -72,7 +72,7 @@ impl ScarceMemory {
         })
     }
 
-    /// Holds all memory but about that many bytes.
+    /// Takes all memory except about that many bytes.
     pub fn leave(&mut self, room: usize) {
         let left = Vec::<u8>::with_capacity(self.alloc, room.saturating_add(FRONT));
         take_all(self.alloc, &mut self.for_a_call, LARGE);

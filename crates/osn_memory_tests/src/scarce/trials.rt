@@ -1,4 +1,4 @@
-//! Calls where memory is scarce, compared with the same calls where it is ample.
+//! Calls with scarce memory, compared with the same calls with ample memory.
 use crate::scarce::change::Change;
 use crate::scarce::scarce_memory::ScarceMemory;
 use osn_test_texts::is_text;
@@ -12,18 +12,18 @@ const STEP: usize = 32;
 /// How often a call is made at most.
 const MOST_TRIALS: usize = 65_536;
 
-/// What a call does where memory is ample.
+/// What a call does with ample memory.
 #[derive(Drop)]
 pub struct Ample {
-    /// What tells how that stood which it was made on.
+    /// A text of the state, before the call, of what it was made on.
     pub before: String,
-    /// What it answered.
+    /// What it returned.
     pub answer: String,
-    /// What tells how that stands which it was made on.
+    /// A text of the state after the call.
     pub after: String,
 }
 
-/// What a call does where memory is ample, on this.
+/// Returns what a call does with ample memory, on this.
 fn ample_on<C: Change>(alloc: Global, call: &C, on: &mut C::On) -> Result<Ample, Fail> {
     let before = call.standing(alloc, on)?;
     let Some(answer) = call.make(alloc, on) else {
@@ -38,7 +38,7 @@ fn ample_on<C: Change>(alloc: Global, call: &C, on: &mut C::On) -> Result<Ample,
     })
 }
 
-/// What a call does where memory is ample.
+/// Returns what a call does with ample memory.
 fn made_ample<C: Change>(alloc: Global, call: &C) -> Result<Ample, Fail> {
     let mut on = call.on(alloc)?;
     let ample = ample_on(alloc, call, &mut on);
@@ -46,7 +46,7 @@ fn made_ample<C: Change>(alloc: Global, call: &C) -> Result<Ample, Fail> {
     ample
 }
 
-/// Checks that a call answered and did what it does where memory is ample.
+/// Checks that a call returned and did what it does with ample memory.
 fn is_ample<C: Change>(
     alloc: Global,
     call: &C,
@@ -59,8 +59,8 @@ fn is_ample<C: Change>(
     is_text(call.standing(alloc, on)?.as_str(), ample.after.as_str())
 }
 
-/// Checks that after a refusal all stands as it has to, and the call that is made again does what
-/// it does where memory is ample.
+/// Checks the state after a refusal, and that the call does what it does with ample memory when it
+/// is made again.
 fn is_made_again<C: Change>(
     alloc: Global,
     call: &C,
@@ -74,7 +74,7 @@ fn is_made_again<C: Change>(
     }
 }
 
-/// Whether a call on this is refused where about that many bytes are left.
+/// Returns whether a call on this is refused when about that many bytes are left.
 fn is_refused_on<C: Change>(
     alloc: Global,
     call: &C,
@@ -97,7 +97,7 @@ fn is_refused_on<C: Change>(
     }
 }
 
-/// Whether a call is refused where about that many bytes are left.
+/// Returns whether a call is refused when about that many bytes are left.
 fn is_refused<C: Change>(
     alloc: Global,
     call: &C,
@@ -111,7 +111,7 @@ fn is_refused<C: Change>(
     refused
 }
 
-/// How often a call is refused, until it is answered.
+/// Returns how often a call is refused before it succeeds.
 fn refusals<C: Change>(alloc: Global, call: &C, ample: &Ample) -> Result<usize, Fail> {
     let mut memory = ScarceMemory::new(alloc)?;
     for trial in 0..MOST_TRIALS {
@@ -122,16 +122,16 @@ fn refusals<C: Change>(alloc: Global, call: &C, ample: &Ample) -> Result<usize, 
     Err(Fail::new("it is refused however much memory is left"))
 }
 
-/// Refuses the growths of memory of a call in turn, the first one first, until the call finds
-/// enough: it is made where nothing is left, then where a little is, then where a little more is.
-/// What it is made on is made anew each time. A growth that finds room in what the call itself has
-/// given back is not refused.
+/// Refuses the growths of memory of a call in turn, the first one first, until the call has enough:
+/// it is made when nothing is left, then when a little is, then when a little more is. What it is
+/// made on is made again each time. A growth that finds room in what the call itself has given back
+/// is not refused.
 ///
 /// # Errors
 ///
-/// A call that answers otherwise than where memory is ample and does not want memory; one that was
-/// refused and has changed something, or does otherwise when it is made again; and one that never
-/// was refused.
+/// Returns an error for a call that returns another result than with ample memory and does not lack
+/// memory; for one that was refused and has changed something, or gives another result when it is
+/// made again; and for one that never was refused.
 pub fn is_sound_change<C: Change>(alloc: Global, call: &C) -> Result<(), Fail> {
     let ample = made_ample(alloc, call)?;
     match refusals(alloc, call, &ample)? {

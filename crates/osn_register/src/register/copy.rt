@@ -13,11 +13,11 @@ use crate::register::{NamedTerritory, Register};
 use std::alloc::{AllocError, Global};
 
 impl Register {
-    /// A register equal to this one.
+    /// Returns a register equal to this one.
     ///
     /// # Errors
     ///
-    /// Only where no memory is found, of which the copy of an empty register takes none.
+    /// If memory runs out. The copy of an empty register needs none.
     pub fn copy(&self) -> Result<Register, AllocError>
         ensures value { IfOk result (λ r. r ≡ self.now) }
         ensures memory { OnErr result (0 < length self.now.lands) }
@@ -47,12 +47,12 @@ impl Register {
         self.insert(key, entry.copy(self.alloc)?)
     }
 
-    /// Applies edits in turn, and passes over those that are refused.
+    /// Applies edits in turn, and ignores those that are refused.
     ///
     /// # Errors
     ///
-    /// Only where no memory is found, of which refused edits take none, nor those that drop, nor
-    /// those that alter and give no source. Some of the edits may be applied then.
+    /// If memory runs out. Refused edits need none, nor those that drop, nor those that alter and
+    /// give no source. On an error some of the edits may have been applied.
     pub fn apply_all(&mut self, edits: &[Edit]) -> Result<(), AllocError>
         ensures ok { OnOk result (self.new ≡ record self.old {
           lands = applied_all newest_rules self.old.limits self.old.lands edits.now;
@@ -66,12 +66,12 @@ impl Register {
         Ok(())
     }
 
-    /// The register of edits applied in turn to the empty one, refused ones passed over.
+    /// Returns the register of edits applied in turn to the empty one. Refused edits are ignored.
     ///
     /// # Errors
     ///
-    /// Only where no memory is found, of which refused edits take none, nor those that drop, nor
-    /// those that alter and give no source.
+    /// If memory runs out. Refused edits need none, nor those that drop, nor those that alter and
+    /// give no source.
     pub fn fold(alloc: Global, limits: Limits, edits: &[Edit]) -> Result<Register, AllocError>
         ensures value { IfOk result (λ r. r ≡ folded newest_rules limits edits.now) }
         ensures memory { OnErr result (fold_takes_memory newest_rules limits [] edits.now ≡ true) }

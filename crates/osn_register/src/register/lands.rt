@@ -14,7 +14,7 @@ use crate::register::Register;
 use osn_lands::Territory;
 
 impl Register {
-    /// The code, the name and the territory at a place, from 0, in the order of addition.
+    /// Returns the code, the name and the territory at a place, from 0, in the order of addition.
     pub fn land_at(&self, place: usize) -> Option<(&str, &str, &Territory)>
         ensures value { option_map {U = List ℕ × List ℕ × TerritoryModel}
             (λ l. (l.0.now, l.1.now, l.2.now)) result
@@ -27,7 +27,7 @@ impl Register {
         }
     }
 
-    /// The name and the territory of a code, where some territory has it.
+    /// Returns the name and the territory of a code, if some territory has it.
     pub fn find_land(&self, code: &str) -> Option<(&str, &Territory)>
         ensures value { IfSome result (λ l.
             named_of code.now self.now.lands ≡ Some (l.0.now, l.1.now)) }
@@ -39,11 +39,11 @@ impl Register {
         }
     }
 
-    /// The name and the territory of a code.
+    /// Returns the name and the territory of a code.
     ///
     /// # Errors
     ///
-    /// `BadCode` where no territory may have the code, then `UnknownLand` where none has it.
+    /// `BadCode` if no territory may have the code, then `UnknownLand` if no territory has it.
     pub fn land(&self, code: &str) -> Result<(&str, &Territory), Refusal>
         ensures test { IsTestOf (code_refusal self.now.lands code.now) result }
         ensures value { IfOk result (λ l.
@@ -55,7 +55,7 @@ impl Register {
         self.find_land(code).ok_or(Refusal::UnknownLand)
     }
 
-    /// The first territory that has the name.
+    /// Returns the first territory that has the name.
     pub fn territory_named(&self, name: &str) -> Option<&Territory>
         ensures { option_map (λ t. t.now) result
             ≡ by_name.territory_named name.now self.now.lands }

@@ -23,7 +23,7 @@ use osn_days::Weekday;
 use osn_written::{DateReading, Listing};
 use std::alloc::{AllocError, Global};
 
-/// A territory as it is listed.
+/// Returns a territory as it is listed.
 fn land(alloc: Global, code: &str, name: &Text) -> Result<Land, AllocError>
     ensures { IfOk result (λ l. (l.code ≡ code.now) × (l.name ≡ name.now)) }
 {
@@ -34,26 +34,27 @@ fn land(alloc: Global, code: &str, name: &Text) -> Result<Land, AllocError>
 }
 
 impl Register {
-    /// What the register answers to a query: `Answer::Refused` exactly where the query is refused.
+    /// Returns what the register answers to a query: `Answer::Refused` exactly if the query is
+    /// refused.
     ///
     /// # Errors
     ///
-    /// Only where no memory is found, of which a refusal, the figures of a year and an empty list
-    /// of territories take none.
+    /// If memory runs out. A refusal, the figures of a year and an empty list of territories need
+    /// none.
     pub fn answer(&self, query: &Query) -> Result<Answer, AllocError>
         ensures value { IfOk result (λ a. a ≡ spec.answer newest_rules self.now.lands query.now) }
-        // as a law: nothing but the definition's refusals refuses a query
+        // as a law: only the definition's refusals refuse a query
         ensures refused { IfOk result
             (λ a. spec.refusal_in a ≡ spec.query_refusal newest_rules self.now.lands query.now) }
         ensures memory { OnErr result
             (spec.takes_memory (spec.answer newest_rules self.now.lands query.now) ≡ true) }
-        // as a law: where the first rules have the year or the day, it keeps what they answer
+        // as a law: if the first rules have the year or the day, it keeps what they answer
         ensures earlier_rules { IfOk result (KeepsAnswer first_rules self.now.lands query.now) }
     {
         self.answer_borrowed(query.borrowed())
     }
 
-    /// What `answer` says to the query that this one stands for.
+    /// Answers a query with borrowed texts as `answer` does.
     ///
     /// # Errors
     ///
@@ -75,7 +76,8 @@ impl Register {
         }
     }
 
-    /// Whether the Easters of a year may be asked of a territory. It takes no query and no memory.
+    /// Checks whether the Easters of a year may be asked of a territory. It needs no query and no
+    /// memory.
     ///
     /// # Errors
     ///
@@ -157,11 +159,11 @@ impl Register {
         Ok(written(self.alloc, territory, date, weekday)?)
     }
 
-    /// The territories with their names, in the order in which they were added.
+    /// Returns the territories with their names, in the order in which they were added.
     ///
     /// # Errors
     ///
-    /// `AllocError` where there is no memory for them. An empty register takes none.
+    /// `AllocError` if there is no memory for them. An empty register needs none.
     pub fn listed(&self) -> Result<Vec<Land>, AllocError>
         ensures value { IfOk result (λ v. v.items ≡ map spec.listed self.now.lands) }
         ensures memory { OnErr result (0 < length self.now.lands) }

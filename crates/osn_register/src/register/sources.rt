@@ -9,7 +9,7 @@ use crate::sources::source_of;
 use osn_days::{Day, Year};
 
 impl Register {
-    /// The source of the period of a territory that starts on a day, where one is given.
+    /// Returns the source of the period of a territory that starts on a day, if one is given.
     pub fn period_source(&self, code: &str, day: Day) -> Option<&Source>
         ensures { option_map (λ s. s.now) result
             ≡ spec.period_source (sources_of code.now self.now.lands) day }
@@ -17,7 +17,7 @@ impl Register {
         source_of(&self.sources(code)?.periods, day.number())
     }
 
-    /// The source of the Easter that a territory lists for a year, where one is given.
+    /// Returns the source of the Easter that a territory lists for a year, if one is given.
     pub fn easter_source(&self, code: &str, year: Year) -> Option<&Source>
         ensures { option_map (λ s. s.now) result
             ≡ spec.easter_source (sources_of code.now self.now.lands) year }

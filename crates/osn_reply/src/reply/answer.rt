@@ -134,7 +134,7 @@ fn write_refused(
     out.push("}")
 }
 
-/// Writes what a reader is told.
+/// Writes the reply to a reader.
 pub(crate) fn write_reply(
     out: &mut LineWriter,
     reader: u32,

@@ -1,4 +1,4 @@
-//! The compact text of a reply, for one who reads its tokens.
+//! The compact text of a reply, for callers that read its tokens.
 ghost use Rattle.std.specs.Prelude.{◌≡◌, IfOk, string_bytes};
 ghost use Rattle.serde_json.specs.Written.{compact_text};
 ghost use Rattle.osn_reply.specs.ReplyText.{outcome_data};
@@ -9,7 +9,7 @@ use crate::reply::ROOM;
 use crate::reply::write_json::WriteJson;
 use std::alloc::{AllocError, Global};
 
-/// A value's compact text.
+/// Returns a value's compact text.
 fn value_text<J: WriteJson>(alloc: Global, value: &J) -> Result<String, AllocError>
     ensures { IfOk result (λ s. string_bytes s ≡ compact_text (J.json_value value.now)) }
 {
@@ -18,10 +18,10 @@ fn value_text<J: WriteJson>(alloc: Global, value: &J) -> Result<String, AllocErr
     Ok(unsafe { String::from_utf8_unchecked(out.into_bytes()) })
 }
 
-/// The compact text of an outcome, which is its reply line without the line feed.
+/// Returns the compact text of an outcome, which is its reply line without the line feed.
 ///
 /// # Errors
-/// Want of memory, and nothing else.
+/// Returns `AllocError` if memory runs out.
 pub fn compact_reply(alloc: Global, outcome: &Outcome) -> Result<String, AllocError>
     ensures { IfOk result (λ s. string_bytes s ≡ compact_text (outcome_data outcome.now)) }
 {

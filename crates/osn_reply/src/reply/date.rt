@@ -9,7 +9,7 @@ use osn_days::{Calendar, Day, date_digits, date_of, date_text};
 use osn_lands::Label;
 use std::alloc::AllocError;
 
-/// Writes what stands before a date, and the date.
+/// Writes `front` and a date.
 fn write_date(
     out: &mut LineWriter,
     front: &str,
@@ -30,7 +30,7 @@ fn write_date(
     out.push_text(front, date.as_str())
 }
 
-/// Writes what stands before the date of a day in a calendar, and the date.
+/// Writes `front` and the date of a day in a calendar.
 pub(crate) fn write_date_of(
     out: &mut LineWriter,
     front: &str,
@@ -45,7 +45,7 @@ pub(crate) fn write_date_of(
     write_date(out, front, date.year, date.month, date.day)
 }
 
-/// Writes what stands before a label, and the label as a date.
+/// Writes `front` and a label as a date.
 pub(crate) fn write_label(out: &mut LineWriter, front: &str, label: Label) -> Result<(), AllocError>
     ensures text { OnOk result (out.new.text ≡ out.old.text
         ++ (front.now ++ quoted (spec.date_text label.year label.month label.day))) }

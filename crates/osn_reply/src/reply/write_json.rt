@@ -39,7 +39,7 @@ impl WriteJson for bool {
     }
 }
 
-// A value, or null where no value is given.
+// A value, or null if no value is given.
 impl<J: WriteJson> WriteJson for Option<J> {
     ghost json_value = { option_data J.json_value };
 
@@ -51,7 +51,7 @@ impl<J: WriteJson> WriteJson for Option<J> {
     }
 }
 
-/// Writes what stands before such a value, and the value.
+/// Writes `front` and such a value.
 pub(crate) fn write_member<J: WriteJson>(
     out: &mut LineWriter,
     front: &str,
@@ -65,7 +65,7 @@ pub(crate) fn write_member<J: WriteJson>(
     value.write_json(out)
 }
 
-/// Writes what stands before true or false, and which it is.
+/// Writes `front`, and `true` or `false`.
 pub(crate) fn write_flag(out: &mut LineWriter, front: &str, flag: bool) -> Result<(), AllocError>
     ensures text { OnOk result (out.new.text
         ≡ out.old.text ++ (front.now ++ compact_text (boolean flag))) }
@@ -75,7 +75,7 @@ pub(crate) fn write_flag(out: &mut LineWriter, front: &str, flag: bool) -> Resul
     out.push(if flag { "true" } else { "false" })
 }
 
-/// Writes the member that a source is, after another one, where a source is given.
+/// Writes the member of a source after another member, if a source is given.
 pub(crate) fn write_source(out: &mut LineWriter, source: &Option<Source>) -> Result<(), AllocError>
     ensures text { OnOk result (out.new.text ≡ out.old.text ++ source_text source.now) }
     ensures before { out.new.before ≡ out.old.before }
@@ -86,7 +86,7 @@ pub(crate) fn write_source(out: &mut LineWriter, source: &Option<Source>) -> Res
     }
 }
 
-/// Writes the comma that stands before a later item of a list.
+/// Writes the comma before a later item of a list.
 fn write_comma(out: &mut LineWriter, later: bool) -> Result<(), AllocError>
     ensures text { OnOk result (out.new.text ≡ out.old.text ++ comma_if later) }
     ensures before { out.new.before ≡ out.old.before }
@@ -94,7 +94,7 @@ fn write_comma(out: &mut LineWriter, later: bool) -> Result<(), AllocError>
     if later { out.push(",") } else { Ok(()) }
 }
 
-/// Writes what stands before a list of such values, and the list.
+/// Writes `front` and a list of such values.
 pub(crate) fn write_list<J: WriteJson>(
     out: &mut LineWriter,
     front: &str,

@@ -9,7 +9,7 @@ use osn_register::{Reason, WrittenAnswer};
 use osn_written::Kind;
 use std::alloc::AllocError;
 
-/// The word of a date's kind, or `none` where no date is read.
+/// Returns the word of a date's kind, or `none` if no date is read.
 fn word_of_kind(kind: Option<Kind>) -> &'static str
     ensures { result.now ≡ spec.word_of_kind kind }
 {
@@ -19,7 +19,7 @@ fn word_of_kind(kind: Option<Kind>) -> &'static str
     }
 }
 
-/// Why a text means no day, in a few words.
+/// Returns why a text means no day, in a few words.
 fn reason_words(reason: Reason) -> &'static str
     ensures { result.now ≡ spec.reason_words reason }
 {

@@ -12,7 +12,7 @@ use osn_format::{Member, Version};
 use osn_register::{Edit, Source, Text};
 use std::alloc::{AllocError, Global};
 
-/// The source of a text, where one is given.
+/// Returns the source of a text, if one is given.
 fn source_of(alloc: Global, text: Option<&str>) -> Result<Option<Source>, AllocError>
     requires { IfSome text (λ t. is_source t.now ≡ true) }
     ensures { IfOk result (λ source. source ≡ option_map (λ t. t.now) text.entry) }
@@ -132,12 +132,12 @@ fn drop_exception_of<O: JsonObject>(alloc: Global, object: &O) -> Result<Edit, R
     Ok(Edit::DropException { code, year })
 }
 
-/// The edit of a line's object by the rules of a version, or the fault of its first member in order
-/// that is no such member.
+/// Returns the edit of a line's object by the rules of a version, or the fault of its first wrong
+/// member in order.
 ///
 /// # Errors
-/// The fault of that member. Memory is taken only for the texts of the edit, once every member was
-/// found good.
+/// Returns the fault of that member, or `NoMemory`. Memory is taken only for the texts of the edit,
+/// after no fault was found.
 pub fn edit_of<O: JsonObject>(
     alloc: Global,
     version: Version,

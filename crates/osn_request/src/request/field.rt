@@ -13,10 +13,10 @@ use osn_lands::{Regime, Style};
 use osn_register::Source;
 use osn_written::weekday_named;
 
-/// A member that is a text.
+/// Returns a member that is a text.
 ///
 /// # Errors
-/// `BadField` where the member is missing or no text.
+/// Returns `BadField` if the member is missing or not a text.
 pub fn text_at<O: JsonObject>(object: &O, member: Member) -> Result<&str, WireFault>
     ensures { MatchResult result
         (λ s. spec.text_at member (O.value object.now) ≡ Ok s.now)
@@ -28,10 +28,10 @@ pub fn text_at<O: JsonObject>(object: &O, member: Member) -> Result<&str, WireFa
     }
 }
 
-/// A member that is a whole number.
+/// Returns a member that is a whole number.
 ///
 /// # Errors
-/// `BadField` where the member is missing or no whole number.
+/// Returns `BadField` if the member is missing or not a whole number.
 pub fn whole_at<O: JsonObject>(object: &O, member: Member) -> Result<i64, WireFault>
     ensures { result ≡ spec.whole_at member (O.value object.now) }
 {
@@ -41,7 +41,7 @@ pub fn whole_at<O: JsonObject>(object: &O, member: Member) -> Result<i64, WireFa
     }
 }
 
-/// A member that is one of some words.
+/// Returns a member that is one of some words.
 fn word_at<O: JsonObject, W: Keyword>(object: &O, member: Member) -> Result<W, WireFault>
     ensures { result ≡ spec.word_at member W.meaning (O.value object.now) }
 {
@@ -51,7 +51,7 @@ fn word_at<O: JsonObject, W: Keyword>(object: &O, member: Member) -> Result<W, W
     }
 }
 
-/// The weekday that a member names, which has to be there.
+/// Returns the weekday that a required member names.
 fn named_weekday_at<O: JsonObject>(object: &O) -> Result<Weekday, WireFault>
     ensures { result ≡ spec.word_at members.Weekday weekday_named (O.value object.now) }
 {
@@ -61,7 +61,7 @@ fn named_weekday_at<O: JsonObject>(object: &O) -> Result<Weekday, WireFault>
     }
 }
 
-/// The weekday of a member that may be left out, by its English name in letters of any case.
+/// Returns the weekday of an optional member, by its English name in letters of any case.
 pub fn weekday_at<O: JsonObject>(object: &O) -> Result<Option<Weekday>, WireFault>
     ensures { result ≡ spec.weekday_at (O.value object.now) }
 {
@@ -71,7 +71,7 @@ pub fn weekday_at<O: JsonObject>(object: &O) -> Result<Option<Weekday>, WireFaul
     Ok(Some(named_weekday_at(object)?))
 }
 
-/// The style that a member gives, if its word is one of the version's.
+/// Returns the style that a member gives, if its word is one of the version's.
 fn style_at<O: JsonObject>(version: Version, object: &O) -> Result<Style, WireFault>
     ensures { result ≡ spec.style_at (rules_of version) (O.value object.now) }
 {
@@ -83,7 +83,7 @@ fn style_at<O: JsonObject>(version: Version, object: &O) -> Result<Style, WireFa
     }
 }
 
-/// The regime that three members give, by the rules of a version.
+/// Returns the regime that three members give, by the rules of a version.
 #[tactic(auto, unfolding(crate::specs::Field::regime_of))]
 pub fn regime_of<O: JsonObject>(version: Version, object: &O) -> Result<Regime, WireFault>
     ensures { result ≡ spec.regime_of (rules_of version) (O.value object.now) }
@@ -98,7 +98,7 @@ pub fn regime_of<O: JsonObject>(version: Version, object: &O) -> Result<Regime, 
     })
 }
 
-/// The text of a source that a member gives, which has to be there.
+/// Returns the text of a source that a required member gives.
 fn given_source_at<O: JsonObject>(object: &O) -> Result<&str, WireFault>
     ensures source { MatchResult result
         (λ text. spec.given_source_at (O.value object.now) ≡ Ok text.now)
@@ -113,7 +113,7 @@ fn given_source_at<O: JsonObject>(object: &O) -> Result<&str, WireFault>
     }
 }
 
-/// The text of the source of a member that may be left out. A version that has no sources does not
+/// Returns the text of the source of an optional member. A version that has no sources does not
 /// look at the member.
 pub fn source_at<O: JsonObject>(version: Version, object: &O) -> Result<Option<&str>, WireFault>
     ensures source { MatchResult result

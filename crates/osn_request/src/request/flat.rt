@@ -1,5 +1,5 @@
-//! An object whose members are few texts and whole numbers. It takes no memory: its texts lie in
-//! the line, or where a reader unescaped them.
+//! An object whose members are few texts and whole numbers. It takes no memory: its texts are in
+//! the line, or in the reader that unescaped them.
 ghost use Rattle.std.specs.Prelude.{◌≡◌, option_map};
 
 mod reading;
@@ -30,7 +30,7 @@ impl<'a> Default for Scalar<'a> {
     }
 }
 
-/// An object whose members are few texts and whole numbers, as they stand in its line.
+/// An object whose members are few texts and whole numbers, borrowed from its line.
 #[derive(Drop)]
 pub struct FlatObject<'a> {
     members: ArrayVec<(&'a str, Scalar<'a>), MOST_MEMBERS>,
@@ -40,7 +40,7 @@ impl<'a> FlatObject<'a> {
     ghost use Rattle.serde_json.specs.Find.{get_member};
     ghost use Rattle.osn_request.specs.Flat.{flat_members, scalar_data};
 
-    /// The value of a member: of two with one name, of the last one.
+    /// Returns the value of a member: of two with one name, that of the last one.
     fn find(&self, name: &str) -> Option<Scalar<'a>>
         ensures { option_map scalar_data result ≡ get_member name.now (flat_members self.now) }
     {

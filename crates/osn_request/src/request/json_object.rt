@@ -10,16 +10,16 @@ pub trait JsonObject {
     // The value that it is.
     ghost value: { Self → Data };
 
-    /// Whether it has a member.
+    /// Returns whether it has a member.
     fn has(&self, name: &str) -> bool
         ensures { result ≡ is_some (get name.now (value self.now)) };
 
-    /// A member that is a text.
+    /// Returns a member that is a text.
     fn text(&self, name: &str) -> Option<&str>
         ensures { option_map (λ s. s.now) result
             ≡ option_and_then as_str (get name.now (value self.now)) };
 
-    /// A member that is a whole number.
+    /// Returns a member that is a whole number.
     fn whole(&self, name: &str) -> Option<i64>
         ensures { result
             ≡ option_and_then as_i64 (option_and_then as_number (get name.now (value self.now))) };

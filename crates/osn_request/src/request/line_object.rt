@@ -5,8 +5,8 @@ use crate::request::flat::FlatObject;
 use crate::request::json_object::JsonObject;
 use serde_json::Value;
 
-/// The object of a line: one whose members are few texts and whole numbers as it stands in the
-/// line, any other one as the value that the line is.
+/// The object of a line: borrowed from the line if its members are few texts and whole numbers,
+/// otherwise the value of the line.
 #[derive(Drop)]
 pub enum LineObject<'a> {
     Flat(FlatObject<'a>),
@@ -19,7 +19,7 @@ impl<'a> LineObject<'a> {
     ghost use Rattle.serde_json.specs.View.{view};
     ghost use Rattle.osn_request.specs.LineObject.{if_object, line_data};
 
-    /// A member that is itself an object.
+    /// Returns a member that is itself an object.
     pub fn object(&self, name: &str) -> Option<&Value>
         ensures { option_map (λ v. view v.now) result
             ≡ option_and_then if_object (get name.now (line_data self.now)) }

@@ -1,4 +1,4 @@
-//! The query of a line's object, whose texts stay where they are in the object.
+//! The query of a line's object, with texts borrowed from the object.
 ghost use Rattle.std.specs.Prelude.{◌≡◌, true, IfOk, OnErr};
 ghost use Rattle.osn_register.specs.Query.{names_land};
 ghost use Rattle.osn_request.specs.LineQuery as spec;
@@ -22,7 +22,7 @@ pub enum LineQuery<'a> {
     },
 }
 
-/// The query about a date as it is written, by what is read of its text.
+/// Returns the query about a date as it is written, by what is read of its text.
 fn written(
     alloc: Global,
     code: &str,
@@ -40,11 +40,11 @@ fn written(
 }
 
 impl<'a> LineQuery<'a> {
-    /// The query that it stands for, with texts of its own.
+    /// Returns the query, with texts of its own.
     ///
     /// # Errors
     ///
-    /// Only where no memory is found, of which a query that names no territory takes none.
+    /// Returns `AllocError` if memory runs out. A query that names no territory takes no memory.
     pub fn to_query(self, alloc: Global) -> Result<Query, AllocError>
         ensures value { IfOk result (λ q. q ≡ line_query self.entry) }
         ensures memory { OnErr result (names_land (line_query self.entry) ≡ true) }

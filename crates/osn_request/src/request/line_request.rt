@@ -29,7 +29,7 @@ pub enum LineRequest<'a> {
 }
 
 impl<'a> LineRequest<'a> {
-    /// The request that it stands for, with a query of its own.
+    /// Returns the request, with a query of its own.
     pub(crate) fn to_request(self, alloc: Global) -> Result<Request, AllocError>
         ensures { IfOk result (λ r. r ≡ as_request self.entry) }
     {
@@ -44,11 +44,11 @@ impl<'a> LineRequest<'a> {
     }
 }
 
-/// The request of a line's object by the newest version, where there are this many readers.
+/// Returns the request of a line's object by the newest version, with this many readers.
 ///
 /// # Errors
-/// The first fault of the object. Memory is taken only for the texts of an edit, once every member
-/// was found good.
+/// Returns the first fault of the object, or `NoMemory`. Memory is taken only for the texts of an
+/// edit, after no fault was found.
 pub fn line_request_of<O: JsonObject>(
     alloc: Global,
     readers: u32,

@@ -59,11 +59,11 @@ fn op_named(word: &str) -> Option<Op>
     }
 }
 
-/// What the object of a line asks for.
+/// Returns what the object of a line asks for.
 ///
 /// # Errors
-/// `BadField` where the member `op` is missing or no text, then `UnknownOp` for a word that no
-/// request has.
+/// Returns `BadField` if the member `op` is missing or not a text, then `UnknownOp` for a word that
+/// no request has.
 pub fn op_of<O: JsonObject>(object: &O) -> Result<Op, WireFault>
     ensures { result ≡ spec.op_of (O.value object.now) }
 {

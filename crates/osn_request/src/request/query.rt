@@ -15,10 +15,10 @@ use osn_format::{Member, WireFault};
 use osn_register::{BorrowedQuery, Query};
 use std::alloc::Global;
 
-/// The reader of a number, where there are this many readers, who are counted from 1.
+/// Returns the number of a reader, with this many readers, who are counted from 1.
 ///
 /// # Errors
-/// `UnknownReader` for a number that no reader has.
+/// Returns `UnknownReader` for a number that no reader has.
 pub fn reader_in(readers: u32, reader: i64) -> Result<u32, WireFault>
     ensures reader { result ≡ spec.reader_in readers reader }
     ensures among { IfOk result (λ r. (1 ≤ r) × (r ≤ readers)) }
@@ -88,7 +88,7 @@ fn written_of<O: JsonObject>(object: &O) -> Result<LineQuery<'_>, WireFault>
     })
 }
 
-/// The query of a line's object by itself, without the reader who asks it.
+/// Returns the query of a line's object, without the reader who asks it.
 fn query_by<O: JsonObject>(op: QueryOp, object: &O) -> Result<LineQuery<'_>, WireFault>
     ensures { Reads result (spec.query_by op (O.value object.now)) }
 {
@@ -103,11 +103,11 @@ fn query_by<O: JsonObject>(op: QueryOp, object: &O) -> Result<LineQuery<'_>, Wir
     }
 }
 
-/// The number of the reader who asks, and the query of a line's object, whose texts stay where they
-/// are in the object.
+/// Returns the number of the reader who asks, and the query of a line's object, with texts borrowed
+/// from the object.
 ///
 /// # Errors
-/// The first fault of the object, and `UnknownReader` where it has no other.
+/// Returns the first fault of the object, or `UnknownReader` if it has no other.
 #[tactic(auto, unfolding(crate::specs::QueryRequest::query_of))]
 pub fn line_query_of<O: JsonObject>(
     readers: u32,
@@ -126,12 +126,12 @@ pub fn line_query_of<O: JsonObject>(
     Ok((reader, query))
 }
 
-/// The number of the reader who asks, and the query of a line's object, where there are this many
+/// Returns the number of the reader who asks, and the query of a line's object, with this many
 /// readers.
 ///
 /// # Errors
-/// The first fault of the object. Memory is taken only for the texts of a query that has a code,
-/// once every member was found good.
+/// Returns the first fault of the object, or `NoMemory`. Memory is taken only for the texts of a
+/// query that has a code, after no fault was found.
 pub fn query_of<O: JsonObject>(
     alloc: Global,
     readers: u32,

@@ -1,12 +1,12 @@
-//! The value that a test found, compared with the one that it wants: one function, since each
-//! `assert_eq!` is proved with the texts that it prints.
+//! Compares the value that a test found with the wanted one: one function, since each `assert_eq!`
+//! is proved with the texts that it prints.
 ghost use Rattle.std.specs.Prelude.{◌≡◌, true};
 
 use std::fmt::Debug;
 use std::process::Abort;
 
-/// Checks that a value that was found is the one that is wanted. Where the two alone don't say
-/// which row of a table they are of, the row stands beside them.
+/// Checks that a value that was found is the wanted one. If the two alone don't say which row of a
+/// table they belong to, the row is compared with them.
 pub fn same<T: PartialEq + Debug + Drop>(rt: &impl Abort, found: T, wanted: T)
     ensures { T.eq found wanted ≡ true }
 {

@@ -1,11 +1,12 @@
-//! A source and a sink of the tests' own. Nobody knows their bytes beforehand, they give and take
-//! few bytes a call, and a call that is chosen fails, and each call after it.
+//! A source and a sink of the tests. Their bytes are not known beforehand, they give and take few
+//! bytes in a call, and each call fails from a chosen one on.
 ghost use Rattle.std.specs.Prelude.{None};
 
 use osn_lines::{ReadFailed, Sink, Source, WriteFailed};
 use std::alloc::Global;
 
-/// How a stream goes: how many bytes a call gives or takes at most, and how many calls go well.
+/// The course of a stream: how many bytes a call gives or takes at most, and how many calls
+/// succeed.
 #[derive(Clone, Copy, Debug, PartialEq, Eq)]
 pub struct Course {
     pub step: usize,
@@ -13,7 +14,7 @@ pub struct Course {
 }
 
 impl Course {
-    /// One on which every call goes well.
+    /// Returns a course on which every call succeeds.
     pub fn sound(step: usize) -> Course {
         Course {
             step,
@@ -21,12 +22,12 @@ impl Course {
         }
     }
 
-    /// How many of this many bytes are given before a call fails.
+    /// Returns how many of this many bytes are given before a call fails.
     pub fn given(self, length: usize) -> usize {
         self.step.saturating_mul(self.sound).min(length)
     }
 
-    /// Whether a further call goes well. It counts as one of those that do.
+    /// Returns whether the next call succeeds, and counts it if so.
     fn goes_on(&mut self) -> bool {
         match self.sound.checked_sub(1) {
             Some(sound) => {
@@ -38,7 +39,7 @@ impl Course {
     }
 }
 
-/// How many reads it takes to the end of this many bytes, that of the end too.
+/// Returns how many reads it takes to the end of this many bytes, with the read of the end.
 pub fn reads_of(length: usize, step: usize) -> usize {
     length.div_ceil(step.max(1)).saturating_add(1)
 }
@@ -62,7 +63,7 @@ impl<'a> FailingSource<'a> {
         }
     }
 
-    /// How many reads there were, the failed ones too.
+    /// Returns how many reads there were, with the failed ones.
     pub fn calls(&self) -> usize {
         self.calls
     }
@@ -90,7 +91,7 @@ impl<'a> Source for FailingSource<'a> {
     }
 }
 
-/// Takes bytes, and notes how many of them it was told to pass on.
+/// Takes bytes, and notes how many of them were passed on.
 #[derive(Drop)]
 pub struct FailingSink {
     bytes: Vec<u8>,
@@ -113,22 +114,22 @@ impl FailingSink {
         }
     }
 
-    /// How many writes and flushes there were, the failed ones too.
+    /// Returns how many writes and flushes there were, with the failed ones.
     pub fn calls(&self) -> usize {
         self.calls
     }
 
-    /// How many writes there were of them.
+    /// Returns how many of them were writes.
     pub fn writes(&self) -> usize {
         self.writes
     }
 
-    /// The bytes that it took.
+    /// Returns the bytes that it took.
     pub fn bytes(&self) -> &[u8] {
         &self.bytes
     }
 
-    /// How many of the bytes that were taken were passed on.
+    /// Returns how many of the bytes that were taken were passed on.
     pub fn passed(&self) -> usize {
         self.passed
     }

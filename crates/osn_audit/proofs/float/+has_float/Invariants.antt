@@ -3,7 +3,7 @@ use Rattle.serde_json.specs.View.{view, items_of, members_view}
 use Rattle.serde_json.specs.Written as spec
 use Rattle.osn_audit.proofs.float.+has_float.Given as goal
 
--- none so far has a float, so those that are left have one where any has
+-- none so far has a float, so those that are left have one if any has
 abbrev pub invariant-items_have_float-loop-item : goal.invariant-items_have_float-loop-item
 invariant-items_have_float-loop-item l =
     spec.items_have_float (items_of (map view (drop l.item-index l.item-items)))

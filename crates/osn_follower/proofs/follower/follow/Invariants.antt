@@ -5,7 +5,7 @@ use Rattle.osn_follower.specs.FollowerInside.{HasFew, IsFollowing}
 use Rattle.osn_follower.specs.Outcomes.{following}
 use Rattle.osn_follower.proofs.follower.follow.Given as goal
 
--- exactly what is told by what has arrived is written
+-- exactly the replies by what has arrived are written
 abbrev pub invariant-loop-call : goal.invariant-loop-call
 invariant-loop-call g l =
     record {

@@ -3,7 +3,7 @@ use Rattle.osn_grammar.specs.Reading.{all_members}
 use Rattle.osn_grammar.specs.Simple.{◌>>=◌}
 use Rattle.osn_grammar.proofs.set.all_members.Given as goal
 
--- the members so far stand before those of what is left
+-- the members so far come before those of what is left
 abbrev pub invariant-loop-text : goal.invariant-loop-text
 invariant-loop-text l =
     all_members (map (λ text. text.now) l.texts)

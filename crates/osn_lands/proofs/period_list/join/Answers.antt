@@ -12,13 +12,13 @@ use Rattle.osn_lands.proofs.ChangeFacts.{without-at}
 use Rattle.osn_lands.proofs.CoverFacts.{at_places, set-remove, covers_join, read_at}
 use Rattle.osn_lands.proofs.period_list.join.Goals as goal
 
--- the period before stands in its place when the one after it is removed
+-- the period before keeps its place when the one after it is removed
 same_place : (ps qs : List Period) (i j : ℕ) (p : Period) → i + 1 ≡ j → j < length ps →
     qs ≡ remove ps j → p ≡ get_or qs i p → p ≡ get_or ps i p
 same_place ps qs i j p next within removed read =
     read ∙ ap (λ l. get_or l i p) removed ∙ get_or-remove_below ps j p i (omega arith) within
 
--- the periods that are left and the joined one, by the two that stood there
+-- the periods that are left and the joined one, by the two that were there
 left : (ps qs : List Period) (i j : ℕ) (p q joined : Period) → i + 1 ≡ j → j < length ps →
     p ≡ get_or ps i p → q ≡ get_or ps j q → qs ≡ remove ps j → set qs i joined ≡ take i ps ++ joined
     ∷ drop (j + 1) ps

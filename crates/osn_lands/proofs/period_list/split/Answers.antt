@@ -12,7 +12,7 @@ use Rattle.osn_lands.proofs.CoverFacts.{at_place, set-insert, covers_split, read
 use Rattle.osn_lands.proofs.ChangeFacts.{with_start-is, no_sooner-at}
 use Rattle.osn_lands.proofs.period_list.split.Goals as goal
 
--- the period that is split still stands at its place after the insertion
+-- the period that is split keeps its place after the insertion
 same_place : (ps qs : List Period) (i : ℕ) (p x after : Period) → i < length ps →
     p ≡ get_or ps i p → qs ≡ insert ps (i + 1) after → x ≡ get_or qs i x → x ≡ p
 same_place ps qs i p x after within is inserted read =

@@ -2,8 +2,8 @@ use Rattle.std.proofs.Common.{◌+◌, ◌-◌, ◌≤◌, ℕ, List, ◌++◌, 
 use Rattle.osn_lines.specs.Inside.{IsUnended, IsTaken}
 use Rattle.osn_lines.proofs.cut.take_piece.Given as goal
 
--- the lines that end before `from` are taken, and `unended` has what stands before `from` of the
--- next
+-- the lines that end before `from` are taken, and `unended` has the bytes of the next line before
+-- `from`
 abbrev pub invariant-loop-place : goal.invariant-loop-place
 invariant-loop-place g l =
     record {

@@ -1,4 +1,4 @@
-//! Reads a flat object in one pass over the tokens of its text.
+//! Reads a flat object, and each token of its text once.
 ghost use Rattle.std.specs.Prelude.{◌≡◌, ◌<◌, ◌∷◌, ℕ, IfSome, IfNone, IfOk, OnErr, List, length};
 ghost use Rattle.std.specs.Prelude.{Some, None, is_some, option_and_then, true, false, IsTrue};
 ghost use Rattle.std.specs.Prelude.{slice_index, ◌==◌};
@@ -20,7 +20,7 @@ use fast_float::Numeral;
 use json::{Reader, Scratch, Token};
 use std::alloc::AllocError;
 
-/// The number, unless it is minus zero or has more than 64 bits.
+/// Returns the number, unless it is minus zero or has more than 64 bits.
 fn negative_of(digits: &[u8]) -> Option<i64>
     ensures some { IfSome result (λ z. number_from true (scan digits.now) ≡ Some (of_integer z)) }
     ensures none { IfNone result
@@ -45,7 +45,7 @@ fn has_minus(bytes: &[u8]) -> bool
     !bytes.is_empty() && bytes[0] == b'-'
 }
 
-/// The whole number that a number's text writes, where it is one of 64 bits.
+/// Returns the whole number of a number's text, if it fits in 64 bits.
 fn whole_of(text: &str) -> Option<i64>
     ensures some { IfSome result (λ z. number_of text.now ≡ Some (of_integer z)) }
     ensures none { IfNone result (option_and_then as_i64 (number_of text.now) ≡ None) }
@@ -58,7 +58,7 @@ fn whole_of(text: &str) -> Option<i64>
     }
 }
 
-/// The text or the whole number of a token.
+/// Returns the text or the whole number of a token.
 fn scalar_of<'a>(token: Token<'a>) -> Option<Scalar<'a>>
     ensures value { IfSome result (λ s. (depth : ℕ) (rest : List Lexed) →
         converted of_json (value depth (token_of token.entry ∷ rest))
@@ -73,7 +73,7 @@ fn scalar_of<'a>(token: Token<'a>) -> Option<Scalar<'a>>
     }
 }
 
-/// The members of an object whose brace was read, where they are few texts and whole numbers.
+/// Returns the members of an object whose brace was read, if they are few texts and whole numbers.
 fn members_in<'a>(reader: &mut Reader<'a>) -> Option<FlatObject<'a>>
     ensures some { IfSome result (λ found. (depth : ℕ) →
         converted (λ ms. of_members ms no_members)
@@ -93,8 +93,8 @@ fn members_in<'a>(reader: &mut Reader<'a>) -> Option<FlatObject<'a>>
     Some(FlatObject { members })
 }
 
-/// The object that a reader has next, where its members are few texts and whole numbers. Where no
-/// such object is next, the reader stands after the tokens that were tried.
+/// Returns the next object of a reader, if its members are few texts and whole numbers. Otherwise
+/// the reader is after the tokens that were tried.
 pub fn flat_object_in<'a>(reader: &mut Reader<'a>) -> Option<FlatObject<'a>>
     ensures some { IfSome result (λ found. (depth : ℕ) → 0 < depth →
         converted of_json (value depth reader.old)
@@ -108,10 +108,10 @@ pub fn flat_object_in<'a>(reader: &mut Reader<'a>) -> Option<FlatObject<'a>>
     }
 }
 
-/// The object that a text is, where its members are few texts and whole numbers.
+/// Returns the object of a text, if its members are few texts and whole numbers.
 ///
 /// # Errors
-/// The scratch grows to the length of the text.
+/// Returns `AllocError` if memory runs out. The scratch grows to the length of the text.
 pub(crate) fn flat_object_of<'a>(
     text: &'a str,
     scratch: &'a mut Scratch,

@@ -7,7 +7,7 @@ use Rattle.osn_report.specs.declared.status.Status.TheVariants as statuses
 use Rattle.osn_text_commands.specs.Plan.{TellsNoteAfter, plan_text}
 use Rattle.osn_text_commands.proofs.plan.print_edits.Goals as goal
 
--- where all was not printed, nothing more was told
+-- if not all was printed, nothing more was reported
 not_printed : (printed : Status) (line : Option (List ℕ)) (e : Output)
     → (printed ≡ statuses.Done → ⊥) → TellsNothing e → TellsNoteAfter printed line e printed
 not_printed statuses.Done line e other nothing = absurd (other refl)

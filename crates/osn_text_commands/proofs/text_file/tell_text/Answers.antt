@@ -11,7 +11,7 @@ use Rattle.osn_text_reader.specs.declared.fault.TextFault.TheVariants.{Toml, Key
 use Rattle.osn_text_reader.specs.declared.fault.TomlFault.{TomlFault}
 use Rattle.osn_text_commands.proofs.text_file.tell_text.Goals as goal
 
--- a fault that is not want of memory was told by its line
+-- a fault that is not NoMemory was reported by its line
 fault_told : (path : List ℕ) (e : Output) (fault : TextFault) (status : Status)
     → ((why : TomlFault) × (fault ≡ Toml why)) ⊎ ((why : KeyFault) × (fault ≡ Key why))
     → TellsIfMade e Refused (text_line path (text_fault_text fault)) status

@@ -4,7 +4,7 @@ use Rattle.osn_written.specs.SetsMeant.{members_meant}
 use Rattle.osn_written.proofs.UnionFacts.{after_runs}
 use Rattle.osn_written.proofs.set.members_meant.Given as goal
 
--- the runs so far stand before those of what is left
+-- the runs so far come before those of what is left
 abbrev pub invariant-loop-member : goal.invariant-loop-member
 invariant-loop-member l =
     members_meant newest_rules l.territory l.members

@@ -3,7 +3,7 @@ use Rattle.osn_days.specs.Profile.{newest_rules}
 use Rattle.osn_register.specs.Plain.{applied_all, fold_takes_memory}
 use Rattle.osn_register.proofs.register.Register.apply_all.Given as goal
 
--- the edits that are left lead to the same territories, and take memory only where all do
+-- the edits that are left lead to the same territories, and take memory only if all do
 abbrev pub invariant-loop-edit : goal.invariant-loop-edit
 invariant-loop-edit l =
     record {

@@ -19,7 +19,7 @@ listed_more so_far land rest all code name e coded named =
     ∙ ap (λ (n : List ℕ). so_far ++ record { code = code; name = n } ∷ rest) named
     ∙ e
 
--- where one is left to list, there are some
+-- if one is left to list, there are some
 some_left : {E : Type 0} (L : E → LandModel) (so_far : List Land) (left rest all : List E) (e : E)
     (lands : List LandModel) → left ≡ e ∷ rest →
     so_far ++ map spec.listed (map L left) ≡ map spec.listed (map L all) → map L all ≡ lands →

@@ -8,7 +8,7 @@ use Rattle.osn_reply.proofs.reply.write_json.write_list.Given as goal
 abbrev pub rest_text : {A : Type 0} → (A → Data) → Bool → List A → List ℕ
 rest_text json_value later values = items_text later (items_of (map json_value values))
 
--- the text so far goes on to the whole list
+-- the text so far and the items that are left make the whole list
 abbrev pub invariant-loop-item : goal.invariant-loop-item
 invariant-loop-item g l = record {
   before : l.out.before ≡ l.initial.out.before;

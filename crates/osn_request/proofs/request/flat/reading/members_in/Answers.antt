@@ -66,7 +66,7 @@ returns-clause-some c depth =
     l.invariant.2 depth
     ∙ members_over (value depth) old l.invariant.0 l.reader r l.invariant.1 last
 
--- where a key stands next there is a token
+-- if a key is next, there is a token
 some_left : (n : ℕ) (ts s : List Token) (k : List ℕ) → length ts ≤ n
     → read_key ts ≡ Some (Some k, s) → 0 < n
 some_left n ts s k within key = omega (arith, within, read_key-shorter ts (Some k) s key)
