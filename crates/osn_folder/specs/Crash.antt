@@ -1,6 +1,7 @@
 -- What a crash of the machine may leave of a folder. What was synced stays. A name that was changed
 -- since may be as it is or as it was.
-use Rattle.std.specs.Prelude.{◌≡◌, ◌≢◌, ◌⊎◌, ℕ, true, false, List, [], ◌∷◌, ◌++◌, Option, Some, None}
+use Rattle.std.specs.Prelude.{◌≡◌, ◌≢◌, ◌⊎◌, ℕ, true, false, List, [], ◌∷◌, ◌++◌, Option, Some}
+use Rattle.std.specs.Prelude.{None}
 use Rattle.osn_folder.specs.Folder.{Known, Changes, Saves, CannotSave, Becomes, BacksUp, LeavesAll}
 use Rattle.osn_folder.specs.Folder.{SavesAt, CannotSaveAt}
 use Rattle.osn_folder.specs.declared.fault.SaveFault.{SaveFault}

@@ -27,7 +27,8 @@ use Rattle.osn_grammar.specs.InDigits.{HasFourDigits, sign, signed}
 use Rattle.osn_grammar.specs.Parts.{tells_time}
 use Rattle.osn_grammar.specs.Reading.{all_members, member_by, member_in, member_of, or_set}
 use Rattle.osn_grammar.specs.Reading.{read_date, reading_of_parts, set_in, set_inside, with_signs}
-use Rattle.osn_grammar.specs.Scan.{first_of, is_letter_alone, next_is, part_of_run, parts_after, parts_in}
+use Rattle.osn_grammar.specs.Scan.{first_of, is_letter_alone, next_is, part_of_run, parts_after}
+use Rattle.osn_grammar.specs.Scan.{parts_in}
 use Rattle.osn_grammar.specs.Sets.{between_commas, days_in_digits, is_sign}
 use Rattle.osn_grammar.specs.SetsInDigits.{AreSetsRead, Days, HaveFourDigits, days_text}
 use Rattle.osn_grammar.specs.SetsInDigits.{extent_of_days, member, set_text}
@@ -303,7 +304,8 @@ sets_law o a u first next rest all =
     let tells : filter tells_time (Bracket ∷ inside) ≡ timed days =
     filter-append tells_time (all_parts a u days) (Bracket ∷ [])
     ∙ append-nil (filter tells_time (all_parts a u days)) ∙ parts_timed a u days in
-    let P : List Part → Type 0 = λ ps. is_err (reading_of_parts o ps (filter tells_time ps)) ≡ true in
+    let P : List Part → Type 0 = λ ps. is_err (reading_of_parts o ps (filter tells_time ps))
+    ≡ true in
     let wrong : P (parts_in text) = subst P (sym (parts_scanned scans))
     (said_refused o Bracket inside (timed days) tells (dated first (next ∷ rest))
     (extent_refused o first next rest)) in

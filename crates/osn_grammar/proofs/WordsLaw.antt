@@ -232,7 +232,8 @@ opened_said true rest = record {
 
 -- none of its years is written with three digits
 year_whole : (y : Year) → is_writable_year y ≡ true → y.has_three_digits ≡ false
-year_whole y ok = is_not y.has_three_digits (both (nat_le y.first 10000) (not y.has_three_digits) ok).1
+year_whole y ok = is_not y.has_three_digits (both (nat_le y.first 10000) (not y.has_three_digits)
+    ok).1
 
 date_whole : (d : SimpleDate) → is_writable_date d ≡ true → has_year_of_three_digits d ≡ false
 date_whole (date.Day y month day) ok =

@@ -37,4 +37,5 @@ is_writable w = is_writable_extent w.extent
 -- as a law: the words of such a date are read as that date, in each order of day and month
 unfoldable pub AreWordsRead : Type 0
 AreWordsRead =
-    (o : DateOrder) (w : AnyDate) → is_writable w ≡ true → read_date o (words_of w) ≡ Ok (say.Date w)
+    (o : DateOrder) (w : AnyDate) → is_writable w ≡ true → read_date o (words_of w)
+    ≡ Ok (say.Date w)

@@ -94,7 +94,8 @@ type Members = Result<Vec<AnyDate>, DateFault>;
 
 /// Returns the members of a set that texts are, or why the first wrong one is not a member.
 fn all_members(alloc: Global, texts: &[&str]) -> Result<Members, AllocError>
-    ensures { IfOk result (λ members. result_map_both (λ members. members.items) (λ fault. fault) members
+    ensures { IfOk result (λ members. result_map_both (λ members. members.items) (λ fault. fault)
+        members
         ≡ reading.all_members (map (λ text. text.now) texts.now)) }
 {
     let mut members = Vec::new(alloc);
@@ -117,7 +118,8 @@ fn between_commas(alloc: Global, text: &str) -> Result<Vec<&str>, AllocError>
 
 /// Returns the members of the set with this text in its brackets, or why it is not a set.
 fn members_inside(alloc: Global, inside: &str) -> Result<Members, AllocError>
-    ensures { IfOk result (λ members. result_map_both (λ members. members.items) (λ fault. fault) members
+    ensures { IfOk result (λ members. result_map_both (λ members. members.items) (λ fault. fault)
+        members
         ≡ reading.all_members (spec.between_commas inside.now)) }
 {
     let texts = between_commas(alloc, inside)?;
@@ -127,7 +129,8 @@ fn members_inside(alloc: Global, inside: &str) -> Result<Members, AllocError>
 /// Returns the members of the set that a text is, or why it is not a set.
 #[tactic(auto, unfolding(crate::specs::Reading::set_in))]
 pub fn set_in(alloc: Global, text: &str) -> Result<Members, AllocError>
-    ensures { IfOk result (λ members. result_map_both (λ members. members.items) (λ fault. fault) members
+    ensures { IfOk result (λ members. result_map_both (λ members. members.items) (λ fault. fault)
+        members
         ≡ reading.set_in text.now) }
 {
     match inside_brackets(text) {

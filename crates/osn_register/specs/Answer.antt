@@ -290,7 +290,8 @@ answer p lands (queries.Easter code year) = easter_answer p lands code year
 answer p lands (queries.YearFigures year) = figures_answer p year
 answer p lands queries.Lands = Lands (map listed lands)
 answer p lands (queries.Periods code) = periods_in_answer p lands code
-answer p lands (queries.Written code text date weekday) = written_in_answer p lands code date weekday
+answer p lands (queries.Written code text date weekday) = written_in_answer p lands code date
+    weekday
 
 -- the refusal that an answer is, if it is one
 abbrev pub refusal_in : Answer → Option Refusal

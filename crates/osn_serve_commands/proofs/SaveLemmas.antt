@@ -76,7 +76,8 @@ none_left f (Some x) h = absurd (cc)
 
 module _ {E D J P : Type 0} (contents : E → Option (List ℕ)) (has_failed holds_back : E → Bool)
     (known : D → Option Known) (bytes : J → List ℕ) (now : P → List ℕ)
-    (loaded : Option (List ℕ)) (beside : Bool) (old mid new : E) (opened after : D) (was is : Status) where
+    (loaded : Option (List ℕ)) (beside : Bool) (old mid new : E) (opened after : D)
+    (was is : Status) where
   -- the messages before anything was saved, and all messages
   abbrev before : Output
   before = output_of contents has_failed holds_back old mid
@@ -345,7 +346,8 @@ module _ (limits : Limits) (journal save found : Option (List ℕ)) (given rules
         file = rw journal_is (
           begun.bytes,
           refl,
-          read_whole d.before replaced held file.bytes begun.bytes given_file whole.read whole.bytes,
+          read_whole d.before replaced held file.bytes begun.bytes given_file whole.read
+              whole.bytes,
         );
         fails = subst CanFail (sym whole.sound) sound;
         opens = rw journal_is opens;

@@ -108,6 +108,7 @@ saved_over limits named path rules begun opened looked after i o e status found 
       safe,
       subst (λ (b : Option (List ℕ)). EndsServing limits named (Some path) rules begun b
           (is_left_beside found) looked after i o e status) is
-          (subst (λ (b : Bool). EndsServing limits named (Some path) rules begun bytes b looked after i o
+          (subst (λ (b : Bool). EndsServing limits named (Some path) rules begun bytes b looked
+          after i o
           e status) so h),
     )

@@ -114,7 +114,8 @@ is_left_beside NoFile = false
 is_left_beside Empty = false
 
 -- what was found at the path of a save, if there is one
-abbrev pub FindsTarget : Limits → Option (List ℕ) → Option Known → Option Known → SaveTarget → Type 0
+abbrev pub FindsTarget : Limits → Option (List ℕ) → Option Known → Option Known → SaveTarget
+    → Type 0
 FindsTarget limits None before after found = (after ≡ before) × (found ≡ NoFile)
 FindsTarget limits (Some path) before after found = IsTarget limits path before after found
 

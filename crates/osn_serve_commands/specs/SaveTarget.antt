@@ -1,5 +1,6 @@
 -- What is at the path that a journal will be saved to, before a line is answered.
-use Rattle.std.specs.Prelude.{◌≡◌, ◌⊎◌, ⊤, ℕ, true, List, [], ◌∷◌, ◌++◌, codes, Option, None, IfSome}
+use Rattle.std.specs.Prelude.{◌≡◌, ◌⊎◌, ⊤, ℕ, true, List, [], ◌∷◌, ◌++◌, codes, Option, None}
+use Rattle.std.specs.Prelude.{IfSome}
 use Rattle.osn_core.specs.Sequential.{ObjectState}
 use Rattle.osn_folder.specs.Folder.{Known, Changes, HasNoFile, IsFileOf, Opens, Stays}
 use Rattle.osn_folder.specs.declared.fault.OpenFailed.TheVariants.{NotFound}

@@ -73,7 +73,8 @@ fn serve_opened<D: Folder, J: Source, R: Source, W: Sink, E: Sink, T: Sink + Dro
     errors: &mut E,
     terminal: Option<T>,
 ) -> Status
-    ensures { spec.EndsServing limits path.now (option_map (λ file. file.path.now) locked.entry) rules
+    ensures { spec.EndsServing limits path.now (option_map (λ file. file.path.now) locked.entry)
+        rules
         (input_if J.remaining J.has_failed journal.old journal.new)
         (option_map (λ bytes. bytes.now) loaded.entry) beside
         (D.known folder.old) (D.known folder.new)
@@ -190,7 +191,8 @@ fn serve_beside<D: Folder, J: Source, R: Source, W: Sink, E: Sink, T: Sink + Dro
     errors: &mut E,
     terminal: Option<T>,
 ) -> Status
-    ensures { spec.SavesOverFound limits path.now (option_map (λ file. file.path.now) locked.entry) rules
+    ensures { spec.SavesOverFound limits path.now (option_map (λ file. file.path.now) locked.entry)
+        rules
         (input_if J.remaining J.has_failed journal.old journal.new)
         (D.known folder.old) (D.known folder.new)
         (input_of R.remaining R.has_failed input.old input.new)

@@ -149,7 +149,8 @@ pub fn serve_command<J: Source, R: Source, W: Sink, E: Sink>(
     output: &mut W,
     errors: &mut E,
 ) -> ServeResult
-    ensures { Serves limits path.now rules (input_if J.remaining J.has_failed journal.old journal.new) saves
+    ensures { Serves limits path.now rules (input_if J.remaining J.has_failed journal.old
+        journal.new) saves
         (input_of R.remaining R.has_failed input.old input.new)
         (output_of W.contents W.has_failed W.holds_back output.old output.new)
         (output_of E.contents E.has_failed E.holds_back errors.old errors.new)

@@ -19,7 +19,8 @@ part_read None bytes part read whole = tt
 part_read (Some held) bytes part read whole = subst (IsWholePart part) read whole
 
 -- the journal that held these bytes is the one that was given
-pub edition_of_older : (limits : Limits) (asked : RequestModel) (wanted : RegisterModel) (given : Option (List ℕ))
+pub edition_of_older : (limits : Limits) (asked : RequestModel) (wanted : RegisterModel)
+    (given : Option (List ℕ))
     (held bytes journal text : List ℕ) (cut : Option (List ℕ)) (part : WholePart)
     (version : Version) (s : ObjectState) → AreReadOf given held
     → IsHeldIn limits held part version s

@@ -72,7 +72,8 @@ module _ (Stays : Type 0) (journal : List ℕ) (s : ObjectState) (wanted : Regis
     anew_refused needs is edits f why h = rw is (f, why, h)
 
     pub none_needed : (needs : Bool) → needs ≡ false → (edits : List Edit)
-        → AppendsIfKept (is_kept version) Stays journal version s wanted old file given edits o e status
+        → AppendsIfKept (is_kept version) Stays journal version s wanted old file given edits o e
+        status
         → PublishesEdits needs Stays journal version s wanted old file given edits o e status
     none_needed needs is edits h = rw is h
 

@@ -12,7 +12,8 @@ use Rattle.osn_report.specs.declared.status.Status.TheVariants as statuses
 use Rattle.osn_text_commands.specs.Text.{PrintsLand}
 use Rattle.osn_text_writer.specs.TerritoryText.{text_of_code}
 
-module _ (edition : ℕ) (lands : List LandModel) (path code : List ℕ) (o e : Output) (status : Status) where
+module _ (edition : ℕ) (lands : List LandModel) (path code : List ℕ) (o e : Output)
+    (status : Status) where
   -- a territory has the code
   pub land_printed : code_refusal lands code ≡ None
       → PrintsIfMade (text_of_code newest_rules edition code lands) o e status

@@ -1,5 +1,6 @@
 -- What the command `plan` has done over the files of a folder: the journal, and the text.
-use Rattle.std.specs.Prelude.{◌≡◌, ◌⊎◌, Bool, List, [], ◌∷◌, ℕ, Option, Some, None, is_some, option_map}
+use Rattle.std.specs.Prelude.{◌≡◌, ◌⊎◌, Bool, List, [], ◌∷◌, ℕ, Option, Some, None, is_some}
+use Rattle.std.specs.Prelude.{option_map}
 use Rattle.osn_folder.specs.Folder.{CannotOpen, Changes, IsFileOf, Known, Opens}
 use Rattle.osn_folder.specs.declared.fault.OpenFailed.{OpenFailed}
 use Rattle.osn_lines.specs.Streams.{Input, Output}

@@ -20,7 +20,8 @@ use Rattle.osn_text_reader.specs.Text.{edition_number, text_edition, text_edits,
 use Rattle.osn_text_reader.specs.TerritoryText.{territory_edits}
 use Rattle.osn_text_writer.specs.Says.{SaysLands, SaysLand, SaysRegister}
 use Rattle.osn_text_writer.specs.TerritoryText.{if_there, register_text, text_of_code}
-use Rattle.osn_text_writer.proofs.Documents.{edition_found, members_of, no_edition_key, register_parsed}
+use Rattle.osn_text_writer.proofs.Documents.{edition_found, members_of, no_edition_key}
+use Rattle.osn_text_writer.proofs.Documents.{register_parsed}
 use Rattle.osn_text_writer.proofs.FoundLands.{some_of}
 use Rattle.osn_text_writer.proofs.LandNodes.{land_nodes}
 use Rattle.osn_text_writer.proofs.MadeSources.{source_is, remade, remade_are_same}
@@ -147,7 +148,12 @@ says n limits ls small can distinct within =
     record {
       territories = map remade sorted;
       reads =
-          rw (register_parsed n ls small (all_writable limits ls can) distinct, edition, edits, made);
+          rw (
+            register_parsed n ls small (all_writable limits ls can) distinct,
+            edition,
+            edits,
+            made,
+          );
       same = λ code. subst (λ found. AreSameLand found (land_of code ls))
           (sym (land_of-remade code sorted
           ∙ ap (option_map remade) (land_of-all code ls distinct)))

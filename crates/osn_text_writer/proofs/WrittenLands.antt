@@ -224,7 +224,11 @@ edition_written : (n : ℕ) → n < 2 ^ 63
     → IsWritten false (lines.edition n ∷ []) (edition_line n)
 unfolding edition_line
 edition_written n small =
-    one false (lines.edition n) _ (decimal n, rw key_text-edition refl, (refl, edition_fits n small))
+    one false (lines.edition n) _ (
+      decimal n,
+      rw key_text-edition refl,
+      (refl, edition_fits n small),
+    )
 
 pub register_written : (n : ℕ) (ls : List LandModel) → n < 2 ^ 63 → AreWritable ls
     → IsWritten false (lines.register newest_rules n ls) (register_text newest_rules n ls)

@@ -1,4 +1,5 @@
--- Whether a place counted the days double that a date with both years means. This project's profile.
+-- Whether a place counted the days double that a date with both years means. This project's
+-- profile.
 use Rattle.std.specs.Prelude.{ℕ, Bool, not, ◌&&◌, ◌||◌, pos}
 use Rattle.std.specs.List.{list_any}
 use Rattle.std.specs.Ordering.{int_eq}

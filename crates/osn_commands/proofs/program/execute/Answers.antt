@@ -28,7 +28,8 @@ returns-in-Replay-clause-ok g c =
     c.args.errors.now c.printed.new.errors in
     IfOk-weaker c.printed.result _ _
     (λ status h. ran c.args.limits c.args.command _ _ _ _ _ o e status c.in-Replay.is
-    (one_printed string_bytes _ _ o e status c.replay_in_folder-made.result c.in-Replay.schedule.now (Replays c.args.limits c.in-Replay.readers)
+    (one_printed string_bytes _ _ o e status c.replay_in_folder-made.result c.in-Replay.schedule.now
+    (Replays c.args.limits c.in-Replay.readers)
     c.replay_in_folder-made.ensures.ok h.0 h.1))
     c.printed.ensures.ok
 
@@ -37,7 +38,8 @@ returns-in-Replay-clause-err g c =
     IfErr-weaker c.printed.result _ _
     (λ failure h. (
       failed c.args.limits c.args.command _ _ _ _ _ c.in-Replay.is
-          (if_failed c.replay_in_folder-made.result failure _ h.0 c.replay_in_folder-made.ensures.err),
+          (if_failed c.replay_in_folder-made.result failure _ h.0
+          c.replay_in_folder-made.ensures.err),
       h.1,
       h.2,
     )) c.printed.ensures.err
@@ -50,7 +52,8 @@ returns-in-Desk-clause-ok g c =
     c.args.errors.now c.printed-in-Desk.new.errors in
     IfOk-weaker c.printed-in-Desk.result _ _
     (λ status h. ran c.args.limits c.args.command _ _ _ _ _ o e status c.in-Desk.is
-    (two_printed string_bytes _ _ o e status c.desk_in_folder-made.result c.in-Desk.script.now c.in-Desk.questions.now (Transcribes c.args.limits)
+    (two_printed string_bytes _ _ o e status c.desk_in_folder-made.result c.in-Desk.script.now
+    c.in-Desk.questions.now (Transcribes c.args.limits)
     c.desk_in_folder-made.ensures.ok h.0 h.1))
     c.printed-in-Desk.ensures.ok
 
@@ -84,7 +87,8 @@ returns-in-Audit-clause-ok g c =
     c.args.errors.now c.printed-in-Audit.new.errors in
     IfOk-weaker c.printed-in-Audit.result _ _
     (λ status h. ran c.args.limits c.args.command _ _ _ _ _ o e status c.in-Audit.is
-    (two_printed string_bytes _ _ o e status c.audit_in_folder-made.result c.in-Audit.journal.now c.in-Audit.transcript.now (Audits c.args.limits)
+    (two_printed string_bytes _ _ o e status c.audit_in_folder-made.result c.in-Audit.journal.now
+    c.in-Audit.transcript.now (Audits c.args.limits)
     c.audit_in_folder-made.ensures.ok h.0 h.1))
     c.printed-in-Audit.ensures.ok
 
@@ -93,7 +97,8 @@ returns-in-Audit-clause-err g c =
     IfErr-weaker c.printed-in-Audit.result _ _
     (λ failure h. (
       failed c.args.limits c.args.command _ _ _ _ _ c.in-Audit.is
-          (if_failed c.audit_in_folder-made.result failure _ h.0 c.audit_in_folder-made.ensures.err),
+          (if_failed c.audit_in_folder-made.result failure _ h.0
+          c.audit_in_folder-made.ensures.err),
       h.1,
       h.2,
     )) c.printed-in-Audit.ensures.err
@@ -109,7 +114,8 @@ pub returns-in-Letters-clause-err : goal.returns-in-Letters-clause-err
 returns-in-Letters-clause-err g c =
     IfErr-weaker c.opened.result _ _
     (λ failure h.
-    let why = not_done c.letters_in_folder-done.result h.0 _ h.1 c.letters_in_folder-done.ensures.err in (
+    let why = not_done c.letters_in_folder-done.result h.0 _ h.1
+    c.letters_in_folder-done.ensures.err in (
       failed c.args.limits c.args.command _ _ _ _ _ c.in-Letters.is (h.2, (h.0, h.3), why.0),
       why.1,
       why.2,
@@ -160,7 +166,8 @@ pub returns-in-Publish-clause-err : goal.returns-in-Publish-clause-err
 returns-in-Publish-clause-err g c =
     IfErr-weaker c.opened-in-Publish.result _ _
     (λ failure h.
-    let why = not_done c.publish_in_folder-done.result h.0 _ h.1 c.publish_in_folder-done.ensures.err in (
+    let why = not_done c.publish_in_folder-done.result h.0 _ h.1
+    c.publish_in_folder-done.ensures.err in (
       failed c.args.limits c.args.command _ _ _ _ _ c.in-Publish.is (h.2, (h.0, h.3), why.0),
       why.1,
       why.2,

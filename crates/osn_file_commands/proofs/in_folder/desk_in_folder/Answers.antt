@@ -30,6 +30,7 @@ returns-clause-err g c =
     (TranscribesNot c.args.limits) _ c.in-Err.fault c.failed.result
     (input_of remaining has_failed found.editor left.script)
     (input_of remaining has_failed found.readers left.questions) found.ensures.ok
-    (found.ensures.first, (λ e. (left.script, e))) (found.ensures.second, (λ e. (left.questions, e)))
+    (found.ensures.first, (λ e. (left.script, e)))
+    (found.ensures.second, (λ e. (left.questions, e)))
     c.failed.ensures c.in-Err.ensures.err c.failure_of_two.ensures.path
     c.failure_of_two.ensures.fault

@@ -7,6 +7,7 @@ use Rattle.osn_follower.proofs.AllRoundsLemmas.{GoesOn-round, IsInterrupted-roun
 use Rattle.osn_follower.proofs.RoundLemmas.{not_received}
 use Rattle.osn_follower.proofs.follower.answer_next.Goals as goal
 use Rattle.osn_follower.proofs.follower.answer_next.Goals.{then-served-via-then-served}
+use Rattle.osn_follower.proofs.follower.answer_next.Goals.{}
 use Rattle.osn_follower.proofs.follower.answer_next.Goals.{then-served-via-else-served+then-requests}
 
 pub returns-in-Err-clause-err : goal.returns-in-Err-clause-err

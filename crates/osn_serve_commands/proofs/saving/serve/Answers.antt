@@ -4,7 +4,8 @@ use Rattle.osn_lines.specs.Streams.{input_of}
 use Rattle.osn_serve_commands.specs.Saving.{LocksIf}
 use Rattle.osn_serve_commands.specs.Serve.{input_if}
 use Rattle.osn_serve_commands.proofs.ResultLemmas.{if_err_made}
-use Rattle.osn_serve_commands.proofs.SaveLemmas.{given_if, may_fail_if, not_opened, replaced_unopened}
+use Rattle.osn_serve_commands.proofs.SaveLemmas.{given_if, may_fail_if, not_opened}
+use Rattle.osn_serve_commands.proofs.SaveLemmas.{replaced_unopened}
 use Rattle.osn_serve_commands.proofs.SaveLemmas.{replacing_ran, service_ran}
 use Rattle.osn_serve_commands.proofs.saving.serve.Goals as goal
 

@@ -5,7 +5,9 @@ use Rattle.osn_serve_commands.proofs.saving.serve_opened.Goals as goal
 pub returns : goal.returns
 returns g c =
     served_and_saved g.E.Sink.contents g.E.Sink.has_failed g.E.Sink.holds_back g.D.Folder.known
-    string_bytes (λ file. file.path.now) (option_map (λ bytes. bytes.now) c.args.loaded) c.args.beside _ _ _ _ _
-    _ _ c.args.limits c.args.path.now c.args.rules _ _ _ _ c.args.locked c.serve_command-served.result.journal
+    string_bytes (λ file. file.path.now) (option_map (λ bytes. bytes.now) c.args.loaded)
+    c.args.beside _ _ _ _ _
+    _ _ c.args.limits c.args.path.now c.args.rules _ _ _ _ c.args.locked
+    c.serve_command-served.result.journal
     c.serve_command-served.result.editions c.is_some-saves.ensures
     c.serve_command-served.ensures c.finish.ensures.none c.finish.ensures.saved

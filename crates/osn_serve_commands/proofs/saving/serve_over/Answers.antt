@@ -8,6 +8,7 @@ returns-in-Err g c =
 
 pub returns : goal.returns
 returns g c =
-    saved_over c.args.limits c.args.path.now _ c.args.rules _ _ (g.D.Folder.known c.save_target.new.folder) _ _ _ _
+    saved_over c.args.limits c.args.path.now _ c.args.rules _ _
+    (g.D.Folder.known c.save_target.new.folder) _ _ _ _
     _ c.in-Ok.found _ _ c.in-Ok.ensures.ok c.save_target.ensures.crash c.bytes_of.ensures
     c.is_left_beside.ensures c.serve_opened.ensures

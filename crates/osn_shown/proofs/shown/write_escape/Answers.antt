@@ -13,7 +13,8 @@ loop-part-preserved g c =
       λ plain.
           let (done, wrote, whole) = c.loop-part.invariant.1 plain in (
             done ++ this,
-            has_written_append _ _ _ _ _ _ wrote (c.in_ok-write_char.ensures.writes wrote.plain refl),
+            has_written_append _ _ _ _ _ _ wrote (c.in_ok-write_char.ensures.writes wrote.plain
+                refl),
             append_assoc done this (flat_map encode_utf8 after)
                 ∙ ap (λ cs. done ++ flat_map encode_utf8 cs) (sym steps.1.0) ∙ whole,
           ),

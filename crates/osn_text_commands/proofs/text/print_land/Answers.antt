@@ -16,7 +16,8 @@ returns-in-Ok g c =
     (output_of g.E.Sink.contents g.E.Sink.has_failed g.E.Sink.holds_back c.args.errors.now
     c.print.new.errors)
     c.print.result c.in-Ok.ensures.test
-    (c.print.ensures (text_of_code newest_rules c.args.edition code lands) c.write_territory.ensures.text)
+    (c.print.ensures (text_of_code newest_rules c.args.edition code lands)
+    c.write_territory.ensures.text)
 
 pub returns-in-Err : goal.returns-in-Err
 returns-in-Err g c =

@@ -4,7 +4,9 @@ use Rattle.osn_follower.specs.FollowerInside.{StandsForLines}
 use Rattle.osn_follower.proofs.FrontLemmas.{ended-added, few-added, long_of, not_long, rest-added}
 use Rattle.osn_follower.proofs.LineLemmas.{rest-pass, no_line-pass}
 use Rattle.osn_follower.proofs.line_front.LineFront.read.Goals as goal
-use Rattle.osn_follower.proofs.line_front.LineFront.read.Goals.{else-len-gt-LONGEST_LINE-via-then-len-gt-LONGEST_LINE+else-ended_length-eq0, else-len-gt-LONGEST_LINE-via-else-len-gt-LONGEST_LINE}
+use Rattle.osn_follower.proofs.line_front.LineFront.read.Goals.{}
+use Rattle.osn_follower.proofs.line_front.LineFront.read.Goals.{else-len-gt-LONGEST_LINE-via-then-len-gt-LONGEST_LINE+else-ended_length-eq0}
+use Rattle.osn_follower.proofs.line_front.LineFront.read.Goals.{else-len-gt-LONGEST_LINE-via-else-len-gt-LONGEST_LINE}
 
 pub returns-then-ended_length-eq0-clause-lines : goal.returns-then-ended_length-eq0-clause-lines
 returns-then-ended_length-eq0-clause-lines c = λ waiting h.

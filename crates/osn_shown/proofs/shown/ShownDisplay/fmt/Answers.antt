@@ -14,7 +14,8 @@ loop-c-init g c = (
     [],
     record { wrote = writes_in_calls_nil _ _; plain = plain },
     ap (λ text. flat_map shown_char (chars text))
-        (ap chars_rest c.into_iter-c-iterator.ensures.into_iter_gives ∙ c.chars-c-items.ensures.rest),
+        (ap chars_rest c.into_iter-c-iterator.ensures.into_iter_gives
+        ∙ c.chars-c-items.ensures.rest),
   ),
 )
 
