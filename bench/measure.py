@@ -1,7 +1,7 @@
 """What the benchmarks share: requests, the two programs, and what a run of one costs.
 
 Times are processor time, of user and system together, so that other work on the machine counts
-little. Of some rounds the best counts; the programs take turns in each round.
+little. The best of some rounds counts; the programs take turns in each round.
 """
 import json
 import os
@@ -76,7 +76,7 @@ def edit(number):
 
 
 def published_after(count):
-    """All edits, with a publish after each so many of them."""
+    """All edits, with a publish after each `count` of them."""
     lines = []
     for number in range(EDITS):
         lines.append(edit(number))
@@ -101,7 +101,7 @@ def land_edits(code, opening, changes):
 
 
 def many_territories(count, styles=STYLES, line=SHORT):
-    """500 territories with so many changes each, spread over all days up to the last one, of all
+    """500 territories with `count` changes each, spread over all days up to the last one, of all
     regimes of these styles."""
     edits = []
     for place in range(LANDS):
@@ -128,14 +128,14 @@ def usual_read(code, n, line=SHORT):
 
 
 def given_program(document):
-    """The program that is measured, by a script that takes no other word."""
+    """The program that is measured, by a script that takes no other argument."""
     line = CommandLine(document)
     line.add_program()
     return line.read().program
 
 
 def is_stale(built, sources):
-    """Whether a program has to be built: it isn't there, or a file of its sources is newer."""
+    """Returns whether a program must be built: it isn't there, or a source file is newer."""
     if not os.path.exists(built):
         return True
     files = [os.path.join(sources, name) for name in os.listdir(sources)]
@@ -143,14 +143,14 @@ def is_stale(built, sources):
 
 
 def plain_program():
-    """The plain Rust program, built first where that is needed."""
+    """The plain Rust program, built first if that is needed."""
     built = os.path.join(PLAIN, "target", "release", "plain")
     if is_stale(built, os.path.join(PLAIN, "src")):
         need("cargo", "Rust, with Debian's package librust-serde-json-dev")
         print("building the plain Rust program", file=sys.stderr)
         build = ["cargo", "build", "--release", "--offline", "--quiet"]
         if subprocess.run(build, cwd=PLAIN).returncode != 0:
-            sys.exit("the plain Rust program is not built: it wants Debian's package "
+            sys.exit("the plain Rust program is not built: it requires Debian's package "
                      "librust-serde-json-dev")
     return built
 
@@ -199,7 +199,7 @@ class Load:
         return usage.ru_utime + usage.ru_stime, replies
 
     def times(self, commands, run=None, rounds=ROUNDS):
-        """The best time of each command, which all have to write the same bytes; and these."""
+        """The best time of each command, all of which must write the same bytes; and these."""
         run = run or self.run
         best, expected = {}, None
         for _ in range(rounds):
@@ -249,8 +249,8 @@ def print_head(title, commands, *more):
 
 
 def print_rates(title, rates, floor=None):
-    """The rates of the two programs and their ratio; and, where there is one, that of the floor,
-    with how many times its time the first program takes."""
+    """Prints the rates of the two programs and their ratio, and the rate of the floor, if there is
+    one, with how many times its time the first program takes."""
     numbers = "".join(f"{rate:12,.0f}" for rate in rates)
     beside = f"{floor:10,.0f}{floor / rates[0]:10.2f}" if floor else ""
     print(f"{title:28}{numbers}{rates[0] / rates[1]:8.2f}{beside}")

@@ -3,8 +3,8 @@
 
 The Debian package ncal has a list of countries, each with the last day of its Julian calendar. The
 change is on the next day. What that list says is the list's claim, and none of this project's: it
-is a start for an editor, who has to hold each territory against the country's own records, and to
-cite these as the source of the change. Years begin on 1 January in this text, and the rule of
+is a start for an editor, who must compare each territory with the country's own records, and cite
+these as the source of the change. Years begin on 1 January in this text, and the rule of
 Easter is that of the calendar, or EASTER (`julian` or `gregorian`) throughout. If the text is in
 countries.toml, this publishes it: ./oldstyle publish countries.journal countries.toml
 """
@@ -39,7 +39,7 @@ def next_day(year, month, day):
 assert next_day(1700, 2, 28) == "1700-02-29" and next_day(1655, 2, 28) == "1655-03-01"
 easter = sys.argv[1] if len(sys.argv) > 1 else None
 countries = {code: rest for code, *rest in COUNTRY.findall(sys.stdin.read())}
-print("# The countries of ncal -p, by its own claim: hold each against the country's records.")
+print("# The countries of ncal -p, by its own claim: compare each with the country's records.")
 for code, (name, *last) in sorted(countries.items()):
     print(TERRITORY.format(code=code, name=json.dumps(name), day=next_day(*map(int, last)),
                            opening=easter or "julian", later=easter or "gregorian"), end="")

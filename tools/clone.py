@@ -1,4 +1,4 @@
-"""A temporary clone of what is committed, for programs and edits that are no part of the gate."""
+"""A temporary clone of what is committed, for programs and edits that the gate doesn't try."""
 import contextlib
 import os
 import re
@@ -12,7 +12,7 @@ ROOT = os.path.dirname(HERE)
 
 
 def bring_libraries(clone):
-    """Copies the libraries that earlier checks built, used where the sources are the same."""
+    """Copies the libraries that earlier checks built, used if the sources are the same."""
     for crate in os.listdir(os.path.join(ROOT, "crates")):
         built, into = (os.path.join(top, "crates", crate, "out", "rlib") for top in (ROOT, clone))
         if os.path.isdir(built):
@@ -36,7 +36,7 @@ def libraries_of(source):
 
 
 def add_program(clone, source):
-    """Adds a program of one source file to a clone, and answers the folder of its crate."""
+    """Adds a program of one source file to a clone, and returns the folder of its crate."""
     name = os.path.splitext(os.path.basename(source))[0]
     folder = os.path.join(clone, "crates", name)
     os.makedirs(os.path.join(folder, "src"))

@@ -1,4 +1,4 @@
-"""The command lines of scripts: options of one form, and what is wrong told in a line or two."""
+"""The command lines of scripts: options of one form, and mistakes reported in a line or two."""
 import argparse
 import os
 import shlex
@@ -13,7 +13,7 @@ SCRIPT = os.path.basename(sys.argv[0])
 
 
 class CommandLine(argparse.ArgumentParser):
-    """The words that a script takes. Its help says what the script's document says."""
+    """The arguments that a script takes. Its help says what the script's document says."""
 
     def __init__(self, document):
         super().__init__(description=document.strip(), allow_abbrev=False,
@@ -26,7 +26,7 @@ class CommandLine(argparse.ArgumentParser):
 
     def add_number(self, name, default, what, least=1):
         """An option that takes a whole number."""
-        beside = "" if default is None else f"; {default} where none is given"
+        beside = "" if default is None else f"; {default} by default"
         self.add_argument(name, type=lambda text: whole(text, least), default=default, metavar="N",
                           help=what + beside)
 
@@ -39,7 +39,7 @@ class CommandLine(argparse.ArgumentParser):
     def add_program(self):
         self.programs.append("program")
         self.add_argument("--program", default=BUILT, metavar="PATH",
-                          help="the program; this tree's where none is given")
+                          help="the program; by default this tree's")
 
     def add_older(self, what, required=False):
         self.programs.append("older")
@@ -52,13 +52,13 @@ class CommandLine(argparse.ArgumentParser):
         return options
 
     def find_programs(self, options):
-        """Puts the absolute path of each program in its place. An old one is told, and taken."""
+        """Replaces each program by its absolute path. Reports an old one, and takes it."""
         for name in self.programs:
             if (path := getattr(options, name)) is not None:
                 setattr(options, name, self.program_at(name, path))
         if options.program == BUILT and (source := newer_source()):
             print(f"{SCRIPT}: the program is older than {source}: ./oldstyle --prove builds it "
-                  "anew", file=sys.stderr)
+                  "again", file=sys.stderr)
 
     def program_at(self, name, path):
         """The absolute path of a program. One that is named without a folder is on the PATH."""
@@ -67,18 +67,18 @@ class CommandLine(argparse.ArgumentParser):
         if path == BUILT:
             self.error("this tree's program is not built: build it by ./oldstyle --prove, or name "
                        "another by --program PATH")
-        return self.error(f"--{name}: {path} is no program: name one that is built")
+        return self.error(f"--{name}: {path} is not a program: name one that is built")
 
 
 def whole(text, least):
-    """The number of a text, which is that or a larger one."""
+    """The number of a text, which must be at least that large."""
     if not (text.isascii() and text.isdigit() and int(text) >= least):
-        raise argparse.ArgumentTypeError(f"{text} is no whole number from {least} on")
+        raise argparse.ArgumentTypeError(f"{text} is not a whole number from {least} on")
     return int(text)
 
 
 def file_at(path):
-    """The path of a file, where one is there."""
+    """The path of a file, if one is there."""
     if not os.path.isfile(path):
         raise argparse.ArgumentTypeError(f"{path}: no such file: name one that is there")
     return path
@@ -124,8 +124,8 @@ def need_python(modules, package):
 
 
 def end(main):
-    """Ends the script with the status of its main function. What the system or a command refuses
-    is told in a line."""
+    """Ends the script with the status of its main function. A refusal of the system or of a command
+    is reported in a line."""
     try:
         sys.exit(main())
     except KeyboardInterrupt:

@@ -7,7 +7,7 @@ PROGRAM = "oldstyle"
 
 
 def read_crates():
-    """The crates of crates.txt that each one names, by name, lowest first."""
+    """The crates of crates.txt, lowest first, each with the crates that it names."""
     below = {}
     with open(os.path.join(TOP, "crates.txt"), encoding="utf-8") as lines:
         for line in lines:
@@ -17,7 +17,7 @@ def read_crates():
 
 
 def crates_of_program():
-    """The program's crate and those that it stands on, lowest first: all others are of tests."""
+    """The program's crate and those that it depends on, lowest first: all others are of tests."""
     below = read_crates()
     needed = {PROGRAM}
     for name in reversed(below):

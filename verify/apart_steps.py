@@ -1,10 +1,10 @@
 #!/usr/bin/env python3
-"""Holds what schedules of the nine steps give against a model written apart.
+"""Compares what schedules of the nine steps give with a model that was written independently.
 
 The model has two copies of the territories, each with its edits made one by one, and a list of the
 edits that the standby lacks. It was written from docs/FORMATS.md alone, and shares the rules of
-edits and queries with reference.py. With --replay it tells what the model gives at the steps of one
-schedule, of which each is a line of standard input.
+edits and queries with reference.py. With --replay it prints what the model gives at the steps of
+one schedule, of which each is a line of standard input.
 """
 import json
 import random
@@ -18,7 +18,7 @@ EDITIONS = 5_000
 
 
 class Copy(Service):
-    """One of the two copies: what it has is what it shows."""
+    """One of the two copies, whose draft is what it shows."""
 
     def __init__(self):
         super().__init__()
@@ -158,7 +158,7 @@ def edit(chance):
 
 
 def schedule(chance, machine):
-    """Steps at random, four of five such as are enabled or nearly so, and what the model gives at
+    """Steps at random, four of five of which are enabled or nearly so, and what the model gives at
     them."""
     lines, outs = [], []
     for _ in range(chance.randrange(20, 80)):
@@ -180,7 +180,7 @@ def schedule(chance, machine):
 
 
 def given(oldstyle, readers, lines):
-    """What the program gives at a schedule."""
+    """What the program gives for a schedule."""
     with tempfile.NamedTemporaryFile("w", suffix=".jsonl") as file:
         file.write("".join(line + "\n" for line in lines))
         file.flush()

@@ -3,9 +3,9 @@
 
 A journal of random edits is served, edition by edition, to readers who ask in between; each query
 and its reply are put down as a transcript, or the journal is worked through at a desk, whose
-transcript is taken. The audit has to agree to all replies. Then one digit within a reply is
-changed, and the audit has to name that line. In the end a transcript of over 128 MiB is audited,
-which has to say on a terminal how far it is, and nowhere else.
+transcript is taken. The audit must agree to all replies. Then one digit within a reply is
+changed, and the audit must name that line. In the end a transcript of over 128 MiB is audited,
+which must say on a terminal how far it is, and only there.
 """
 import os
 import pty
@@ -69,7 +69,7 @@ def audited(oldstyle, journal, transcript, lines):
 
 
 def spoilt(chance, line):
-    """A line with one digit of its reply changed, but for the edition's: another edition may have
+    """A line with one digit of its reply changed, except in the edition: another edition may have
     the same answer."""
     start = line.index('"reply":')
     edition = re.compile(r'"edition":\d+').search(line, start)
@@ -99,7 +99,7 @@ def long_audit(oldstyle, journal, transcript, line):
 
 
 def try_transcript(oldstyle, chance, journal, transcript, lines):
-    """A transcript as it is, and with a reply changed where it has one."""
+    """Tries a transcript as it is, and with a reply changed if it has one."""
     found = audited(oldstyle, journal, transcript, lines)
     hold(f"{found} of", found == (0, f"audit: {len(lines)} replies agree\n"), lines)
     if lines:

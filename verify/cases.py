@@ -4,8 +4,8 @@
 The cases are those of crates/osn_cases/data, or the files that are named; README.md beside that
 folder has their form. The gate runs them by the code of the program over a folder in memory, which
 proves nothing about its main function, its files and the streams of the system. A command that
-names a path in `private/`, `broken/` or `full/`, or `a.folder/`, is left out: only the memory has them. Prints
-each stream and each status that is not as its case says.
+names a path in `private/`, `broken/` or `full/`, or `a.folder/`, is left out: only the memory has
+them. Prints each stream and each status that is not as its case says.
 """
 import glob
 import os
@@ -62,7 +62,7 @@ class Case:
 
 
 def bytes_of(line):
-    """The bytes that a line of a case stands for."""
+    """The bytes that a line of a case means."""
     text = line.removesuffix(b" (no-eol)")
     feed = b"\n" if text == line else b""
     if text.endswith(b" (esc)"):
@@ -123,18 +123,18 @@ def left(program, folder, step):
         case [b"ls"]:
             names = sorted(os.listdir(folder))
             return b"".join(name + b"\n" for name in names), b"", 0
-    raise ValueError(f"line {step.line} is no command")
+    raise ValueError(f"line {step.line} is not a command")
 
 
 def difference(wanted, got):
-    """The first line of some bytes that differs from what is wanted, and that line."""
+    """The first line of some bytes that differs from the expected one, and that line."""
     lines = zip_longest(got.splitlines(True), wanted.splitlines(True), fillvalue=b"(nothing)")
     return next((f"{is_there!r}, and not {other!r}" for is_there, other in lines
                  if is_there != other), "")
 
 
 def run_case(program, name, head, case):
-    """Runs a case after the head of its file, and answers how many commands it ran."""
+    """Runs a case after the head of its file, and returns how many commands it ran."""
     place = f"{name}:{case.line}: {case.title.decode()}"
     count = 0
     with tempfile.TemporaryDirectory() as folder:
@@ -154,7 +154,7 @@ def main():
     line = CommandLine(__doc__)
     line.add_program()
     line.add_argument("files", nargs="*", metavar="FILE", type=file_at,
-                      help="a file of cases; all of the gate where none is named")
+                      help="a file of cases; by default all of the gate")
     options = line.read()
     cases = commands = 0
     for path in options.files or sorted(glob.glob(FILES)):

@@ -1,4 +1,4 @@
-"""What clients.py holds of files: an installed package and its commands."""
+"""What clients.py checks of files: an installed package and its commands."""
 import os
 import shutil
 import subprocess
@@ -13,7 +13,7 @@ TEI, GEDCOM = "oldstyle-tei", "oldstyle-gedcom"
 HEAD = b'<TEI xmlns="http://www.tei-c.org/ns/1.0"><opener><placeName>London</placeName> '
 TAIL = b"</opener></TEI>"
 MAY = b' when="1640-05-13" when-custom="1640-05-03" calendar="#julian"'
-# The lines of the samples of which standard error is told: counted in the files by hand.
+# The lines of the samples that standard error names: counted in the files by hand.
 TOLD = {"letters.xml": (TEI, {"skipped": 2, "no date": 1, "several days": 1, "is left": 1,
                               "unknown place": 1}),
         "cmif.xml": (TEI, {"declare it": 1}),
@@ -50,7 +50,7 @@ class Installed:
 
 
 def checks(options, folder):
-    """All that is held of files."""
+    """All checks of files."""
     installed = Installed(options.program, folder)
     yield f"pip install: {installed.done.stderr}", installed.done.returncode == 0
     client_tools.tried.append("the package installed without a network")
@@ -67,7 +67,7 @@ def checks(options, folder):
 
 
 def documents(installed):
-    """The Python examples of documents, as they stand there, and the example of two lines."""
+    """The Python examples of documents, as they are there, and the example of two lines."""
     for path in ("README.md", "clients/python/README.md"):
         done = installed.run(["python3", "-c", "import doctest, sys; print(*doctest.testfile("
                               "sys.argv[1], module_relative=False))", path])
@@ -184,7 +184,7 @@ def in_notes(installed):
 
 
 def by_place(installed):
-    """What --place stands for, with a table of places and without one."""
+    """What --place sets, with a table of places and without one."""
     date = b"<date>3 May 1640</date>"
     filled = b"<date" + MAY + b">3 May 1640</date>"
     lacking = HEAD.replace(b"<placeName>London</placeName> ", b"")
@@ -215,7 +215,7 @@ def tree(*lines, version=b"5.5.1", charset=b"UTF-8"):
 
 
 def trees(installed):
-    """GEDCOM: letters, places, the Gregorian date, and what is no file of it."""
+    """GEDCOM: letters, places, the Gregorian date, and what is not a file of it."""
     place = b"2 PLAC London"
     pairs = [
         ((b"2 DATE 3 MAY 1640", place), (b"2 DATE @#DJULIAN@ 3 MAY 1640", place), ()),
@@ -254,7 +254,7 @@ def trees(installed):
     ansi = installed.fill(GEDCOM, tree(b"2 DATE (3 d\xe9c. 1640)", place, charset=b"ANSI"))
     yield f"GEDCOM in ANSI: {ansi.stdout}", b"INT @#DJULIAN@ 3 DEC 1640 (3 d\xe9c" in ansi.stdout
     wrong = installed.fill(GEDCOM, tree(b"2 DATE (3 d\xe9c. 1640)", place))
-    yield "GEDCOM: bytes that are no UTF-8", b"CHAR" in wrong.stderr and b"INT" not in wrong.stdout
+    yield "GEDCOM: bytes that are not UTF-8", b"CHAR" in wrong.stderr and b"INT" not in wrong.stdout
     for data, told in ((b"", "0 HEAD"), (b"1 BIRT\n", "0 HEAD"), (tree(version=b"4.0"), "4.0"),
                        (tree(charset=b"UNICODE"), "UNICODE"),
                        (tree().decode().encode("utf-16"), "UTF-16")):
@@ -267,7 +267,7 @@ def trees(installed):
 
 
 def words(installed, folder):
-    """Wrong words, tables of places with mistakes, and streams that fail."""
+    """Wrong arguments, tables of places with mistakes, and streams that fail."""
     given = read(os.path.join(SAMPLES, "letters.xml"))
     table = os.path.join(folder, "table.csv")
     runs = [([TEI], 2, "JOURNAL"), ([TEI, JOURNAL, "--wrong"], 2, "--help"),

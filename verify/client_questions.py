@@ -1,11 +1,11 @@
 #!/usr/bin/env python3
-"""Holds the Python client to this: no question gets another's answer, and none is lost in silence.
+"""Checks the Python client: no question gets another's answer, or is lost without an exception.
 
 Registers are asked across forks, by pools of processes, from threads, while exceptions of signal
 handlers and time limits cut their questions, and while another thread closes them. The program is a
 stand-in that this script writes, which says what it was asked, or the one of --program. Each
-reading has to be that of its own question, or an exception of the package. It imports nothing but
-the package and the standard library, so any Python from 3.9 on runs it. Prints what doesn't hold.
+reading must be that of its own question, or an exception of the package. It imports nothing except
+the package and the standard library, so any Python from 3.9 on runs it. Prints what fails.
 """
 import argparse
 import concurrent.futures
@@ -62,7 +62,8 @@ def text_of(number):
 
 
 def is_own(reading, number):
-    """Whether the reading is that of the question: the stand-in says it, the program its day."""
+    """Returns whether the reading is that of the question: the stand-in repeats it, the program
+    gives its day."""
     text = text_of(number)
     if reading.day is None:
         return reading.reason == text
@@ -113,7 +114,7 @@ def forks(program, count):
 
 
 def in_child(work):
-    """What is said by a function in a forked process, or `silence`."""
+    """What a function in a forked process reports, or `silence`."""
     reader, writer = os.pipe()
     if (child := os.fork()) == 0:
         try:
@@ -188,7 +189,7 @@ def raise_limit(*_):
 
 
 def asked(register, is_one_by_one):
-    """A thousand questions, each by itself or as rows."""
+    """A thousand questions, one by one or as rows."""
     if is_one_by_one:
         return ((number, register.read("GB", text_of(number))) for number in range(1000))
     rows = (("GB", text_of(number)) for number in range(1000))
@@ -301,7 +302,7 @@ def ask_to_end(register, raised, wrong, text=None):
 
 
 def newer(program):
-    """A program whose answers have members more, and one that ends."""
+    """A program whose answers have more members, and one that ends."""
     with opened(program) as register:
         hold("a newer territory", register.lands() == [oldstyle.Land("GB", "Great Britain")])
         hold("a newer period", register.periods("GB")[0].source is None)
@@ -318,7 +319,7 @@ def newer(program):
 
 def main():
     line = argparse.ArgumentParser(description=__doc__)
-    line.add_argument("--program", help="the program; a stand-in where none is given")
+    line.add_argument("--program", help="the program; by default a stand-in")
     line.add_argument("--count", type=int, default=200, help="questions of a pool")
     line.add_argument("--seconds", type=float, default=4, help="seconds of interruptions")
     options = line.parse_args()

@@ -1,4 +1,4 @@
-"""What clients.py holds by R, Gramps and xmllint, each where it is there."""
+"""What clients.py checks by R, Gramps and xmllint, for each that is installed."""
 import gzip
 import os
 import re
@@ -10,7 +10,7 @@ from lib.common import TOP
 CLIENTS = os.path.join(TOP, "clients")
 SAMPLES = os.path.join(CLIENTS, "samples")
 JOURNAL = os.path.join(TOP, "examples", "samples.journal")
-# What Gramps has to make of dates that were written: dual years are those from 1 January there.
+# What Gramps must make of dates that were written: dual years are those from 1 January there.
 IN_GRAMPS = {
     "@#DJULIAN@ 11 FEB 1731/32": 'dateval val="1732-02-11" cformat="Julian" dualdated="1"',
     "@#DJULIAN@ 25 MAR 1732": 'dateval val="1732-03-25" cformat="Julian"',
@@ -34,7 +34,7 @@ def read(path):
 
 
 def checks(installed, options, folder):
-    """What R, Gramps and xmllint say, where they are there."""
+    """What R, Gramps and xmllint say, if they are installed."""
     if shutil.which("xmllint"):
         yield from linted(options.schema)
     if shutil.which("Rscript"):
@@ -74,7 +74,7 @@ def in_gramps(folder):
 
 
 def in_r(installed, folder):
-    """The example of R's README, as it stands there, and what its functions refuse."""
+    """The example of R's README, as it is there, and what its functions refuse."""
     with open(os.path.join(CLIENTS, "r", "README.md"), encoding="utf-8") as file:
         blocks = dict(re.findall(r"```(\w+)\n(.*?)```", file.read(), re.DOTALL))
     tried.append("R")

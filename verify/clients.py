@@ -1,12 +1,12 @@
 #!/usr/bin/env python3
-"""Holds the clients of clients/ against the program.
+"""Checks the clients of clients/ against the program.
 
 The Python package is installed into an environment of its own without a network, and the examples
-of its README are run as they stand there. Its readings are held against the program's own replies
-and against days that are worked out here. Faults are provoked, each with its exception. The two
-commands fill in the samples of clients/samples, and what comes out is held against the files that
-were written by hand. R, Gramps, pandas and xmllint are tried where they are there; --schema names
-TEI's schema in RELAX NG for xmllint. Prints what doesn't hold.
+of its README are run as they are there. Its readings are compared with the program's own replies
+and with days that are computed here. Faults are provoked, each with its exception. The two
+commands fill in the samples of clients/samples, and the results are compared with files that were
+written by hand. R, Gramps, pandas and xmllint are tried if they are installed; --schema names
+TEI's schema in RELAX NG for xmllint. Prints what fails.
 """
 import contextlib
 import datetime
@@ -31,9 +31,9 @@ import oldstyle
 
 JOURNAL = os.path.join(TOP, "examples", "samples.journal")
 ORDINAL_TO_JDN = 1_721_425
-# What a date means in the samples, worked out by hand. The Julian calendar was ten days after the
+# What a date means in the samples, computed by hand. The Julian calendar was ten days after the
 # Gregorian one from 1582 to February 1700, eleven in the 18th century, thirteen in the 20th. Great
-# Britain counted its years from 25 March until 1751. Python's own dates tell the weekdays.
+# Britain counted its years from 25 March until 1751. Python's own dates give the weekdays.
 WORKED = [
     ("GB", "11 Feb. 1731/32", "1732-02-22", "1732-02-22"),
     ("GB", "24 March 1699", "1700-04-04", "1700-04-04"),
@@ -77,14 +77,14 @@ def reply_of(reading):
 
 
 def is_day_right(day):
-    """Whether the members of a day agree, by Python's own count of Gregorian days."""
+    """Returns whether the members of a day agree, by Python's own count of Gregorian days."""
     date = day.date
     return (date.toordinal() == day.day == day.jdn - ORDINAL_TO_JDN
             and date.strftime("%A") == day.weekday and date.isoformat() == day.gregorian)
 
 
 def worked(register):
-    """Dates that were worked out by hand."""
+    """Dates that were computed by hand."""
     for code, text, first, last in WORKED:
         reading = register.read(code, text)
         found = [day and day.gregorian for day in (reading.earliest, reading.latest)]
@@ -108,7 +108,7 @@ def worked(register):
 
 
 def piped(register, program, options):
-    """Many rows, held against what the program writes of the same lines."""
+    """Compares the replies to many rows with what the program writes for the same lines."""
     rows = list(rows_drawn(random.Random(options.seed), options.count))
     told = run(program, ["serve", "--journal", JOURNAL], map(request, rows)).stdout.splitlines()
     found = [reply_of(reading) for reading in register.read_many(rows)]
@@ -251,7 +251,7 @@ def followed(program, journal):
 
 
 def publish(keeper, edition):
-    """Has a keeper publish an edition with a territory more, and gives the one that it tells."""
+    """Makes a keeper publish an edition with one more territory; returns the reported edition."""
     keeper.stdin.write(compact({"op": "add_land", "code": f"L{edition}", "name": f"Land {edition}",
                                 "calendar": "julian", "style": "january", "rule": "julian"})
                        + '\n{"op":"publish"}\n')
@@ -291,7 +291,7 @@ def in_frames(register):
 
 
 def speed(register, program, count):
-    """Prints the seconds of the pipe beside those of the program alone and of Python's JSON."""
+    """Prints the seconds of the pipe, those of the program alone and those of Python's JSON."""
     rows = list(itertools.islice(itertools.cycle(rows_drawn(random.Random(1), 10_000)), count))
     lines = list(map(request, rows))
     clock = time.perf_counter
@@ -310,7 +310,7 @@ def speed(register, program, count):
 
 
 def checks(options, folder):
-    """All that is held, each with whether it holds."""
+    """All checks, each with whether it passes."""
     program = options.program
     with oldstyle.Register(JOURNAL, program=program) as register:
         yield from worked(register)
@@ -329,7 +329,7 @@ def main():
     line.add_program()
     line.add_number("--count", 20_000, "rows that are asked in one run")
     line.add_seed()
-    line.add_number("--speed", None, "tells the seconds of that many rows too")
+    line.add_number("--speed", None, "prints the seconds of that many rows too")
     line.add_argument("--schema", type=file_at, metavar="FILE", help="TEI's schema, RELAX NG")
     options = line.read()
     held = differ = 0
@@ -338,9 +338,9 @@ def main():
             held += 1
             if not holds:
                 differ += 1
-                print(f"doesn't hold: {what}")
+                print(f"failed: {what}")
     tried = ", ".join(client_tools.tried)
-    print(f"{held} checks of the clients, with {tried}: {differ} don't hold")
+    print(f"{held} checks of the clients, with {tried}: {differ} failed")
     return 1 if differ else 0
 
 

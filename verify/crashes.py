@@ -2,16 +2,16 @@
 """Builds what a crash of the machine may leave of a journal, and loads it with the program.
 
 A run that saves a journal, or keeps one, is traced by strace (Debian's package `strace`). Between
-any two of its system calls the machine may stop. What was synced is on the disk then. Of what was
-written since, any front of the bytes may be. A name that was made, moved or taken away since its
-folder was synced may be so or as before. Each such state is built: all names, and fronts at each
-line and at random places. A journal that is saved has to be the old one or the new one, whole, and
-the new one where the run had ended well. Of one that is kept the next keeper has to load each
-edition that was told before, and no line that was not sent. A keeper with `--upgrade` does both:
-the old journal stands, or the one of version 4, whole, and this one before anything is told.
+any two of its system calls the machine may stop. What was synced is on the disk then. Any prefix of
+the bytes that were written since may be there. A name that was made, moved or taken away since its
+folder was synced may be there or not. Each such state is built: all names, and prefixes at each
+line and at random places. A journal that is saved must be the old one or the new one, whole, and
+the new one if the run had ended well. From one that is kept the next keeper must load each edition
+that was reported before, and no line that was not sent. A keeper with `--upgrade` does both: there
+is the old journal, or the one of version 4, whole, and this one before anything is reported.
 
 A keeper is also killed at each call (SIGKILL) before it keeps a new file again, since the second
-run may rest on what the first had not synced. What the folder holds after such a stop has to be
+run may depend on what the first had not synced. What the folder holds after such a stop must be
 what the trace says: so the states are those of the real run.
 """
 import itertools
@@ -36,7 +36,7 @@ counts = {"states": 0, "loaded": 0, "cuts": 0, "stops": 0}
 
 
 class Disk:
-    """What a folder holds, and what of it is on the disk for sure. A file is known by a number."""
+    """What a folder holds, and what of it is on the disk for sure. A file has a number."""
 
     def __init__(self):
         self.files, self.opens, self.number = {}, {}, 0
@@ -101,7 +101,7 @@ class Disk:
         self.names = [found for found in self.names if found[0] != step.name]
 
     def take_name(self, step):
-        """A name that is moved, made or taken away, at once."""
+        """Moves, makes or takes away a name; the folder has the change from then on."""
         number = self.names_now()[step.name]
         change = {step.to: number} if step.kind != "remove" else {}
         self.change_name(folder_of(step.name),
@@ -121,7 +121,7 @@ class Disk:
                     yield dict(zip(names, held))
 
     def fronts(self, number, chance):
-        """What a file may hold: what was synced, and any front of what was done since."""
+        """What a file may hold: what was synced, and any prefix of what was done since."""
         changes, synced = self.files[number]
         found = {bytes_of(changes[:synced])}
         for place, (kind, value) in enumerate(changes[synced:], synced):
@@ -155,8 +155,8 @@ def folder_of(name):
 
 
 class Way(NamedTuple):
-    """A command, the file at which its journal stands, what is there at first, and what it is to
-    hold in the end: the lines that it begins with and those that are sent."""
+    """A command, the file of its journal, what the file holds at first, and what it must hold in
+    the end: the lines that it begins with and those that are sent."""
     words: str
     place: str
     old: bytes | None
@@ -166,7 +166,7 @@ class Way(NamedTuple):
     head: str = HEAD
 
     def lines(self, count=None):
-        """The bytes of the head and of so many of the lines."""
+        """The bytes of the head and of as many of the lines as `count` says."""
         return journal([*self.begun, *self.taken][:count], self.head)
 
     def new(self):
@@ -221,7 +221,7 @@ def disk_of(way):
 
 
 def moments(disk, steps):
-    """The disk between any two calls, with what was told by then."""
+    """The disk between any two calls, with what was reported by then."""
     told = b""
     yield disk.copy(), told
     for step in steps:
@@ -235,8 +235,8 @@ def moments(disk, steps):
 # ---- what is left
 
 
-def is_told(way, held, told):
-    """Whether a crash may leave these bytes at the journal's path, where this was told."""
+def may_be_left(way, held, told):
+    """Returns whether a crash may leave these bytes at the journal's path after these reports."""
     if not way.keeps():
         return held in (way.old, way.new())
     changes, edition = told_lines(told)
@@ -253,17 +253,17 @@ def is_told(way, held, told):
 
 
 def published(lines):
-    """How many lines stand up to the last publish, and with it."""
+    """How many lines there are up to the last publish, and with it."""
     return max((n + 1 for n, line in enumerate(lines) if line == PUBLISH), default=0)
 
 
 def hold_state(program, way, held, told, what):
-    """Loads what is at the journal's path, and holds it against what was told."""
-    hold(f"{what}: {held!r} is left, and {told!r} was told", is_told(way, held, told))
+    """Loads what is at the journal's path, and compares it with what was reported."""
+    hold(f"{what}: {held!r} is left, and {told!r} was reported", may_be_left(way, held, told))
     keeps = way.keeps()
     edition = max(told_lines(told)[1], way.begun.count(PUBLISH)) if keeps else 0
     if held is None:
-        hold(f"{what}: edition {edition} was told, and there is no file",
+        hold(f"{what}: edition {edition} was reported, and there is no file",
              way.old is None and edition == 0)
         return
     with tempfile.TemporaryDirectory() as folder:
@@ -307,7 +307,7 @@ def hold_end(way, disk, chance):
 
 
 def try_moment(program, way, moment, chance, seen, what):
-    """Each state that a crash at one moment may leave, but for those that were tried."""
+    """Each state that a crash at one moment may leave, except those that were tried."""
     disk, told = moment
     _, edition = told_lines(told)
     for state in disk.left_by_crash(chance):
@@ -319,7 +319,7 @@ def try_moment(program, way, moment, chance, seen, what):
 
 
 def try_stops(program, way, chance):
-    """Kills a run at each call, holds the folder against the trace, and has a second run go on.
+    """Kills a run at each call, compares the folder with the trace, and lets a second run continue.
     What the first had not synced is not sure to be there before the second has synced it."""
     folder = filled(way)
     _, steps = steps_of(program, way, folder)
@@ -347,7 +347,7 @@ def try_stops(program, way, chance):
 
 def go_on(program, way, stopped, chance, what):
     """A keeper over what a killed run left, and each crash of the machine after its first reply,
-    which asks and so tells the edition that it found."""
+    which answers a query and so names the edition that it found."""
     disk, folder = stopped
     held = bytes_at(os.path.join(folder, way.place)) or b""
     lines = held[:held.rfind(b"\n") + 1].decode().splitlines()[1:]
@@ -356,18 +356,18 @@ def go_on(program, way, stopped, chance, what):
     second = way._replace(words=SECOND, old=held, begun=lines, taken=more.taken, given=given)
     done, steps = steps_of(program, second, folder)
     hold(f"{what}, and the next run: {done.status} {done.err!r}", done.status == 0)
-    lost = [last_edition(later) for moment, later in moments(disk, numbered_anew(steps))
+    lost = [last_edition(later) for moment, later in moments(disk, renumbered(steps))
             if is_lost(second, moment, later, chance)]
-    hold(f"{what}, and the next run told edition {lost[:1]}: a crash may leave fewer", not lost)
+    hold(f"{what}, and the next run reported edition {lost[:1]}: a crash may leave fewer", not lost)
 
 
-def numbered_anew(steps):
+def renumbered(steps):
     """The steps of a second run, whose opens are not those of the first."""
     return [step._replace(file=step.file and step.file + 1_000) for step in steps]
 
 
 def is_lost(way, moment, told, chance):
-    """Whether a crash may leave fewer editions than were told."""
+    """Returns whether a crash may leave fewer editions than were reported."""
     edition = last_edition(told)
     states = list(moment.left_by_crash(chance)) if edition else []
     counts["states"] += len(states)
@@ -392,7 +392,7 @@ def main():
           f"{counts['states']} states that a crash may leave, of which {counts['loaded']} differ "
           "and were loaded")
     return verdict("after each crash the journal is the old one or the new one, whole, with each "
-                   "edition that was told")
+                   "edition that was reported")
 
 
 if __name__ == "__main__":

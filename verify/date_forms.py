@@ -1,9 +1,9 @@
 #!/usr/bin/env python3
-"""Holds the forms of dates that docs/DATES.md shows against the program.
+"""Compares the forms of dates that docs/DATES.md shows with the program.
 
-A text of the table of days is read as the day beside it, and a text of the tables of months,
-years, ranges and bounds has a page too, and is refused as no single day by `convert`. Prints each
-text that is told otherwise, and ends with status 1 where one is.
+A text of the table of days is read as the day in the same row. A text of the tables of months,
+years, ranges and bounds has a page too, and `convert` refuses it since it is not a single day.
+Prints each text that the program reads otherwise, and ends with status 1 if there is one.
 """
 import os
 import re
@@ -15,7 +15,7 @@ NOT_ONE_DAY = "a month, a year or a range is not one day"
 
 
 def rows(document, title):
-    """The texts of each row below a title, and what stands beside them."""
+    """The texts of each row below a title, and the other cell of the row."""
     section = document.split(f"\n## {title}\n")[1].split("\n## ")[0]
     for line in section.split("\n"):
         if line.startswith("| `"):
@@ -24,7 +24,7 @@ def rows(document, title):
 
 
 def expected(document):
-    """Each text, and what the program has to tell of it."""
+    """Each text, and what the program must print for it."""
     for texts, told in rows(document, "A day"):
         days = re.findall(DAY, told)
         assert len(days) in (1, len(texts)), told
@@ -35,7 +35,8 @@ def expected(document):
 
 
 def holds(program, text, told):
-    """Whether the program tells a text so. What is no single day has a page of `read` too."""
+    """Returns whether the program reads a text so. A text that is not one day has a page of
+    `read` too."""
     page = run(program, ["read", "examples/samples.journal", "GB", text], folder=TOP)
     if told != NOT_ONE_DAY:
         return page.stdout.startswith(f"{told} in Great Britain")
@@ -52,7 +53,7 @@ def main():
     others = [(text, told) for text, told in pairs if not holds(program, text, told)]
     for text, told in others:
         print(f"{text}: not {told}")
-    print(f"{len(pairs)} texts, {len(others)} told otherwise")
+    print(f"{len(pairs)} texts, {len(others)} read otherwise")
     return 1 if others else 0
 
 

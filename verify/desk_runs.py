@@ -1,11 +1,11 @@
 #!/usr/bin/env python3
-"""Holds what desks write against what the service answers, edition by edition.
+"""Compares what desks write with what the service answers, edition by edition.
 
-An editor works through a script while 64 readers ask, each in a thread of its own. Which edition a
-question meets is the schedule's affair, but the reply has to be that of `serve` at the edition that
+An editor follows a script while 64 readers ask, each in a thread of its own. Which edition a
+question meets depends on the schedule, but the reply must be that of `serve` at the edition that
 it names, the replies come by reader and then by place, and no reader's editions fall. So first all
 questions are asked of `serve` after each publish of the script; then each line of each transcript
-is looked up there. Run it on a busy machine too: that moves the threads about.
+is looked up there. Run it on a busy machine too: that varies the order of the threads.
 """
 import json
 import os
@@ -54,8 +54,8 @@ def queries(chance):
     return asked
 
 
-def told_by_service(oldstyle, batches, asked):
-    """What the service tells reader 1 of each query at each edition."""
+def replies_of_service(oldstyle, batches, asked):
+    """What the service replies to reader 1 for each query at each edition."""
     lines, ask = [], [compact({**query, "reader": 1}) for query in asked]
     for batch in [[], *batches]:
         publish = [compact({"op": "publish"})] if batch else []
@@ -67,7 +67,7 @@ def told_by_service(oldstyle, batches, asked):
 
 
 def check(transcript, questions, told):
-    """Holds the lines of a transcript against what the service told; answers the editions that
+    """Compares the lines of a transcript with what the service replied; returns the editions that
     were met."""
     hold(f"{len(transcript)} replies to {len(questions)}", len(transcript) == len(questions))
     last, met = {}, set()
@@ -92,7 +92,7 @@ def main():
     options = line.read()
     oldstyle, chance, met = options.program, random.Random(options.seed), set()
     batches, asked = editions(chance), queries(chance)
-    told = told_by_service(oldstyle, batches, asked)
+    told = replies_of_service(oldstyle, batches, asked)
     script = [compact({"journal": 4})]
     for batch in batches:
         script += [compact(edit) for edit in batch] + [compact({"op": "publish"})]

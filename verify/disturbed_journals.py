@@ -1,17 +1,17 @@
 #!/usr/bin/env python3
-"""Disturbs the service at random moments while it keeps its journal: no edition is told that is not
-in the file at the path that was named.
+"""Disturbs the service at random moments while it keeps its journal: no edition is reported that
+is not in the file at the path that was named.
 
 A run of `serve --keep` is sent edits and publishes, one after the reply to the other. Between two
 of them another run would keep the file or save to it, which is refused and changes nothing; or its
 permissions are taken away, which changes nothing either; or another program moves the file, puts
-another one in its place, cuts it or adds to it. Then the run ends by the fault that says so, tells
-no edition that is sent after that, and the file that it kept has each edition that it told before.
-Two runs that save to one path at once are tried too: one is refused, and nothing is left beside it.
-So is a run that saves to the file that it loaded, where another program has changed its bytes, cut
-it, lengthened it, taken it away, or put another file of the same bytes in its place. And one that
-keeps a file through a link, which leads then to a file of the same number on another disk; disks
-in memory stand for these, which only root may mount.
+another one in its place, cuts it or adds to it. Then the run ends by the fault that says so, it
+reports no edition that is sent after that, and the file that it kept has each edition that it
+reported before. Two runs that save to one path at the same time are tried too: one is refused, and
+nothing is left beside it. So is a run that saves to the file that it loaded, after another program
+has changed its bytes, cut it, lengthened it, taken it away, or put another file of the same bytes
+in its place. And one that keeps a file through a link, which leads then to a file of the same
+number on another disk; disks in memory are used for these, which only root may mount.
 """
 import os
 import random
@@ -27,7 +27,7 @@ from lib.keeper import HEAD, HELD, PUBLISH, REPLACED, Editor, Run, journal_lines
 
 def is_refused(what, done):
     told = (done.returncode, done.stdout, done.stderr)
-    hold(f"{what} is told {told}", told == HELD)
+    hold(f"{what} gives {told}", told == HELD)
 
 
 def keep_too(program, path):
@@ -68,7 +68,7 @@ DISTURBANCES = [(keep_too, False), (save_too, False), (take_permissions, False),
 
 
 def try_run(program, path, chance, number):
-    """One run that is disturbed. Answers how many replies it told."""
+    """Makes one run that is disturbed. Returns how many replies it gave."""
     disturb, ends = DISTURBANCES[number % len(DISTURBANCES)]
     running, editor, sent = Run(program, path), Editor(chance.random()), []
     moment, count = chance.randrange(2, 40), 45
@@ -76,7 +76,7 @@ def try_run(program, path, chance, number):
         if turn == moment:
             before = kept_before(path)
             disturb(program, path)
-        # the last two are an edit and a publish that is told as an edition, if any is
+        # the last two are an edit and a publish that is reported as an edition, if any is
         request = editor.next() if turn < count else last_of(turn - count, editor)
         sent.append(request)
         running.send([request[0]])
@@ -90,7 +90,7 @@ def try_run(program, path, chance, number):
     what = f"run {number}, {disturb.__name__}"
     hold(f"{what}: {status} {errors!r}", (status, errors) == ((3, REPLACED) if ends else (0, "")))
     late = [reply for reply in replies[moment:] if reply.get("ok") == "published"]
-    hold(f"{what}: told after it: {late}", not ends or not late)
+    hold(f"{what}: reported after it: {late}", not ends or not late)
     told = [compact(request) for (request, taken), reply in zip(sent, replies) if taken]
     if not ends:
         hold(f"{what}: other lines", journal_lines(path) == ([HEAD] + told, ""))
@@ -108,9 +108,9 @@ def last_of(turn, editor):
 
 
 def kept_before(path):
-    """The lines that the file holds, each of which was told."""
+    """The lines that the file holds, each of which was reported."""
     lines, rest = journal_lines(path)
-    hold(f"{rest!r} stands after the lines", rest == "")
+    hold(f"{rest!r} is after the lines", rest == "")
     return lines
 
 
@@ -120,11 +120,11 @@ def try_runs(options, folder):
         path = os.path.join(folder, f"{number}.journal")
         chance = random.Random(options.seed * 1_000_003 + number)
         told += try_run(options.program, path, chance, number)
-    print(f"{options.count} runs were disturbed: {told} replies told", flush=True)
+    print(f"{options.count} runs were disturbed: {told} replies given", flush=True)
 
 
 def try_savers(program, folder):
-    """Two runs that save to one path at once."""
+    """Makes two runs save to one path at the same time."""
     path = os.path.join(folder, "saved.journal")
     with open(path, "w", encoding="utf-8") as file:
         file.write(HEAD + "\n")
@@ -156,12 +156,12 @@ def copy_over(_, path):
     os.replace(path + ".new", path)
 
 
-# What is done to a file that a run is to save to.
+# What is done to a file before a run saves to it.
 CHANGES = [overwrite, cut, lengthen, take_away, copy_over]
 
 
 def text_at(path):
-    """The text of a file, None where none is there."""
+    """The text of a file, None if there is none."""
     if not os.path.exists(path):
         return None
     with open(path, encoding="utf-8") as file:
@@ -214,7 +214,7 @@ def try_other_disk(program, folder):
         os.replace(link + ".new", link)
         running.send([{"op": "publish"}])
         replies, errors = running.stopped()
-        hold(f"another disk: {len(replies)} replies are told, and {errors!r}",
+        hold(f"another disk: {len(replies)} replies are given, and {errors!r}",
              (len(replies), errors) == (3, REPLACED))
 
 
@@ -231,7 +231,7 @@ def main():
             try_changed(options.program, folder, change)
         try_other_disk(options.program, folder)
     return verdict(f"{options.count} runs, two savers and {len(CHANGES)} changed files: no edition "
-                   "is told that is not in the file, and none is replaced that was changed")
+                   "is reported that is not in the file, and none is replaced that was changed")
 
 
 if __name__ == "__main__":

@@ -1,11 +1,11 @@
 #!/usr/bin/env python3
-"""Holds what documents show against the program.
+"""Compares what documents show with the program.
 
 A session is the lines of one document that begin with '> ', its requests, and with '< ', its
 replies. A run is a line that begins with '$ ./oldstyle ', in a folder that has all that is at the
 top of the repository, and what earlier runs of the document made. It may end with '< FILE', its
 input. What it prints, on standard output and then on standard error, are the lines after it, up to
-the next run or the end of the block. Of '$ cat FILE' these lines make the file. Prints each reply
+the next run or the end of the block. For '$ cat FILE' these lines make the file. Prints each reply
 and each run that differs.
 """
 import itertools
@@ -51,19 +51,19 @@ def printed_by(program, words, folder):
     return (ended.stdout + ended.stderr).split("\n")[:-1]
 
 
-def told_otherwise(program, lines):
+def differences(program, lines):
     """Each request and run of a document that has another answer than it shows."""
     requests, shown = marked(lines, "> "), marked(lines, "< ")
     replies = run(program, lines=requests).stdout.split("\n")[:-1]
     for request, told, reply in itertools.zip_longest(requests, shown, replies):
         if told != reply:
-            yield f"{request}\n  shown {told}\n  told  {reply}"
+            yield f"{request}\n  shown {told}\n  given  {reply}"
     with tempfile.TemporaryDirectory() as folder:
         folder_of(lines, folder)
         for words, told in runs(lines):
             printed = printed_by(program, words, folder)
             if told != printed:
-                yield f"{shlex.join(words)}\n  shown {told}\n  told  {printed}"
+                yield f"{shlex.join(words)}\n  shown {told}\n  given  {printed}"
 
 
 def main():
@@ -75,13 +75,13 @@ def main():
     for path in options.files:
         with open(path, encoding="utf-8", newline="\n") as file:
             lines = file.read().split("\n")
-        for difference in told_otherwise(options.program, lines):
+        for difference in differences(options.program, lines):
             differ += 1
             print(f"{path}: {difference}")
         requests += len(marked(lines, "> "))
         all_runs += len(list(runs(lines)))
     print(f"{requests} requests and {all_runs} runs of {', '.join(options.files)}, "
-          f"{differ} told otherwise")
+          f"{differ} differ")
     return 1 if differ else 0
 
 

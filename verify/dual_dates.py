@@ -1,11 +1,11 @@
 #!/usr/bin/env python3
-"""Holds that what is written of a day is read as that day: a property over random days.
+"""Checks that what is written for a day is read as that day: a property over random days.
 
-Random days of random territories, most of them from January to March. Of each the dual text is
-asked, and where that has both years the text with the last two digits of the later one and with all
-four; each without a weekday and with the day's before it. A row of `letters` has to have that day,
-days of its weekday first, and a remark that goes with the days and weekdays of the row; the page of
-`read` has to have the day's line, with ` ok` after it where the weekday was asked.
+Random days of random territories, most of them from January to March. For each the dual text is
+asked, and if that has both years the text with the last two digits of the later one and with all
+four; each without a weekday and with the day's before it. A row of `letters` must have that day,
+days of its weekday first, and a remark that agrees with the days and weekdays of the row; the page
+of `read` must have the day's line, with ` ok` after it if the weekday was asked.
 """
 import csv
 import os
@@ -31,7 +31,7 @@ def random_day(chance, territory, middle):
 
 
 def texts_of(territory, day):
-    """Each text that is to mean the day, without its weekday: none before the year 100."""
+    """Each text that must mean the day, without its weekday: none before the year 100."""
     if territory.label(day)[0] < 100:
         return
     dual = territory.dual(day)
@@ -49,7 +49,7 @@ def all_texts(territory, day):
 
 
 def remark_of(row, text, weekday):
-    """The remark that goes with the days, weekdays and dual texts of a row."""
+    """The remark that agrees with the days, weekdays and dual texts of a row."""
     duals, weekdays = row["dual"].split("; "), row["weekday_found"].split("; ")
     remarks = []
     if len(duals) > 1:

@@ -1,12 +1,12 @@
 #!/usr/bin/env python3
-"""Holds examples/europe.toml against what can be computed.
+"""Checks examples/europe.toml against what can be computed.
 
-The text is read by `territory_texts.py`, without the program. Each change has a source. Of each
+The text is read by `territory_texts.py`, without the program. Each change has a source. For each
 one that brings another calendar or beginning of the year the note says which day was followed by
 which: both dates and both weekdays are those of the days by `calendars.py`. A listed Easter is a
 Sunday a week from the rule's.
 
-Then the program publishes the text into a new journal, and has to tell the same periods and listed
+Then the program publishes the text into a new journal, and must print the same periods and listed
 Easters, with their sources. `--text-alone` leaves that out, and needs no program.
 """
 import json

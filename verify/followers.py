@@ -1,18 +1,18 @@
 #!/usr/bin/env python3
 """Follows a journal with 20 followers while it is kept, and audits every reply that they gave.
 
-A run of `serve --keep` is sent edits and publishes, and is killed (SIGKILL) and started anew at
+A run of `serve --keep` is sent edits and publishes, and is killed (SIGKILL) and started again at
 random moments; at some of them a line is left after the last one that was not finished, as by a
-machine that stopped. Runs of `serve --follow` are asked meanwhile, some from before the file was
-there on: eight through pipes, six through a socket, and six on two copies. One of these grows in
-random pieces, and one by `rsync --append`, where that is there. Both are made anew once the keeper
-has cut a line off. The socket is `socat`'s where that is there, else Python's. Connections end at
-random, by SIGKILL too.
+machine that stopped. Runs of `serve --follow` are asked meanwhile, some of them from before the
+file exists: eight through pipes, six through a socket, and six on two copies. One of these grows in
+random pieces, and one by `rsync --append`, if that is installed. Both are made again once the
+keeper has cut a line off. The socket is `socat`'s if that is installed, otherwise Python's.
+Connections end at random, by SIGKILL too.
 
-In each connection the edition never falls, and who was told an edition of a file is told it or a
-later one by any follower of the file that is asked after that. An edit is told 45 ReadOnly. A
-follower whose copy is made anew says so, and no other one ends early. In the end each one is at the
-last edition. Each connection's replies are audited against the journal by `audit`.
+In each connection the edition never falls, and whoever was given an edition of a file is given it
+or a later one by any follower of the file that is asked after that. An edit is refused by 45
+ReadOnly. A follower whose copy is made again says so, and no other one ends early. In the end each
+one is at the last edition. Each connection's replies are audited against the journal by `audit`.
 """
 import json
 import os
@@ -34,12 +34,12 @@ from lib.keeper import FOLLOWED_REPLACED, PUBLISH, journal_lines, land
 from lib.keeper_rounds import TOWNS, keep_all
 
 READ_ONLY = {"fault": 45, "name": "ReadOnly"}
-# What the server and its followers say where a client has gone.
+# What the server and its followers say when a client has gone.
 GONE = re.compile(r"(oldstyle: (read|write) fault\n|.* socat\[\d+\] [EWN] .*\n)*")
 
 
 class Followed:
-    """A file that is followed, and the last edition of it that anybody was told."""
+    """A file that is followed, and the last edition of it that anybody was given."""
 
     def __init__(self, path):
         self.path, self.told, self.times_made, self.lock = path, 0, 0, threading.Lock()
@@ -54,7 +54,7 @@ class Followed:
 
 class Copies:
     """Copies of the journal, which grow until all is done: one in random pieces, and one by
-    `rsync --append` where that is there."""
+    `rsync --append` if that is installed."""
 
     def __init__(self, journal, files, seed):
         self.journal, self.files, self.lock = journal, files, threading.Lock()
@@ -71,7 +71,7 @@ class Copies:
         subprocess.run([self.rsync, "--append", self.journal.path, self.files[1].path], check=True)
 
     def append(self, path, pieces):
-        """Appends what the journal has gained, cut anywhere."""
+        """Appends what was added to the journal, cut anywhere."""
         with open(self.journal.path, "rb") as source, open(path, "ab", buffering=0) as copy:
             source.seek(copy.tell())
             more = source.read()
@@ -156,8 +156,8 @@ class Connection:
         self.replies = self.stream.makefile("rb")
 
     def ask(self, requests, chance):
-        """Asks, in pieces cut anywhere, and holds the replies against what was told before.
-        Answers whether all were answered."""
+        """Asks, in pieces cut anywhere, and compares the replies with the editions given before.
+        Returns whether all were answered."""
         text = "".join(compact(request) + "\n" for request in requests).encode()
         told, cut = self.file.told, chance.randint(0, len(text))
         try:
@@ -176,9 +176,9 @@ class Connection:
             return False
         reply = json.loads(line)
         if request["op"] == "add_land":
-            hold(f"an edit is told {reply}", reply == READ_ONLY)
+            hold(f"an edit is answered {reply}", reply == READ_ONLY)
             return True
-        hold(f"edition {reply['edition']} of {self.file.path}, where {told} was told before, and "
+        hold(f"edition {reply['edition']} of {self.file.path}, after {told} was given, and "
              f"{self.edition} here", reply["edition"] >= max(told, self.edition))
         self.edition = reply["edition"]
         self.file.tell(self.edition)
@@ -191,7 +191,7 @@ class Connection:
             self.process.kill()
         if not is_killed:
             self.stream.shutdown(socket.SHUT_WR)
-            hold("more is told than was asked", self.replies.read() == b"")
+            hold("more is answered than was asked", self.replies.read() == b"")
         told = self.ended()
         hold(f"a follower of {self.file.path} ends by {told}",
              is_killed or told == (0, "") or self.is_replaced(told))
@@ -206,12 +206,12 @@ class Connection:
         return self.process.returncode, errors
 
     def is_replaced(self, told):
-        """Whether a follower says that its copy was made anew, and it was."""
+        """Returns whether a follower says that its copy was made again, and it was."""
         with self.file.lock:
             return told == (1, FOLLOWED_REPLACED) and self.file.times_made > self.times_made
 
     def gave_up(self):
-        """Holds why a follower answers no more: its copy was made anew."""
+        """Checks why a follower stopped answering: its copy was made again."""
         told = self.ended()
         hold(f"a follower of {self.file.path} gives up: {told if self.process else 'a socket'}",
              self.is_replaced(told))
@@ -276,7 +276,7 @@ class Follower(threading.Thread):
 
 
 def follow_all(options, folder):
-    """Keeps the journal, and has it followed. Answers the followers, and how many stops."""
+    """Keeps the journal and follows it. Returns the followers, and the number of stops."""
     journal, *files = [Followed(os.path.join(folder, name)) for name in ("kept", "copy", "synced")]
     copies, is_over = Copies(journal, files, options.seed), threading.Event()
     with listening(options.program, journal.path, folder) as (listener, errors):
@@ -333,7 +333,7 @@ def main():
                                    enumerate(every)))
     given_up = sum(follower.given_up for follower in followers)
     print(f"{stops} stops of the keeper, {len(every)} connections of {len(followers)} followers; "
-          f"{given_up} times a copy was made anew meanwhile", flush=True)
+          f"{given_up} times a copy was made again meanwhile", flush=True)
     return verdict(f"{options.count} editions followed: {sum(counts)} replies agree, and no "
                    "edition falls")
 

@@ -10,9 +10,10 @@ says what is tried:
   stamp    trees of sources, whose stamp the script `oldstyle` keeps
   toml     texts of a register, through `plan`, `publish` and `text`
 
-No run may end by a signal, with another status than 0 to 4, or with a fault that isn't told. Each
-line has one reply. Where a program that was written apart knows the answer, it has to be that one:
-reference.py, date_meaning.py, letter_rows.py and territory_texts.py of lib/, and a reader of CSV.
+No run may end by a signal, with another status than 0 to 4, or with a fault that isn't reported.
+Each line has one reply. If a program that was written independently knows the answer, it must be
+that one: reference.py, date_meaning.py, letter_rows.py and territory_texts.py of lib/, and a
+reader of CSV.
 An input at which something is wrong is kept in a file, which is named, and 20 of them end the run.
 
 All that is tried follows from the seed: the rounds of a long run are those of a short one and more.
@@ -28,7 +29,7 @@ import time
 from lib.common import CommandLine, end
 
 MOST_FAULTS = 20
-# A folder in memory, where the system has one: a run that syncs a journal waits for no disk there.
+# A folder in memory, if the system has one: a run that syncs a journal waits for no disk there.
 MEMORY = "/dev/shm" if os.access("/dev/shm", os.W_OK) else None
 
 
@@ -57,14 +58,14 @@ def toml():
     return Registers
 
 
-# Each answers the class of what tries a target: its `round` takes a source of chance, and answers
-# how many inputs it tried, and of each that went wrong why, with which words, and the input itself.
-# Its `prepare`, where it has one, does once what all processes need.
+# Each returns the class that tries a target: its `round` takes a source of chance, and returns how
+# many inputs it tried, and for each that went wrong why, with which words, and the input itself.
+# Its `prepare`, if it has one, does once what all processes need.
 TARGETS = {function.__name__: function for function in (letters, dates, web, stamp, toml)}
 
 
 def keep(target, number, found):
-    """Tells of an input at which something is wrong, and keeps it."""
+    """Reports an input at which something is wrong, and keeps it."""
     why, words, given = found
     path = os.path.join(tempfile.gettempdir(), f"fuzz-{target}-{os.getpid()}-{number}")
     with open(path, "wb") as file:
@@ -73,8 +74,8 @@ def keep(target, number, found):
 
 
 def try_rounds(target, program, seed, rounds, most):
-    """Tries these rounds up to so many inputs; answers how many were tried, of what, and how many
-    went wrong."""
+    """Tries these rounds up to a number of inputs; returns how many were tried, of what, and how
+    many went wrong."""
     tried = wrong = 0
     with tempfile.TemporaryDirectory(dir=MEMORY) as folder:
         fuzzed = TARGETS[target]()(program, folder)
@@ -99,7 +100,7 @@ def main():
     line.add_count(2_000, "inputs, or some more")
     line.add_seed()
     line.add_number("--first", 0, "the first round that is tried", 0)
-    line.add_number("--processes", 1, "how many work at once, and take the rounds in turn")
+    line.add_number("--processes", 1, "how many work in parallel, and take the rounds in turn")
     options = line.read()
     began, step = time.monotonic(), options.processes
     shares = [(options.target, options.program, options.seed,

@@ -1,25 +1,25 @@
 #!/usr/bin/env python3
 """Refuses each growth of memory in turn to the calls of the libraries and to the program.
 
-A call that is refused a growth answers that it wants memory, or what it answers with ample memory;
+A call that is refused a growth answers that it lacks memory, or what it answers with ample memory;
 and made again with memory, it answers as if the refused one had never been. Each growth of a call
 is refused in a run of its own. A row is written for each call: how many growths it made, at how
 many of them it was refused, at how many it answered the same as with ample memory, and how many
-calls that were made again answered right. What a run did otherwise is told above the rows.
+calls that were made again answered right. What a run did otherwise is printed above the rows.
 
 The calls are made by the programs in growths/, of which each says how it is run: `requests` makes
 those of a register, of the sequential object and of the running register, `steps` those of the
 machine of two copies, `streams` those over a whole input. `editions` makes three editions of the
-running register, with a further edit between a refused publish and the next one: all editions have
-to come, and every staged edit once. Then come the commands of the program, from its first growth to
-its last: of a refused one nothing is saved, and of a service the replies to whole lines stand.
+running register, with another edit between a refused publish and the next one: all editions must
+come, and every staged edit once. Then come the commands of the program, from its first growth to
+its last: of a refused one nothing is saved, and a service has given the replies to whole lines.
 
 What is committed is cloned, and the programs are proved and built there, which takes some ten
-minutes where `rt check` has built the libraries in this checkout, and else proves them anew; the
+minutes if `rt check` has built the libraries in this checkout, and otherwise proves them again; the
 runs take some two minutes, two at a time. A save that finds no memory to sync the folder has saved,
 and says so: it counts as refused, and is not made again. A publish that finds no memory to open the
-journal tells a read fault.
-growths/growths.c refuses the growths, and wants a C compiler: `cc`, or what CC names.
+journal reports a read fault.
+growths/growths.c refuses the growths, and requires a C compiler: `cc`, or what CC names.
 """
 import json
 import os
@@ -77,8 +77,8 @@ def run(command, given, refused, folder=None, **names):
 
 
 def each_refused(count, outcome):
-    """The row of that many growths, of which each has an outcome: `same`, `again` where it was
-    refused and made again, `saved` where the folder was not synced, or what was wrong."""
+    """The row of that many growths, of which each has an outcome: `same`, `again` if it was
+    refused and made again, `saved` if the folder was not synced, or what was wrong."""
     with ThreadPoolExecutor(AT_ONCE) as pool:
         outcomes = list(pool.map(outcome, range(1, count + 1)))
     wrong = [f"growth {number}: {outcome}" for number, outcome in enumerate(outcomes, 1)
@@ -89,8 +89,8 @@ def each_refused(count, outcome):
 # ---- calls of the libraries
 
 
-def wants_memory(told, right):
-    """Whether what a call answered is that it wants memory; of a service with the replies to the
+def lacks_memory(told, right):
+    """Returns whether a call answered that it lacks memory; for a service with the replies to the
     lines that it names."""
     if behind := WANTS_BEHIND.match(told):
         replies = right.splitlines(True)[1:]
@@ -111,7 +111,7 @@ def call_row(command, lines, is_right=None):
         if got.status == 0 and all(map(is_right, later)):
             if is_right(first):
                 return "same"
-            if later and wants_memory(first, right):
+            if later and lacks_memory(first, right):
                 return "again"
         return got
 
@@ -173,8 +173,8 @@ EDITIONS, STAGED = 3, 2
 
 
 def lost(told):
-    """What was lost in a course of editions, by what the program wrote, or None. Of each edition it
-    writes the number and the territories; at last what was counted."""
+    """What was lost in a course of editions, by what the program wrote, or None. For each edition
+    it writes the number and the territories; at the end what was counted."""
     lines = [line.split() for line in told.splitlines()]
     if len(lines) != EDITIONS + 1:
         return "not all editions came"
@@ -183,7 +183,7 @@ def lost(told):
         return "a call was refused again"
     for place, (_, noted, _, edition, *codes) in enumerate(editions, 1):
         if int(noted) != place or int(edition) != place:
-            return f"publish {place} has the note of {noted}, and the reader was told of {edition}"
+            return f"publish {place} has the note of {noted}, and the reader was at {edition}"
         if codes != CODES[: len(codes)] or len(codes) < place * STAGED:
             return f"edition {place} has {codes}"
     return None if len(codes) == int(staged) else f"{staged} edits were staged, and {codes} came"
@@ -206,12 +206,12 @@ def editions_row(program):
 
 
 def is_not_kept(words, got):
-    """Whether a command could not open the journal that it keeps, as it finds no memory for it."""
+    """Returns whether a command could not open the journal that it keeps, for lack of memory."""
     return words.startswith("publish") and got[::2] == NOT_KEPT
 
 
 def command_row(program, words, lines):
-    """The row of a command. Made again is the command in the folder that the refused one left."""
+    """The row of a command. It is made again in the folder that the refused one left."""
     command, given = [program, *words.split()], text_of(lines)
     with filled() as folder:
         before = held(folder)

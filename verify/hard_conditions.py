@@ -1,14 +1,14 @@
 #!/usr/bin/env python3
-"""Runs the program where output, files, the disk or memory fail it.
+"""Runs the program while output, files, the disk or memory fail.
 
 The conditions are: standard output that is full, closed or a pipe that nobody reads, and standard
 error full as well; standard input that is closed or a folder; a folder in the place of each file
 that is read or saved; a file that grows shorter while it is read; a full disk under `--save`, and
 a limit on the length of files; and 6 MB of addresses. Under each one every command that it concerns
-is run. Held against what docs/PAGES.md and docs/SERVING.md say are the status and what is written.
-The files of the folder have to be as they were, their permissions too, with none beside them. Once
-the condition is over, the same command has to save what it should. A row is written for each
-condition. What went otherwise is told above the rows; what could not be tried is told as well.
+is run. The status and what is written are compared with docs/PAGES.md and docs/SERVING.md.
+The files of the folder must be as they were, their permissions too, with none beside them. Once
+the condition is over, the same command must save what it should. A row is written for each
+condition. What went otherwise is printed above the rows; so is what could not be tried.
 
 A disk that is full is one in memory, which only root may mount.
 """
@@ -36,7 +36,7 @@ counts, untried = {}, []
 
 
 def not_read(words):
-    """What a command tells of a file that is not there, or that is a folder."""
+    """What a command prints for a file that is not there, or that is a folder."""
     for path, cause in ("a.gone", "no such file"), ("a.folder", "is a directory"):
         if path in words and words.startswith(FOR_PEOPLE):
             return 3, "", f"oldstyle: {path}: {cause}\n"
@@ -59,7 +59,7 @@ def not_written(condition, words):
 
 
 def compare(condition, words, got, wanted):
-    """Counts a run under its condition, and holds what came of it."""
+    """Counts a run under its condition, and checks its result."""
     tried, right = counts.get(condition, (0, 0))
     counts[condition] = (tried + 1, right + (got == wanted))
     hold(f"{condition}: oldstyle {words}", got == wanted, f"\n  wanted {wanted}\n  got    {got}")
@@ -156,7 +156,7 @@ def try_folders():
 
 
 def padded(line):
-    """A line with a member that is passed over, so that a file of few lines is long."""
+    """A line with a member that is ignored, so that a file of few lines is long."""
     return f'{line[:-1]},"x":"{"a" * 30_000}"}}'
 
 
@@ -187,7 +187,7 @@ SHORTENED = [
 
 
 def read_so_far(process, path):
-    """How many bytes of a file a process has read, None where it has not opened the file. A file
+    """How many bytes of a file a process has read, None if it has not opened the file. A file
     that is locked too has a descriptor for that, which reads nothing."""
     folder = f"/proc/{process.pid}"
     places = []
@@ -199,7 +199,7 @@ def read_so_far(process, path):
 
 
 def stopped_in_reading(process, path):
-    """Stops a process that reads a file, and says how far it is, or None where it was quicker."""
+    """Stops a process that reads a file, and returns how far it is, or None if it was quicker."""
     try:
         while process.poll() is None and not read_so_far(process, path):
             pass
@@ -211,8 +211,8 @@ def stopped_in_reading(process, path):
 
 
 def shorten(folder, words, name, size_of):
-    """What a command tells whose file is made shorter while it reads, the size that the file has
-    then, and how many bytes of it there were to read. None where the command was too quick."""
+    """What a command prints whose file is made shorter while it reads, the size that the file has
+    then, and how many bytes of it there were to read. None if the command was too quick."""
     path, pipe = os.path.join(os.path.realpath(folder), name), subprocess.PIPE
     command = [PROGRAM, *words.split()]
     streams = {"stdin": pipe, "stdout": pipe, "stderr": pipe}
@@ -228,14 +228,14 @@ def shorten(folder, words, name, size_of):
 
 
 def others(folder, name):
-    """What a folder holds beside a file, and the length of that one."""
+    """What a folder holds besides a file, and the length of that file."""
     length = os.path.getsize(os.path.join(folder, name))
     os.truncate(os.path.join(folder, name), 0)
     return held(folder), length
 
 
 def try_shortened(words, name, size_of):
-    """Whether a command whose file grows shorter does what it does with the bytes that it found."""
+    """Checks that a command whose file grows shorter does what it does with the bytes it found."""
     for _ in range(TRIES):
         with filled(LONG_FILES) as folder:
             if (found := shorten(folder, words, name, size_of)) is None:
@@ -302,14 +302,15 @@ LARGE = [
 
 
 def is_front(told, lines):
-    """Whether whole lines are a front of those that are wanted."""
+    """Returns whether whole lines are a prefix of those that are expected."""
     told = told.splitlines(True)
     return told == lines.splitlines(True)[: len(told)]
 
 
 def try_addresses(words, given, files):
-    """A command that is short of addresses: it does what it does with ample memory, or tells that
-    it wants memory, a desk that it finds no thread; then nothing is saved, and it is run again."""
+    """Runs a command with too few addresses: it does what it does with ample memory, or reports
+    that it lacks memory, a desk that it finds no thread; then nothing is saved, and it is run
+    again."""
     with filled(files) as folder:
         before = held(folder)
         ample, after = run(folder, words, given), held(folder)
@@ -328,7 +329,7 @@ def try_addresses(words, given, files):
 
 
 def try_all_addresses():
-    """Each command over short files, and over a journal that wants more than there is."""
+    """Runs each command over short files, and over a journal that needs more than there is."""
     for words, lines in COMMANDS:
         try_addresses(words, text_of(lines), {})
     for words in READING:

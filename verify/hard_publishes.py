@@ -1,12 +1,12 @@
 #!/usr/bin/env python3
-"""Publishes texts where output, files, the disk or memory fail it, and where it is killed.
+"""Publishes texts while output, files, the disk or memory fail, and kills the run.
 
 Standard output is full, closed, or a pipe that nobody reads; files are folders, or not there; the
 disk is full; the length of files or addresses are limited; and the run is killed (SIGKILL) at a
-random moment. Each time the journal has to hold what it held, or the whole edition too, as the
-status says. After a kill a front of it may be left, which is counted. A text with sources, whose
-journal of version 2 is saved anew as version 4, leaves none: the old journal stands or the new one.
-Then every edition that there was is still told, and once the condition is over the text is
+random moment. Each time the journal must hold what it held, or the whole edition too, as the
+status says. After a kill a prefix of it may be left, which is counted. A text with sources, whose
+journal of version 2 is saved again as version 4, leaves none: there is the old journal or the new
+one. Then every edition that there was can still be read, and once the condition is over the text is
 published. A disk that is full is one in memory, which only root may mount.
 """
 import os
@@ -35,8 +35,8 @@ def text_of(count, changes, source):
 
 
 class Trial:
-    """A folder with a journal and a text, and what the journal is to hold after a publish. Where
-    the text has sources, the journal is saved anew."""
+    """A folder with a journal and a text, and what the journal must hold after a publish. If the
+    text has sources, the journal is saved again."""
 
     def __init__(self, program, folder, size, source=""):
         self.program, self.journal = program, os.path.join(folder, "a.journal")
@@ -66,8 +66,8 @@ class Trial:
         return done.returncode, done.stderr
 
     def hold_whole(self, what, told, wanted, is_published):
-        """The run ended so, and the journal has the edition or not."""
-        hold(f"{what} is told {told}", told == wanted)
+        """Checks how the run ended, and whether the journal has the edition."""
+        hold(f"{what} prints {told}", told == wanted)
         hold(f"{what}: the journal has other lines",
              self.held() == (self.after if is_published else self.before))
         hold(f"{what}: a file is left beside it", not self.unfinished())
@@ -78,7 +78,7 @@ class Trial:
         return [os.path.join(folder, name) for name in os.listdir(folder) if "unfinished" in name]
 
     def hold_next(self, what):
-        """The text is published where nothing is in its way."""
+        """Publishes the text when nothing is in its way."""
         self.begin()
         self.hold_whole(f"after {what}", self.publish(), (0, ""), True)
 
@@ -143,7 +143,7 @@ def try_addresses(trial):
 
 
 def try_kill(trial, chance, longest):
-    """A run that is killed. Answers whether the edition is there, and whether a front of it is."""
+    """Makes a run and kills it. Returns whether the edition is there, and whether a prefix is."""
     trial.begin()
     words = [trial.program, "publish", trial.journal, trial.text]
     with subprocess.Popen(words, stdout=subprocess.DEVNULL) as running:
@@ -174,7 +174,7 @@ def try_kills(trial, options):
 
 
 def try_all(options, source):
-    """Each condition for a text with sources or without. Answers what is told of it."""
+    """Tries each condition for a text with sources or without. Returns what is printed of it."""
     with tempfile.TemporaryDirectory() as folder, tempfile.TemporaryDirectory() as disk:
         trial = Trial(options.program, folder, (5, 4), source)
         try_outputs(trial)
@@ -185,7 +185,7 @@ def try_all(options, source):
         is_refused = try_addresses(large)
         whole, fronts = try_kills(large, options)
     memory = "refused" if is_refused else "enough"
-    return f"{whole} are an edition, {fronts} left a front of one, 6 MB of addresses were {memory}"
+    return f"{whole} are an edition, {fronts} left a prefix of one, 6 MB of addresses were {memory}"
 
 
 def main():
@@ -196,7 +196,7 @@ def main():
     options = line.read()
     plain, anew = try_all(options, ""), try_all(options, SOURCE)
     return verdict(f"{options.count} publishes were killed: {plain}. As many that save the journal "
-                   f"anew: {anew}. Streams, files, limits and a full disk leave the journal whole")
+                   f"again: {anew}. Streams, files, limits and a full disk leave the journal whole")
 
 
 if __name__ == "__main__":

@@ -1,16 +1,16 @@
 #!/usr/bin/env python3
-"""Holds the two ways of reading a request line against each other, and against an older program.
+"""Compares the two ways of reading a request line with each other, and with an older program.
 
 A line that is one flat object of few texts and whole numbers is read with no tree of values, any
-other one by the tree of its JSON value. Each random line lies near the border between them: escapes
+other one by the tree of its JSON value. Each random line is near the border between them: escapes
 in names and texts, members twice, nested, of other types and in any number, numbers with fractions,
-exponents and many digits, spaces, bytes that are no text, lines cut off. It is sent twice: as it
-is, and with a further member that no op has and whose value is a list, which is never read the
-first way and asks for the same. Both replies have to be the same. A line that is no object has no
-second form.
+exponents and many digits, spaces, bytes that are not text, lines cut off. It is sent twice: as it
+is, and with another member that no op has and whose value is a list, which is never read the first
+way and asks for the same. Both replies must be the same. A line that is not an object has no second
+form.
 
-Where an older program is named, which has to know the same ops and members, files of the lines are
-sent to both, and they have to write the same bytes.
+If an older program is named, which must know the same ops and members, files of the lines are
+sent to both, and they must write the same bytes.
 """
 import random
 import subprocess
@@ -104,7 +104,7 @@ def changed(members):
 
 
 def objects(members, more):
-    """The text of an object, and of the same with one member more; each with the same spaces."""
+    """The text of an object, and of the same with one more member; each with the same spaces."""
     parts = [f"{space()}{text_of(name)}{space()}:{space()}{value}{space()}"
              for name, value in members]
     before, behind = space(), space()
@@ -121,7 +121,7 @@ def broken(line):
 
 
 def lines():
-    """A line, and the same with one member more, where it is an object."""
+    """A line, and the same with one more member, if it is an object."""
     members = usual_members()
     for _ in range(CHANCE.choice([0, 0, 1, 1, 2, 3, 9])):
         members = changed(members)

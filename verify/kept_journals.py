@@ -2,19 +2,19 @@
 """Stops the service at random moments while it keeps its journal, and looks at what the file holds.
 
 A run of `serve --keep` is sent edits and publishes, some of them refused, one after the reply to
-the other or many at once, and is killed (SIGKILL) at a random moment. The next run keeps the same
-file and goes on. After each stop the file has every edition and every pending edit that a reply
-told, in order, and nothing that was not sent; its whole lines are loaded by `--journal`, with the
-last edition and the number of pending edits. Half of the files are then cut off after their last
-edition, in the middle of a line or not: the next run has to say so where a line was not finished,
-and nowhere else.
+the other or many together, and is killed (SIGKILL) at a random moment. The next run keeps the same
+file and continues. After each stop the file has every edition and every pending edit that a reply
+reported, in order, and nothing that was not sent; its whole lines are loaded by `--journal`, with
+the last edition and the number of pending edits. Half of the files are then cut off after their
+last edition, in the middle of a line or not: the next run must say so if a line was not finished,
+and not otherwise.
 
 While a journal is kept another run that would keep it is refused, and others read it again and
-again: each reads an edition that was told before it began, or a later one; or it is refused for a
-last line that is still being written, which is counted.
+again: each reads an edition that was reported before it began, or a later one; or it is refused
+because a last line is still being written, which is counted.
 
 Then: a full disk and a disk that is read alone (which only root can mount), and a limit on the
-length of files. One line tells each, the file has what was told, and the next run goes on from it.
+length of files. One line reports each, the file has what was reported, and the next run continues.
 """
 import json
 import os
@@ -36,7 +36,7 @@ def lines_of(text):
 
 
 def sent_until_stopped(running, editor, one_by_one):
-    """Sends until the run is stopped; answers what was sent, each with whether it is accepted."""
+    """Sends until the run is stopped; returns what was sent, each with whether it is accepted."""
     sent = []
     while running.process.poll() is None and len(sent) < 2_000:
         batch = [editor.next() for _ in range(1 if one_by_one else 50)]
@@ -48,8 +48,8 @@ def sent_until_stopped(running, editor, one_by_one):
 
 
 def try_stop(program, path, chance, number, before):
-    """One run that is stopped. `before` has the journal's lines before it, and what stands after
-    them. Answers the same after the run, and how many replies were told."""
+    """Makes one run and stops it. `before` has the journal's lines before it, and what comes after
+    them. Returns the same after the run, and how many replies were given."""
     known, rest = before
     editor = editor_after(chance.random(), known[1:])
     running = Run(program, path)
@@ -62,26 +62,26 @@ def try_stop(program, path, chance, number, before):
     accepted = [compact(request) for request, is_taken in sent if is_taken]
     told = sum(is_taken for (_, is_taken) in sent[:len(replies)])
     for (request, is_taken), reply in zip(sent, replies):
-        hold(f"stop {number}: {compact(request)} is told {reply}", is_taken == ("ok" in reply))
-    hold(f"stop {number}: {errors!r} is told", errors == "" or rest and errors == cut_line(known))
-    hold(f"stop {number}: {rest!r} is not told", errors != "" or not rest or not replies)
+        hold(f"stop {number}: {compact(request)} is answered {reply}", is_taken == ("ok" in reply))
+    hold(f"stop {number}: {errors!r} is shown", errors == "" or rest and errors == cut_line(known))
+    hold(f"stop {number}: {rest!r} is not reported", errors != "" or not rest or not replies)
     lines = held_after(program, path, number, before, accepted, told)
     return cut_anywhere(path, chance, lines), len(replies)
 
 
 def held_after(program, path, number, before, accepted, told):
-    """The lines that the file holds after a stop, held against what it held before and what was
-    told. A run that is stopped at once has not cut off what was not finished before it."""
+    """The lines that the file holds after a stop, compared with what it held before and what was
+    reported. A run that is stopped early has not cut off what was not finished before it."""
     known = before[0]
     if not os.path.exists(path):
-        hold(f"stop {number}: {told} were told, and there is no file", told == 0)
+        hold(f"stop {number}: {told} were reported, and there is no file", told == 0)
         return known
     lines, rest = journal_lines(path)
     more = len(lines) - max(len(known), min(len(lines), 1))
-    hold(f"stop {number}: {told} told, {more} held", told <= more <= len(accepted) or not lines)
+    hold(f"stop {number}: {told} reported, {more} held", told <= more <= len(accepted) or not lines)
     wanted = (known or [HEAD]) + accepted
     hold(f"stop {number}: other lines", lines == wanted[:len(lines)])
-    hold(f"stop {number}: {rest!r} is no front of the next line",
+    hold(f"stop {number}: {rest!r} is not a prefix of the next line",
          is_front(rest, wanted, lines) or (lines, rest) == before)
     hold(f"stop {number}: its lines are not loaded", not lines or is_loaded(program, path, lines))
     return lines
@@ -89,8 +89,8 @@ def held_after(program, path, number, before, accepted, told):
 
 def cut_anywhere(path, chance, lines):
     """Every other file is cut off somewhere after its last edition, as a machine may leave it that
-    stopped before the rest was on the disk. Answers the lines that count then, and what is to be
-    cut off after them."""
+    stopped before the remaining bytes were on the disk. Returns the lines that count then, and what
+    must be cut off after them."""
     if len(lines) > 1 and chance.random() < 0.5:
         last = max((n for n, line in enumerate(lines) if line == PUBLISH), default=0)
         synced = sum(len(line) + 1 for line in lines[:last + 1])
@@ -107,7 +107,7 @@ def cut_line(known):
 
 
 def is_loaded(program, path, lines):
-    """That the lines are loaded, with their last edition and as many pending edits."""
+    """Checks that the lines are loaded, with their last edition and as many pending edits."""
     copy = path + ".copy"
     with open(copy, "w", encoding="utf-8") as file:
         file.write("".join(line + "\n" for line in lines))
@@ -129,7 +129,7 @@ def published(lines):
 
 
 def try_stops(options, path):
-    """Stops, one after the other, over one file; a new one where it holds many editions."""
+    """Makes stops, one after the other, over one file; a new one once it holds many editions."""
     before, told, cut, files = ([], ""), 0, 0, 1
     for number in range(options.count):
         if before[0].count(PUBLISH) > 4_000 or len(before[0]) > 16_000:
@@ -138,7 +138,7 @@ def try_stops(options, path):
         chance = random.Random(options.seed * 1_000_003 + number)
         before, replies = try_stop(options.program, path, chance, number, before)
         told, cut = told + replies, cut + (before[1] != "")
-    print(f"{options.count} stops over {files} files: {told} replies told; {cut} times a line was "
+    print(f"{options.count} stops over {files} files: {told} replies given; {cut} times a line was "
           "not finished", flush=True)
 
 
@@ -153,10 +153,10 @@ def read_beside(program, path, running, counts):
         found = re.match(r"Territories, edition (\d+)\n", done.stdout)
         if found:
             counts["read"] += 1
-            hold(f"edition {found[1]} is read where {before} was told", int(found[1]) >= before)
+            hold(f"edition {found[1]} is read after {before} was reported", int(found[1]) >= before)
         else:
             counts["refused"] += 1
-            hold(f"a reader is told {done.stderr!r}", re.fullmatch(
+            hold(f"a reader prints {done.stderr!r}", re.fullmatch(
                 r"oldstyle: journal line \d+: 32 NotJson\nhelp: .*\n", done.stderr))
 
 
@@ -166,7 +166,7 @@ def try_others(program, path, seed):
     running.send([land(0), {"op": "publish"}])
     running.wait_for(2)
     second = run(program, ["serve", "--keep", path], ["{}"])
-    hold(f"a second editor is told {second}",
+    hold(f"a second editor prints {second}",
          (second.returncode, second.stdout, second.stderr) == HELD)
     editor.towns = 1
     beside = (program, path, running, counts)
@@ -181,7 +181,7 @@ def try_others(program, path, seed):
         reader.join()
     running.process.wait()
     running.reader.join()
-    print(f"beside 2,000 changes: {counts['read']} readers read whole lines, {counts['refused']} "
+    print(f"during 2,000 changes: {counts['read']} readers read whole lines, {counts['refused']} "
           "were refused for one that was being written; a second editor was refused", flush=True)
 
 
@@ -190,7 +190,7 @@ def try_others(program, path, seed):
 
 @contextmanager
 def disk_in(folder, name, options):
-    """A disk in memory in a folder of that name, or None where it may not be mounted."""
+    """A disk in memory in a folder of that name, or None if it may not be mounted."""
     path = os.path.join(folder, name)
     os.mkdir(path)
     with mounted(path, options) as disk:
@@ -205,7 +205,7 @@ def edits_of(count):
 
 
 def is_stopped_by(program, what, path, limit=None):
-    """That a run which the file takes no further ends by a write fault, and holds what it told."""
+    """Checks that a run ends by a write fault when the file takes no more, and kept its reports."""
     text = "".join(compact(request) + "\n" for request in edits_of(400))
     done = subprocess.run([program, "serve", "--keep", path], input=text, capture_output=True,
                           text=True, timeout=60, check=False, preexec_fn=limit)
@@ -214,17 +214,17 @@ def is_stopped_by(program, what, path, limit=None):
     wanted = [HEAD] + [compact(request) for request in edits_of(400)]
     hold(f"{what}: {done.returncode} {done.stderr!r}",
          done.returncode == 3 and done.stderr.startswith("oldstyle: write fault\nnote: "))
-    hold(f"{what}: {len(replies)} told, {len(lines) - 1} held",
+    hold(f"{what}: {len(replies)} reported, {len(lines) - 1} held",
          len(replies) <= len(lines) - 1 <= len(replies) + 1)
     hold(f"{what}: other lines", lines == wanted[:len(lines)] and is_front(rest, wanted, lines))
     return lines
 
 
 def goes_on(program, what, path, lines):
-    """That the next run goes on from these lines."""
+    """Checks that the next run continues from these lines."""
     editions = lines.count(PUBLISH)
     done = run(program, ["serve", "--keep", path], ['{"op":"lands","reader":1}'])
-    hold(f"{what}: the next run is told {done.stderr!r}",
+    hold(f"{what}: the next run prints {done.stderr!r}",
          done.returncode == 0 and json.loads(done.stdout)["edition"] == editions)
     with open(path, encoding="utf-8") as file:
         held = file.read()
@@ -240,7 +240,7 @@ def try_full_disk(program, folder):
         lines = is_stopped_by(program, "a full disk", path)
         subprocess.run(["mount", "-o", "remount,size=1m", disk], check=True)
         goes_on(program, "a full disk", path, lines)
-    print(f"a full disk: {len(lines) - 1} changes kept, and the next run goes on", flush=True)
+    print(f"a full disk: {len(lines) - 1} changes kept, and the next run continues", flush=True)
 
 
 def try_long_file(program, folder):
@@ -248,8 +248,8 @@ def try_long_file(program, folder):
     lines = is_stopped_by(program, "a limit on the length of files", path,
                           lambda: limited(10_000))
     goes_on(program, "a limit on the length of files", path, lines)
-    print(f"a limit on the length of files: {len(lines) - 1} changes kept, and the next run goes "
-          "on", flush=True)
+    print(f"a limit on the length of files: {len(lines) - 1} changes kept, and the next run "
+          "continues", flush=True)
 
 
 def try_no_folder(program, folder):
@@ -282,7 +282,7 @@ def main():
         try_full_disk(options.program, folder)
         try_long_file(options.program, folder)
         try_no_folder(options.program, folder)
-    return verdict(f"{options.count} stops, and what beside them: nothing that was told is lost")
+    return verdict(f"{options.count} stops, and other faults: nothing that was reported is lost")
 
 
 if __name__ == "__main__":

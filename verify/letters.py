@@ -1,11 +1,11 @@
 #!/usr/bin/env python3
-"""Holds tables of letters against tables written apart, byte by byte.
+"""Compares tables of letters with tables written independently, byte by byte.
 
-Each table is about a random territory, and has up to 60 rows. Its fields stand between commas,
+Each table is about a random territory, and has up to 60 rows. Its fields are separated by commas,
 semicolons or tabs, in quotes or not, with line ends in them; its lines end by LF, CR or CRLF, and
-empty ones stand between. Its dates are of all forms, its places and weekdays are wrong now and
-then, and spaces stand around them. Many tables have a fault in the header or in a row: what stands
-before it has to be written, and the fault has to be told with the line on which the record begins,
+some are empty. Its dates are of all forms, its places and weekdays are wrong now and then, and some
+have spaces around them. Many tables have a fault in the header or in a row: what comes before it
+must be written, and the fault must be reported with the line on which the record begins, and
 status 1.
 """
 import os
@@ -29,7 +29,7 @@ WRONG_WEEKDAYS = ["Fryday", "Fri", "5"]
 SPACES = ["", "", "", " ", "\t", "  "]
 LONGEST = 65_536
 
-# What is told of a table, after `oldstyle: letters line <n>: `.
+# What is reported of a table, after `oldstyle: letters line <n>: `.
 LACKS = "no column {name}: the columns are {found}: name yours by --{role}"
 IS_THERE = "the column {name} is there already: take it out or rename it"
 OTHER_NUMBER = "another number of fields than the header"
@@ -47,7 +47,7 @@ def needs_quotes(field, separator):
 
 
 def written_row(fields, separator):
-    """A row as it is written: quoted where it needs it."""
+    """A row as it is written: quoted if it needs it."""
     return separator.join(quoted(field) if needs_quotes(field, separator) else field
                           for field in fields) + "\n"
 
@@ -79,7 +79,7 @@ class Form:
         return words + (["--separator", self.word] if self.chance.random() < 0.3 else [])
 
     def field_text(self, field):
-        """A field in quotes where it needs them, and sometimes where it doesn't."""
+        """A field in quotes if it needs them, and sometimes if it doesn't."""
         in_quotes = needs_quotes(field, self.separator) or self.chance.random() < 0.1
         return quoted(field) if in_quotes else field
 
@@ -91,7 +91,7 @@ class Form:
 
 
 class Table:
-    """A table as it is read, and what is to be written and told of it."""
+    """A table as it is read, and what must be written and reported for it."""
 
     def __init__(self, form):
         self.form, self.text, self.out, self.fault = form, form.empty_lines(), "", ""
@@ -120,7 +120,7 @@ def row_of(chance, form, territory, middle):
 
 
 def bad_header(chance, form):
-    """A header that lacks a column, or has one of those put after it; and why it is bad."""
+    """A header that lacks a column, or has one of the added ones; and why it is bad."""
     roles = READ if form.has_weekday and form.names["weekday"] != "weekday" else READ[:2]
     role = chance.choice([*roles, None])
     columns = list(form.columns)
@@ -173,7 +173,7 @@ def table_of(chance, form, territories, edition, middle):
 
 
 def differs(program, journal, form, table):
-    """Where the program writes or tells another thing: what it was given and gave."""
+    """What the program was given and gave, if it writes or reports something else."""
     words = [program, "letters", journal, *form.options()]
     mark = form.chance.choice(["", "\ufeff"])
     done = subprocess.run(words, input=(mark + table.text).encode(), capture_output=True,

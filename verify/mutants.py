@@ -108,13 +108,13 @@ def faults(mutant):
             texts[file] = texts[file].replace(old, line.removeprefix("new:").removeprefix(" "))
             is_edit = True
         else:
-            yield f"this line is no file, old or new in turn: {line}"
+            yield f"this line is not file, old or new in turn: {line}"
     if not is_edit:
         yield "it has no lines file, old and new"
 
 
 def check(crates):
-    """Reports what can't be applied, and answers whether something can't."""
+    """Reports what can't be applied, and returns whether something can't."""
     count, bad, texts, names = 0, 0, {}, Counter()
     for crate in crates:
         for mutant in (*of_the_gate(crate), *further(crate)):
@@ -158,8 +158,8 @@ def verdicts_in(clone, crates):
 
 
 def report(crate, verdicts, listed):
-    """Prints what came of a crate's mutants. Answers how many there are, and how many of them went
-    otherwise than listed."""
+    """Prints the results of a crate's mutants. Returns how many there are, and how many of them
+    went otherwise than listed."""
     count, for_a_name, bad = Counter(), 0, 0
     for mutant in further(crate):
         verdict = verdicts.get((crate, mutant.edit), "no verdict")
@@ -192,7 +192,7 @@ def note_commit(crate, commit):
 
 
 def tried(crates):
-    """Tries the mutants that the gate leaves out, and answers whether one went otherwise."""
+    """Tries the mutants that the gate leaves out, and returns whether one went otherwise."""
     need("rt", "the Rattle kit that KIT names")
     commit = subprocess.run(["git", "rev-parse", "--short", "HEAD"], cwd=TOP, check=True,
                             capture_output=True, text=True).stdout.strip()
@@ -214,14 +214,14 @@ def part(text):
     """The numbers K and N of a text K/N, of which K is from 1 to N."""
     found = re.fullmatch(r"([0-9]+)/([0-9]+)", text)
     if not found or not 1 <= int(found[1]) <= int(found[2]):
-        raise argparse.ArgumentTypeError(f"{text} is no part K/N: name one as 3/7")
+        raise argparse.ArgumentTypeError(f"{text} is not a part K/N: name one such as 3/7")
     return int(found[1]), int(found[2])
 
 
 def main():
     line = CommandLine(__doc__)
     line.add_argument("action", choices=["check", "try"])
-    line.add_argument("crates", nargs="*", metavar="CRATE", help="a crate; all if none is named")
+    line.add_argument("crates", nargs="*", metavar="CRATE", help="a crate; all by default")
     line.add_argument("--part", type=part, default=(1, 1), metavar="K/N",
                       help="of the crates, each Nth from the Kth on")
     options = line.parse_args()

@@ -1,18 +1,18 @@
 #!/usr/bin/env python3
-"""Holds what an older program and a newer one make of random journals of versions 1 and 2.
+"""Compares what an older program and a newer one make of random journals of versions 1 and 2.
 
 Each journal has edits of all six kinds and publishes, in any spelling that is allowed,
 and mostly edits that are pending. Some edits have a member `source`, which these versions ignore,
 whatever it is. Some journals have a line that is refused or no request, so that nothing
-is loaded. Both programs load each journal, answer queries of all six kinds, make some further
-edits, and save. What they have to agree in: their statuses and messages, their replies, and what
-they save, but for the head: the newer one writes {"journal":2}, and the older one may write
-{"journal":1}. Where the older one knows no version 2, all journals are of version 1.
+is loaded. Both programs load each journal, answer queries of all six kinds, make some more
+edits, and save. They must agree in their statuses and messages, their replies, and what they
+save, except the head: the newer one writes {"journal":2}, and the older one may write
+{"journal":1}. If the older one knows no version 2, all journals are of version 1.
 
 By the older program's rules the line ends on 31 December 2999, and by the newer one's on that of
 9999; the journals and queries are of days and years that both have, or neither. In a reply of the
 newer one the end of its line counts as that of the shorter one, days found after that are left
-out, and of labels about the year 2999 the skipped dates are not compared.
+out, and for labels about the year 2999 the skipped dates are not compared.
 """
 import json
 import os
@@ -82,7 +82,7 @@ def random_label_year(chance):
 
 
 class Lands:
-    """The territories of a journal, so that its edits are lawful unless they are to be refused."""
+    """The territories of a journal, so that its edits are lawful unless they should be refused."""
 
     def __init__(self, chance, version):
         self.chance, self.changes, self.exceptions = chance, {}, {}
@@ -124,7 +124,7 @@ class Lands:
         return {"op": "add_exception", "code": code, "year": year, "day": day}
 
     def refused_edit(self):
-        """An edit that is refused, where there is a territory."""
+        """An edit that is refused, if there is a territory."""
         chance, code = self.chance, self.chance.choice(list(self.changes))
         changes, exceptions = self.changes[code], self.exceptions[code]
         taken = chance.choice([1, *sorted(changes)])
@@ -149,7 +149,7 @@ def ignored(chance, value):
 
 def spelt(chance, value):
     """A line of the value: as a program writes it, or with its members in another order, spaces,
-    a further member, and letters as numbers."""
+    another member, and letters as numbers."""
     if chance.random() < 0.5:
         return compact(value)
     members = list(value.items()) + [("note", {"a": [1, None, 2.5]})] * chance.randrange(2)
@@ -160,7 +160,7 @@ def spelt(chance, value):
 
 
 def random_journal(chance, version):
-    """The lines of a journal, and the territories that it has where it isn't refused."""
+    """The lines of a journal, and the territories that it has if it isn't refused."""
     lands, lines, pending = Lands(chance, version), [chance.choice(HEADS) % version], False
     for _ in range(chance.choice([0, 1, 3, 10, 30, 60])):
         is_publish = pending and chance.random() < 0.25
@@ -200,7 +200,7 @@ def random_queries(chance):
 
 
 def random_requests(chance, lands):
-    """Queries; mostly further edits and a publish too, and the queries again."""
+    """Queries; mostly more edits and a publish too, and the queries again."""
     queries = random_queries(chance)
     requests = list(queries)
     if chance.random() < 0.7:
@@ -213,7 +213,7 @@ def random_requests(chance, lands):
 
 def made(program, journal, requests, saved):
     """What a program makes of a journal: its status and message, its replies, and what it saves,
-    or None where it saves nothing."""
+    or None if it saves nothing."""
     if os.path.exists(saved):
         os.remove(saved)
     words = [program, "serve", "--journal", journal, "--save", saved]
@@ -226,8 +226,8 @@ def made(program, journal, requests, saved):
 
 
 def on_shorter_line(request, reply):
-    """A reply as it has to be by the shorter line: the last day of a last period is that line's, a
-    reading has the days that are on it, and is without skipped dates where they may differ."""
+    """A reply as the shorter line requires it: the last day of a last period is that line's, a
+    reading has the days that are on it, and is without skipped dates if they may differ."""
     told = json.loads(reply)
     if "answer" not in told or compact(told) != reply:
         return reply
@@ -251,7 +251,7 @@ def compared(requests, done):
 
 
 def difference(old, new):
-    """In what the two differ, or None."""
+    """How the two differ, or None."""
     for name, one, other in zip(("statuses", "messages", "replies"), old, new):
         if one != other:
             return f"{name}: {one!r}\n  and {other!r}"

@@ -1,5 +1,5 @@
 #!/usr/bin/env python3
-"""Holds that the Rattle programs compile that the gate doesn't see, since they end in .rattle.
+"""Checks that the Rattle programs compile that the gate doesn't see, since they end in .rattle.
 
 They are those of bench/ and of verify/growths/. What is committed is cloned, each is added to it,
 and `rt try` runs it there without a proof, with no words and no input.

@@ -1,17 +1,17 @@
 #!/usr/bin/env python3
-"""Holds figures, months and countries against what comes from outside of this repository.
+"""Compares figures, months and countries with what comes from outside of this repository.
 
 Figures of all 9,999 years: Easter by the anonymous algorithm of *Nature* (1876) for the Gregorian
 rule and by Meeus, *Astronomical Algorithms*, for the Julian one; Sunday letters from the weekday of
 1 January, which `datetime` gives for the Gregorian calendar.
 
 Months: `ncal -p | examples/from_ncal.py` makes a text of the countries that ncal knows, which is
-published. Of each the six months about its change and three of other centuries are printed by
-`month` and by `ncal -S -s`, which has a line for each weekday where `month` has one for each week:
+published. For each the six months about its change and three of other centuries are printed by
+`month` and by `ncal -S -s`, which has a line for each weekday while `month` has one for each week:
 so the weeks are turned round, and compared line by line, without the spaces at ends. The British
 months are compared with those of `ncal -b` too, as they are.
 
-Countries: where `ncal -p` knows a country, the last day of its Julian calendar is that of
+Countries: if `ncal -p` knows a country, the last day of its Julian calendar is that of
 examples/europe.toml. It requires the Debian package ncal.
 """
 import datetime
@@ -136,7 +136,7 @@ def turned(grid):
 
 
 def is_as_printed(program, journal, code, year, month):
-    """Whether ncal prints the same month as the program."""
+    """Returns whether ncal prints the same month as the program."""
     ours = run(program, ["month", journal, code, str(year), str(month)]).stdout.splitlines()[1:]
     title, *theirs = trimmed(ncal("-S", "-s", code, str(month), str(year)))
     is_same = turned(ours) == [title.strip(), *theirs]
@@ -149,7 +149,7 @@ def months_about(year, month):
 
 
 def hold_months(program):
-    """Answers how many months were held."""
+    """Returns how many months were compared."""
     count = 0
     with tempfile.TemporaryDirectory() as folder:
         journal = journal_in(program, folder)
@@ -172,7 +172,7 @@ def last_julian_days(land):
 
 
 def hold_countries():
-    """Answers which countries of ncal were held."""
+    """Returns which countries of ncal were compared."""
     with open(os.path.join(TOP, "examples", "europe.toml"), encoding="utf-8") as file:
         lands, held = lands_of(file.read()), set()
     for country, *date in COUNTRY.findall(ncal("-p")):
@@ -191,7 +191,7 @@ def main():
     hold_figures(program)
     months, held = hold_months(program), hold_countries()
     return verdict(f"{len(YEARS)} years, {months} months, and {len(held)} countries of ncal "
-                   f"({' '.join(held)}) are as computed and as ncal has them")
+                   f"({' '.join(held)}) are as computed and as in ncal")
 
 
 if __name__ == "__main__":

@@ -1,13 +1,13 @@
 #!/usr/bin/env python3
-"""Holds the pages that people read against pages written apart.
+"""Compares the pages that people read with pages written independently.
 
 Random territories are put into a journal, with their changes near one another, listed Easters and
-edits that wait. Of each date the page of `read` is held against the one of `page_texts.py`, which
+edits that wait. For each date the page of `read` is compared with the one of `page_texts.py`, which
 asks every day of the line that has the month and day. So are those of months, years, ranges,
 bounds and sets in random forms, by `spans.py`, with the answer of the query `written`, and the
 pages of days about the changes, of the date's month and year, of conversions, and of the
-territories. Words that are wrong, codes that are unknown and files that are not there have to be
-told as docs/PAGES.md says.
+territories. Wrong arguments, unknown codes and missing files must be reported as docs/PAGES.md
+says.
 """
 import os
 import random
@@ -45,7 +45,7 @@ EITHER = "{0} may be a day number or a Julian day number: write "
 EITHER_NUMBER = EITHER + '"day {0}" or "JDN {0}" in its place, with the quotes'
 CONVERSION = EITHER + 'oldstyle convert jdn {0}, or oldstyle convert day "day {0}"'
 YEAR = "a year is 1 to 9999 as the place counted it: of 1731/2 write 1731"
-# Words that are wrong, of which the last one is told, and what is told of it. FILE is the journal.
+# Wrong arguments, of which the last one is reported, and what is reported. FILE is the journal.
 MISTAKES = [
     ("read FILE XX 1700-01-01 --weekday Fryday", WEEKDAY),
     ("convert julian Fryday", WRONG_WORDS["form"]),
@@ -71,7 +71,7 @@ MISTAKES = [
     ("territory FILE --limits lands=x", "limits are some of lands=N,changes=N,exceptions=N,edits=N,"
                                         "editions=N, with a comma between"),
 ]
-# The same of a word that isn't the last one.
+# The same for a word that isn't the last one.
 EARLIER_MISTAKES = [
     ("month FILE XX 10001 1", "10001", WRONG_WORDS["year"]),
     ("convert roman 1700-01-01", "roman", CALENDAR),
@@ -80,13 +80,13 @@ NO_CODE = "a code is 2 to 8 capital letters or digits, the first a letter"
 
 
 def numbered(chance, day):
-    """A day by its number, or by its Julian day number, where neither is taken for the other."""
+    """A day by its number, or by its Julian day number, if neither can be taken for the other."""
     named = [f"day {day}", f"JDN {day + OFFSET}", f"jdn {day + OFFSET}"]
     return chance.choice(named + ([str(day)] if day <= OFFSET else []))
 
 
 def differs(program, words, wanted, status=0, fault=None):
-    """Where a run gives another page, or tells another fault: what it was asked and gave."""
+    """What a run was asked and gave, if it gives another page or reports another fault."""
     done = run(program, words)
     found = done.returncode, done.stdout.splitlines(), done.stderr.splitlines()
     if found != (status, wanted, [fault] if fault else []):
@@ -94,7 +94,7 @@ def differs(program, words, wanted, status=0, fault=None):
 
 
 def mistakes(program, journal):
-    """Each wrong word, unknown code and lacking file that is told otherwise than it is to be."""
+    """Each wrong argument, unknown code and missing file that is not reported as it must be."""
     said = [(words, words.split()[-1], why) for words, why in MISTAKES] + EARLIER_MISTAKES
     for text, word, why in said:
         words = text.replace("FILE", journal).split()
@@ -112,7 +112,7 @@ def mistakes(program, journal):
 
 
 class Asked:
-    """A journal with a random territory, and what its pages are to be."""
+    """A journal with a random territory, and what its pages must be."""
 
     def __init__(self, program, chance, journal):
         self.program, self.chance, self.journal = program, chance, journal
@@ -210,7 +210,7 @@ class Asked:
             yield from differs(self.program, ["convert", *words], conversion_page(found[0]))
 
     def pages(self):
-        """Each page about a date that is another than the one written apart."""
+        """Each page about a date that differs from the one written independently."""
         label = label_near(self.chance, self.territory, self.middle)
         yield from self.reading(label)
         yield from self.reckoned(label)

@@ -87,7 +87,7 @@ def in_manual(text):
 
 
 def in_python(text):
-    """The comments of a script, and what its functions and classes say of themselves."""
+    """The comments of a script, and the docstrings of its functions and classes."""
     tokens = tokenize.generate_tokens(io.StringIO(text).readline)
     yield from joined((token.start[0], token.string.lstrip("#! ")) for token in tokens
                       if token.type == tokenize.COMMENT)
@@ -121,7 +121,7 @@ HELP = "help.cases"
 
 
 def reader_of(path, text):
-    """What reads the blocks of a file, if it has any."""
+    """The reader of the blocks of a file, if it has any."""
     if os.path.basename(path) == HELP:
         return lambda text: joined(enumerate(text.split("\n"), 1))
     first = text.split("\n", 1)[0]
@@ -146,7 +146,7 @@ def folder_of(path):
 
 
 def finds(path, text, forms, allowed):
-    """Each form in a file: its line, what stands there, and what to write instead."""
+    """Each form in a file: its line, the text that has it, and what to write instead."""
     reader = reader_of(path, text)
     for begin, block in reader(text) if reader else ():
         for form, better in forms:

@@ -1,11 +1,11 @@
 #!/usr/bin/env python3
-"""Holds what random territories answer against a search through every day.
+"""Compares what random territories answer with a search through every day.
 
 The search shares no rule of conversion with the service. The calendars are laid out month by month
 over all 3,652,059 days, each day is given its label under each calendar and style, and what a label
 means is looked up among all of them: that gives the readings and the skipped dates, the latter by
 the definition in docs/CALENDARS.md. Easter is found in the tables of the computus, day by day.
-Changes and labels come anywhere, and near Easter and 25 March, where years begin.
+Changes and labels come anywhere, and near Easter and 25 March, when years begin.
 
 Each 30 territories are a run of their own. It takes two minutes, and the time of the program for
 10,000 readings and all years' Easters.
@@ -41,7 +41,7 @@ def styled_by_easter(dates, easters):
 
 
 def random_spring(numbers, year):
-    """A label of that year from 10 March to 5 May, where Easter and 25 March are."""
+    """A label of that year from 10 March to 5 May, when Easter and 25 March are."""
     place = numbers.randint(10, 66)
     return key(year, 3, place) if place <= 31 else key(year, 4, min(place - 31, 30))
 
@@ -71,7 +71,7 @@ def random_labels(numbers, starts, labels):
 
 
 def days_by_label(line, wanted):
-    """All days of the line whose label is wanted: a search through every day."""
+    """All days of the line whose label is sought: a search through every day."""
     days = {label: [] for label in wanted}
     for day, label in enumerate(line):
         if label in wanted:
@@ -171,7 +171,7 @@ def answered(reply):
 
 
 def compared(cases, answers):
-    """How many cases there are, how many say something, and how many differ, which are printed."""
+    """Prints the first cases that differ, and returns the counts of all cases."""
     apart = 0
     for (request, expected), reply in zip(cases, answers):
         if "fault" in reply or answered(reply) != expected:
@@ -184,7 +184,7 @@ def compared(cases, answers):
 
 
 def run(program, numbers, count, labels, easters, beginnings):
-    """One run of so many territories, and what came of it."""
+    """One run of `count` territories, and what came of it."""
     lands = random_lands(numbers, count, labels, beginnings)
     asked = set().union(*(wanted for _, _, wanted in lands.values()))
     under = {names: days_by_label(line, asked) for names, line in labels.items()}

@@ -1,11 +1,11 @@
 #!/usr/bin/env python3
-"""Answers request lines as the program does, slowly: the service written apart.
+"""Answers request lines as the program does, slowly: the service written independently.
 
 It was written from docs/FORMATS.md and docs/CALENDARS.md alone, for eight readers and the
 standard limits: verify/reference.py < examples/rome.jsonl. Edits have the members of the newest
 version of journals, or those of an earlier one. Calendars are walks along every day of
 the line, a reading is a search through every day, Easter is found by the tables of the moon. Its
-replies are to be those of the program, byte for byte. Of `written` it answers days, months, years,
+replies must be those of the program, byte for byte. For `written` it answers days, months, years,
 ranges and bounds in their usual English forms, and ends at any other text.
 """
 import json
@@ -68,7 +68,7 @@ def nesting(value):
 
 
 class Whole(int):
-    """A whole number of JSON, so that a float and a boolean are none."""
+    """A whole number of JSON, unlike a float and a boolean."""
 
 
 def request_of(line, readers, version=NEWEST):
@@ -258,7 +258,7 @@ def written_answer(land, text, given):
 
 
 def cited(sources, of):
-    """The member that tells a source, where there is one."""
+    """The member with a source, if there is one."""
     return {"source": sources[of]} if of in sources else {}
 
 
@@ -267,7 +267,7 @@ def regime_of(regime):
 
 
 def needs_julian(regime):
-    """Whether the style is that of Easter, and calendar or rule isn't Julian."""
+    """Returns whether the style is that of Easter, and calendar or rule isn't Julian."""
     calendar, style, rule = regime
     return style == "easter" and (calendar, rule) != ("julian", "julian")
 
@@ -288,7 +288,7 @@ def is_source(text):
 
 
 def version_of(head):
-    """The version that the first line of a journal says."""
+    """The version in the first line of a journal."""
     return json.loads(head)["journal"]
 
 

@@ -1,17 +1,17 @@
 #!/usr/bin/env python3
-"""Holds `text`, `plan` and `publish` against what a register as a text is defined to say.
+"""Compares `text`, `plan` and `publish` with what a register as a text is defined to say.
 
 Random registers are written as texts by the program, published into an empty journal, and written
-again: the bytes are the same, and so are the periods and listed Easters that `serve` tells. Random
-pairs of a journal and a text, in any form that TOML allows, are planned and published. Then each
-territory of the text is exactly as it says, with its sources, and all others are as before. The
-file has grown by the fewest edits and a publish, or another one of version 4 has its place where
-one of version 2 is to take sources; publishing again makes no edition and changes no byte. What is
+again: the bytes are the same, and so are the periods and listed Easters that `serve` returns.
+Random pairs of a journal and a text, in any form that TOML allows, are planned and published. Then
+each territory of the text is exactly as it says, with its sources, and all others are as before.
+The file has grown by the fewest edits and a publish, or another one of version 4 has its place if
+one of version 2 takes sources; publishing again makes no edition and changes no byte. What is
 printed is by `text_pages.py`. Texts with random faults are refused, each with the path to its first
 fault, and nothing changes.
 
-Then: journals that can't be published into, versions of a journal and `--upgrade`, publishes at
-once, a keeper and a follower beside them.
+Then: journals that can't be published into, versions of a journal and `--upgrade`, concurrent
+publishes, a keeper and a follower beside them.
 """
 import json
 import os
@@ -38,7 +38,8 @@ EDITION = re.compile(r"^edition = \d+\n\n?")
 
 
 def hold_text(what, text, lands):
-    """The text has its edition and the lines of these territories, however names and sources are quoted."""
+    """Checks that the text has its edition and the lines of these territories, however names and
+    sources are quoted."""
     begin = [f"edition = {int(bool(lands))}"] + [""] * bool(lands)
     lines, wanted = text.split("\n")[:-1], begin + list(register_lines(lands))
     texts = [line for line in lines if line.startswith(("name = ", "source = "))]
@@ -48,8 +49,8 @@ def hold_text(what, text, lands):
          lines == wanted and found == list(texts_of(lands)))
 
 
-def told_of(files, path, lands):
-    """What `serve` tells of the territories of a journal, in the order of their codes."""
+def answers_of(files, path, lands):
+    """What `serve` returns for the territories of a journal, in the order of their codes."""
     asked = []
     for code, land in sorted(lands.items()):
         asked.append({"op": "periods", "reader": 1, "code": code})
@@ -60,7 +61,7 @@ def told_of(files, path, lands):
 
 
 def hold_answers(what, answers, lands):
-    """What was told of periods and of listed Easters is so, with the sources."""
+    """Checks what was returned for periods and listed Easters, with the sources."""
     found = [answer["periods"] for answer in answers if "periods" in answer]
     wanted = [[{**dict(zip(WORDS, regime)), "first": first, "last": last,
                 **cited(land.sources, first)} for first, last, regime in land.periods()]
@@ -87,14 +88,14 @@ def there_and_back(files, draws, number):
     again = files.printed(what, "text", second)
     hold(f"{what}: another text", again == text or list(lands) != sorted(lands))
     hold_text(what, again, dict(sorted(lands.items())))
-    told = told_of(files, first, lands)
+    told = answers_of(files, first, lands)
     hold_answers(what, told, lands)
-    hold(f"{what}: other answers", told == told_of(files, second, lands))
+    hold(f"{what}: other answers", told == answers_of(files, second, lands))
     try_saved(files, what, first, lands)
 
 
 def try_saved(files, what, path, lands):
-    """A journal that is saved anew is the same, and of version 4 only where a source is given."""
+    """A journal that is saved again is the same, and of version 4 only if a source is given."""
     saved = files.path("saved")
     files.run("serve", "--journal", path, "--save", saved)
     wanted = "".join(compact(line) + "\n" for line in journal_lines(lands)).encode()
@@ -131,7 +132,8 @@ def change(files, draws, number):
          sorted(new[:-1]) == fewest and new[-1:] == [PUBLISH] * bool(fewest))
     lines = [line for edit in edits for line in edit_lines(lands, wanted, edit)] + absent
     hold(f"{what}: plan prints {planned}", planned == lines + [plan_end(len(edits), editions)])
-    hold(f"{what}: publish prints {told}", told == publish_begin(len(edits), editions, journal) + lines
+    hold(f"{what}: publish prints {told}",
+         told == publish_begin(len(edits), editions, journal) + lines
          + [publish_end(len(edits), editions)])
     hold(f"{what}: another register", shown(service.published) == shown(after(lands, wanted)))
     again = files.printed(what, "publish", journal, text).split("\n")[:-1]
@@ -149,7 +151,7 @@ def upgraded(held):
 
 
 def try_fault(files, draws, number):
-    """A text with random faults, of which the first is told."""
+    """A text with random faults, of which the first is reported."""
     lands, what = draws.register(), f"fault {number}"
     if not lands:
         return None
@@ -161,7 +163,7 @@ def try_fault(files, draws, number):
         refused(files, what, text, text, fault_words(fault), journal)
         return fault.reason, fault.said if fault.reason == "Refused" else None
     done = files.run("plan", journal, text)
-    hold(f"{what}: no fault, and plan is told {done.stderr!r}", done.returncode == 0)
+    hold(f"{what}: no fault, and plan prints {done.stderr!r}", done.returncode == 0)
     return None
 
 
@@ -174,7 +176,7 @@ def many(name, key, count, year=False):
     return LAND.format("GB") + "".join(rows)
 
 
-# Faults that random ones seldom meet, each with what is told.
+# Faults that random ones seldom meet, each with what is reported.
 SELDOM = [
     (many("changes", "from", 41), "GB.changes.41: 13 TooManyChanges: the register has room for no "
                                   "further change there (--limits changes=N allows more)"),
@@ -192,7 +194,7 @@ SELDOM = [
 
 
 def try_seldom(files):
-    """Faults that are seldom met, bytes that are no UTF-8, and texts that are no TOML."""
+    """Faults that are seldom met, bytes that are not UTF-8, and texts that are not TOML."""
     journal = files.journal("journal", {})
     for text, wanted in SELDOM:
         path = files.write("text", text)
@@ -204,7 +206,7 @@ def try_seldom(files):
     for text, line in (("[GB", 1), ("[GB]\nname = 'x\n", 2), ("x\n", 1), ("[GB]\n[GB]\n", 2)):
         done = files.run("publish", journal, files.write("text", text))
         place = rf"oldstyle: {re.escape(files.path('text'))}: line {line}, column [1-9]\d*: .+\n"
-        hold(f"{text!r} is told {done.stderr!r}",
+        hold(f"{text!r} is answered {done.stderr!r}",
              done.returncode == 1 and re.fullmatch(place, done.stderr))
 
 
@@ -226,7 +228,7 @@ def main():
         done, held = try_all_journals(files)
     return verdict(f"{options.count} registers are the same there and back, the {edits} edits of "
                    f"as many plans are the fewest, {len(met - {None})} kinds of faults have their "
-                   f"paths, {done} publishes at once are editions and {held} were refused")
+                   f"paths, {done} concurrent publishes are editions and {held} were refused")
 
 
 if __name__ == "__main__":

@@ -2,16 +2,17 @@
 """Traces the program's system calls as it saves, keeps and follows a journal, and refuses them.
 
 Each way to save, to keep and to follow is traced by strace (Debian's package `strace`), with random
-sessions of an editor. The order of the calls is held against what docs/SERVING.md promises, rule by
-rule: what is locked before it is read, what is on the disk before it takes the place of another
+sessions of an editor. The order of the calls is compared with what docs/SERVING.md promises, rule
+by rule: what is locked before it is read, what is on the disk before it takes the place of another
 file, what is there before a reply is written. No contract says that a sync or a lock comes at all:
-of the disk nothing is known. A row is written for each rule, with the number of runs that kept it.
+the contracts say nothing about the disk. A row is written for each rule, with the number of runs
+that kept it.
 
 Then each call that concerns the folder is refused in turn, with each error that it may meet: a full
-disk, a failed sync, a move that isn't permitted. The journal has to be the old one or the new one,
-whole, with nothing beside it, and what is told has to say which. What a keeper told has to be in
-its file, and the next run goes on from that. Last, a call is delayed while another program puts a
-file where the journal is to be made: that file has to stay.
+disk, a failed sync, a move that isn't permitted. The journal must be the old one or the new one,
+whole, with nothing beside it, and what is reported must say which. What a keeper reported must be
+in its file, and the next run continues from that. Last, a call is delayed while another program
+puts a file where the journal is made: that file must stay.
 """
 import os
 import random
@@ -36,7 +37,7 @@ CHANGED = "oldstyle: the file has changed meanwhile and is left as it is: the jo
 NOTED = " held another journal, which is now "
 NOT_SYNCED = "oldstyle: the journal is saved, and the disk may not have it yet\n"
 FAULTS = ["oldstyle: read fault\n", "oldstyle: write fault\n"]
-# The cause that is told after one of them is not held: it is that of the call that was refused.
+# The cause that is reported after one of them is not checked: it is that of the refused call.
 FAULT_NOTE = re.compile(r"(oldstyle: (?:read|write) fault\n)note: .*\n")
 # The errors that a call may meet.
 ERRORS = {
@@ -46,7 +47,7 @@ ERRORS = {
     "look": ["EACCES", "EIO"], "close": ["EIO"],
 }
 # The calls without which nothing is done.
-MUST_BE_TOLD = {"write", "sync", "cut", "rights", "move"}
+MUST_BE_REPORTED = {"write", "sync", "cut", "rights", "move"}
 counts = {}
 
 
@@ -121,13 +122,13 @@ def try_way(program, way, inject=None):
 
 
 def run_again(program, way, folder):
-    """What the next run of a keeper tells, and the file after it."""
+    """What the next run of a keeper prints, and the file after it."""
     again = run(program, way.words.split(), [LANDS], folder)
     return again, bytes_at(os.path.join(folder, way.place))
 
 
 def cut_line(way):
-    """What a run tells before it begins."""
+    """What a run prints before it begins."""
     if kind_of(way) != "keep" or way.old is None or not is_unfinished(way.old):
         return ""
     number = 1 + way.old.count(b"\n")
@@ -135,7 +136,7 @@ def cut_line(way):
 
 
 def is_noted(told):
-    """Whether it is told that a journal stays beside the new one."""
+    """Returns whether it is reported that a journal stays beside the new one."""
     return told.startswith("note: ") and NOTED in told and told.endswith(".~1~\n")
 
 
@@ -147,7 +148,7 @@ def new_mode():
 
 
 def hold_rules(program, way):
-    """Holds a run of a way against its rules. Answers its steps."""
+    """Compares a run of a way with its rules. Returns its steps."""
     done, before, after, _ = try_way(program, way)
     hold(f"{way.name}: {done.status} {done.err!r}", done.status == 0 and (
         is_noted(done.err) if is_backed_up(way) else done.err == cut_line(way)))
@@ -173,7 +174,7 @@ def hold_rules(program, way):
 
 
 def hold_save(what, way, found, refused):
-    """The journal is the old one or the new one, as it is told, and nothing is beside it."""
+    """The journal is the old one or the new one, as is reported, and nothing is beside it."""
     done, before, after, _ = found
     new = journal([*way.begun, *way.session.taken])
     beside = {name: file for name, file in after.items() if name not in before
@@ -196,7 +197,7 @@ def hold_save(what, way, found, refused):
                                           or is_backed_up(way) and err.startswith(FAULTS[1]))
     hold(f"{what}: {done.status} {done.err!r}, and beside it {sorted(beside)}", told
          and done.status == (0 if not done.err or is_noted(done.err) else 3))
-    hold(f"{what}: it is told as done", done.status or refused.kind not in MUST_BE_TOLD)
+    hold(f"{what}: it is reported as done", done.status or refused.kind not in MUST_BE_REPORTED)
     hold(f"{what}: the journal is neither the old one nor the new one", held in (way.old, new))
     hold(f"{what}: its permissions", way.old is None or after[way.place][0] == MODE)
     hold(f"{what}: other files", {**after, way.place: 0, **beside} == {**before, way.place: 0,
@@ -204,7 +205,8 @@ def hold_save(what, way, found, refused):
 
 
 def hold_keep(what, way, found, refused):
-    """What was told is in the file, which is a front of what was sent, and the next run goes on."""
+    """What was reported is in the file, which is a prefix of what was sent; the next run
+    continues."""
     done, before, after, (again, later) = found
     changes, edition = told_lines(done.out)
     held, new = after.get(way.place, (0, None))[1], journal([*way.begun, *way.session.taken])
@@ -213,24 +215,24 @@ def hold_keep(what, way, found, refused):
     hold(f"{what}: {done.status} {done.err!r}", told in ("", *known)
          and done.status == (3 if told else 0))
     hold(f"{what}: other files", {**after, way.place: 0} == {**before, way.place: 0})
-    hold(f"{what}: it is told as done", done.status == 3 and not told_after(done.steps)
-         or refused.kind not in MUST_BE_TOLD and not is_look_at_change(done.steps))
+    hold(f"{what}: it is reported as done", done.status == 3 and not reported_after(done.steps)
+         or refused.kind not in MUST_BE_REPORTED and not is_look_at_change(done.steps))
     if changes:
         least = journal([*way.begun, *way.session.taken[:changes]])
-        hold(f"{what}: {changes} changes were told, and not all are held",
+        hold(f"{what}: {changes} changes were reported, and not all are held",
              held is not None and held.startswith(least) and new.startswith(held))
     elif held != way.old:
         hold(f"{what}: it holds something else", held is None or new.startswith(held)
              or held + b"\n" == new[:len(held) + 1])
         hold(f"{what}: what it held is lost", way.old is None or is_unfinished(way.old)
              or held.startswith(way.old))
-    # (An empty one may stay: where its lock or its look fails, it may be another run's.)
+    # (An empty one may stay: if its lock or its look fails, it may be another run's.)
     hold(f"{what}: a new file is left that was not kept", way.old is not None or not held
          or told != FAULTS[0] or refused.kind in ("remove", "read"))
     hold(f"{what}: a file is taken away that another run keeps",
          told != HELD[2] or held is not None)
     editions = (later or b"").count(PUBLISH.encode() + b"\n")
-    hold(f"{what}: the next run is told {again.stderr!r} {again.stdout!r}",
+    hold(f"{what}: the next run prints {again.stderr!r} {again.stdout!r}",
          again.returncode == 0 and f'"edition":{editions},' in again.stdout
          and editions >= edition)
 
@@ -239,21 +241,21 @@ def refused_at(steps):
     return next(place for place, step in enumerate(steps) if step.was_refused)
 
 
-def told_after(steps):
-    """How many changes are told after the refused call."""
+def reported_after(steps):
+    """How many changes are reported after the refused call."""
     told = steps[refused_at(steps):]
     return told_lines(b"".join(step.data for step in told if step.name == "out"))[0]
 
 
 def is_look_at_change(steps):
-    """Whether the refused call is a look at a file after a change of it was asked for."""
+    """Returns whether the refused call is a look at a file after a change of it was asked for."""
     place = refused_at(steps)
     asked = any((step.kind, step.name) == ("read", "in") for step in steps[:place])
     return asked and steps[place].kind == "look"
 
 
 def hold_look(what, _, found, __):
-    """Nothing is changed, and what is told is known."""
+    """Nothing is changed, and what is reported is known."""
     done, before, after, _ = found
     known = done.err in ("", *FAULTS) or done.err.startswith("oldstyle: a.journal: ")
     hold(f"{what}: {done.status} {done.err!r}", known and done.status == (3 if done.err else 0))
@@ -264,7 +266,7 @@ HOLDS = {"save": hold_save, "keep": hold_keep, "follow": hold_look, "read": hold
 
 
 def refuse_calls(program, way, steps):
-    """Refuses each call of the folder in turn. Answers how many were."""
+    """Refuses each call of the folder in turn. Returns how many there were."""
     tried = 0
     for step in steps:
         if step.name in ("in", "out", "err"):
@@ -284,7 +286,7 @@ def refuse_calls(program, way, steps):
 
 
 def try_put_meanwhile(program, inject):
-    """A save where nothing was, and where another program puts a file before the move."""
+    """Makes a save of a new file, while another program puts a file there before the move."""
     with tempfile.TemporaryDirectory() as folder:
         path, other = os.path.join(folder, "new.journal"), b"Honoured Sir"
         words = ["strace", "-f", "-qq", "-o", "/dev/null", "-e", "trace=link,linkat", *inject]
@@ -332,8 +334,8 @@ def try_moved_there(program):
 
 
 def try_kept_meanwhile(program):
-    """A new journal that another run keeps, and has ended to keep, while this one opens it, and
-    which this one can't keep then."""
+    """A new journal that another run keeps, and has just stopped keeping, while this one opens it,
+    and which this one can't keep then."""
     with tempfile.TemporaryDirectory() as folder:
         path = os.path.join(folder, "new.journal")
         inject = (f"openat:delay_enter={DELAY}:when=1", "fsync:error=EIO:when=1")
@@ -343,7 +345,7 @@ def try_kept_meanwhile(program):
             other = run(program, ["serve", "--keep", path], session(random.Random(1), 3).sent)
             held = bytes_at(path)
             keeper.communicate()
-        hold(f"the other keeper is told {other.stderr!r}", other.returncode == 0)
+        hold(f"the other keeper prints {other.stderr!r}", other.returncode == 0)
         hold("a keeper takes a journal away that another run kept", bytes_at(path) == held)
 
 

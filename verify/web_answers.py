@@ -1,4 +1,4 @@
-"""What a fragment of the page says of a date, held against what `read` prints of it."""
+"""Compares what a fragment of the page says of a date with what `read` prints of it."""
 import re
 import subprocess
 from html.parser import HTMLParser
@@ -11,7 +11,7 @@ FLAGS = {"approximate", "in doubt", "supplied by an editor"}
 ORDER = ", or say --order dmy or mdy"
 DAY_FACTS = ["As dated there", "Weekday", "Gregorian", "Julian", "Day number",
              "Julian day number"]
-# `read` refuses a date with two weekdays; the query answers that its days have not both.
+# `read` refuses a date with two weekdays; the query answers that its days don't have both.
 TWO_WEEKDAYS = ": the date names "
 OPEN = {"from any earlier day": ("From", "any earlier day"),
         "to   any later day": ("To", "any later day")}
@@ -49,16 +49,16 @@ class Fragment(HTMLParser):
 
 
 def read_page(program, journal, code, date, weekday="", order=""):
-    """What `read` prints, and what it tells where it prints nothing."""
+    """What `read` prints, and what it reports if it prints nothing."""
     words = [program, "read", journal, code]
     words += (["--weekday", weekday] if weekday else []) + (["--order", order] if order else [])
     done = subprocess.run([*words, "--", date], capture_output=True, text=True, check=False)
     return done.stdout.split("\n")[:-1], done.stderr.strip()
 
 
-def days_told(lines):
-    """The days that `read` prints of a date of one day, as the page has them. A date that is
-    none has runs."""
+def days_printed(lines):
+    """The days that `read` prints of a date of one day, in the page's form. Any other date has
+    runs."""
     found = []
     if any(line in OPEN or COUNT.fullmatch(line) or line.startswith("from ") for line in lines):
         return found
@@ -75,8 +75,8 @@ def days_told(lines):
     return found
 
 
-def runs_told(lines):
-    """The runs that `read` prints, as the page has them."""
+def runs_printed(lines):
+    """The runs that `read` prints, in the page's form."""
     found = []
     for line in lines:
         if line in OPEN:
@@ -90,7 +90,7 @@ def runs_told(lines):
     return found
 
 
-def notes_told(lines, told):
+def notes_printed(lines, told):
     """The lines of `read` that the page has as notes, each with the source that follows it."""
     if not lines:
         text = told.partition("\n")[0].removeprefix("oldstyle: ").removesuffix(ORDER)
@@ -107,7 +107,7 @@ def bare(note):
 
 
 def days_shown(fragment):
-    """The days that a fragment shows, or its runs, in the form of what is told."""
+    """The days that a fragment shows, or its runs, in the form of what is reported."""
     shown = [dict(facts) for facts in fragment.facts]
     if any("As dated there" in facts for facts in shown):
         return [{name: facts[name] for name in DAY_FACTS} for facts in shown]
@@ -115,13 +115,13 @@ def days_shown(fragment):
 
 
 def differences(html, program, journal, code, date, weekday="", order=""):
-    """Where a fragment says another thing than `read` prints."""
+    """What a fragment says otherwise than `read` prints."""
     fragment = Fragment(html)
     lines, told = read_page(program, journal, code, date, weekday, order)
-    found, wanted = days_shown(fragment), days_told(lines) or runs_told(lines)
+    found, wanted = days_shown(fragment), days_printed(lines) or runs_printed(lines)
     wrong = [] if found == wanted or TWO_WEEKDAYS in told else [f"days {found}, wanted {wanted}"]
     notes = [bare(note) for note in fragment.notes if not note.startswith("The date is ")]
-    wanted = [bare(note) for note in notes_told(lines, told)]
+    wanted = [bare(note) for note in notes_printed(lines, told)]
     holds = notes == wanted if lines else len(notes) == 1 and wanted[0].endswith(notes[0])
     if not holds:
         wrong.append(f"notes {notes}, wanted {wanted}")

@@ -1,13 +1,13 @@
 #!/usr/bin/env python3
-"""Works with the page in headless Chromium as its readers do, and holds what it shows against what
+"""Works with the page in headless Chromium as its readers do, and compares what it shows with what
 the program prints.
 
 It types dates, by keyboard alone, chooses weekdays, follows links and goes back, walks through a
-month by its arrows, and looks at a place and a year. It drops tables of letters, mends a row in its
-place, and saves the table: what is saved has to be what `letters` writes. Then 100,000 rows come,
-while it is watched how long the page stands still. Without JavaScript the main question and a table
-are asked again. Each page is looked at for contrast, names of its fields, width, hosts, and what
-the browser tells, at three sizes, in light and in dark. `--pictures FOLDER` keeps the pictures.
+month by its arrows, and looks at a place and a year. It drops tables of letters, corrects a row in
+its place, and saves the table: what is saved must be what `letters` writes. Then 100,000 rows come,
+while it measures how long the page is blocked. Without JavaScript the main question and a table
+are asked again. Each page is checked for contrast, names of its fields, width, hosts, and what
+the browser reports, at three sizes, in light and in dark. `--pictures FOLDER` keeps the pictures.
 """
 import os
 import subprocess
@@ -56,8 +56,8 @@ def inner(browser, selector="#answer"):
 
 
 def hold_typed(browser, page, program):
-    """Types dates, and holds each answer against `read`. How long the slowest one took after its
-    command."""
+    """Types dates, and compares each answer with `read`. Returns how long the slowest one took
+    after its command."""
     slowest = 0.0
     browser.driver.get(page.address)
     for code, date, weekday in TYPED:
@@ -180,7 +180,7 @@ def hold_month(browser, page):
 
 
 def hold_place_and_year(browser, page, program):
-    """The line of time against `territory`, and the year against `almanac`."""
+    """The line of time compared with `territory`, and the year with `almanac`."""
     for code in ("GB", "SE", "RU", "RM"):
         browser.driver.get(f"{page.address}/place?code={code}")
         lines = subprocess.run([program, "territory", SAMPLES, code], check=True, text=True,
@@ -204,13 +204,13 @@ def hold_place_and_year(browser, page, program):
     hold("the figures of 1752", "Golden number 5 5" in text and "Sunday letter ED BA" in text)
 
 
-def letters_told(program, table, *options):
+def letters_written(program, table, *options):
     return subprocess.run([program, "letters", SAMPLES, *options], input=table, check=False,
                           capture_output=True).stdout
 
 
 def mended_table(browser):
-    """Mends the rows that can be mended, and gives the table that letters is asked of."""
+    """Corrects the rows that can be corrected, and returns the table that letters is asked of."""
     browser.one("[aria-label='Mend row 11']").click()
     inputs = browser.all("[data-row='10'] input")
     inputs[0].clear()
@@ -221,7 +221,7 @@ def mended_table(browser):
 
 
 def hold_letters(browser, page, program):
-    """A table that is dropped, mended in a row, and saved."""
+    """A table that is dropped, corrected in a row, and saved."""
     with open(os.path.join(TOP, "examples", "letters.csv"), encoding="utf-8") as file:
         table = file.read()
     browser.driver.get(page.address + "/letters")
@@ -232,16 +232,16 @@ def hold_letters(browser, page, program):
     browser.one("#save").click()
     name, held = browser.saved()
     hold("the saved table", (name, held) == ("letters-found.csv",
-                                             letters_told(program, table.encode())), name)
+                                             letters_written(program, table.encode())), name)
     Select(browser.one("#remark")).select_by_value("*")
-    remarks = [row for row in letters_told(program, table.encode()).decode().splitlines()[1:]
+    remarks = [row for row in letters_written(program, table.encode()).decode().splitlines()[1:]
                if not row.endswith(",")]
     browser.wait("the rows with a remark", lambda: len(browser.all("#rows tr[data-row]"))
                  == len(remarks))
     mended_table(browser)
     browser.one("#save").click()
-    wanted = letters_told(program, table.replace("11,XX,1 May 1700,Fryday",
-                                                 "11,SE,1 May 1700,Friday").encode())
+    wanted = letters_written(program, table.replace("11,XX,1 May 1700,Fryday",
+                                                    "11,SE,1 May 1700,Friday").encode())
     held = browser.saved()[1]
     hold("the mended table", held == wanted, held[-900:], wanted[-900:])
     browser.run(DROP, "a,b\n1,2\n", "wrong.csv")
@@ -249,7 +249,7 @@ def hold_letters(browser, page, program):
 
 
 def hold_many_rows(browser, page, program):
-    """100,000 rows: how long the page stood still, and how long all took."""
+    """100,000 rows: how long the page was blocked, and how long all took."""
     rows = "".join(f"{row},GB,{1 + row % 28} March {1600 + row % 150},\n"
                    for row in range(100_000))
     table = "letter,place,date,weekday\n" + rows
@@ -271,7 +271,7 @@ def hold_many_rows(browser, page, program):
     hold("the page doesn't stand still for half a second", longest < 0.5, longest)
     browser.one("#save").click()
     held = browser.saved(30)[1]
-    hold("100,000 rows that are saved", held == letters_told(program, table.encode()))
+    hold("100,000 rows that are saved", held == letters_written(program, table.encode()))
     return took, longest
 
 
@@ -294,13 +294,13 @@ def hold_without_scripts(page, program):
         browser.one("#letters button[type=submit]").click()
         with open(path, "rb") as file:
             hold("a table without JavaScript",
-                 browser.saved()[1] == letters_told(program, file.read()))
+                 browser.saved()[1] == letters_written(program, file.read()))
     finally:
         browser.close()
 
 
 def hold_looks(page, folder):
-    """Each page at three sizes, in light and in dark. How many were looked at."""
+    """Looks at each page at three sizes, in light and in dark. Returns how many it looked at."""
     looked = 0
     host = page.address.removeprefix("http://")
     for dark in (False, True):
@@ -347,9 +347,9 @@ def main():
         looked = hold_looks(page, options.pictures or folder)
     hold("no process is left", not page.stop()[0])
     return verdict(
-        f"{len(TYPED)} typed dates, {looked} pictures, tables mended and saved: all as the "
+        f"{len(TYPED)} typed dates, {looked} pictures, tables corrected and saved: all as the "
         f"program's; the slowest answer {slowest:.2f} s after its command, 100,000 rows in "
-        f"{took:.1f} s, still for {longest:.2f} s at most")
+        f"{took:.1f} s, blocked for {longest:.2f} s at most")
 
 
 if __name__ == "__main__":

@@ -97,7 +97,7 @@ class Browser:
         return self.driver.execute_script(script, *words)
 
     def wait(self, what, holds, seconds=WAIT):
-        """Waits until something holds. How long that took."""
+        """Waits until a condition is met. Returns how long that took."""
         began = time.monotonic()
         while not holds():
             if time.monotonic() - began > seconds:
@@ -135,7 +135,7 @@ class Browser:
         return os.path.basename(path), held
 
     def looks(self, host):
-        """What is wrong with the page as it stands: for the eye, the ear, and by its policy."""
+        """What is wrong with the page as it is: for the eye, the ear, and by its policy."""
         wrong = []
         self.run("for (const one of document.querySelectorAll('details')) one.open = true;")
         least, text = self.run(CONTRAST)
@@ -148,7 +148,7 @@ class Browser:
             wrong.append(f"it loads from {others}")
         wrong += [f"no name: {one.get_attribute('outerHTML')[:80]}" for one in self.all(UNNAMED)
                   if one.is_displayed() and not one.accessible_name]
-        wrong += [f"told: {entry['message'][:200]}" for entry in self.driver.get_log("browser")
+        wrong += [f"logged: {entry['message'][:200]}" for entry in self.driver.get_log("browser")
                   if entry["level"] in ("SEVERE", "WARNING") and " 40" not in entry["message"]]
         return wrong
 

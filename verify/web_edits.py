@@ -62,7 +62,7 @@ class Letters:
         self.browser.run("document.querySelector(arguments[0]).click()", selector)
 
     def read(self, name="one.csv", held=TABLE, rows="200 rows"):
-        """The page anew, with the rows of a table."""
+        """Loads the page again, with the rows of a table."""
         self.browser.driver.get("about:blank")
         self.accept(True)
         self.browser.driver.get(self.page.address + "/letters")
@@ -77,7 +77,7 @@ class Letters:
         return self.browser.one("#told").text
 
     def mend(self, row=1):
-        """Begins to change a row. Its field of the date."""
+        """Begins to change a row. Returns its field of the date."""
         self.press(f"[aria-label='Mend row {row}']")
         return self.field(row)
 
@@ -98,7 +98,7 @@ class Letters:
         return self.browser.one(f"[data-row='{row - 1}']").text
 
     def accept(self, does):
-        """Answers what the page asks. Whether it asked."""
+        """Answers what the page asks. Returns whether it asked."""
         try:
             alert = self.browser.driver.switch_to.alert
         except NoAlertPresentException:
@@ -117,7 +117,7 @@ class Letters:
 
 
 def hold_drawn(letters):
-    """What is typed outlasts whatever draws the rows anew, and is not saved over."""
+    """What is typed is kept when the rows are drawn again, and is not saved over."""
     letters.read()
     letters.mend()
     letters.type(TYPED)
@@ -163,7 +163,7 @@ def hold_late(letters):
 
 
 def hold_overtaken(letters):
-    """Replies to words that were typed or asked anew since, or while another row is in edit."""
+    """Replies to fields that were typed or asked again since, or while another row is in edit."""
     browser = letters.browser
     letters.read()
     browser.run(HOLD)

@@ -1,10 +1,10 @@
 #!/usr/bin/env python3
-"""Holds the page against the program, by requests: dates, months and tables of letters.
+"""Compares the page with the program, by requests: dates, months and tables of letters.
 
 A run of `oldstyle-web` answers over the samples, and then over random territories. Each answer
-of a typed date, of the forms in docs/DATES.md and of random ones, is held against what `read`
-prints and what the query `written` answers; each month against `month`. Each table that is sent
-comes back as `letters` writes it, byte by byte, or with the fault that it tells.
+of a typed date, of the forms in docs/DATES.md and of random ones, is compared with what `read`
+prints and what the query `written` answers; each month with `month`. Each table that is sent
+comes back as `letters` writes it, byte by byte, or with the fault that it reports.
 """
 import codecs
 import os
@@ -34,7 +34,7 @@ FORMS = ["11 Feb. 1731/32", "le 1er avril 1640", "1731 February 11", "11. 2. 173
 
 
 def hold_dates(page, program, journal, dates):
-    """Typed dates against `read` and `written`. How many were held."""
+    """Compares typed dates with `read` and `written`. Returns how many."""
     for code, date, weekday in dates:
         status, told = page.answer(code=code, date=date, weekday=weekday)
         if status != 200:
@@ -82,7 +82,7 @@ def month_grids(text):
 
 
 def page_grids(html):
-    """The runs of a month as the page has them."""
+    """The runs of a month, in the page's form."""
     runs = []
     for part in html.split('<table class="month"')[1:]:
         part = part.partition("</table>")[0]
@@ -95,7 +95,7 @@ def page_grids(html):
 
 
 def hold_months(page, program, journal):
-    """Months of the samples against `month`. How many were held."""
+    """Compares months of the samples with `month`. Returns how many."""
     asked = [("GB", year, month) for year in (1731, 1751, 1752) for month in range(1, 13)]
     asked += [("SE", 1712, 2), ("SE", 1700, 2), ("SE", 1753, 2), ("RU", 1918, 2), ("RM", 4, 3),
               ("GB", 0, 1), ("GB", 10_000, 1), ("GB", 9_999, 12), ("RM", 1, 1)]
@@ -178,47 +178,47 @@ def hold_editions(page):
         hold(f"{path} of no edition", page.get(f"{path}&edition=abc")[0] == 400)
 
 
-def letters_told(program, journal, table, *options):
+def letters_run(program, journal, table, *options):
     done = subprocess.run([program, "letters", journal, *options], input=table,
                           capture_output=True, check=False)
     return done.stdout, done.stderr.decode()
 
 
 def hold_tables(page, program, journal):
-    """Tables that are sent, against `letters`."""
+    """Compares tables that are sent with `letters`."""
     def read(name):
         with open(os.path.join(TOP, "examples", name), "rb") as file:
             return file.read()
     letters, places, typed = read("letters.csv"), read("places.csv"), read("transcribed.csv")
     status, _, body = page.ask("POST", "/letters", letters)
-    hold("a table as it is", (status, body) == (200, letters_told(program, journal, letters)[0]))
+    hold("a table as it is", (status, body) == (200, letters_run(program, journal, letters)[0]))
     status, _, body = page.ask("POST", "/letters", codecs.BOM_UTF8 + letters)
-    hold("a byte order mark is kept", (status, body) == (200, codecs.BOM_UTF8 + letters_told(
+    hold("a byte order mark is kept", (status, body) == (200, codecs.BOM_UTF8 + letters_run(
         program, journal, letters)[0]))
     form, headers = form_of({"order": "dmy"}, {"table": ("t.csv", typed),
                                                "places": ("places.csv", places)})
     status, told, body = page.ask("POST", "/letters", form, headers)
-    wanted = letters_told(program, journal, typed, "--order", "dmy", "--places",
-                          os.path.join(TOP, "examples", "places.csv"))[0]
+    wanted = letters_run(program, journal, typed, "--order", "dmy", "--places",
+                         os.path.join(TOP, "examples", "places.csv"))[0]
     hold("a table with places", (status, body) == (200, wanted), status, body[:200])
     hold("its name", 'filename="t-found.csv"' in told.get("Content-Disposition", ""), told)
     other = letters.replace(b",", b";").replace(b"place;", b"Ort;").replace(b"date;", b"Datum;")
     form, headers = form_of({"column_place": "Ort", "column_date": "Datum"},
                             {"table": ("x.csv", other)})
     status, _, body = page.ask("POST", "/letters", form, headers)
-    wanted = letters_told(program, journal, other, "--place", "Ort", "--date", "Datum")[0]
+    wanted = letters_run(program, journal, other, "--place", "Ort", "--date", "Datum")[0]
     hold("a table with semicolons", (status, body) == (200, wanted), status, body[:200])
     many = letters + b"".join(b"%d,GB,11 February 1731,Friday\n" % row for row in range(100_000))
     began = time.monotonic()
     status, _, body = page.ask("POST", "/letters", many, seconds=60)
     took = time.monotonic() - began
-    hold("a table of 100,000 rows", (status, body) == (200, letters_told(program, journal,
-                                                                          many)[0]))
+    hold("a table of 100,000 rows", (status, body) == (200, letters_run(program, journal,
+                                                                        many)[0]))
     return took
 
 
 def hold_bad_tables(page, program, journal):
-    """Tables that have a fault: the status and the program's own words, but for its options."""
+    """Tables that have a fault: the status and the program's own words, except its options."""
     for table in ("letter,place,date\nü,GB,1731\n".encode("cp1252"), b"\x00\x01\x02\xff" * 20,
                   "place,date\nGB,1731\n".encode("utf-16"), b"PK\3\4\0"):
         status, _, body = page.ask("POST", "/letters", table)
@@ -227,7 +227,7 @@ def hold_bad_tables(page, program, journal):
     bad = [(b"a,b\n1,2\n", 422), (b"", 422), (b"place,date\n\"GB,1731\n", 200)]
     for table, wanted in bad:
         status, _, body = page.ask("POST", "/letters", table)
-        told = letters_told(program, journal, table)[1].removeprefix("oldstyle: ").strip()
+        told = letters_run(program, journal, table)[1].removeprefix("oldstyle: ").strip()
         told = told.replace("by --place", "in the field “Column of places” (column_place)")
         hold(f"the table {table[:10]!r}", status == wanted and told in
              body.decode(errors="replace"), status, body[-100:], told)

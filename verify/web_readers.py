@@ -3,10 +3,10 @@
 
 A run of `serve --keep` adds territories and moves a change, and publishes now and then. Meanwhile
 each reader asks for dates, months, places and years without a pause. No request may be refused or
-fail, no reader may be told an earlier edition than before, nor one that is not published yet, and
-each answer of a typed date is held against what a register with the edits up to its edition
-answers. At the end the page is told to stop: no process may be left. Under gunicorn a worker is
-killed before that, and all are started anew.
+fail, no reader may be given an earlier edition than before, nor one that is not published yet, and
+each answer of a typed date is compared with what a register with the edits up to its edition
+answers. At the end the page is ended by a signal: no process may be left. Under gunicorn a worker
+is killed before that, and all are started again.
 """
 import http.client
 import json
@@ -67,7 +67,7 @@ class Keeper(threading.Thread):
 
 
 class Reader(threading.Thread):
-    """Asks without a pause on one connection, and notes what it was told."""
+    """Asks without a pause on one connection, and notes what it was given."""
 
     def __init__(self, page, keeper, until, seed):
         super().__init__()
@@ -120,7 +120,7 @@ class Reader(threading.Thread):
 
 
 def stay(page):
-    """The processes that stay where a worker is killed, and where all workers are started anew."""
+    """The processes that stay after a worker is killed, and after all workers are started again."""
     worker = next(process for process, (parent, *_) in process_table().items()
                   if parent == page.process.pid)
     its_own = below(worker)
@@ -134,7 +134,7 @@ def stay(page):
 
 
 def differing(program, journal, told):
-    """Which answers are others than those of the journal up to their edition."""
+    """The answers that differ from those of the journal up to their edition."""
     with open(journal, encoding="utf-8") as file:
         lines = file.read().splitlines()[1:]
     edition, asked, requests = 0, {}, []
@@ -157,7 +157,7 @@ def differing(program, journal, told):
 def main():
     line = CommandLine(__doc__)
     line.add_program()
-    line.add_number("--readers", 200, "readers at once")
+    line.add_number("--readers", 200, "concurrent readers")
     line.add_number("--seconds", 60, "how long they ask")
     line.add_number("--workers", 0, "workers of gunicorn; 0 has the page serve itself", 0)
     line.add_number("--editions", 4, "editions a second")
@@ -173,7 +173,7 @@ def main():
 
 
 def with_readers(options, journal):
-    """Has the readers ask, and tells what they were told."""
+    """Makes the readers ask, and prints what they were given."""
     page = Page(options.program, journal, workers=options.workers, threads=64)
     keeper = Keeper(options.program, journal, 1 / options.editions)
     keeper.start()

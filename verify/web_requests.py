@@ -3,8 +3,9 @@
 
 Requests that are broken, too long or too large each have their status, and the next good one is
 answered. Processes of the program are killed beneath the page, readers go away in the midst of a
-table, and the journal is published anew, left unfinished and taken away. The page is ended by three
-signals: none of its processes is left. What its command tells of wrong words is tried too.
+table, and the journal is published again, left unfinished and taken away. The page is ended by
+three signals: none of its processes is left. What its command prints for wrong arguments is tried
+too.
 """
 import json
 import os
@@ -66,7 +67,7 @@ def hold_statuses(page):
 
 
 def hold_large(page, most):
-    """An upload over the limit is told so, while it is being sent."""
+    """An upload over the limit is refused with a reason, while it is being sent."""
     status = page.ask("POST", "/letters", b"x" * (most + 1))[0]
     hold("a table over the limit has status 413", status == 413, status)
     table = b"place,date\n" + b"GB,1731\n" * ((most - 100) // 8)
@@ -129,7 +130,7 @@ def hold_headers(page):
 
 
 def hold_words(program, folder):
-    """What the command tells of wrong words."""
+    """What the command prints for wrong arguments."""
     broken = os.path.join(folder, "broken.journal")
     with open(broken, "w", encoding="utf-8") as file:
         file.write("no journal\n")
@@ -151,7 +152,7 @@ def hold_words(program, folder):
             done = subprocess.run([python_of_page(), "-m", "oldstyle_web", *given], timeout=30,
                                   capture_output=True, text=True, check=False,
                                   env=variables_of_page())
-            hold(f"{words} is told", done.returncode != 0 and wanted in done.stderr
+            hold(f"{words} is refused", done.returncode != 0 and wanted in done.stderr
                  and "Traceback" not in done.stderr, done.stderr)
     return len(tried)
 
@@ -166,8 +167,8 @@ def hold_ends(program, journal):
 
 
 def hold_journal(program, folder):
-    """A journal that is published anew is seen at once. One that goes away, is cut or is broken is
-    told to those who ask, and no end: once it is right again so are the answers."""
+    """A journal that is published again is seen at the next request. One that goes away, is cut or
+    is broken is reported to those who ask, and ends nothing: once it is right the answers are."""
     journal = os.path.join(folder, "kept.journal")
     shutil.copy(SAMPLES, journal)
     page = Page(program, journal)
@@ -204,7 +205,7 @@ def replace(path, text):
 
 
 def hold_unanswered(page, what):
-    """Dates and tables are told 503 while there is no register: nobody is told that it lacks a
+    """Dates and tables are answered 503 while there is no register: nobody reads that it lacks a
     place."""
     status, told = page.answer(code="VE", date="1731-02-11")
     hold(what, status == 503, status, told)
@@ -229,8 +230,8 @@ def main():
         left += hold_journal(program, folder)
     hold_ends(program, SAMPLES)
     hold("no process is left", not left, left)
-    return verdict(f"{wrong} wrong requests and {words} wrong words are told as they are to be, "
-                   "large ones too; no process is left")
+    return verdict(f"{wrong} wrong requests and {words} wrong arguments are reported as they must "
+                   "be, large ones too; no process is left")
 
 
 if __name__ == "__main__":

@@ -1,4 +1,4 @@
-"""The page in runs of its own, by its command or by gunicorn: what is asked of it, and what it
+"""The page in runs of its own, by its command or by gunicorn: what it is asked, and what it
 leaves."""
 import http.client
 import json
@@ -51,7 +51,7 @@ def process_table():
 
 
 def below(root):
-    """The processes that a process started, and those that they did, with their times of start."""
+    """The processes that a process started, directly or not, with their start times."""
     table, found, more = process_table(), {}, [root]
     while more:
         parent = more.pop()
@@ -110,7 +110,7 @@ class Page:
         return [line for line in self.lines() if ACCESS.fullmatch(line)]
 
     def told(self):
-        """What it told on standard error beside that log."""
+        """What it printed on standard error beside that log."""
         return "\n".join(line for line in self.lines() if not ACCESS.fullmatch(line))
 
     def lines(self):
@@ -145,7 +145,7 @@ class Page:
         return below(self.process.pid)
 
     def stop(self, signal=15, seconds=10):
-        """Ends the run by a signal. The processes that it left, and what it told."""
+        """Ends the run by a signal. Returns the processes that it left, and what it printed."""
         found = self.children()
         self.process.send_signal(signal)
         try:
@@ -157,7 +157,7 @@ class Page:
 
 
 def first_line(connection):
-    """The first line of a reply, or an empty one where the connection ended."""
+    """The first line of a reply, or an empty one if the connection ended."""
     held = b""
     while b"\n" not in held:
         try:

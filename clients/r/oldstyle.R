@@ -1,4 +1,4 @@
-# Which day a written date means in a territory, asked of the program oldstyle. It wants jsonlite.
+# Which day a written date means in a territory, by the program oldstyle. It requires jsonlite.
 #
 #     source("oldstyle.R")
 #     oldstyle_read("samples.journal", "GB", c("11 Feb. 1731/32", "March 1731"))
@@ -9,8 +9,8 @@
 # What each date means: a data frame with a row for each date, in order.
 #
 # code and weekday are as long as date, or one for all. first and last are the Gregorian dates of
-# the days that a date may mean, NA at an open end. day, jdn, dual and found_weekday are there of a
-# date that means one day alone. runs counts the runs of days: where there are two, the days
+# the days that a date may mean, NA at an open end. day, jdn, dual and found_weekday are given for a
+# date that means one day alone. runs counts the runs of days: if there are two, the days
 # between first and last are not all meant. reason says why there is no day, and fault names what
 # was refused. The column answer has the whole answer of the program.
 oldstyle_read <- function(journal, code, date, weekday = NA, program = NULL) {
@@ -58,14 +58,14 @@ oldstyle_lands <- function(journal, program = NULL) {
   lapply(told, jsonlite::fromJSON, simplifyVector = FALSE)
 }
 
-# The program: the one that is named, else that of the environment variable OLDSTYLE, else the one
-# on the PATH.
+# The program: the one that is named, otherwise that of the environment variable OLDSTYLE, otherwise
+# the one on the PATH.
 .oldstyle_program <- function(program = NULL) {
   path <- if (!is.null(program)) program else Sys.getenv("OLDSTYLE", "oldstyle")
   found <- Sys.which(path)
   if (!nzchar(found)) {
-    stop(path, " is no program: install oldstyle, or name it by program = or in the environment ",
-         "variable OLDSTYLE", call. = FALSE)
+    stop(path, " is not a program: install oldstyle, or name it by program = or in the ",
+         "environment variable OLDSTYLE", call. = FALSE)
   }
   unname(found)
 }
@@ -106,7 +106,7 @@ oldstyle_lands <- function(journal, program = NULL) {
   columns
 }
 
-# The first and the last day of an answer, NULL at an open end, and the only one where one is meant.
+# The first and the last day of an answer, NULL at an open end, and the only one if one is meant.
 .oldstyle_ends <- function(answer) {
   runs <- answer$runs
   if (length(runs) == 0) {

@@ -1,8 +1,8 @@
 # shellcheck shell=bash disable=SC2154  # part of `try`
-# Tries what makes the program an old one, and what doesn't: contents do, dates and places don't.
+# Tries what makes the program an old one: contents do, dates and places don't.
 
-# stale WHAT COMMAND..: after the command, in the clone that is built, the script wants to build,
-# which it says where there is no rt.
+# stale WHAT COMMAND..: after the command, in the clone that is built, the script tries to build,
+# which it says if there is no rt.
 stale() {
     local what=$1
     shift
@@ -25,7 +25,7 @@ append() { echo >> "$1"; }
 move_line() { tail -n 1 "$1" >> "$2" && sed -i '$d' "$1"; }
 change_line() { sed -i 's/^oldstyle: .*/& itoa/' crates.txt; }
 
-# link_source FILE: the file stands elsewhere then, and a link to it in its place.
+# link_source FILE: moves the file elsewhere, and puts a link to it in its place.
 link_source() { mv "$1" "$at/source" && ln -s "$at/source" "$1"; }
 change_linked() { link_source "$1" && append "$at/source"; }
 
@@ -118,7 +118,7 @@ try_read_only() {
     chmod -R u+w "$clone"
 }
 
-# What the program that stands in prints of a shell.
+# What the program of the stand-in rt prints of a shell.
 completed() { printf '%s\n' "word: completions" "word: $1"; }
 
 # refused OPTION SAYS: before anything is proved or made.

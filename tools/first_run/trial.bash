@@ -1,6 +1,6 @@
 # shellcheck shell=bash disable=SC2034  # part of `try` and `try_release`
-# What the trials of the script `oldstyle` share: clones of what is committed, with the script as it
-# stands, and runs of it with the stand-in `rt` beside this file in place of the kit's.
+# What the trials of the script `oldstyle` share: clones of what is committed, with the current
+# script, and runs of it with the stand-in `rt` beside this file in place of the kit's.
 unset CDPATH
 tools=$(cd "$(dirname "${BASH_SOURCE[0]}")" && pwd)
 top=$(dirname "$(dirname "$tools")")
@@ -19,7 +19,7 @@ end_trial() {
     rm -rf "$work"
 }
 
-# hold WHAT COMMAND..: the command has to succeed.
+# hold WHAT COMMAND..: the command must succeed.
 hold() {
     local what=$1
     shift
@@ -59,7 +59,7 @@ new_clone() {
     rm -rf "$clone/tools"
     cp -Rp "$top/tools" "$top/oldstyle" "$top/KIT" "$clone/"
     git -C "$clone" add -A
-    commit "The script as it stands"
+    commit "The current script"
     : > "$FAKE_KEPT/trace"
 }
 

@@ -1,6 +1,6 @@
 # shellcheck shell=bash disable=SC2034,SC2154  # part of `oldstyle`
 # Answers before the proof: `rt try` of the kit runs the program without one, with checks while it
-# runs. Once the program is built it answers the same again, and both answers have to agree.
+# runs. Once the program is built it answers the same again, and both answers must agree.
 most=1048576
 takes_some=""
 reader=""
@@ -68,7 +68,7 @@ named_files() {
     done
 }
 
-# Begins to read the input, where the words take one; the answer follows once it has ended.
+# Begins to read the input, if the words take one; the answer follows once it has ended.
 prepare_answer() {
     mapfile -d '' -t files < <(named_files "$@")
     before=$(sum_of_files)
@@ -148,7 +148,7 @@ take_answer() {
         "$(nproc) processors, and the program then answers again; Ctrl-C ends it until the next run"
 }
 
-# Prints what the program told standard error, with the words as they were typed.
+# Prints what the program wrote on standard error, with the words as they were typed.
 said_by_program() {
     local said file
     said=$(sed -e '/^checked: ended/,$d' -e '/^rt: /d' "$answer/said")
@@ -158,7 +158,7 @@ said_by_program() {
     [ -z "$said" ] || echo "$said"
 }
 
-# answer_again WORD..: has the program answer the same, and ends with its status if both agree.
+# answer_again WORD..: lets the program answer the same, and ends with its status if both agree.
 answer_again() {
     local status=0 folder=$out/answers
     if [ "$before" != "$(sum_of_files)" ]; then

@@ -1,5 +1,5 @@
 # shellcheck shell=bash disable=SC2034,SC2154  # part of `oldstyle`
-# The run that finds no program: an answer first, where one can be given, then the proof.
+# The run that finds no program: an answer first, if one can be given, then the proof.
 
 prove_alone() {
     begin
@@ -44,11 +44,11 @@ end() {
 
 interrupted() {
     trap '' INT TERM HUP PIPE
-    say "interrupted; the next run goes on from the crates that are proved"
+    say "interrupted; the next run keeps the crates that are proved"
     exit 130
 }
 
-# Whether a process of this script has ended. Its number may be another's from then on.
+# Returns whether a process of this script has ended. Its number may be another's from then on.
 has_ended() { [[ " $(jobs -pr | tr '\n' ' ')" != *" $1 "* ]]; }
 
 end_process() { has_ended "$1" || kill "$1" 2> /dev/null || true; }

@@ -1,24 +1,24 @@
 # shellcheck shell=bash disable=SC2154  # part of `oldstyle`
 # Puts the program, its manual, the texts that complete its words, the clients in Python and the
-# samples under a folder, where they need neither the kit nor this repository, and takes them away
-# again.
+# samples under a folder, in which they need neither the kit nor this repository, and takes them
+# away again.
 to=""
 # Below the folder: names each file that was put there, this one too.
 list=share/oldstyle/files.txt
 
-# find_prefix install|uninstall [PREFIX]: sets the folder, which is ~/.local where none is named.
+# find_prefix install|uninstall [PREFIX]: sets the folder, by default ~/.local.
 find_prefix() {
-    local usage="./oldstyle $1 [FOLDER], as ./oldstyle $1 /usr/local; without one it is ~/.local"
+    local usage="./oldstyle $1 [FOLDER], such as /usr/local; without one it is ~/.local"
     case ${2:-} in
         --help | -h)
             [ $# != 2 ] || { echo "usage: $usage" && exit; }
             ;;
-        --prefix=?*) refuse "$2 is no option: write ./oldstyle $1 ${2#*=}" ;;
-        -*) refuse "$2 is no option: $usage" ;;
+        --prefix=?*) refuse "$2 is not an option: write ./oldstyle $1 ${2#*=}" ;;
+        -*) refuse "$2 is not an option: $usage" ;;
     esac
     [ $# -le 2 ] || refuse "$1 takes one folder or none: quote one that has spaces"
     to=${2:-${HOME:+$HOME/.local}}
-    [ -n "$to" ] || refuse "there is no home folder: name a folder, as ./oldstyle $1 /usr/local"
+    [ -n "$to" ] || refuse "there is no home folder: name a folder, such as /usr/local"
     [[ $to == /* ]] || to=$from/$to
 }
 
@@ -72,7 +72,7 @@ put_all() {
         echo share/oldstyle/oldstyle >> "$to/$list.new"
 }
 
-# Removes what an older version put there and this one has no more.
+# Removes what an older version put there and this one no longer has.
 remove_older() {
     [ ! -e "$to/$list" ] || remove < <(LC_ALL=C comm -23 \
         <(LC_ALL=C sort "$to/$list") <(LC_ALL=C sort "$to/$list.new"))

@@ -73,8 +73,8 @@ wait_for_turn() {
     done
 }
 
-# Starts the proof in a session of its own. Beside an answer it gives way to that: by the session's
-# priority where the system shares processors out by sessions, and by the processes' where not.
+# Starts the proof in a session of its own. While an answer is prepared it has a lower priority: of
+# the session if the system shares processors out by sessions, otherwise of the processes.
 start_proof() {
     local way=()
     [ -z "$reader$tried" ] || way=(nice -n 10)
@@ -119,7 +119,7 @@ take_program() {
         write_stamp "$copied" "$built_by"
 }
 
-# Tells of each crate that is proved, or on a terminal on one line what is done and at work.
+# Reports each crate that is proved, or on a terminal on one line what is done and at work.
 show_progress() {
     local crate at_work=""
     while read -r crate; do
@@ -139,7 +139,7 @@ show_progress() {
         "at work: ${at_work#, }"
 }
 
-# Prints which crate is not proved, and on standard error what was said of it.
+# Prints which crate is not proved, and on standard error the errors of its proof.
 what_failed() {
     local crate
     clear_line

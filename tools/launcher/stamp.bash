@@ -1,9 +1,9 @@
 # shellcheck shell=bash disable=SC2034,SC2154  # part of `oldstyle`
-# Says whether the program is the one that was proved and built from the sources as they stand. The
+# Checks whether the program is the one that was proved and built from the current sources. The
 # stamp beside it has the sum of their contents, that of the program, and the kit that proved it.
 
-# Prints the lines of crates.txt that name the program and the crates that it stands on; lowest
-# first, as they stand there.
+# Prints the lines of crates.txt that name the program and the crates that it depends on, unchanged
+# and lowest first.
 needed_lines() {
     awk -F: '
         /^[a-z]/ { line[++lines] = $0; name[lines] = $1; below[lines] = $2 }
@@ -55,8 +55,8 @@ is_built() {
     fi
 }
 
-# Whether no source was changed since the program was built, is gone (its folder changed), or was
-# put there with an old date (its status changed). Of a link that is asked, and of what it leads to.
+# Returns whether no source was changed since the program was built, is gone (its folder changed),
+# or was put there with an old date (its status changed). A link is asked, and what it leads to.
 is_newer() {
     local follow
     [ -z "$(for follow in -P -L; do

@@ -2,8 +2,8 @@
 # Writes one line on a terminal over and over.
 shown=""
 
-# Whether standard error is a terminal on which a line can be written over. No other control
-# character than a carriage return is written, and none where colours are not wanted.
+# Returns whether standard error is a terminal on which a line can be written over. No other control
+# character than a carriage return is written, and none if colours are not wanted.
 has_line() { [ -t 2 ] && [ "${TERM:-dumb}" != dumb ] && [ -z "${NO_COLOR:-}" ]; }
 
 # Leaves the last column free, since a terminal may begin a line there.

@@ -1,7 +1,7 @@
 /* Refuses one growth of memory: the one whose number, counted from 1, the environment gives as
    REFUSED. With WATCHED=1 those between the lines `called` and `answered` that the program writes
-   are counted, the first time that it does, and else all. At the end it tells on standard error how
-   many there were. growths.py preloads it. */
+   are counted, the first time that it does, otherwise all. At the end it prints on standard error
+   how many there were. growths.py preloads it. */
 #include <stdatomic.h>
 #include <stdio.h>
 #include <stdlib.h>
@@ -57,7 +57,7 @@ __attribute__((destructor)) static void end(void) {
     fprintf(stderr, "%ld\n", growths);
 }
 
-/* A program with threads ends so, and runs no destructor. */
+/* A program with threads ends here, and runs no destructor. */
 void _exit(int status) {
     end();
     syscall(SYS_exit_group, status);

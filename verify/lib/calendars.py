@@ -1,6 +1,6 @@
 """Calendars, Easter and territories, by walks along every day and the tables of the moon.
 
-Written from docs/CALENDARS.md alone, for reference.py and what stands over it.
+Written from docs/CALENDARS.md alone, for reference.py and what imports it.
 """
 import array
 import functools
@@ -158,7 +158,7 @@ def figures(year):
     return {"golden": year % 19 + 1, "indiction": (year + 2) % 15 + 1, "year": year, **rules}
 
 
-# Territories: start days with regimes, and years with days; the sources of either, where given.
+# Territories: start days with regimes, and years with days; the sources of either, if given.
 
 
 class Land:

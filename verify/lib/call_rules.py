@@ -8,7 +8,7 @@ from lib.keeper import PUBLISH
 from lib.session_draws import Session, journal, told_lines
 from lib.strace_lines import CHANGES
 
-# The kinds of calls that the rules speak of.
+# The kinds of calls that the rules name.
 KNOWN = {"open", "lock", "unlock", "read", "write", "sync", "cut", "rights", "move", "link",
          "remove", "look", "close", "seek", "getcwd"}
 LATE = 1_000_000_000
@@ -16,7 +16,7 @@ LATE = 1_000_000_000
 
 class Way(NamedTuple):
     """One way to work with a journal: the words of the command, with the paths that they name, and
-    the file at which the journal is to stand, with what stands there at first."""
+    the file at which the journal must be, with what is there at first."""
     name: str
     words: str
     place: str
@@ -26,7 +26,7 @@ class Way(NamedTuple):
     begun: list
 
     def is_loaded(self):
-        """Whether the journal is loaded from the file that it is saved to."""
+        """Returns whether the journal is loaded from the file that it is saved to."""
         return f"--journal {self.place} " in self.words
 
 
@@ -62,32 +62,32 @@ class Trace:
         return b"".join(self.steps[place].data for place in self.at("write", name=name))
 
     def is_known(self):
-        """Whether each step is of a kind that the rules speak of."""
+        """Returns whether each step is of a kind that the rules name."""
         return all(self.steps[place].kind in KNOWN for place in self.in_folder())
 
 
 def precede(ones, others):
-    """Whether there are some of both, and each of the ones comes before each of the others."""
+    """Returns whether there are some of both, and all of the ones come before all of the others."""
     return bool(ones) and bool(others) and max(ones) < min(others)
 
 
 def between(first, places, last):
-    """Those of some places that lie after the first ones and before the last ones."""
+    """The places that are after the first ones and before the last ones."""
     return [place for place in places if max(first, default=-1) < place < min(last, default=-1)]
 
 
 def backup_of(way):
-    """Where a journal stays that was not loaded and that another one takes the place of."""
+    """The path at which a journal stays that was not loaded and that another one replaces."""
     return way.place + ".~1~"
 
 
 def is_backed_up(way):
-    """Whether a save of this way leaves the old journal beside the new one."""
+    """Returns whether a save of this way leaves the old journal beside the new one."""
     return kind_of(way) == "save" and way.old is not None and not way.is_loaded()
 
 
 def save_rules(trace, way):
-    """What holds of each save: the rule, and whether the trace keeps it."""
+    """The rules of each save: the rule, and whether the trace keeps it."""
     place, beside = way.place, way.place + ".unfinished"
     folder = os.path.dirname(place) or "."
     made = trace.at("open", name=beside, where=lambda step: "O_EXCL" in step.flags)
@@ -114,7 +114,7 @@ def save_rules(trace, way):
 
 
 def replace_rules(trace, way, moved):
-    """What holds of a save over a file that is there."""
+    """The rules of a save over a file that is there."""
     place, beside = way.place, way.place + ".unfinished"
     locks = trace.at("lock", name=place, where=lambda step: "LOCK_EX" in step.flags)
     held = {trace.steps[at].file for at in locks}
@@ -144,7 +144,7 @@ def replace_rules(trace, way, moved):
 
 
 def new_rules(trace, way, moved):
-    """What holds of a save where nothing is."""
+    """The rules of a save of a new file."""
     beside = way.place + ".unfinished"
     yield "where nothing was, a second name is made, which replaces nothing", [
         trace.steps[at].kind for at in moved] == ["link"]
@@ -153,7 +153,7 @@ def new_rules(trace, way, moved):
 
 
 def keep_rules(trace, way):
-    """What holds of each run that keeps its journal."""
+    """The rules of each run that keeps its journal."""
     place, folder = way.place, os.path.dirname(way.place) or "."
     opens = trace.at("open", name=place)
     locks = trace.at("lock", name=place, where=lambda step: "LOCK_EX" in step.flags)
@@ -185,12 +185,12 @@ def keep_rules(trace, way):
 
 
 def is_unfinished(held):
-    """Whether a file's last line is to be cut off, of the files that are tried here."""
+    """Returns whether a file's last line must be cut off, for the files that are tried here."""
     return not held.endswith((b"\n", b"}"))
 
 
 def change_rules(trace, way, writes):
-    """What holds of each change that is kept, whose line is written at one of these places."""
+    """The rules of each change that is kept, whose line is written at one of these places."""
     lines = [trace.steps[at].data for at in writes]
     yield "each change is one write of a whole line, and what is refused writes nothing", lines == [
         line.encode() + b"\n" for line in way.session.taken]
@@ -204,7 +204,7 @@ def change_rules(trace, way, writes):
 
 
 def follow_rules(trace, way):
-    """What holds of each run that follows."""
+    """The rules of each run that follows."""
     place, reads = way.place, trace.at("read", name="in")
     looks = trace.at("look", name=place, where=lambda step: step.file == 0)
     opens = trace.at("open", name=place)
@@ -222,7 +222,7 @@ def follow_rules(trace, way):
 
 
 def look_rules(trace, _):
-    """What holds of each run that saves nothing."""
+    """The rules of each run that saves nothing."""
     yield "each call of the folder is of a kind that the rules speak of", trace.is_known()
     yield "a run that saves nothing changes and locks nothing", (
         not trace.changes() and not trace.at("lock"))
@@ -232,5 +232,5 @@ RULES = {"save": save_rules, "keep": keep_rules, "follow": follow_rules, "read":
 
 
 def kind_of(way):
-    """By which rules a way goes."""
+    """The rules of a way."""
     return way.name.split()[0].rstrip(",")

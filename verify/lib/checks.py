@@ -1,16 +1,16 @@
-"""What a script holds: each check that fails is printed at once, and all are counted at the end."""
+"""The checks of a script: each failure is printed immediately, and all are counted at the end."""
 failed = []
 
 
 def hold(what, holds, *why):
-    """Prints a check that fails, with what is there instead."""
+    """Prints a check that fails, with what was found instead."""
     if not holds:
         what = " ".join([what, *map(str, why)])
         failed.append(what)
-        print(f"not so: {what}", flush=True)
+        print(f"failed: {what}", flush=True)
 
 
 def verdict(what):
-    """Prints what held, or how many checks failed, and answers the status of the script."""
-    print(f"{len(failed)} things are not so" if failed else what)
+    """Prints the result, or how many checks failed, and returns the status of the script."""
+    print(f"{len(failed)} checks failed" if failed else what)
     return 1 if failed else 0

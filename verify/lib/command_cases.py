@@ -135,10 +135,10 @@ COMMANDS = [
     ("fly", []),
 ]
 
-# Commands that change a file before they write on standard output; the second saves it anew.
+# Commands that change a file before they write on standard output; the second saves it again.
 PUBLISHING = [("publish a.script a.toml", []), ("publish a.older a.toml", [])]
 
-# How a command ends that found no memory; a desk may tell of a thread that could not be started.
+# How a command ends that found no memory; a desk may report a thread that could not be started.
 NO_MEMORY, NO_PLACE = (4, "oldstyle: no memory\n"), (1, "oldstyle: 93 NoPlace\n")
 
 
@@ -175,12 +175,12 @@ def held(folder):
 
 
 def is_refused(words, status, errors):
-    """Whether a command says that it found no memory."""
+    """Returns whether a command says that it found no memory."""
     return (status, errors) in ([NO_MEMORY, NO_PLACE] if words.startswith("desk") else [NO_MEMORY])
 
 
 def is_transcript(program, told):
-    """Whether a desk told each question its reply, at an edition of the script."""
+    """Returns whether a desk gave each question its reply, at an edition of the script."""
     asked = sorted(map(json.loads, QUESTIONS), key=lambda ask: ask["reader"])
     try:
         if [json.loads(line)["ask"] for line in told.splitlines()] != asked:

@@ -28,7 +28,7 @@ def run(program, words=(), lines=(), folder=None):
 
 
 def replies(program, lines):
-    """The replies of the service to these lines, of which each has to have one."""
+    """The replies of the service to these lines, each of which must have one."""
     lines = list(lines)
     done = run(program, lines=lines)
     told = done.stdout.splitlines()
@@ -40,7 +40,7 @@ def replies(program, lines):
 
 @contextmanager
 def mounted(folder, options):
-    """A disk in memory at a folder, or None where it may not be mounted, which only root may."""
+    """A disk in memory at a folder, or None if it may not be mounted, which only root may."""
     mount = ["mount", "-t", "tmpfs", "-o", options, "tmpfs", folder]
     if os.getuid() != 0 or subprocess.run(mount, stderr=subprocess.DEVNULL, check=False).returncode:
         yield None

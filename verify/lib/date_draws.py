@@ -49,7 +49,7 @@ def journal_lines(chance, middle):
 
 
 def write_journal(path, lines):
-    """Writes a journal, and answers the service that has run its lines."""
+    """Writes a journal, and returns the service that has run its lines."""
     service, lines = Service(), list(lines)
     version = NEWEST if any("source" in line for line in lines) else 2
     with open(path, "w", encoding="utf-8") as file:
@@ -69,7 +69,7 @@ def day_near(chance, territory, middle):
 
 
 def label_near(chance, territory, middle):
-    """A year, month and day, which a day may have, or which a change may have passed over."""
+    """A year, month and day, which a day may have, or which a change may have left out."""
     day = day_near(chance, territory, middle)
     calendar, style, _ = chance.choice(territory.periods)[2]
     year, month, of_month = chance.choice([
@@ -105,7 +105,7 @@ def date_text(chance, label):
 
 
 def later_digits(year, count):
-    """The last digits of a year, with zeros before it where it has fewer."""
+    """The last digits of a year, with zeros before it if it has fewer."""
     return f"{year:0{count}}"[-count:]
 
 

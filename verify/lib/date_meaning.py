@@ -48,8 +48,8 @@ def weekday_named(text):
 
 
 def years_of(text):
-    """The year of a text, whether the one that follows stands after a slash, and whether it has
-    three digits and no zero before them."""
+    """The year of a text, whether a slash and the next year follow it, and whether it has three
+    digits and no zero before them."""
     first, slash, later = text.partition("/")
     year = number(first)
     if slash:
@@ -87,7 +87,7 @@ def plain_date(text):
 
 
 def parse(text):
-    """The date that a text is, or else Malformed."""
+    """The date of a text; raises Malformed if it has none."""
     first, _, rest = text.partition(" ")
     weekday = weekday_named(first) if rest else None
     return plain_date(text) if weekday is None else plain_date(rest)._replace(weekday=weekday)
@@ -118,7 +118,7 @@ def days_under(regime, label):
     return [day for day in near if style_year(*regime[:2], day) == year]
 
 
-# Where a label stands in the order of a style, whether a day has it or not.
+# The place of a label in the order of a style, whether a day has it or not.
 
 BEGINNINGS = {"january": (1, 1), "annunciation": (3, 25), "nativity": (12, 25)}
 BEGINNINGS |= {"september": (9, 1), "pisan": (3, 25)}
@@ -127,8 +127,7 @@ BEGINNINGS |= {"september": (9, 1), "pisan": (3, 25)}
 def beginning(calendar, style, year):
     """The month and day on which a year of the style begins in a year counted from 1 January.
 
-    Of year 0, whose Easter is before the line, those days are on it that are before Easter of
-    year 1.
+    For year 0, whose Easter is before the line, the days before Easter of year 1 are on it.
     """
     if style != "easter":
         return BEGINNINGS[style]
@@ -136,7 +135,7 @@ def beginning(calendar, style, year):
 
 
 def styled_year(calendar, style, date):
-    """The year of a date by the style, though no day may have it."""
+    """The year of a date by the style, even if no day has it."""
     year, *month_and_day = date
     has_begun = tuple(month_and_day) >= beginning(calendar, style, year)
     if style in ("nativity", "september", "pisan"):
@@ -181,7 +180,7 @@ class Territory:
     def days_of_month(self, year, month):
         return [day for day in self.days_of_year(year) if self.label(day)[1] == month]
 
-    # Changes at which a label fell away.
+    # Changes at which a label was left out.
 
     def is_skipped(self, label, before, after):
         change, last, new = after
@@ -203,7 +202,7 @@ class Territory:
         return place_of(self.regime_at(day), label) < (self.label(day)[0], self.date(day))
 
     def gaps(self, label):
-        """The changes that passed over the label: it is neither before nor after them."""
+        """The changes that left out the label: it is neither before nor after them."""
         return [change for change in self.skipped(label)
                 if self.is_after(label, change - 1) and self.is_before(label, change)]
 
@@ -214,7 +213,7 @@ class Territory:
                 if self.date(day)[0] == date.year + 1]
 
     def not_counted_double(self, date):
-        """Of a double date before 25 March the days whose year was the later one by either
+        """The days of a double date before 25 March whose year was the later one by either
         count."""
         if (date.month, date.day) >= (3, 25):
             return []

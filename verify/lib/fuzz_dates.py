@@ -1,6 +1,6 @@
 """Dates as people write them, changed at random: a target of fuzz.py.
 
-Many dates at once go through the query `written` and, as a table, through `letters`, which have to
+Many dates go together through the query `written` and, as a table, through `letters`, which must
 say the same of each. Some go through `read`, which refuses those in which no date is read, in one
 line, and no others. What reference.py reads is answered as there.
 """
@@ -29,7 +29,7 @@ MEMBERS = {"approximate", "kind", "other_calendar", "reason", "runs", "supplied"
 
 
 def sample_dates():
-    """The dates that docs/DATES.md shows, and those that are none."""
+    """The dates that docs/DATES.md shows, and texts that are not dates."""
     with open(os.path.join(TOP, "docs", "DATES.md"), encoding="utf-8") as file:
         rows = [line for line in file if line.startswith("|")]
     texts = [text for row in rows for text in re.findall("`([^`]+)`", row)]
@@ -44,7 +44,7 @@ WORDS = [text for text in SAMPLES if text.isalpha() or text.isdigit()] + [
 
 
 class Asked:
-    """A date in a place, with a weekday beside it or not."""
+    """A date in a place, with a weekday or without."""
 
     def __init__(self, chance):
         self.code, self.weekday = chance.choice(CODES), chance.choice([""] * 6 + WEEKDAYS)
@@ -55,11 +55,11 @@ class Asked:
         return compact({**ask, "weekday": self.weekday} if self.weekday else ask)
 
     def is_plain(self):
-        """Whether the text is of the usual signs alone, so that a row or a word has it as it is."""
+        """Returns whether the text is printable and has no space at its ends."""
         return self.text.isprintable() and self.text == self.text.strip(SPACES)
 
     def known(self):
-        """What the reference answers, None where it reads no such text."""
+        """What the reference answers, None if it reads no such text."""
         if not (self.text.isascii() and self.is_plain()):
             return None
         try:
@@ -76,7 +76,7 @@ def why_no_answer(reply):
     except (ValueError, KeyError, TypeError):
         return f"no answer: {reply!r}"
     if compact(told).encode() != reply or set(answer) != MEMBERS:
-        return f"no answer as FORMATS.md has it: {reply!r}"
+        return f"not an answer in the form of FORMATS.md: {reply!r}"
     runs = answer["runs"]
     days = [run[end]["day"] for run in runs for end in ("first", "last")]
     if answer["kind"] != "day" and days != sorted(days) or bool(runs) == bool(answer["reason"]):
@@ -156,7 +156,7 @@ class Dates:
                 for (one, answer), row in zip(pairs, found) if (why := why_other_row(answer, row))]
 
     def by_read(self, one, reply):
-        """Whether `read` has a page of it, and tells a fault in a line where it has none."""
+        """Checks that `read` has a page of it, or prints a fault in a line if it has none."""
         if not one.is_plain() or len(one.text) > 5_000:
             return []
         words = ["--weekday", one.weekday] if one.weekday else []

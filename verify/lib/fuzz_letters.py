@@ -1,8 +1,8 @@
 """Tables of letters in CSV, changed at random: a target of fuzz.py.
 
-The table is read apart too, from docs/PAGES.md alone, so the rows that are written, the fault that
-ends it and the line on which its record begins are known. The twelve fields are known of dates in
-the usual forms of one day.
+The table is also read independently, by docs/PAGES.md alone, so the rows that are written, the
+fault that ends it and the line on which its record begins are known. The twelve fields are known
+for dates in the usual forms of one day.
 """
 import functools
 import os
@@ -56,7 +56,7 @@ def records(table, named):
 
 
 def record_at(table, at, found):
-    """The fields of the record at a place, where it ends, its separator, and what is wrong."""
+    """The fields of the record at a place, its end, its separator, and what is wrong."""
     fields = []
     while True:
         field, at, why = field_at(table, at, found)
@@ -74,7 +74,7 @@ def field_end(found):
 
 
 def field_at(table, at, found):
-    """The field at a place, where it ends, and what is wrong."""
+    """The field at a place, its end, and what is wrong."""
     if table[at:at + 1] != b'"':
         end = field_end(found).search(table, at)
         end = end.start() if end else len(table)
@@ -88,7 +88,7 @@ def field_at(table, at, found):
 
 
 def row_written(fields, separator):
-    """A row as it is written: quoted where it needs it."""
+    """A row as it is written: quoted if it needs it."""
     marks = [separator, b'"', b"\n", b"\r"]
     return separator.join(
         b'"' + field.replace(b'"', b'""') + b'"' if any(mark in field for mark in marks) else field
@@ -115,7 +115,7 @@ def register():
 
 @functools.lru_cache(20_000)
 def twelve(place, date, weekday):
-    """The twelve fields of a row, or None where they are not known."""
+    """The twelve fields of a row, or None if they are not known."""
     lands, names, edition = register()
     try:
         place, date, weekday = (field.decode().strip(SPACES) for field in (place, date, weekday))
@@ -141,7 +141,7 @@ def bad_header(columns):
 
 
 def lines_wanted(table, named):
-    """The rows that are to be written, each with its twelve fields or None, and what is told."""
+    """The rows that must be written, each with its twelve fields or None, and what is reported."""
     rows, columns = [], None
     for line, separator, fields, why in records(table, named):
         why = why and why.encode()
@@ -164,7 +164,7 @@ def lines_wanted(table, named):
 
 
 def why_other(out, rows):
-    """Where the table that was written is another one."""
+    """What differs in the table that was written."""
     at = 0
     for separator, fields, more in rows:
         if more is not None:

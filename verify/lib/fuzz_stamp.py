@@ -1,10 +1,10 @@
 """Trees of sources with odd names, rights, links and times: a target of fuzz.py.
 
 The script `oldstyle` keeps the sum of the sources that its program was built from
-(tools/launcher/stamp.bash). Of each random tree a twin is made with the same contents, and another
-tree with one change of them. The twin has other dates, rights and links, other folders that are no
-source, and is summed in another locale: its sum has to be the same. The sum of the other tree has
-to be another one.
+(tools/launcher/stamp.bash). For each random tree a twin is made with the same contents, and another
+tree with one change of them. The twin has other dates, rights and links, other folders that are not
+sources, and is summed in another locale: its sum must be the same. The sum of the other tree must
+be another one.
 """
 import os
 import shutil
@@ -44,7 +44,7 @@ class Tree(NamedTuple):
     crates: list
     kits: list
     files: dict
-    # the paths of files that are links; what they hold stands elsewhere
+    # the paths of files that are links; their contents are elsewhere
     links: frozenset
 
 
@@ -121,7 +121,7 @@ def build(chance, folder, tree, links):
 
 
 def build_lists(chance, folder, tree):
-    """The lists of a tree, and what is no source."""
+    """Writes the lists of a tree, and files that are not sources."""
     crates = [*tree.crates, "osn_last: oldstyle"] if chance.random() < 0.5 else tree.crates
     remark = chance.choice(["", "# A remark: with a colon.\n", "\n"])
     end = chance.choice(["\n", ""])

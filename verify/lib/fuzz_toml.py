@@ -3,9 +3,9 @@
 Each text goes through `plan`, and one that is taken is published into a new journal. `text` of that
 journal is a text of the same register: it plans nothing there, and another journal that it is
 published into is written as the same text. A run ends with a status that docs/TERRITORIES.md
-names, within a minute, and tells a fault in one line that has no control character.
+names, within a minute, and reports a fault in one line that has no control character.
 
-What a text says, or its first fault, is by territory_texts.py, where Python's own reader of TOML
+What a text says, or its first fault, is by territory_texts.py, if Python's own reader of TOML
 reads the text. Readers differ in numbers that 64 bits don't hold, and in how deep they go.
 """
 import math
@@ -22,8 +22,8 @@ from lib.text_pages import fault_words
 NOTHING = b"nothing to change\n"
 CONTROL = re.compile(rb"[\0-\x1f\x7f]")
 HEAD = f"{HEAD_4}\n".encode()
-# How deep both readers go, and the beginning of a text with a key that is deeper: of one with
-# thousands of parts Python's reader takes seconds to find that it is a fault, or too deep to tell.
+# How deep both readers go, and the beginning of a text with a key that is deeper: for one with
+# thousands of parts Python's reader takes seconds to find that it is a fault, or too deep to read.
 DEPTH = 60
 DEEP_KEY = re.compile(rb"\[{0,2}a(\.a){%d}" % DEPTH)
 LARGE = [100, 1_000, 30_000]
@@ -86,7 +86,7 @@ def large(chance):
 
 
 def odd_keys(chance):
-    """Keys and words with control characters, quotes and bytes that are no text."""
+    """Keys and words with control characters, quotes and bytes that are not text."""
     odd = chance.choice([b"\\n", b"\\u0000", b"\\u001b[2J", b"\\u007f", b"\\u202e", b"\\\"",
                          b"\x1b", b"\xff", b"\xc3", b"\n", b"\\t", b"\xed\xa0\x80", b"\\U0010ffff"])
     return chance.choice([
@@ -115,7 +115,7 @@ def depth_of(value):
 
 
 def has_long_number(value):
-    """Whether a number is more than 64 bits hold."""
+    """Returns whether a number has more than 64 bits."""
     if isinstance(value, (dict, list)):
         return any(map(has_long_number, value.values() if isinstance(value, dict) else value))
     if isinstance(value, float):
@@ -124,7 +124,7 @@ def has_long_number(value):
 
 
 def known(text):
-    """The territories that a text says, or what is told of its first fault; None for both where
+    """The territories that a text says, or what is reported for its first fault; None for both if
     that isn't known."""
     if DEEP_KEY.match(text):
         return None, None
@@ -157,7 +157,7 @@ class Program:
         self.why = self.why or ("" if is_right else what)
 
     def run(self, *words):
-        """A run whose words are files but for the first, or None where it went wrong."""
+        """A run whose words except the first are files, or None if it went wrong."""
         done = Run([self.program, words[0], *map(self.path, words[1:])])
         self.is_right(f"{words}: {done.why_wrong()}", not done.why_wrong())
         self.is_right(f"{words}: status {done.status}", done.status in (0, 1))
@@ -184,16 +184,16 @@ class Registers(Program):
         return 1, [(self.why, "plan", text)] if self.why else []
 
     def hold_fault(self, planned, lands, fault):
-        """A text that is refused tells its first fault, and is not published."""
+        """Checks that a text that is refused has its first fault printed, and is not published."""
         told = planned.told
         self.is_right(f"{told!r}, and the text is right", lands is None)
         self.is_right(f"it printed {planned.out!r}", planned.out == b"")
         if fault is not None:
             wanted = f"oldstyle: {self.path('a.toml')}: {fault}\n".encode()
-            self.is_right(f"told {told!r}, wanted {wanted!r}", told == wanted)
-        self.is_right(f"told {told!r}, with control characters", not CONTROL.search(told[:-1]))
+            self.is_right(f"printed {told!r}, wanted {wanted!r}", told == wanted)
+        self.is_right(f"printed {told!r}, with control characters", not CONTROL.search(told[:-1]))
         done = self.run("publish", "empty", "a.toml")
-        self.is_right(f"publish tells {done and done.told!r}, plan {told!r}",
+        self.is_right(f"publish prints {done and done.told!r}, plan {told!r}",
                       done and done.told == told)
         with open(self.path("empty"), "rb") as file:
             self.is_right("a publish that is refused changes the journal", file.read() == HEAD)
@@ -202,7 +202,7 @@ class Registers(Program):
         """A text that is taken is published, and is read back as the same."""
         for name in ("first", "second"):
             self.put(name, HEAD)
-        self.is_right(f"plan tells {planned.told!r}", planned.told == b"")
+        self.is_right(f"plan prints {planned.told!r}", planned.told == b"")
         self.run("publish", "first", "a.toml")
         first = self.run("text", "first")
         if first is None:

@@ -2,7 +2,7 @@
 
 A run of `oldstyle-web` is sent requests, as bytes that were changed and by addresses whose words
 were. Each has a reply with a status that docs/SERVING.md names, never 500, and a body as long as
-its head says. The page tells no fault of its own, and the next good request is answered. What it
+its head says. The page reports no fault of its own, and the next good request is answered. What it
 answers to a date is what the query `written` answers.
 """
 import json
@@ -22,7 +22,7 @@ SECONDS = 40
 QUIET = 0.5
 HEAD = re.compile(rb"HTTP/1\.[01] (\d{3}) [^\r\n]*\r\n(.*?)\r\n\r\n", re.S)
 LENGTH = re.compile(rb"^content-length: (\d+)\r?$", re.I | re.M)
-# Those of the page's README, and what waitress replies to what is no HTTP.
+# The statuses in the page's README, and what waitress replies to what is not HTTP.
 STATUSES = {200, 304, 400, 404, 405, 411, 413, 414, 421, 422, 431, 501, 503}
 PATHS = ["", "answer.json", "month", "year", "day", "place", "letters", "static/page.css",
          "nowhere"]
@@ -61,7 +61,7 @@ WORDS = [b"GET ", b"POST ", b"HEAD ", b" HTTP/1.1", b" HTTP/9.9", b" HTTP/1.1\r\
 
 
 def sent(page, given):
-    """The first reply to bytes. If they are no whole request, none comes while more is awaited."""
+    """The first reply to bytes. If they are not a whole request, none comes while it waits."""
     held = b""
     with socket.create_connection((page.host, page.port), SECONDS) as connection:
         try:
@@ -77,7 +77,7 @@ def sent(page, given):
 
 
 def is_whole(given):
-    """Whether bytes are a request of which nothing more is to come, as far as is seen at once."""
+    """Returns whether bytes are a request that is complete, as far as can be seen from them."""
     head, ends, body = given.partition(b"\r\n\r\n")
     return bool(ends) and head.startswith(b"GET ") and not body and b"ontent-" not in head
 
@@ -134,7 +134,7 @@ class Web:
         return AT_ONCE, found
 
     def request(self, chance):
-        """A request, and the question of it where it asks for a date."""
+        """A request, and its question if it asks for a date."""
         if chance.random() < 0.6:
             return mutated(chance, SAMPLES, WORDS), None
         date = mutated(chance, DATES, DATE_WORDS).decode(errors="ignore")[:300]
@@ -166,8 +166,8 @@ class Web:
                 if told["written"] != json.loads(reply).get("answer")]
 
     def why_broken(self):
-        """What the page told of itself, or that it answers no more."""
+        """What the page reported of itself, or that it answers no more."""
         if (told := self.page.told()) or self.page.process.poll() is not None:
-            return f"it told {told!r}, status {self.page.process.poll()}"
+            return f"it printed {told!r}, status {self.page.process.poll()}"
         status = self.page.get("/")[0]
         return "" if status == 200 else f"a good request is answered by {status}"

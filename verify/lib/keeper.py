@@ -45,7 +45,7 @@ class Editor:
 
 
 def editor_after(seed, lines):
-    """An editor who goes on after these lines of a journal, without its head."""
+    """An editor who continues after these lines of a journal, without its head."""
     editor = Editor(seed)
     for line in lines:
         kind = json.loads(line)["op"]
@@ -56,7 +56,7 @@ def editor_after(seed, lines):
 
 
 def journal_lines(path):
-    """The lines of a file, and what stands after them that is no line: its last line may lack the
+    """The lines of a file, and what is after them and not a line: its last line may lack the
     line feed alone."""
     with open(path, encoding="utf-8") as file:
         held = file.read()
@@ -65,7 +65,7 @@ def journal_lines(path):
 
 
 class Run:
-    """A run that keeps a file, and what it told."""
+    """A run that keeps a file, and what it printed."""
 
     def __init__(self, program, path):
         self.process = subprocess.Popen([program, "serve", "--keep", path], stdin=subprocess.PIPE,
@@ -93,7 +93,7 @@ class Run:
             time.sleep(0.0002)
 
     def stopped(self):
-        """What was told in all, and on standard error, once it has ended."""
+        """All that was printed, and what was on standard error, once it has ended."""
         self.process.wait()
         self.reader.join()
         errors = self.process.stderr.read().decode()

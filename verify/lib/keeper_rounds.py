@@ -1,4 +1,4 @@
-"""A journal that grows while its keeper is killed and started anew at random moments."""
+"""A journal that grows while its keeper is killed and started again at random moments."""
 import json
 import random
 import threading
@@ -12,7 +12,7 @@ TOWNS = 40
 
 
 def edits_of(chance, towns):
-    """The edits of an edition, each of which is taken, where there are so many towns."""
+    """The edits of an edition, each of which is taken if there are that many towns."""
     if towns < TOWNS:
         return [land(towns)]
     regimes = [JULIAN, GREGORIAN, {**JULIAN, "style": chance.choice(["pisan", "annunciation"])}]
@@ -22,7 +22,7 @@ def edits_of(chance, towns):
 
 def keep_until_killed(running, chance, journal, editions, count):
     """Publishes editions up to that count, or until the run is killed, which is within some
-    milliseconds after a random number of them. Answers how many there are for sure."""
+    milliseconds after a random number of them. Returns how many there are for sure."""
     towns = sum('"add_land"' in line for line in journal_lines(journal.path)[0])
     timer = threading.Timer(chance.uniform(0, 0.02), running.process.kill)
     last = editions + chance.randint(1, 120)
@@ -35,18 +35,18 @@ def keep_until_killed(running, chance, journal, editions, count):
         running.wait_for(known + len(edits) + 1)
         time.sleep(chance.uniform(0, 0.003))
         told = running.replies[known:]
-        hold(f"{edits} are told {told}", all("ok" in reply for reply in told))
+        hold(f"{edits} are answered {told}", all("ok" in reply for reply in told))
         if len(told) <= len(edits):
             break
         editions, towns = editions + 1, min(towns + 1, TOWNS)
-        hold(f"edition {editions} is told {told[-1]}", told[-1].get("edition") == editions)
+        hold(f"edition {editions} is answered {told[-1]}", told[-1].get("edition") == editions)
         journal.tell(editions)
     timer.cancel()
     return editions
 
 
 def has_front(chance, path):
-    """Whether the file ends in a line that was not finished. Every other time one is left there."""
+    """Returns whether the file ends in an unfinished line. Every other time one is left there."""
     with open(path, "rb") as file:
         is_ended = file.read()[-1:] in (b"\n", b"")
     line = compact(land(chance.randrange(1_000)))
@@ -58,7 +58,7 @@ def has_front(chance, path):
 
 
 def started(program, path):
-    """A run that keeps the file and has answered, and the edition. What was to be cut off is."""
+    """A run that has cut off what was unfinished and has answered, and the edition."""
     running = Run(program, path)
     running.send([{"op": "lands", "reader": 1}])
     running.wait_for(1)
@@ -66,7 +66,7 @@ def started(program, path):
 
 
 def keep_all(options, journal, copies):
-    """Publishes all editions, by runs that are killed. Answers how many were."""
+    """Publishes all editions, by runs that are killed. Returns the number of the killed runs."""
     chance, stops, is_cut = random.Random(options.seed), 0, False
     running, editions = started(options.program, journal.path)
     while True:

@@ -16,7 +16,7 @@ SPACES = " \t\n\r\f"
 
 
 def number_remark(date, given, days):
-    """What is said of several days."""
+    """The remark on several days."""
     if len(days) < 2:
         return []
     is_given = given is not None or date.weekday is not None
@@ -34,7 +34,7 @@ def remarks_of_days(territory, date, given, days):
 
 
 def meant_in_place(territories, code, text, given):
-    """The days of a row with their territory, the kind of its date, and what is said of them."""
+    """The days of a row with their territory, the kind of its date, and the remarks on them."""
     territory = territories.get(code)
     unknown = [] if territory else ["unknown place"]
     try:

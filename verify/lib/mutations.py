@@ -46,7 +46,7 @@ def change(chance, text, samples, words):
 
 
 class Run:
-    """How a run ended: with the status None where it didn't."""
+    """How a run ended: with the status None if it didn't."""
 
     def __init__(self, command, given=b"", folder=None):
         try:
@@ -57,14 +57,14 @@ class Run:
             self.status, self.out, self.told = None, b"", b""
 
     def why_wrong(self):
-        """What no run may do: go on, end by a signal, with another status than 0 to 4, or with a
-        fault that isn't told in a line; or tell of one where there is none."""
+        """What no run may do: never end, end by a signal, with another status than 0 to 4, or with
+        a fault that isn't reported in a line; or report one if there is none."""
         if self.status is None:
             return f"no end within {SECONDS} seconds"
         if not 0 <= self.status <= 4:
             return f"it ended with {self.status}: {self.told!r}"
         if self.status == 0:
-            return f"it told {self.told!r}" if self.told else ""
+            return f"it reported {self.told!r}" if self.told else ""
         if not self.told.startswith((b"oldstyle: ", b"error: ")) or self.told[-1:] != b"\n":
-            return f"with status {self.status} it told {self.told!r}"
+            return f"with status {self.status} it reported {self.told!r}"
         return ""

@@ -12,7 +12,7 @@ YEARS |= {"september": "1 September", "pisan": "the 25 March before", "easter": 
 
 
 class Place(NamedTuple):
-    """A territory as a page has it."""
+    """A territory in the form of a page."""
 
     name: str
     code: str
@@ -54,7 +54,7 @@ def numbered(territory, day):
 
 
 def verdict(day, *given):
-    """What is said of the weekdays that were given, of which there may be none."""
+    """The remark on the weekdays that were given, of which there may be none."""
     names = [name for name in given if name is not None]
     others = [name for name in names if name != weekday_of(day)]
     return f" not {others[0]}" if others else " ok" if names else ""

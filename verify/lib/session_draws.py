@@ -20,8 +20,8 @@ class Session(NamedTuple):
 
 
 def session(chance, count, begun=()):
-    """A session of an editor who goes on after these lines of a journal, without its head. One
-    line in ten is refused or is no request, and one in ten asks."""
+    """A session of an editor who continues after these lines of a journal, without its head. One
+    line in ten is refused or is not a request, and one in ten asks."""
     editor, sent, taken = editor_after(chance.random(), begun), [], []
     while len(taken) < count:
         if chance.random() < 0.1:
@@ -39,22 +39,22 @@ def journal(lines, head=HEAD):
 
 
 def told_lines(out):
-    """How many of the replies in an output tell a change, and the last edition that they tell.
-    A last line that is not whole counts for nothing."""
+    """How many of the replies in an output report a change, and the last edition in them. A last
+    line that is not whole counts for nothing."""
     replies = [json.loads(line) for line in out.split(b"\n")[:-1]]
     changes = [reply for reply in replies if "ok" in reply]
     return len(changes), max((reply.get("edition", 0) for reply in changes), default=0)
 
 
 def last_edition(out):
-    """The last edition that an output tells, in a reply to a change or to a question. A last line
-    that is not whole counts for nothing."""
+    """The last edition in an output, in a reply to a change or to a question. A last line that is
+    not whole counts for nothing."""
     replies = [json.loads(line) for line in out.split(b"\n")[:-1]]
     return max((reply.get("edition", 0) for reply in replies), default=0)
 
 
 def bytes_at(path):
-    """What a file holds, None where none is there."""
+    """The bytes of a file, None if there is no file."""
     if not os.path.isfile(path):
         return None
     with open(path, "rb") as file:

@@ -1,6 +1,6 @@
 """The spans that texts mean: what reference.py reads of docs/DATES.md, and all that spans.py draws.
 
-What is said beside a date stands at the ends of the text. Each other text is Unread.
+The marks of a date are at the ends of the text. Each other text is Unread.
 """
 import re
 
@@ -14,16 +14,16 @@ DATES = [YEARS, f"anno {YEARS}", f"{YEARS}-XX-XX", f"{NAME},? {YEARS}", f"{YEARS
          rf"{YEARS}-(?P<month>\d\d)", rf"{YEARS}-(?P<month>\d\d)-(?P<day>\d\d)",
          f"{DAY} {NAME} {YEARS}", f"the {DAY} of {NAME}, {YEARS}", f"{NAME} {DAY}, {YEARS}",
          rf"{DAY}\.(?P<month>\d{{1,2}})\.{YEARS}"]
-# What the first date of a range may be, where the last one has the rest.
+# What the first date of a range may be, if the last one has the other parts.
 FRONTS = [DAY, f"{DAY} {NAME}", NAME]
-# With a dash after it a double year alone is no first date.
+# With a dash after it a double year alone is not a first date.
 RANGES = [r"from (.+) to (.+)", r"between (.+) and (.+)", r"(.+) to (.+)",
           r"(?!\d+/\d+ ?[-\u2013])([^-]+?) ?[-\u2013] ?(.+)"]
 BOUND = r"(before|not after|by|after|not before) (.+)"
 
 # A number that may be a day or a month.
 MAY_BE_MONTH = "([1-9]|1[0-2])"
-# Texts of no date, and why they are none.
+# Texts that are not dates, and why.
 NONE = {r" *|n\.d\.|s\.d\.|undated|no date": "no date",
         rf"{MAY_BE_MONTH}([/-])(?!\1\2){MAY_BE_MONTH}\2\d{{3,4}}": "open between day and month",
         rf"(?:{DAY} {NAME} )?\d{{1,2}}": "year of one or two digits",
@@ -47,7 +47,7 @@ def matched(forms, text):
 
 
 def month_of(parts):
-    """The month of the parts, None where they have none."""
+    """The month of the parts, None if they have none."""
     if name := parts.get("name"):
         return MONTHS[name.lower()]
     return int(parts["month"]) if "month" in parts else None
@@ -103,12 +103,12 @@ class Unread(Exception):
 
 
 def why_none(text):
-    """Why a text is no date, None where it may be one."""
+    """Why a text is not a date, None if it may be one."""
     return next((why for form, why in NONE.items() if re.fullmatch(form, text, re.I)), None)
 
 
 def without(form, text):
-    """What is left of a text beside a form, and whether it has that."""
+    """The part of a text outside a form, and whether it has that form."""
     found = re.fullmatch(form, text, re.I)
     return (next(filter(None, found.groups()), ""), True) if found else (text, False)
 

@@ -25,7 +25,7 @@ NAMES += [line.split() for line in (
 
 
 class Simple(NamedTuple):
-    """A day, a month or a year, of which the last two lack what they don't have."""
+    """A day, a month or a year; a month or a year has no value for what it lacks."""
 
     year: int
     is_double: bool = False
@@ -36,7 +36,7 @@ class Simple(NamedTuple):
         return Written(self.year, self.month or 1, self.day or 1, self.is_double)
 
     def digits(self):
-        """As a set has it."""
+        """In the form of a set."""
         return f"{self.year:04}-{self.month:02}-{self.day:02}"
 
     def years(self):
@@ -46,12 +46,12 @@ class Simple(NamedTuple):
         return first + years_written(self.year, self.year + 1)[len(str(self.year)):]
 
     def words(self):
-        """As a page has it."""
+        """In the form of a page."""
         parts = [self.day and str(self.day), self.month and MONTHS[self.month - 1], self.years()]
         return " ".join(part for part in parts if part)
 
     def is_meant(self, territory, day):
-        """Whether the date means a day, by the day's label and its year from 1 January."""
+        """Returns whether the date means a day, by the day's label and its year from 1 January."""
         year, month, of_month = territory.label(day)
         if self.month not in (None, month) or self.day not in (None, of_month):
             return False
@@ -67,8 +67,8 @@ class Simple(NamedTuple):
 
 
 class Span(NamedTuple):
-    """One date, a range, a bound or a set, with what is said beside it. Of a set the first date is
-    that of its first member."""
+    """One date, a range, a bound or a set, with its marks. For a set the first date is that of its
+    first member."""
 
     kind: str
     first: Simple
@@ -89,7 +89,7 @@ class Span(NamedTuple):
         return "..".join(day.digits() + sign for day in days)
 
     def words(self):
-        """As the heading of a page has it."""
+        """In the form of a page's heading."""
         if self.kind == "set":
             return f"[{','.join(member.in_set(self.sign()) for member in self.members)}]"
         text = self.first.words()
@@ -104,7 +104,7 @@ class Span(NamedTuple):
 
 
 class Reckoned(Territory):
-    """A territory as if it had gone by the calendar that a date names."""
+    """A territory as if it had used the calendar that a date names."""
 
     def __init__(self, territory, reckoning):
         super().__init__(territory.land)
@@ -146,13 +146,13 @@ def found_of_set(parts):
 
 
 def without_day(territory, span):
-    """The span, or of a set its first member that has no day."""
+    """The span, or for a set its first member that has no day."""
     return next((member for member in span.members if isinstance(found(territory, member), str)),
                 span)
 
 
 def found(territory, span):
-    """The runs of a span, or which of its dates has no day, or what else keeps it from a span."""
+    """The runs of a span, or which of its dates has no day, or why it is not a span."""
     if span.kind == "set":
         return found_of_set([found(territory, member) for member in span.members])
     first = span.first.days(territory)
@@ -215,7 +215,7 @@ def own_dates(place, runs):
 
 
 def calendar_lines(place, reckoning, runs, own):
-    """By which calendar a date was read, where it means other days by the place's own reckoning."""
+    """By which calendar a date was read, if it means other days by the place's own reckoning."""
     if runs == own or isinstance(runs, str) and isinstance(own, str):
         return []
     style = {"old": "Old", "new": "New"}[reckoning]
@@ -237,7 +237,7 @@ def reckoned_page(place, date, given, reckoning):
 
 
 def span_page(place, span, weekday=None):
-    """The page of a span that is no single day."""
+    """The page of a span that is not a single day."""
     by_name = reckoned(place.territory, span)
     runs = found(by_name, span)
     if isinstance(runs, str):
@@ -278,7 +278,7 @@ def has_day_of(runs, weekday):
 
 
 def none_answer(why):
-    """The answer of a text that is no date."""
+    """The answer to a text that is not a date."""
     return {"approximate": False, "kind": "none", "other_calendar": False, "reason": why,
             "runs": [], "supplied": False, "uncertain": False, "weekday": None}
 
@@ -347,7 +347,7 @@ def range_text(chance, first, last):
 
 
 def text_of(chance, span):
-    """A span in one of its forms, with what is said beside it."""
+    """A span in one of its forms, with its marks."""
     if span.kind == "set":
         return span.words()
     if span.kind == "range":

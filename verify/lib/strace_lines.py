@@ -1,4 +1,4 @@
-"""What a run does in a folder, by its system calls as strace tells them: for system_calls.py and
+"""What a run does in a folder, by its system calls as strace prints them: for system_calls.py and
 crashes.py.
 """
 import os
@@ -38,9 +38,9 @@ class Step(NamedTuple):
     # the file by its name in the folder, "." for the folder itself, or a standard stream
     name: str
     call: str
-    # the how-manieth call of its name it is in the run
+    # the number of the call among those of its name in the run
     turn: int
-    # which open it belongs to, counted from 1; 0 where it goes by the path
+    # which open it belongs to, counted from 1; 0 if it uses the path
     file: int = 0
     data: bytes = b""
     flags: tuple = ()
@@ -128,7 +128,7 @@ class Reader:
             return None
         kind = KINDS.get(call, call)
         kind = "unlock" if kind == "lock" and "LOCK_UN" in flags else kind
-        # of a call in which the run was killed the result is not known
+        # for a call in which the run was killed the result is not known
         whole = kind == "write" and result is None
         data = b"".join(texts)[:None if whole else max(result or 0, 0)]
         data = data if kind in ("read", "write") else b""
@@ -159,7 +159,7 @@ class Reader:
 
 
 def steps_of(text, folder_reader):
-    """The steps that lines of strace tell."""
+    """The steps that lines of strace show."""
     return [step for line in text.splitlines() if (step := folder_reader.step(line))]
 
 

@@ -1,6 +1,6 @@
-"""Random regimes, changes and listed Easters of territories, near the days where years begin.
+"""Random regimes, changes and listed Easters of territories, near the days on which years begin.
 
-The dates and Easters that it goes by are laid out month by month and sought in the tables of the
+The dates and Easters that it uses are laid out month by month and sought in the tables of the
 computus, apart from calendars.py, so that a search over them shares no mistake with it.
 """
 from array import array
@@ -11,7 +11,7 @@ CALENDARS = ["julian", "gregorian", "swedish"]
 STYLES = ["january", "annunciation", "nativity", "september", "pisan"]
 RULES = ["julian", "gregorian"]
 
-# The style of Easter stands with the Julian calendar and rule alone.
+# The style of Easter can be used with the Julian calendar and rule alone.
 EASTER_STYLE = ("julian", "easter")
 
 # Days of the line at which something happens: its ends, and the changes of the Swedish calendar.

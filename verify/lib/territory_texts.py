@@ -39,7 +39,7 @@ def date_on(calendar, day):
 
 
 def day_of(calendar, year, month, day):
-    """The day of a date in a calendar, or None where the calendar has no such date."""
+    """The day of a date in a calendar, or None if the calendar has no such date."""
     dates = chain(calendar)
     place = bisect.bisect_left(dates, key(year, month, day))
     is_date = 1 <= place < len(dates) and date_on(calendar, place) == (year, month, day)
@@ -102,7 +102,7 @@ def easter_of(members, path):
 
 
 def regime_of(members, path, before):
-    """The regime of a table: what it says, and else what was so before."""
+    """The regime of a table: what it says, otherwise what it was before."""
     regime = {}
     for word in WORDS:
         if word not in members and word in before:
@@ -115,7 +115,7 @@ def regime_of(members, path, before):
 
 
 def source_of(members, path):
-    """The source of a table as a member of its edit, where it has one; after that its note."""
+    """The source of a table as a member of its edit, if it has one; after that its note."""
     source = {}
     if "source" in members:
         source["source"] = text_at(members, path, "source")
@@ -178,8 +178,8 @@ def list_of(members, path, name):
 
 
 def differences(lands, wanted):
-    """The edits that change lands into what the wanted ones say, in no order that counts: an Easter
-    on another day, or with another source, is dropped and added."""
+    """The edits that change lands into the expected ones, whose order doesn't matter: an Easter on
+    another day, or with another source, is dropped and added."""
     for code, land in wanted.items():
         yield from territory_differences(code, lands.get(code), land)
 
@@ -217,7 +217,7 @@ def easters_of(land):
 
 
 def after(lands, wanted):
-    """The register after a publish: each wanted territory as it is wanted, the others as before."""
+    """The register after a publish: each territory of the text as it says, the others as before."""
     return {**lands, **wanted}
 
 

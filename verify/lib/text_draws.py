@@ -61,7 +61,7 @@ class Draws:
         return {code: self.land() for code in codes}
 
     def wanted_after(self, lands):
-        """Some of the territories as they are, others changed, and further ones."""
+        """Some of the territories as they are, others changed, and new ones."""
         wanted = {}
         for code, land in lands.items():
             kind = self.chance.random()
@@ -170,7 +170,7 @@ class Draws:
 
 
 def version_for(lands):
-    """The version that is written of lands: 4 where a source is given, else 2."""
+    """The version that is written for lands: 4 if a source is given, otherwise 2."""
     return 4 if any(land.sources or land.easter_sources for land in lands.values()) else 2
 
 

@@ -33,9 +33,9 @@ class Files:
         return run(self.program, words, lines)
 
     def printed(self, what, *words, told=""):
-        """What a run prints that has nothing else to tell."""
+        """What a run prints on standard output, if its standard error is as given."""
         done = self.run(*words)
-        hold(f"{what}: {words[0]} is told {done.returncode} {done.stderr!r}",
+        hold(f"{what}: {words[0]} ends {done.returncode} {done.stderr!r}",
              (done.returncode, done.stderr) == (0, told))
         return done.stdout
 
@@ -65,6 +65,6 @@ def refused(files, what, path, text, wanted, journal):
     for command in ("plan", "publish"):
         done = files.run(command, journal, text)
         told = done.returncode, done.stdout, done.stderr
-        hold(f"{what}: {command} is told {told}\n  and not {wanted!r}",
+        hold(f"{what}: {command} gives {told}\n  and not {wanted!r}",
              told == (1, "", f"oldstyle: {path}: {wanted}\n"))
     hold(f"{what}: the journal has changed", bytes_of(journal) == before)

@@ -1,5 +1,5 @@
 """Journals into which texts are published: those that can't be, those of each version and
-`--upgrade`, publishes at once, a keeper and a follower beside them. For register_text.py."""
+`--upgrade`, concurrent publishes, a keeper and a follower beside them. For register_text.py."""
 import fcntl
 import json
 import os
@@ -19,13 +19,13 @@ EDIT = {"op": "add_change", "code": "GB", "day": 5, "calendar": "gregorian", "st
 
 
 def held_at(journal):
-    """What a publish tells of a journal that another run keeps."""
+    """What a publish prints for a journal that another run keeps."""
     status, out, errors = HELD
     return status, out, errors.replace("oldstyle: ", f"oldstyle: {journal}: ")
 
 
-def told_by(files, command, journal, text):
-    """What a run of a command tells, with the bytes of the journal before and after it."""
+def result_of(files, command, journal, text):
+    """What a run of a command prints, with whether the journal's bytes stay the same."""
     before = bytes_of(journal) if os.path.exists(journal) else None
     done = files.run(command, journal, text)
     after_it = bytes_of(journal) if os.path.exists(journal) else None
@@ -38,7 +38,7 @@ PENDING = ("oldstyle: publish refuses a journal with 1 pending edit: publish wha
 NOT_KEPT = ("oldstyle: publish refuses a journal of version 1: serve --keep with --upgrade saves "
             "it anew as version 4\nhelp: run oldstyle serve --keep J --upgrade < /dev/null, then "
             "publish\n")
-# What a plan tells of a journal that its publish saves anew.
+# What a plan prints for a journal that its publish saves again.
 ANEW = ("oldstyle: the journal is of version {}, which has no sources: publish saves it anew as "
         "version 4\n")
 FULL = "oldstyle: {}17 EditionsFull (--limits editions=N allows more)\n"
@@ -48,9 +48,9 @@ def try_journals(files):
     """Journals and texts that are not there, and journals that can't be published into."""
     text, new = files.write("text", LAND.format("GB")), files.path("new")
     none = "note: J is a new journal\n"
-    hold("a plan of a new journal", told_by(files, "plan", new, text) == (0, none, True))
+    hold("a plan of a new journal", result_of(files, "plan", new, text) == (0, none, True))
     for command in ("plan", "publish"):
-        told = told_by(files, command, new, files.path("none"))
+        told = result_of(files, command, new, files.path("none"))
         hold(f"no text: {told}", told == (3, "oldstyle: T: no such file\n", True))
     files.printed("a new journal", "publish", new, text)
     hold("a new journal", published(new)[0].edition == 1)
@@ -63,8 +63,8 @@ def try_journals(files):
             ("plan", older, (0, NOT_KEPT, True)),
             ("publish", "x\n", (1, "oldstyle: journal line 1: 32 NotJson\n", True)),
             ("publish", kept + edit[:9], (0, "", True))):
-        told = told_by(files, command, files.write("journal", held), text)
-        hold(f"{command} with {held!r} is told {told}", told == wanted)
+        told = result_of(files, command, files.write("journal", held), text)
+        hold(f"{command} with {held!r} gives {told}", told == wanted)
 
 
 CITED = '[GB]\nname = "n"\ncalendar = "julian"\nstyle = "january"\nrule = "julian"\n' \
@@ -79,7 +79,7 @@ def journal_of(version, *lines):
 
 
 def try_versions(files):
-    """A kept journal takes sources from version 4 on; `--upgrade` and `publish` save it anew."""
+    """A kept journal takes sources from version 4 on; `--upgrade` and `publish` save it again."""
     plain = {key: value for key, value in OPENING.items() if key != "source"}
     edit, publish = {**OPENING, "code": "FR"}, {"op": "publish"}
     for version in (1, 2, NEWEST):
@@ -89,13 +89,13 @@ def try_versions(files):
         node = os.stat(path).st_ino
         if version == 2:
             done = files.run("serve", "--keep", path, lines=[compact(edit)])
-            hold(f"a source in version 2 is told {done}", done.stdout == NEEDS_4 + "\n"
+            hold(f"a source in version 2 gives {done}", done.stdout == NEEDS_4 + "\n"
                  and bytes_of(path).decode() == said)
             done = files.run("serve", "--keep", path, "--stop-at-refusal", lines=[compact(edit)])
-            hold(f"a batch with a source in version 2 is told {done.stderr!r}",
+            hold(f"a batch with a source in version 2 gives {done.stderr!r}",
                  (done.returncode, done.stderr) == (1, REFUSED))
         done = files.run("serve", "--keep", path, "--upgrade", lines=[compact(edit)])
-        hold(f"version {version}, upgraded, is told {done}",
+        hold(f"version {version}, upgraded, gives {done}",
              (done.returncode, done.stdout, done.stderr)
              == (0, compact({"ok": "staged", "pending": 1}) + "\n", ""))
         held = bytes_of(path).decode()
@@ -116,10 +116,10 @@ def try_new(files):
         files.run("serve", "--keep", path, *words)
         hold(f"a new kept file of {words}", bytes_of(path).decode() == journal_of(version))
     older = files.write("journal", journal_of(1))
-    told = told_by(files, "plan", older, text)
-    hold(f"a plan of sources in version 1 is told {told}", told == (0, ANEW.format(1), True))
-    told = told_by(files, "publish", older, text)
-    hold(f"a source in version 1 is told {told}", told == (0, "", False))
+    told = result_of(files, "plan", older, text)
+    hold(f"a plan of sources in version 1 gives {told}", told == (0, ANEW.format(1), True))
+    told = result_of(files, "publish", older, text)
+    hold(f"a source in version 1 gives {told}", told == (0, "", False))
     hold("version 1, saved anew", bytes_of(older) == bytes_of(files.path("cited")))
     try_nothing(files)
 
@@ -127,11 +127,11 @@ def try_new(files):
 def try_nothing(files):
     """A text that says nothing makes an empty file, which a publish takes."""
     text, path = files.write("text", ""), files.path("nothing")
-    told = told_by(files, "plan", path, text)
-    hold(f"a plan of nothing is told {told}",
+    told = result_of(files, "plan", path, text)
+    hold(f"a plan of nothing gives {told}",
          told == (0, "note: J is a new journal\n", True))
-    told = told_by(files, "publish", path, text)
-    hold(f"a publish of nothing is told {told}", told == (0, "", False) and bytes_of(path) == b"")
+    told = result_of(files, "publish", path, text)
+    hold(f"a publish of nothing gives {told}", told == (0, "", False) and bytes_of(path) == b"")
     files.printed("an empty file", "publish", path, files.path("cited text"))
     hold("an empty file", bytes_of(path) == bytes_of(files.path("cited")))
 
@@ -139,22 +139,22 @@ def try_nothing(files):
 def try_cut(files):
     """A line that was not finished is cut off by a publish that has edits."""
     journal = files.write("journal", HEAD + "\n" + PUBLISH[:9])
-    told = told_by(files, "publish", journal, files.write("text", LAND.format("GB")))
-    hold(f"a front of a line is told {told}",
+    told = result_of(files, "publish", journal, files.write("text", LAND.format("GB")))
+    hold(f"a prefix of a line gives {told}",
          told == (0, "oldstyle: journal line 2 was not finished, and is cut off\n", False))
     hold("a front of a line is left", published(journal)[0].edition == 1)
 
 
 def try_full(files):
-    """A journal that has room for no further territory."""
+    """A journal that has no room for another territory."""
     lands = lands_of("".join(LAND.format(f"T{number:03}") for number in range(500)))
     journal, text = files.journal("journal", lands), files.write("text", LAND.format("GB"))
-    told = told_by(files, "publish", journal, text)
-    hold(f"a full journal is told {told}",
+    told = result_of(files, "publish", journal, text)
+    hold(f"a full journal gives {told}",
          told == (1, "oldstyle: T: GB: 12 TooManyLands (--limits lands=N allows more)\n", True))
     few = "--limits", "lands=501,editions=1"
     done = files.run("publish", journal, text, *few)
-    hold(f"no edition more is told {done}",
+    hold(f"an edition too many gives {done}",
          (done.returncode, done.stdout, done.stderr) == (1, "", FULL.format("")))
     files.printed("a plan of no edition more", "plan", journal, text, *few,
                   told=FULL.format("publish refuses the edits: "))
@@ -188,8 +188,8 @@ def try_held(files):
 
 
 def publish_at_once(files, journal, codes, text):
-    """Publishes a text of each code at once. Answers the codes that are editions, and what the
-    others were told."""
+    """Publishes a text of each code concurrently. Returns the codes that are editions, and what the
+    others printed."""
     texts = [files.write(code, text.replace("CODE", code)) for code in codes]
     runs = [subprocess.Popen([files.program, "publish", journal, text], text=True,
                              stdout=subprocess.PIPE, stderr=subprocess.PIPE) for text in texts]
@@ -199,14 +199,14 @@ def publish_at_once(files, journal, codes, text):
 
 
 def try_at_once(files, rounds):
-    """Publishes at once: each is an edition, or is told that another run keeps the journal."""
+    """Concurrent publishes: each is an edition, or reports that another run keeps the journal."""
     journal, done, held = files.journal("journal", {}), [], []
     for turn in range(rounds):
         codes = [f"R{turn}P{number}" for number in range(AT_ONCE)]
         more, others = publish_at_once(files, journal, codes, LAND.format("CODE"))
         done, held = done + more, held + others
     service, _ = published(journal)
-    hold(f"they are told {set(held)}", set(held) == {held_at(journal)})
+    hold(f"they print {set(held)}", set(held) == {held_at(journal)})
     hold("the journal has other territories than were published",
          sorted(service.published) == sorted(done) and service.edition == len(done))
     return len(done), len(held)
@@ -214,7 +214,7 @@ def try_at_once(files, rounds):
 
 def try_upgrades_at_once(files, rounds):
     """The same of texts with sources, and a journal of version 2 or none: one of them saves it
-    anew. What another one would have saved meanwhile stands beside it."""
+    again. What another one would have saved meanwhile is beside it."""
     codes = [f"P{number}" for number in range(AT_ONCE)]
     for turn in range(rounds):
         journal = files.write("journal", f"{HEAD}\n")
@@ -226,15 +226,15 @@ def try_upgrades_at_once(files, rounds):
              sorted(service.published) == done and service.edition == len(done) > 0)
         for status, out, errors in others:
             is_changed = errors.startswith(CHANGED) and (status, out) == (3, "")
-            hold(f"a publish at once is told {errors!r}",
+            hold(f"a concurrent publish prints {errors!r}",
                  (status, out, errors) in (HELD, held_at(journal)) or is_changed)
             if is_changed:
                 os.remove(errors.removeprefix(CHANGED).rstrip("\n"))
 
 
 def try_follower(files):
-    """A follower goes on after a publish, and tells its edition. One that has sources puts another
-    file in the journal's place, which ends the follower."""
+    """A follower continues after a publish, and reports its edition. One that has sources puts
+    another file in the journal's place, which ends the follower."""
     journal = files.path("new")
     words = [files.program, "serve", "--follow", journal]
     lands = {"op": "lands", "reader": 1}
@@ -247,15 +247,15 @@ def try_follower(files):
             follower.stdin.flush()
             told = json.loads(follower.stdout.readline())
             codes = [land["code"] for land in told["answer"]["lands"]]
-            hold(f"a follower is told {told}", told["edition"] == number and code in codes)
+            hold(f"a follower gives {told}", told["edition"] == number and code in codes)
         files.printed("sources", "publish", journal, files.write("text", CITED))
         _, told = follower.communicate((compact(lands) + "\n").encode())
-        hold(f"a follower of a file that is saved anew is told {told}",
+        hold(f"a follower of a file that is saved again gives {told}",
              (follower.returncode, told.decode()) == (1, FOLLOWED_REPLACED))
 
 
 def try_all_journals(files):
-    """All of these. Answers how many publishes at once were editions, and how many were refused."""
+    """Tries all of these. Returns how many concurrent publishes were editions, or were refused."""
     try_journals(files)
     try_versions(files)
     try_new(files)

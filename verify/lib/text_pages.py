@@ -1,4 +1,4 @@
-"""What `text`, `plan` and `publish` print, and what they tell of a text's faults, line by line.
+"""What `text`, `plan` and `publish` print, and how they report a text's faults, line by line.
 
 Written from docs/TERRITORIES.md alone, for register_text.py.
 """
@@ -54,7 +54,7 @@ def date_table(calendar, day):
 
 
 def source_lines(sources, of):
-    """The line of a source, where there is one. It ends before the source."""
+    """The line of a source, if there is one. It ends before the source."""
     return ["source = "] if of in sources else []
 
 
@@ -107,8 +107,8 @@ def other_parts(before, regime):
 
 
 def edit_lines(lands, wanted, edit):
-    """The line of an edit, between the territories that there are and those that are wanted, and
-    what an editor is shown of it."""
+    """The line of an edit, from the territories that there are to those of the text, and what an
+    editor is shown of it."""
     yield edit_line(lands, wanted, edit)
     code, op = edit["code"], edit["op"]
     if op == "add_exception":
@@ -207,7 +207,7 @@ def publish_end(count, editions):
 
 
 def fault_words(fault):
-    """What is told of a fault, with the path to it."""
+    """The message of a fault, with the path to it."""
     key = fault.path.rsplit(".", 1)[-1]
     words = {
         "UnknownKey": lambda: f"unknown key: {KEYS[part_of(fault.path, fault.said)]}",
@@ -226,6 +226,6 @@ def fault_words(fault):
 
 
 def part_of(path, name):
-    """Whether a key of this path is one of a change, of a listed Easter or of a territory."""
+    """Returns the list that a key of this path is in, of changes or of Easters, or None."""
     tables = path.removesuffix("." + name).split(".")
     return tables[-2] if len(tables) > 1 and tables[-2] in KEYS else None

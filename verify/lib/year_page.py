@@ -15,7 +15,7 @@ def count(days):
 
 
 def months_of(territory, days):
-    """Days that follow one another, cut where the month is another."""
+    """Consecutive days, cut at each new month."""
     months = []
     for day in days:
         if months and territory.label(months[-1][-1])[1] == territory.label(day)[1]:
@@ -72,7 +72,7 @@ def gap_text(territory, change):
 
 
 def changes(territory, year):
-    """The changes at which the year begins, goes on, ends or is passed over."""
+    """The changes at which the year begins, continues, ends or is left out."""
     for first, _, _ in territory.periods:
         if first > 1:
             years = sorted(territory.label(day)[0] for day in (first - 1, first))

@@ -13,10 +13,10 @@ use std::time::{Duration, Instant};
 /// How far apart the readers begin in the list of queries.
 const APART: usize = 997;
 
-/// After so many readings the first reader says how far it is.
+/// The number of readings after which the first reader says how far it is.
 const STRIDE: u64 = 64;
 
-/// How long the editor sleeps where no edition is due.
+/// How long the editor sleeps if no edition is due.
 const PAUSE: Duration = Duration::from_micros(20);
 
 /// The territory that the editor lists an Easter of, and drops it again.
@@ -30,7 +30,7 @@ pub struct Load {
     pub editions: u64,
 }
 
-/// What readers were told.
+/// What readers were answered.
 #[derive(Clone, Copy, Default)]
 pub struct Told {
     pub took: Duration,
@@ -82,7 +82,7 @@ struct Found {
     dual: String,
 }
 
-/// What a reader is told.
+/// What a reader is answered.
 struct Reply {
     edition: usize,
     found: Vec<Found>,
@@ -90,8 +90,8 @@ struct Reply {
 }
 
 impl Reply {
-    /// Of each day its number, its day of the month and the length of its dual date; of each change
-    /// its number.
+    /// The sum, for each day, of its number, its day of the month and the length of its dual date;
+    /// for each change of its number.
     fn sum(&self) -> u64 {
         let sum_of = |found: &Found| found.day + found.label.day + found.dual.len() as i64;
         let found: i64 = self.found.iter().map(sum_of).sum();
@@ -209,7 +209,7 @@ fn run(load: Load, register: impl Shared, queries: &[Query]) -> Told {
     desk.run()
 }
 
-/// What readers are told of these queries by the register behind the lock of that name.
+/// The answers of the register behind the lock of that name to these queries.
 pub fn told(lock: &str, load: Load, editor: Editor, queries: &[Query]) -> Option<Told> {
     match lock {
         "mutex" => Some(run(load, Mutex::new(editor), queries)),

@@ -12,8 +12,8 @@ mod territory;
 use request::Request;
 use std::io::{self, BufRead, BufReader, BufWriter, Read, Write};
 
-/// Reads the next line without its line feed, and answers whether there is one. Passes on what was
-/// written before it waits for more.
+/// Reads the next line without its line feed, and returns whether there is one. Before it waits for
+/// more, it passes on what was written.
 fn next_line<R: Read>(
     input: &mut BufReader<R>,
     output: &mut impl Write,
@@ -97,8 +97,8 @@ fn serve() -> io::Result<()> {
     output.flush()
 }
 
-/// With no word it serves; `parse`, `floor` with the length of a reply, or `desk` with a lock, readers,
-/// readings and editions.
+/// Serves without a word. The words are `parse`, `floor` with the length of a reply, or `desk` with
+/// a lock, readers, readings and editions.
 fn main() -> io::Result<()> {
     let words: Vec<String> = std::env::args().skip(1).collect();
     match words.first().map(String::as_str) {

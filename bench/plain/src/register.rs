@@ -174,7 +174,7 @@ pub struct Editor {
 }
 
 impl Editor {
-    /// Stages an edit, and answers how many are pending.
+    /// Stages an edit, and returns how many are pending.
     pub fn stage(&mut self, edit: Edit) -> Result<usize, Refusal> {
         self.draft.check(&edit)?;
         ensure(self.edits < EDITS, JournalFull)?;
@@ -184,7 +184,7 @@ impl Editor {
         Ok(self.pending.len())
     }
 
-    /// Publishes all pending edits, and answers the number of the edition.
+    /// Publishes all pending edits, and returns the number of the edition.
     pub fn publish(&mut self) -> Result<usize, Refusal> {
         ensure(!self.pending.is_empty(), NothingPending)?;
         ensure(self.edition < EDITIONS, EditionsFull)?;

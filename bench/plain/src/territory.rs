@@ -38,8 +38,8 @@ pub struct Regime {
     pub rule: Rule,
 }
 
-/// Whether a Julian date is one of the line, and before the Easter of its year, which is from 22
-/// March to 25 April.
+/// Returns whether a Julian date is one of the line, and before the Easter of its year, which is
+/// from 22 March to 25 April.
 fn is_before_easter(date: Date) -> bool {
     let place = (date.month, date.day);
     let is_before = |day| day < easter(Rule::Julian, date.year);
@@ -52,7 +52,7 @@ type Days = [Option<i64>; 2];
 const NO_DAYS: Days = [None, None];
 
 impl Regime {
-    /// Whether the style may stand here: that of Easter wants the Julian calendar and rule.
+    /// Returns whether the style is allowed: that of Easter requires the Julian calendar and rule.
     pub fn has_lawful_style(self) -> bool {
         self.style != Style::Easter
             || self.calendar == Calendar::Julian && self.rule == Rule::Julian
@@ -120,8 +120,8 @@ impl Regime {
     }
 }
 
-/// Whether the days of a label lie so that a change steps over it: an old one is late or there is
-/// none, a new one is early or there is none, and not both have none.
+/// Returns whether a change skips a label that has these days: an old one is late or there is none,
+/// a new one is early or there is none, and there is one of the two.
 fn is_passed_over(old: Days, new: Days, change: i64) -> bool {
     let [first_new, _] = new;
     let last_old = old[1].or(old[0]);
@@ -223,7 +223,7 @@ impl Territory {
         (found, skipped)
     }
 
-    /// The listed Easter of the year, or else each Easter by the rule in force on that very day.
+    /// The listed Easter of the year, otherwise each Easter by the rule in force on that very day.
     pub fn easters(&self, year: i64) -> (Vec<i64>, bool) {
         if let Some(&day) = self.exceptions.get(&year) {
             return (vec![day], true);

@@ -1,4 +1,4 @@
-"""Some runs that are lent: which answer comes of whom, and what happens where one fails."""
+"""Some runs that are lent: which answer comes of which run, and what happens if one fails."""
 from __future__ import annotations
 
 import os

@@ -1,4 +1,4 @@
-"""What the tests share: the program, if there is one, stand-ins of it, and the page over both."""
+"""What the tests share: the program, if there is one, stand-ins for it, and the page over both."""
 from __future__ import annotations
 
 import os
@@ -28,7 +28,7 @@ def program() -> str:
 
 @pytest.fixture
 def script(tmp_path: Path) -> Callable[[str], str]:
-    """Makes a stand-in of the program, which is a script of the shell."""
+    """Makes a stand-in for the program, which is a script of the shell."""
     def make(text: str) -> str:
         path = tmp_path / "program"
         path.write_text(f"#!/bin/sh\n{text}\n")

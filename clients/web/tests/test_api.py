@@ -1,4 +1,4 @@
-"""The interface for programs, held against the service and against its description."""
+"""The interface for programs, compared with the service and with its description."""
 from __future__ import annotations
 
 import json

@@ -1,4 +1,4 @@
-"""The pages, asked of the application: what they carry, and how they tell what is wrong."""
+"""The pages, asked of the application: what they carry, and how they report what is wrong."""
 from __future__ import annotations
 
 import io

@@ -18,7 +18,7 @@ PERIOD = {"calendar": "julian", "rule": "julian", "style": "annunciation", "firs
 
 
 class Told(Register):
-    """A register whose runs tell editions in turn."""
+    """A register whose runs give editions in turn."""
 
     def __init__(self, *editions: int, journal: str = SAMPLES):
         super().__init__(Settings(journal, "/none"))

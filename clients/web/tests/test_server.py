@@ -51,7 +51,7 @@ class Served:
         return reply.status
 
     def end(self, number: int = signal.SIGTERM) -> str:
-        """What it told on standard error until it ended."""
+        """What it printed on standard error until it ended."""
         self.process.send_signal(number)
         return self.process.communicate(timeout=20)[1]
 
@@ -89,7 +89,7 @@ def test_a_page_with_a_name_is_told_to_that_name(served: Callable[..., Served]) 
     (9, POST % len(TABLE) + TABLE)], ids=["idle", "slow heads", "slow bodies", "stalled readers"])
 def test_the_next_client_is_answered_within_a_second(
         program: str, script: Callable[[str], str], count: int, given: bytes) -> None:
-    # (a table comes back at once as it was sent, so that its reader alone is slow)
+    # (a table comes back as it was sent without delay, so that its reader alone is slow)
     one = Served(script(f'[ "$1" = letters ] && exec cat; exec {program} "$@"'))
     one.ask("/letters", b"place,date\nGB,1731\n")
     held = [one.connect(given) for _ in range(count)]

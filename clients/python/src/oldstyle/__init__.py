@@ -1,4 +1,4 @@
-"""Which day a written date means in a territory, as the program oldstyle tells it.
+"""Which day a written date means in a territory, as the program oldstyle returns it.
 
     >>> from oldstyle import Register
     >>> print(Register("samples.journal").read("GB", "11 Feb. 1731/32"))

@@ -47,9 +47,9 @@ class Run:
 class Reading:
     """Which days a date means in a territory, and what its text says of them.
 
-    `runs` has all of the days, and `reason` says why there are none. What is open stays open:
-    `day` is None where the date means several days, `earliest` and `latest` are None at the open
-    end of a bound. The other members are those of `written` in docs/FORMATS.md.
+    `runs` has all of the days, and `reason` says why there are none. If the date means several
+    days, `day` is None; `earliest` or `latest` is None at the open end of a bound. The other
+    members are those of `written` in docs/FORMATS.md.
     """
 
     code: str
@@ -66,14 +66,14 @@ class Reading:
 
     @property
     def day(self) -> Optional[Day]:
-        """The day, where the date means one alone."""
+        """The day, if the date means one alone."""
         if len(self.runs) == 1 and not self.is_open and self.runs[0].first == self.runs[0].last:
             return self.runs[0].first
         return None
 
     @property
     def is_open(self) -> bool:
-        """Whether it is a bound, before or after a date."""
+        """Returns whether it is a bound, before or after a date."""
         return self.kind in ("before", "after")
 
     @property
@@ -108,7 +108,7 @@ class Land:
 @dataclass(frozen=True)
 class Period:
     """The days over which a territory has one calendar, one year beginning and one Easter rule, and
-    where that is stated, if the register says it."""
+    the source, if the register has one."""
 
     calendar: str
     first: int
@@ -119,7 +119,7 @@ class Period:
 
 
 def reading_of(code: str, date: str, reply: Mapping[str, Any]) -> Reading:
-    """The reading that a reply to `written` tells."""
+    """The reading in a reply to `written`."""
     answer = reply["answer"]
     return made(Reading, {
         "code": code, "date": date, "edition": reply["edition"], "kind": answer["kind"],
@@ -150,7 +150,7 @@ def known(kind: Type[Value], members: Mapping[str, Any]) -> Value:
 def made(kind: Type[Value], members: Dict[str, Any]) -> Value:
     """A value with these members, which nobody else holds.
 
-    The call of a frozen dataclass sets each member by itself, and takes four times as long.
+    The call of a frozen dataclass sets each member separately, and takes four times as long.
     """
     value = object.__new__(kind)
     object.__setattr__(value, "__dict__", members)

@@ -1,4 +1,4 @@
-"""What the commands share: their words, what they read and write, and how each one ends."""
+"""What the commands share: their arguments, what they read and write, and how each one ends."""
 from __future__ import annotations
 
 import argparse
@@ -22,15 +22,15 @@ class Unfit(OldstyleError):
 
 
 class CommandLine(argparse.ArgumentParser):
-    """The words of a command. A wrong one is told in a line."""
+    """The arguments of a command. A wrong one is reported in a line."""
 
     def error(self, message: str) -> NoReturn:
-        self.exit(WRONG_WORD, f"{self.prog}: {message}: {self.prog} --help tells the words\n")
+        self.exit(WRONG_WORD, f"{self.prog}: {message}: {self.prog} --help lists the arguments\n")
 
 
 @dataclass
 class Desk:
-    """What a command works with: the register, the places, and what there is to say of lines."""
+    """What a command works with: the register, the places, and the remarks on lines."""
 
     register: Register
     places: Places
@@ -45,9 +45,9 @@ class Desk:
         self.said.append((line, what))
 
     def default_for(self, place: str, names: Iterable[str], line: int) -> Optional[str]:
-        """The territory of --place, for a place that is unknown or empty. It is said later.
+        """The territory of --place, for a place that is unknown or empty, which is noted.
 
-        Beside a table of places that is for dates without a place alone.
+        With a table of places that is for dates without a place alone.
         """
         self._unknown.setdefault(place, []).append(line)
         if (code := self.places.lacking(names)) is not None:
@@ -55,10 +55,10 @@ class Desk:
         return None if place and self.has_table else self.default
 
     def say_unknown(self) -> None:
-        """Says once of each place that it is unknown."""
+        """Reports each unknown place once."""
         for place, lines in self._unknown.items():
             dates = f"{len(lines)} dates" if len(lines) > 1 else "1 date"
-            what = f"unknown place {place} ({dates})" if place else f"no place beside it ({dates})"
+            what = f"unknown place {place} ({dates})" if place else f"no place with it ({dates})"
             step = "name their territory by --place CODE"
             if self.default and not (place and self.has_table):
                 step = f"taken as {self.default}"
@@ -82,19 +82,19 @@ def command_line(name: str, document: str, kind: str) -> CommandLine:
                        formatter_class=argparse.RawDescriptionHelpFormatter)
     line.add_argument("journal", metavar="JOURNAL", help="the journal of the register")
     line.add_argument("--place", metavar="CODE", help="the territory of each date whose place is "
-                      "unknown; beside --places, of each date that has no place")
+                      "unknown; with --places, of each date that has no place")
     line.add_argument("--places", metavar="FILE", help="a table of places: CSV with the columns "
                       "place and code")
-    line.add_argument("--program", metavar="PATH", help="the program; else $OLDSTYLE, or oldstyle "
-                      "on the PATH")
-    line.add_argument("--strict", action="store_true", help="end with status 1 where standard "
-                      f"error is told something; the {kind} is written whole")
+    line.add_argument("--program", metavar="PATH", help="the program; otherwise $OLDSTYLE, or "
+                      "oldstyle on the PATH")
+    line.add_argument("--strict", action="store_true", help="end with status 1 if anything is "
+                      f"reported on standard error; the {kind} is written whole")
     return line
 
 
 def run(line: CommandLine, fill: Callable[[bytes, Desk, argparse.Namespace], bytes],
         words: Optional[Sequence[str]]) -> int:
-    """Runs a command over standard input, and answers its status."""
+    """Runs a command over standard input, and returns its status."""
     options = line.parse_args(words)
     try:
         said = filled(options, fill)
@@ -119,7 +119,7 @@ def ended(line: CommandLine, status: int, why: object) -> int:
 
 def filled(options: argparse.Namespace,
            fill: Callable[[bytes, Desk, argparse.Namespace], bytes]) -> List[str]:
-    """Writes what becomes of standard input, and answers what there is to say."""
+    """Writes the changed standard input, and returns the lines for standard error."""
     table = read_places(options.places) if options.places else {}
     with Register(options.journal, program=options.program) as register:
         places = Places(register.lands(), table)

@@ -1,4 +1,4 @@
-"""What can go wrong, by its name: faults that the program tells, and a program that fails."""
+"""What can go wrong, by its name: faults that the program reports, and a program that fails."""
 from __future__ import annotations
 
 from typing import Any, Mapping
@@ -10,19 +10,19 @@ LONGEST_SHOWN = 200
 
 
 def shown(asked: str) -> str:
-    """What was asked as a message has it: not too long, and of letters that can be printed."""
+    """What was asked, for a message: not too long, and of letters that can be printed."""
     text = asked if len(asked) <= LONGEST_SHOWN else f"{asked[:LONGEST_SHOWN]}.."
     return text.encode("utf-8", "backslashreplace").decode("utf-8")
 
 
 class OldstyleError(Exception):
-    """Whatever this package raises by itself."""
+    """Whatever this package itself raises."""
 
 
 class Fault(OldstyleError):
     """A request that the program refused, or a line that it could not read.
 
-    `number` and `name` are those of docs/FORMATS.md, `field` is the member that is wrong of a
+    `number` and `name` are those of docs/FORMATS.md, `field` is the member that is wrong in a
     BadField, and `edition` the edition that a query was asked of.
     """
 
@@ -46,7 +46,7 @@ class BadCode(Fault):
 
 class UnknownLand(Fault):
     number = 3
-    advice = "no territory of the register has that code: Register.lands() tells which it has"
+    advice = "no territory of the register has that code: Register.lands() lists those it has"
 
 
 class DayOffLine(Fault):
@@ -71,7 +71,7 @@ class LineTooLong(Fault):
 
 class NotJson(Fault):
     number = 32
-    advice = "the text can't be written in UTF-8: decode the bytes that it came from anew"
+    advice = "the text can't be written in UTF-8: decode the bytes that it came from again"
 
 
 class NotObject(Fault):
@@ -89,7 +89,7 @@ class BadField(Fault):
 
 class UnknownOp(Fault):
     number = 35
-    advice = "this program lacks the request: take a newer one, as `oldstyle --version` tells"
+    advice = "this program lacks the request: use a newer one; see `oldstyle --version`"
 
 
 class UnknownReader(Fault):
@@ -106,7 +106,7 @@ KINDS = {kind.number: kind for kind in Fault.__subclasses__()}
 
 
 def fault_of(reply: Mapping[str, Any], asked: str) -> Fault:
-    """The fault that a reply tells, of the class that has its number."""
+    """The fault in a reply, of the class that has its number."""
     return KINDS.get(reply["fault"], Fault)(reply, asked)
 
 
@@ -115,11 +115,11 @@ class ProgramFailed(OldstyleError):
 
 
 class ProgramMissing(ProgramFailed):
-    """No program is there, or it can't be started."""
+    """There is no program, or it can't be started."""
 
 
 class ProgramEnded(ProgramFailed):
-    """The program ended before it had answered. `status` is its status, and `told` what it told
+    """The program ended before it had answered. `status` is its status, and `told` what it printed
     on standard error."""
 
     def __init__(self, message: str, status: int, told: str):
@@ -129,12 +129,12 @@ class ProgramEnded(ProgramFailed):
 
 
 class ProgramSlow(ProgramFailed):
-    """The program did not answer in the time that was given. It is started anew if it is asked
+    """The program did not answer in the time that was given. It is started again if it is asked
     again."""
 
 
 class ProgramBusy(ProgramFailed):
-    """All runs of a pool answered others for as long as was waited."""
+    """All runs of a pool were busy with others for the whole time of waiting."""
 
 
 class JournalRefused(ProgramEnded):
@@ -142,7 +142,7 @@ class JournalRefused(ProgramEnded):
 
 
 class ProgramDiffers(ProgramFailed):
-    """What answers is another program, or a version that lacks what was asked."""
+    """The program that answers is another one, or a version that lacks what was asked."""
 
 
 class PlacesRefused(OldstyleError):

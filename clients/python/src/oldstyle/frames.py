@@ -1,4 +1,4 @@
-"""Readings of a table of pandas, where pandas is there."""
+"""Readings of a table of pandas, if pandas is installed."""
 from __future__ import annotations
 
 from typing import TYPE_CHECKING, Any, Dict, Iterator, Optional, Tuple, Union
@@ -20,7 +20,7 @@ def read_frame(register: Register, frame: "pandas.DataFrame", code: str = "code"
     """A table of what each row's date means, with the index of the frame.
 
     `code`, `date` and `weekday` name columns. `earliest` and `latest` are Gregorian dates as texts,
-    since most times of pandas begin in 1677. `day`, `jdn`, `dual` and `found_weekday` are there of
+    since most times of pandas begin in 1677. `day`, `jdn`, `dual` and `found_weekday` are given for
     a date that means one day, and `fault` has the name of what was refused.
     """
     import pandas
@@ -40,8 +40,8 @@ def read_frame(register: Register, frame: "pandas.DataFrame", code: str = "code"
 
 
 def as_text(pandas: Any, value: Any) -> str:
-    """A field as a text. What is missing is empty, and a year beside such a field, which pandas
-    holds as a float, is a whole number."""
+    """A field as a text. What is missing is empty; a year in a column with such fields, which
+    pandas holds as floats, is a whole number."""
     if isinstance(value, float) and value.is_integer():
         value = int(value)
     return "" if pandas.isna(value) else str(value)

@@ -1,11 +1,11 @@
 """oldstyle-gedcom JOURNAL < tree.ged: writes the file with the calendar of each event's date.
 
 Each date of an event that says no calendar is read as its place wrote it. In GEDCOM 5.5.1 a Julian
-one is marked `@#DJULIAN@ 11 FEB 1731/32`. A text that is no date of GEDCOM is kept as a phrase
+one is marked `@#DJULIAN@ 11 FEB 1731/32`. A text that is not a date of GEDCOM is kept as a phrase
 after it: `INT @#DJULIAN@ 11 FEB 1731/32 (11th Feb. 1731)`. In GEDCOM 7 the date is `JULIAN 11 FEB
-1732`, and what stood there goes into its PHRASE. No other byte changes, and no date that has a
-calendar or an interpretation. Standard error is told what is not read, and where an
-interpretation that is there says something else.
+1732`, and the text that was there goes into its PHRASE. No other byte changes, and no date that has
+a calendar or an interpretation. Standard error lists what is not read, and each interpretation that
+says something else.
 """
 from __future__ import annotations
 
@@ -48,7 +48,7 @@ class Line:
 class Event:
     """An event with its dates, each with its phrase, and its place.
 
-    A date or phrase that goes on in a further line is left: it is in `continued` alone.
+    A date or phrase that continues on another line is left: it is in `continued` alone.
     """
 
     continued: List[Line] = field(default_factory=list)
@@ -59,7 +59,7 @@ class Event:
 
 @dataclass
 class Dated:
-    """A date: the text that was written, and what it is said to mean where that is said."""
+    """A date: the text that was written, and its interpretation if it has one."""
 
     line: Line
     raw: str
@@ -89,10 +89,10 @@ class Tree:
                       for place, (line, end) in enumerate(found)
                       if (match := LINE.fullmatch(line))]
         if not self.lines or (self.lines[0].level, self.lines[0].tag) != (0, "HEAD"):
-            raise Unfit("the file doesn't begin with 0 HEAD: it is no GEDCOM")
+            raise Unfit("the file doesn't begin with 0 HEAD: it is not GEDCOM")
         version = self._of_head("GEDC", "VERS")
         if not version.startswith(("5.5", "7.")):
-            raise Unfit(f"the version of GEDCOM is {version or 'not told'}: 5.5, 5.5.1 and 7 are "
+            raise Unfit(f"the version of GEDCOM is {version or 'missing'}: 5.5, 5.5.1 and 7 are "
                         "read")
         self.version = int(version[0])
         named = "UTF-8" if self.version == 7 else self._of_head("CHAR").upper() or "UTF-8"
@@ -101,7 +101,7 @@ class Tree:
         self._charset = CHARSETS[named]
 
     def _of_head(self, *tags: str) -> str:
-        """A payload of the head, by the tags that lead to it."""
+        """A payload of the head, at the path of these tags."""
         path: List[str] = []
         for line in self.lines[1:]:
             if line.level == 0:
@@ -112,7 +112,7 @@ class Tree:
         return ""
 
     def decoded(self, raw: str) -> Optional[str]:
-        """A text by the letters of the file, or None where its bytes spell no text."""
+        """A text by the letters of the file, or None if its bytes are not a text."""
         try:
             return raw.encode("latin-1").decode(self._charset)
         except UnicodeDecodeError:
@@ -167,10 +167,10 @@ def fill(data: bytes, desk: Desk, options: argparse.Namespace) -> bytes:
 
 
 def dates_of(tree: Tree, desk: Desk) -> Iterator[Dated]:
-    """The dates that are asked, each with its territory. Of the others it is said why."""
+    """The dates that are asked, each with its territory. For the others the reason is reported."""
     for event in tree.events():
         for line in event.continued:
-            desk.say(line.place + 1, "a date that goes on in a further line is left: join both")
+            desk.say(line.place + 1, "a date that continues on another line is left: join both")
         for line, phrase in event.dates:
             date = dated(tree.version, line, phrase)
             text = tree.decoded(date.raw)
@@ -190,7 +190,7 @@ def dates_of(tree: Tree, desk: Desk) -> Iterator[Dated]:
 
 
 def dated(version: int, line: Line, phrase: Optional[Line]) -> Dated:
-    """What was written, and what it is said to mean: an INT of 5.5.1, a date with PHRASE of 7."""
+    """What was written, and its interpretation: an INT of 5.5.1, a date with PHRASE of 7."""
     payload = line.payload.strip()
     if version == 7:
         return Dated(line, phrase.payload, payload, True) if phrase else Dated(line, payload)
@@ -210,7 +210,7 @@ def wider(place: str) -> Iterator[str]:
 
 def write(tree: Tree, date: Dated, answers: Sequence[Answer], desk: Desk,
           is_gregorian: bool) -> None:
-    """Writes a date into its line, and what was written beside it."""
+    """Writes a date into its line, and the original text into its phrase."""
     form = form_of(date, answers, desk, tree.version, is_gregorian)
     line = date.line
     if date.given:
@@ -234,7 +234,7 @@ def write(tree: Tree, date: Dated, answers: Sequence[Answer], desk: Desk,
 
 def form_of(date: Dated, answers: Sequence[Answer], desk: Desk, version: int,
             is_gregorian: bool) -> Form:
-    """What a date is by the answers of the program."""
+    """The form of a date by the answers of the program."""
     for answer in answers:
         if isinstance(answer, Fault):
             raise Unwritten(answer.name)
@@ -247,7 +247,7 @@ def form_of(date: Dated, answers: Sequence[Answer], desk: Desk, version: int,
 
 
 def forms_of(date: Dated, answers: Sequence[Answer], desk: Desk) -> List[str]:
-    """All forms of what a date means, by both calendars and as both versions have it."""
+    """All forms of what a date means, by both calendars and in both versions."""
     forms = []
     for version in (5, 7):
         for is_gregorian in (False, True):

@@ -28,7 +28,7 @@ class Unwritten(Exception):
 
 @dataclass(frozen=True)
 class Form:
-    """A date as GEDCOM has it, and whether it keeps the year, month and day that were written."""
+    """A date in GEDCOM, and whether it keeps the year, month and day that were written."""
 
     text: str
     keeps: bool
@@ -37,7 +37,7 @@ class Form:
 def normal(payload: str) -> str:
     """A payload in the form of the standard, if it has one: blanks, words and double years.
 
-    Other programs write `Abt.  1731`, `Bet. 1731 - 1735` and `11 FEB 1731/2`. What is no date of
+    Other programs write `Abt.  1731`, `Bet. 1731 - 1735` and `11 FEB 1731/2`. What is not a date of
     the standard even so is left as it is.
     """
     text = " ".join(payload.split())
@@ -55,7 +55,7 @@ def double_year(years: "re.Match[str]") -> str:
 
 
 def pieces_of(payload: str) -> Optional[List[str]]:
-    """The dates and keywords of a payload by turns, or None where it is no date of GEDCOM."""
+    """The dates and keywords of a payload by turns, or None if it is not a date of GEDCOM."""
     pieces = KEYWORD.split(payload)
     dates, words = pieces[::2], pieces[1::2]
     if dates[0] == "" and words:
@@ -65,7 +65,7 @@ def pieces_of(payload: str) -> Optional[List[str]]:
 
 
 def is_asked(piece: str) -> bool:
-    """Whether a piece is a date that its place has to tell: with a month, and no calendar.
+    """Returns whether a piece is a date that depends on its place: with a month, and no calendar.
 
     A year alone stays as it is, whatever day it began on.
     """
@@ -77,7 +77,7 @@ def is_asked(piece: str) -> bool:
 class Writer:
     """How days of a place are written: for a version of GEDCOM, and by which calendar.
 
-    GEDCOM has no Swedish calendar: the Julian one stands for it.
+    GEDCOM has no Swedish calendar: the Julian one is used for it.
     """
 
     version: int
@@ -97,7 +97,7 @@ class Writer:
         return Form(mark + " ".join(words), is_double or own == day.label)
 
     def piece(self, reading: Reading) -> Form:
-        """A day or a month that stood in a date of GEDCOM."""
+        """A day or a month that was in a date of GEDCOM."""
         if day := self.only_day(reading):
             return self.day(day)
         run = reading.runs[0]
@@ -106,11 +106,11 @@ class Writer:
         if self.calendar_on(run.first) != self.calendar_on(run.last):
             raise Unwritten("the calendar changed in it")
         if self.is_gregorian and run.first.label != run.first.gregorian:
-            raise Unwritten("a month of another calendar lies in two of the Gregorian one")
+            raise Unwritten("a month of another calendar falls in two of the Gregorian one")
         return self.day(run.first, False)
 
     def only_day(self, reading: Reading) -> Optional[Day]:
-        """The day that a date means, or None of a month and the like. More than that is refused."""
+        """The day that a date means, or None for one run of several days. Others are refused."""
         if not reading.runs:
             raise Unwritten(str(reading.reason))
         if len(reading.runs) > 1:
@@ -120,7 +120,7 @@ class Writer:
         return reading.day
 
     def phrase(self, reading: Reading) -> str:
-        """The date that a text means, which is kept beside it. INT of 5.5.1 takes one date."""
+        """The date that a text means, with the text kept. INT of 5.5.1 takes one date."""
         day = self.only_day(reading)
         if reading.uncertain:
             raise Unwritten("in doubt: GEDCOM has no word for that")
@@ -145,7 +145,7 @@ class Writer:
 
 
 def rewritten(pieces: List[str], readings: Iterator[Reading], writer: Writer) -> Form:
-    """A date of GEDCOM with its calendars, its words as they were."""
+    """A date of GEDCOM with its calendars; its other words are as they were."""
     written: List[str] = []
     keeps = True
     for piece in pieces:
@@ -159,9 +159,9 @@ def rewritten(pieces: List[str], readings: Iterator[Reading], writer: Writer) ->
 
 
 def with_words(form: Form, piece: str) -> Form:
-    """A date with the words that were written, where it has them after the mark of its calendar.
+    """A date with the text that was written, if it has that after the mark of its calendar.
 
-    A Julian one of 5.5.1 takes a double year that was written of a day that was counted once.
+    A Julian one of 5.5.1 takes a double year that was written for a day that was counted once.
     """
     text = plain(form.text).removeprefix("JULIAN ")
     if not form.keeps or text.startswith(plain(piece)):
@@ -178,6 +178,6 @@ def bare(date: str) -> Tuple[str, ...]:
 
 
 def plain(date: str) -> str:
-    """A date without what says the same in another way."""
+    """A date without the parts that make no difference."""
     date = date.upper().replace("@#DJULIAN@", "JULIAN").replace("@#DGREGORIAN@ ", "")
     return " ".join(bare(date.replace("GREGORIAN ", "")))

@@ -14,7 +14,7 @@ SEPARATORS = ",;\t"
 
 
 class Places:
-    """Which territory a place is in: by a table, or as the register itself calls its territories.
+    """Which territory a place is in: by a table, or by the codes and names of the register.
 
     The table comes first, then the codes of the register and then its names, letter by letter.
     """
@@ -27,12 +27,12 @@ class Places:
         self._known.update({code: code for code in self._codes})
 
     def code(self, place: str) -> Optional[str]:
-        """The code of a place, or None where it is unknown or no territory has its code."""
+        """The code of a place, or None if it is unknown or no territory has its code."""
         code = self._table.get(place, self._known.get(place))
         return code if code in self._codes else None
 
     def lacking(self, names: Iterable[str]) -> Optional[str]:
-        """The code that the table has for one of some names, where no territory has that code."""
+        """The code that the table has for one of some names, if no territory has that code."""
         found = (self._table.get(name) for name in names)
         return next((code for code in found if code not in (None, *self._codes)), None)
 
@@ -78,7 +78,7 @@ def records(path: str, text: str) -> Iterator[Tuple[int, str, str]]:
 
 
 def separator_of(text: str) -> str:
-    """What is between fields: the first of the three that the header has outside quotes."""
+    """The separator of the fields: the first of the three that the header has outside quotes."""
     bare = re.sub(r'"[^"]*"?', "", text)
     header = re.split(r"[\r\n]", bare, maxsplit=1)[0]
     return next((mark for mark in header if mark in SEPARATORS), ",")

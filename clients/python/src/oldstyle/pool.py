@@ -23,14 +23,14 @@ class Pool:
         self._command, self._size, self._seconds = command, size, seconds
         self._opening = opening
         self._is_closed = False
-        # By the process that may lend them: what another one left is not touched.
+        # By the process that may lend them: those of other processes are left alone.
         self._idle: Dict[int, "queue.LifoQueue[Optional[Connection]]"] = {}
 
     def ask(self, lines: Sequence[bytes]) -> List[bytes]:
         """The replies to lines, which end by line feeds, all by one run.
 
-        A run and the replies have `seconds`, and a run that is started has them anew. Then
-        `ProgramBusy` or `ProgramSlow` is raised.
+        Waiting for a run and its replies may take `seconds`, and a run that is started has that
+        time again. After that `ProgramBusy` or `ProgramSlow` is raised.
         """
         idle = self._lent()
         last = time.monotonic() + self._seconds
@@ -53,7 +53,7 @@ class Pool:
             fit = connection
             return replies
         finally:
-            # (after whatever exception nobody can say which replies are still to come)
+            # (after an exception it is not known which replies are still to come)
             if fit is None and connection is not None:
                 connection.close()
             idle.put(fit)

@@ -21,11 +21,11 @@ class Register:
 
     `program` names the program; without it the environment variable OLDSTYLE does, or it is
     `oldstyle` on the PATH. With `follow` the answers are those of the editions that another run
-    publishes meanwhile: that wants a program that knows `serve --follow`. A reply that takes more
-    than `timeout` seconds raises `ProgramSlow`.
+    publishes meanwhile: that requires a program that knows `serve --follow`. A reply that takes
+    more than `timeout` seconds raises `ProgramSlow`.
 
     Several threads may ask a register. A process that is forked, and the next question after an
-    exception amid one, such as KeyboardInterrupt, open the journal anew.
+    exception amid one, such as KeyboardInterrupt, open the journal again.
     """
 
     def __init__(self, journal: Union[str, "os.PathLike[str]"], *, program: Optional[str] = None,
@@ -69,8 +69,8 @@ class Register:
                   ahead: int = AHEAD) -> Iterator[Union[Reading, Fault]]:
         """The reading of each row of code and date, or code, date and weekday, in order.
 
-        Rows are taken as readings are, at most `ahead` rows before them: 1 asks for each row by
-        itself. A row that is refused raises its fault, or with `refused` gives it in its place.
+        Rows are taken as readings are, at most `ahead` rows before them: 1 asks for each row
+        alone. A row that is refused raises its fault, or with `refused` gives it in its place.
         """
         if ahead < 1:
             raise ValueError(f"ahead is {ahead}: it is 1 or more")
@@ -94,7 +94,8 @@ class Register:
         return self._all_of(Period, "periods", code=code)
 
     def ask(self, op: str, **members: Any) -> Dict[str, Any]:
-        """The answer to any query of docs/FORMATS.md, as `ask("easter", code="GB", year=1753)`."""
+        """The answer to any query of docs/FORMATS.md, such as
+        `ask("easter", code="GB", year=1753)`."""
         request = {"op": op, "reader": 1, **members}
         line = json.dumps(request, ensure_ascii=False) + "\n"
         asked = f"{op} {' '.join(map(str, members.values()))}".strip()
@@ -105,7 +106,7 @@ class Register:
         return answer
 
     def _all_of(self, kind: Type[Value], op: str, **members: str) -> List[Value]:
-        """The list that the answer to a query has by the query's name."""
+        """The list in the answer to a query, which has the query's name."""
         try:
             return [known(kind, item) for item in self.ask(op, **members)[op]]
         except (KeyError, TypeError):
@@ -135,14 +136,14 @@ class Register:
 
     def _differs(self, asked: str) -> NoReturn:
         raise ProgramDiffers(f"{self._program} answered {asked} in a form that this package "
-                             f"doesn't know: does `{self._program} --version` tell an oldstyle of "
-                             "this package's version?")
+                             f"doesn't know: does `{self._program} --version` print this package's "
+                             "version?")
 
 
 def line_of(row: Row) -> bytes:
     """The request line of a row."""
     if isinstance(row, str) or len(row) not in (2, 3):
-        raise TypeError(f"{row!r} is no row: a row is code and date, or code, date and weekday")
+        raise TypeError(f"{row!r} is not a row: a row is code and date, or code, date and weekday")
     return written_line(*row)
 
 

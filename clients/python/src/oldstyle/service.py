@@ -28,7 +28,7 @@ STATUS_OF_WORDS = 2
 
 
 class Ticket:
-    """The place of a line in the queue. It has the reply as soon as that came."""
+    """The place of a line in the queue. It has the reply as soon as that has come."""
 
     __slots__ = ("reply",)
 
@@ -37,7 +37,7 @@ class Ticket:
 
 
 def program_at(named: Optional[str]) -> str:
-    """The program that is named, or else that of the variable OLDSTYLE, or else of the PATH."""
+    """The program that is named, otherwise that of the variable OLDSTYLE, otherwise of the PATH."""
     path = named or os.environ.get("OLDSTYLE") or "oldstyle"
     if found := shutil.which(path):
         return rooted(found)
@@ -46,14 +46,14 @@ def program_at(named: Optional[str]) -> str:
 
 
 def rooted(path: str) -> str:
-    """The path from the root, since a program may be started anew after the folder has changed."""
+    """The absolute path, since a program may be started again after the folder has changed."""
     return path if os.path.isabs(path) else os.path.join(os.getcwd(), path)
 
 
 class Service:
     """The program with its words, which several threads may ask.
 
-    It is started anew for the next question in a process that was forked since, and after an
+    It is started again for the next question in a process that was forked since, and after an
     exception amid a question, such as one that a signal raised or that the time was up.
     """
 
@@ -125,8 +125,8 @@ class Connection:
         self._owner = os.getpid()
         self._lock = threading.Lock()
         self._is_closing = False
-        # What a question is refused with. During an exchange that is `_lost`, which an exception
-        # leaves there: nobody can say after one which replies are still to come.
+        # What a question is refused with. During an exchange that is `_lost`, which stays if there
+        # is an exception: then it is not known which replies are still to come.
         self._refusal: Optional[ProgramFailed] = None
         self._lost = ProgramEnded(f"an exception or a fork cut the exchange with {command[0]}: ask "
                                   "again", 0, "")
@@ -152,8 +152,8 @@ class Connection:
         self._finalizer = weakref.finalize(self, end, self._process, self._errors, self._owner)
 
     def is_lost(self) -> bool:
-        """Whether another process began it, or an exception interrupted an exchange, such as that
-        the program was too slow."""
+        """Returns whether another process began it, or an exception interrupted an exchange, such
+        as that the program was too slow."""
         if self._owner != os.getpid():
             return True
         with self._lock:
@@ -180,8 +180,8 @@ class Connection:
         return tickets
 
     def wait(self, ticket: Ticket, last: Optional[float] = None) -> bytes:
-        """The reply to a line that was sent. If it doesn't come before the last moment, the program
-        is asked no more."""
+        """The reply to a line that was sent. If it doesn't come before the last moment, the
+        program is no longer asked."""
         while ticket.reply is None:
             self._check_owner()
             with self._lock:
@@ -203,7 +203,7 @@ class Connection:
         return [self.wait(ticket, last) for ticket in self.send(lines)]
 
     def _check_owner(self) -> None:
-        """Refuses questions of another process, where the lock may be held for ever."""
+        """Refuses questions of another process, in which the lock may be held for ever."""
         if self._owner != os.getpid():
             raise self._lost.with_traceback(None)
 
@@ -216,7 +216,7 @@ class Connection:
         self._refusal = self._lost
 
     def _exchange(self) -> None:
-        """Writes what can be written and reads what came. Waits a while for one of the two."""
+        """Writes what can be written and reads what came. Waits a while if neither is possible."""
         for file, _ in (self._both if self._unsent else self._reading).poll(LONGEST_POLL):
             if file == self._out:
                 self._take()
@@ -261,26 +261,26 @@ def closed() -> ProgramEnded:
 
 def explained(command: Sequence[str], status: int, told: str) -> ProgramEnded:
     """The exception of a program that ended, with the next step."""
-    kind, advice = ProgramEnded, "open the register anew"
+    kind, advice = ProgramEnded, "open the register again"
     journal = command[-1]
     if status < 0:
         name = signal.Signals(-status).name
         return kind(f"{command[0]} was ended by {name} before it answered: {advice}", status, told)
     if status == STATUS_OF_WORDS:
-        advice = (f"this program doesn't know {' '.join(command[1:-1])}: take a newer one; "
+        advice = (f"this program doesn't know {' '.join(command[1:-1])}: use a newer one; "
                   f"{command[0]} --version tells which it is")
     elif "journal that is followed" in told:
         advice = f"{journal}: {advice}"
     elif "journal line" in told:
-        kind, advice = JournalRefused, f"{journal}: mend that line, or name another journal"
+        kind, advice = JournalRefused, f"{journal}: correct that line, or name another journal"
     elif "read fault" in told or "no such file" in told:
         kind, advice = JournalRefused, f"{journal}: {unreadable(journal)}"
     return kind(f"{command[0]} ended with status {status} before it answered: "
-                f"{told or 'it told nothing'}: {advice}", status, told)
+                f"{told or 'it printed nothing'}: {advice}", status, told)
 
 
 def unreadable(path: str) -> str:
-    """Why a file can't be read, as the system tells."""
+    """Why a file can't be read, as the system reports it."""
     try:
         with open(path, "rb") as file:
             file.read(1)
@@ -290,14 +290,14 @@ def unreadable(path: str) -> str:
 
 
 def end(process: "subprocess.Popen[bytes]", errors: IO[bytes], owner: int) -> None:
-    """Closes what leads to a program, and in the process that started it ends the program: what
-    it still writes is not waited for."""
+    """Closes the streams of a program. The process that started it also ends it, and doesn't wait
+    for what it still writes."""
     files: List[Optional[IO[bytes]]] = [process.stdin, process.stdout, errors]
     for file in files:
         if file is not None:
             file.close()
     if owner != os.getpid():
-        process.returncode = 0  # the program is no child of this process
+        process.returncode = 0  # the program is not a child of this process
         return
     try:
         process.wait(timeout=PATIENCE)

@@ -3,8 +3,8 @@
 Each date in correspAction, opener and dateline is read by its text and the place beside it. It gets
 @when, or @notBefore and @notAfter, by the Gregorian calendar. @when-custom has the date as the
 place wrote it, @calendar its calendar, and @cert says that it is in doubt or approximate. No other
-byte changes, and no attribute that is there. Standard error is told what is not read, and where an
-attribute that is there says something else.
+byte changes, and no attribute that is there. Standard error lists what is not read, and each
+attribute that is there and says something else.
 """
 from __future__ import annotations
 
@@ -18,7 +18,7 @@ from .faults import Fault
 from .tei_dates import Date, Finder, Place, tag_end
 
 BOUNDS = ("when", "notBefore", "notAfter")
-# How other attributes for a time say what the three above say.
+# Other attributes for a time, and the one of the three above that has the same meaning.
 ALIKE = {name + iso: {"from": "notBefore", "to": "notAfter"}.get(name, name)
          for name in (*BOUNDS, "from", "to") for iso in ("", "-iso")}
 OTHER: Dict[str, List[str]] = {"julian": ["gregorian"], "gregorian": ["julian"], "swedish": []}
@@ -31,7 +31,7 @@ def main(words: Optional[Sequence[str]] = None) -> int:
 
 
 def fill(data: bytes, desk: Desk, _: argparse.Namespace) -> bytes:
-    """The file with what is known of its dates."""
+    """The file with its dates filled in."""
     finder = Finder(data)
     if not finder.is_tei:
         desk.say(1, "no element of TEI's namespace http://www.tei-c.org/ns/1.0 is here")
@@ -42,7 +42,7 @@ def fill(data: bytes, desk: Desk, _: argparse.Namespace) -> bytes:
     for (date, code), reading in zip(asked, readings):
         if added := attributes_of(date, code, reading, desk, pointers):
             if (at := tag_end(data, date.at)) is None:
-                desk.say(date.line, f"{date.text}: its start tag stands in an entity: write it out")
+                desk.say(date.line, f"{date.text}: its start tag is in an entity: write it out")
                 continue
             pieces += [data[done:at], *spelled(added, data[at - 1 : at], finder.encoding)]
             done = at
@@ -60,7 +60,7 @@ def spelled(added: Attributes, last: bytes, encoding: str) -> List[bytes]:
 
 
 class Pointers:
-    """How a file points to a calendar: by the declaration whose name is the calendar's, or has
+    """How a file refers to a calendar: by the declaration whose name is the calendar's, or has
     the calendar's name in it."""
 
     def __init__(self, declared: Sequence[str]):
@@ -83,7 +83,7 @@ class Pointers:
 
 
 def code_of(date: Date, desk: Desk) -> Optional[str]:
-    """The territory of a date. Says where it has none, or nothing to read."""
+    """The territory of a date. Reports a date that has none, or nothing to read."""
     if not date.text:
         if not date.attributes:
             desk.say(date.line, "a date has neither a text nor an attribute")
@@ -105,13 +105,13 @@ def code_of(date: Date, desk: Desk) -> Optional[str]:
 
 
 def codes_of(place: Place, desk: Desk) -> List[str]:
-    """The territories of a place: of the first of its names that is known, else of its parts."""
+    """The territories of a place: of the first known one of its names, otherwise of its parts."""
     return desk.places.codes(place.names)[:1] or desk.places.codes(place.parts)
 
 
 def attributes_of(date: Date, code: str, reading: Union[Reading, Fault], desk: Desk,
                   pointers: Pointers) -> Attributes:
-    """The attributes that a date lacks. What is open or differs is said."""
+    """The attributes that a date lacks. What is open or differs is reported."""
     where = f"{date.text} ({code})"
     if isinstance(reading, Fault) or not reading.runs:
         why = reading.name if isinstance(reading, Fault) else reading.reason
@@ -144,7 +144,7 @@ def bounds_of(reading: Reading) -> Attributes:
 
 
 def agrees(date: Date, bounds: Attributes, where: str, desk: Desk) -> bool:
-    """Whether the times that a date has already are those of the program."""
+    """Returns whether the times that a date has already are those of the program."""
     there = {name: date.attributes[name] for name in ALIKE if name in date.attributes}
     other = [name for name, value in there.items() if bounds.get(ALIKE[name]) != value]
     told = " ".join(f'{name}="{value}"' for name, value in bounds.items())
@@ -160,7 +160,7 @@ def differs(date: Date, name: str, told: str, where: str, desk: Desk) -> None:
 
 def written_by(date: Date, code: str, reading: Reading, desk: Desk,
                pointers: Pointers) -> Attributes:
-    """The date as the place wrote it, where that is another one, and the calendar of the text."""
+    """The date as the place wrote it, if that is another one, and the calendar of the text."""
     day = reading.day
     found: Attributes = {}
     if day and day.label != day.gregorian and not reading.other_calendar:
@@ -177,7 +177,7 @@ def written_by(date: Date, code: str, reading: Reading, desk: Desk,
 def calendars_of(code: str, reading: Reading, desk: Desk) -> List[str]:
     """The calendars of a text: those of the place on the first and the last day.
 
-    A text that names a calendar by which it means other days is by the other one of the two. Where
+    A text that names a calendar by which it means other days is by the other one of the two. If
     the place kept the Swedish one, that is not known.
     """
     ends: List[Optional[Day]] = [reading.earliest, reading.latest]
@@ -188,8 +188,7 @@ def calendars_of(code: str, reading: Reading, desk: Desk) -> List[str]:
 
 
 def certainty(reading: Reading, date: Date) -> Attributes:
-    """How sure the date is: medium where there is one doubt, low where there are two, or where the
-    weekday differs."""
+    """How sure the date is: medium for one doubt, low for two, or if the weekday differs."""
     doubts = [reading.uncertain or date.is_unclear, reading.approximate]
     if reading.weekday_fits is False or all(doubts):
         return {"cert": "low"}

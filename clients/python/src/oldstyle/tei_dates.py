@@ -15,7 +15,7 @@ SCOPES = ("correspAction", "opener", "dateline")
 PLACES = ("placeName", "settlement", "region", "country", "district", "bloc", "geogName")
 PLACES_BY_TYPE = ("name", "rs")
 SILENT = ("note", "del")
-# Of a choice the editor's reading is taken: expan, reg or corr.
+# The editor's reading of a choice is taken: expan, reg or corr.
 LEFT_IN_CHOICE = ("abbr", "orig", "sic")
 BLANKS = ("lb", "pb", "cb", "milestone")
 WIDE = (b"\xff\xfe", b"\xfe\xff", b"<\0", b"\0<")
@@ -39,7 +39,7 @@ class Scope:
 
 @dataclass
 class Date:
-    """A date element: where its start tag begins, and what it says."""
+    """A date element: the place of its start tag, and what it says."""
 
     at: int
     line: int
@@ -52,7 +52,7 @@ class Date:
 
 @dataclass(eq=False)
 class Frame:
-    """An open element, and what has to be done at its end."""
+    """An open element, and what must be done at its end."""
 
     name: str
     text: Optional[List[str]] = None
@@ -63,7 +63,7 @@ class Frame:
 
 
 class Finder:
-    """Reads a TEI file, and has its dates, its calendars and its encoding then."""
+    """Reads a TEI file, and keeps its dates, its calendars and its encoding."""
 
     def __init__(self, data: bytes):
         self.dates: List[Date] = []
@@ -93,7 +93,7 @@ class Finder:
             self._parser.Parse(self._data, True)
         except expat.ExpatError as why:
             what = expat.ErrorString(why.code)
-            raise Unfit(f"line {why.lineno}, column {why.offset + 1}: {what}: the file is no "
+            raise Unfit(f"line {why.lineno}, column {why.offset + 1}: {what}: the file is not "
                         "well-formed XML, and nothing is written") from None
         except (LookupError, ValueError) as why:
             if self._has_begun:  # a fault of this program: an encoding is refused before
@@ -131,7 +131,7 @@ class Finder:
     def _scopes(self) -> List[Scope]:
         """The open elements whose places are beside a date, the innermost first.
 
-        What is about an editor's note, or about deleted text, is not beside a date in there.
+        What is about an editor's note, or about deleted text, doesn't count for a date in there.
         """
         inner = itertools.takewhile(lambda frame: frame.silenced is None, reversed(self._open))
         return [frame.scope for frame in inner if frame.scope]
@@ -140,7 +140,7 @@ class Finder:
         return local in PLACES or (local in PLACES_BY_TYPE and attributes.get("type") == "place")
 
     def _mark(self, local: str, attributes: Dict[str, str]) -> None:
-        """What an element says of the text about it."""
+        """The marks that an element gives to the text about it."""
         if local in BLANKS and attributes.get("break") != "no":
             self._add(" ")
         elif local == "supplied":
@@ -191,6 +191,6 @@ class Finder:
 
 
 def tag_end(data: bytes, at: int) -> Optional[int]:
-    """Where the name and the attributes of a start tag end, or None where no tag is at the byte."""
+    """The end of the name and the attributes of a start tag, or None if no tag is at the byte."""
     found = TAG.match(data, at)
     return found.end() if found else None

@@ -23,14 +23,14 @@ REFUSED_LINE = re.compile(r"journal line \d+: \d+ \w+")
 EXAMPLE = f"{NAME} examples/samples.journal"
 HELLO = b'{"op":"lands","reader":1}\n'
 LONGEST_HEAD = 32_768
-# A connection on which nothing moves is closed after so many seconds.
+# A connection on which nothing moves is closed after this many seconds.
 IDLE_SECONDS, LOOK_SECONDS = 30, 5
-# What a form has beside its files.
+# What a form has besides its files.
 REST_OF_FORM = 65_536
 
 
 class CommandLine(argparse.ArgumentParser):
-    """The words of the command."""
+    """The arguments of the command."""
 
     def error(self, message: str) -> NoReturn:
         self.exit(2, f"{NAME}: {message.removeprefix('argument ')}\n"
@@ -43,22 +43,22 @@ def command_line() -> CommandLine:
                        description="Serves the page of a register to browsers.")
     line.add_argument("journal", metavar="JOURNAL", help="the journal that keeps the register")
     line.add_argument("--program", metavar="PATH",
-                      help="the program; else $OLDSTYLE, or oldstyle on the PATH")
+                      help="the program; otherwise $OLDSTYLE, or oldstyle on the PATH")
     line.add_argument("--address", type=address, default="127.0.0.1", metavar="ADDRESS",
-                      help="the address that is listened at; 127.0.0.1 if none is given")
+                      help="the address on which it listens; by default 127.0.0.1")
     line.add_argument("--host", action="append", default=[], metavar="NAME",
-                      help="a name by which the page is asked, which may be given again; if none "
-                      "is given, this machine alone at a loopback address, else any")
+                      help="a name by which the page is asked, which may be given again; by "
+                      "default this machine alone at a loopback address, otherwise any")
     line.add_argument("--limits", default="", metavar="LIMITS",
-                      help="what the register holds at most, as oldstyle --limits takes it")
+                      help="what the register holds at most, in the form of oldstyle --limits")
     for name, least, most, default, what in (
             ("--port", 0, 65535, 8000, "the port; 0 takes a free one"),
             ("--processes", 1, 64, 2, "how many processes of the program answer lines"),
-            ("--threads", 1, 1000, 16, "how many requests are answered at once"),
-            ("--connections", 16, 100_000, 1000, "how many connections are held at once"),
+            ("--threads", 1, 1000, 16, "how many requests are answered in parallel"),
+            ("--connections", 16, 100_000, 1000, "how many connections may be open"),
             ("--max-upload", 1, 4096, 64, "how many MB a table may have")):
         line.add_argument(name, type=whole(least, most), default=default, metavar="N",
-                          help=f"{what}; {default} if none is given")
+                          help=f"{what}; {default} by default")
     return line
 
 
@@ -94,7 +94,7 @@ def try_journal(settings: Settings) -> None:
         pool.ask([HELLO])
     except ProgramEnded as why:
         said = why.told.partition("\n")[0].removeprefix("oldstyle: ") or "it ended without a word"
-        step = ": mend it, or name another journal" if REFUSED_LINE.fullmatch(said) else ""
+        step = ": correct it, or name another journal" if REFUSED_LINE.fullmatch(said) else ""
         raise Misuse(f"{settings.journal}: the program doesn't load it: {said}{step}") from None
     except ProgramFailed as why:
         raise Misuse(str(why)) from None
@@ -129,7 +129,7 @@ def addresses_of(server: Any) -> list[str]:
 
 
 def allow_files(connections: int) -> None:
-    """Has the system allow the files that so many connections need: each one, and two more for what
+    """Makes the system allow the files that these connections need: each one, and two more for what
     is received and what waits to be sent."""
     soft, hard = resource.getrlimit(resource.RLIMIT_NOFILE)
     wanted = 3 * connections + 256

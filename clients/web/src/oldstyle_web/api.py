@@ -1,6 +1,6 @@
 """The interface for programs: each query of the service by an address, and its reply as it is.
 
-`openapi.json` describes it, and a test holds the two against each other.
+`openapi.json` describes it, and a test compares the two.
 """
 from __future__ import annotations
 
@@ -40,15 +40,16 @@ def number(name: str, given: str) -> dict[str, Any]:
 def label(_name: str, given: str) -> dict[str, Any]:
     """Reads a date as the place counted it."""
     if not (parts := DATE.fullmatch(given)):
-        raise Problem(400, f"{shown(given)} is no date of this form: write year, month and day as "
-                      "1731-02-11, or ask /api/v1/written, which reads dates as people write them.")
+        raise Problem(400, f"{shown(given)} is not a date of this form: write year, month and day "
+                      "as 1731-02-11, or ask /api/v1/written, which reads dates as people write "
+                      "them.")
     return dict(zip(("year", "month", "day"), map(int, parts.groups())))
 
 
 @dataclass(frozen=True)
 class Query:
-    """A query of the service: its name there, and how each word of an address is read. A word that
-    may be left out is named."""
+    """A query of the service: its name there, and how each word of an address is read. The words
+    that may be left out are named."""
 
     op: str
     words: dict[str, Callable[[str, str], dict[str, Any]]]
@@ -89,7 +90,7 @@ def members_of(query: Query) -> dict[str, Any]:
     for name in request.args:
         if name not in query.words:
             known = ", ".join(query.words) or "none"
-            raise Problem(400, f"{shown(name)} is no word of this address: it takes {known}.")
+            raise Problem(400, f"{shown(name)} is not a word of this address: it takes {known}.")
     members: dict[str, Any] = {}
     for name, read in query.words.items():
         given = word(name)
@@ -114,7 +115,7 @@ def description() -> Response:
 @blueprint.after_request
 def shared(response: Response) -> Response:
     """Lets pages of other hosts read a reply, unless the page is for this machine alone: no foreign
-    page is to read what is kept here."""
+    page may read what is kept here."""
     if not page().settings.is_local:
         response.headers.update(CORS)
         if request.method == "OPTIONS":

@@ -1,4 +1,4 @@
-"""The application: its pages, what all replies carry, and what is told of the others."""
+"""The application: its pages, what all replies carry, and what is sent for the others."""
 from __future__ import annotations
 
 import logging
@@ -60,15 +60,15 @@ def add_version(endpoint: str, values: dict[str, Any]) -> None:
 
 
 def refuse_other_hosts() -> None:
-    """Refuses a request that names another host, if the page has names: a foreign page may lead a
-    name of its own here (DNS rebinding)."""
+    """Refuses a request that names another host, if the page has names: a foreign page may let a
+    name of its own lead here (DNS rebinding)."""
     named, hosts = request.environ.get("HTTP_HOST"), page().settings.hosts
     if hosts and named is not None and not is_named(named, hosts):
         raise Problem(421, f"This page is not served by that name: ask {hosts[0]} for it.")
 
 
 def is_named(host: str, hosts: tuple[str, ...]) -> bool:
-    """Whether a header Host names one of some hosts. Addresses of this machine are all one."""
+    """Returns whether a header Host names one of some hosts. All loopback addresses are one."""
     try:
         name = urlsplit(f"//{host}").hostname or ""
     except ValueError:
@@ -77,7 +77,7 @@ def is_named(host: str, hosts: tuple[str, ...]) -> bool:
 
 
 def refuse_broken_queries() -> None:
-    """Refuses addresses that are too long, or whose words are no text."""
+    """Refuses addresses that are too long, or whose words are not text."""
     if len(request.query_string) > LONGEST_QUERY:
         raise Problem(414, f"The address has more than {LONGEST_QUERY} characters.")
     try:
@@ -89,12 +89,12 @@ def refuse_broken_queries() -> None:
 
 
 def broken_query() -> Problem:
-    return Problem(400, "The address has what is no text in UTF-8, or too many members: ask again "
+    return Problem(400, "The address has too many members, or what is not text in UTF-8: ask again "
                    "by the form.")
 
 
 def told(why: HTTPException) -> Response:
-    """What is told of a request that can't be answered, in the form that it asks for."""
+    """The reply to a request that can't be answered, in the form that it asks for."""
     status = why.code or 500
     sentence = why.description or "" if isinstance(why, Problem) else \
         SENTENCES.get(status, f"{why.name}.")

@@ -1,4 +1,4 @@
-"""What the program says of one date: its days, their periods, and why there is none."""
+"""What the program says of one date: its days, their periods, and the reason if there is none."""
 from __future__ import annotations
 
 from dataclasses import dataclass, field
@@ -52,7 +52,7 @@ class DateFound:
 
     @property
     def is_open(self) -> bool:
-        """Whether the order of its numbers decides what it means."""
+        """Whether the meaning depends on the order of its numbers."""
         return self.reason == "open between day and month"
 
     @property
@@ -65,7 +65,7 @@ class DateFound:
 
     @property
     def spans(self) -> Iterator[tuple[str | None, Day | None, Day | None, int | None]]:
-        """Of each run: the name of its first day, that day, its last day if it is another one or
+        """For each run: the name of its first day, that day, its last day if it is another one or
         an end, and how many days there are. A bound has no day at its open end."""
         is_bound = self.kind in ("before", "after")
         for run, count in zip_longest(self.runs, [] if is_bound else self.printed.counts):
@@ -78,7 +78,7 @@ class DateFound:
                    run.last if has_last else None, count)
 
     def agreement(self, day: Day) -> str:
-        """Whether a day has the weekday that is said, in a few words."""
+        """A day's weekday, and in a few words whether it is the one that was given."""
         told = self.printed.agreeing.get(day.day, "")
         if told.startswith("not "):
             return f"{day.weekday}, not {told.removeprefix('not ')}"
@@ -88,7 +88,7 @@ class DateFound:
 
     @property
     def remarks(self) -> list[str]:
-        """What the date says of itself, and what is printed of it beside its days."""
+        """The marks of the date, and the notes that are printed with its days."""
         flags = [text for name, text in FLAGS if self.written[name]]
         lines = [f"The date is {', '.join(flags)}."] if flags else []
         notes = (note[:1].upper() + note[1:] for note in self.printed.notes)
@@ -147,7 +147,7 @@ def shown_runs(kind: str, runs: list[Run]) -> list[Run]:
 
 
 def needs_page(written: dict[str, Any], date: str) -> bool:
-    """Whether the page of the date says more than its answer."""
+    """Returns whether the page of the date says more than its answer."""
     return bool(written["kind"] != "day" or written["reason"] is not None or "/" in date
                 or len(written["runs"]) > 1 or written["weekday"] is False
                 or written["other_calendar"])

@@ -1,4 +1,4 @@
-"""Where the parts of a drawing of a place's line of time stand."""
+"""The positions of the parts in a drawing of a place's line of time."""
 from __future__ import annotations
 
 from dataclasses import dataclass
@@ -14,14 +14,14 @@ WIDTH, MARGIN = 1000, 10
 ROW, LABEL = 34, 70
 # Half the width of a year below the periods.
 TICK = 24
-# Where the periods begin, and where the texts of changes above them stand, with so much room each.
+# The top of the periods, and the levels and the room of the texts of changes above them.
 TOP, LEVELS, ROOM = 72, [18, 40, 62], 190
 Place = Callable[[int], float]
 
 
 @dataclass(frozen=True)
 class Box:
-    """A bar from a place across the drawing, so wide, with its title and its class."""
+    """A bar in the drawing, with its left end and its width, its title and its class."""
 
     x: float
     width: float
@@ -36,7 +36,7 @@ class Box:
 
 @dataclass(frozen=True)
 class Mark:
-    """The line of a change, from its top down. Its text stands at a level, if there is room."""
+    """The line of a change, from its top down. Its text is at a level, if there is room."""
 
     x: float
     top: int
@@ -93,7 +93,7 @@ class Years:
 
 
 def across(first: int, last: int, left: int = MARGIN, right: int = WIDTH - MARGIN) -> Place:
-    """Where a day stands in a drawing that goes from one day to another."""
+    """The position of a day in a drawing that shows the days from one to another."""
     size = max(1, last + 1 - first)
     scale = (right - left) / size
     return lambda day: round(left + scale * (min(max(day, first), last + 1) - first), 1)
@@ -118,13 +118,13 @@ def period_box(number: int, period: Period, place: Place) -> Box:
 
 
 def change_marks(changes: list[Change], place: Place) -> list[Mark]:
-    """The marks of changes. The texts of those that are near stand one below the other, as long as
-    there is room."""
+    """The marks of changes. The texts of those that are near are placed one below the other, as
+    long as there is room."""
     marks = []
     ends: list[float] = [-ROOM] * len(LEVELS)
     for change in changes:
         at = place(change.found.day)
-        # (its line goes down from there, and is to cross no text)
+        # (its line goes down from there, and must cross no text)
         level = next((level for level in range(len(ends))
                       if all(at - end >= ROOM for end in ends[level:])), None)
         if level is not None:

@@ -53,7 +53,7 @@ def received() -> Sent:
     """What a request sends: a form with files, or one table as it is. The words of the address
     count before those of the form."""
     if request.content_length is None:
-        raise Problem(411, "The length of what is sent has to be told, in Content-Length.")
+        raise Problem(411, "The length of what is sent is missing: it must be in Content-Length.")
     if request.content_length > page().settings.max_upload:
         abort(413)
     fields = request.args.to_dict()
@@ -69,7 +69,7 @@ def received() -> Sent:
 
 
 def found_name(name: str) -> str:
-    """The name of the table that is saved, of signs that no header minds."""
+    """The name of the table that is saved, of characters that are allowed in headers."""
     stem = os.path.splitext(name.replace("\\", "/").rpartition("/")[2])[0]
     kept = "".join(sign for sign in stem if sign.isascii() and (sign.isalnum() or sign in "-_ "))
     return f"{kept.strip() or 'letters'}-found.csv"

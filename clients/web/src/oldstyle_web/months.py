@@ -52,7 +52,7 @@ class MonthFound:
         return f"{MONTHS[self.month - 1]} {self.year} in {name}"
 
     def cited(self, title: str) -> str:
-        """What the page says, in one line."""
+        """The contents of the page, in one line."""
         days = [day for weeks in self.runs for week in weeks for day in week if day]
         if not days:
             return f"{title}: no such month"
@@ -60,7 +60,7 @@ class MonthFound:
 
 
 def caption(weeks: list[Week]) -> str:
-    """The month and the year of some weeks, as the first day of them has them."""
+    """The month and the year of some weeks, by the first day of them."""
     return next(day for day in weeks[0] if day).dual.partition(" ")[2]
 
 

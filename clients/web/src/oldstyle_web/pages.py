@@ -61,8 +61,8 @@ def date() -> Response:
 
 @blueprint.get("/answer.json")
 def answer_json() -> Response:
-    """The answer as it is typed: its fragment of the page, its title, its address, and what is
-    said of it aloud."""
+    """The answer as it is typed: its fragment of the page, its title, its address, and the text
+    for screen readers."""
     named_edition()
     asked, edition, lands, found = asked_date()
     title = visible(f"{asked.date} in {found.name} – {NAME}") if found else \
@@ -147,7 +147,7 @@ def year() -> Response:
 
 
 def problem(status: int, sentence: str) -> str:
-    """The page of what can't be answered: the form again if its words were wrong, else a link."""
+    """The page of what can't be answered: the form again if its words were wrong, or a link."""
     shown: dict[str, Any] = {"title": "", "sentence": sentence, "page": request.path[1:]}
     if request.path[1:] in ("", "month", "place", "year", "day") and status in (400, 404):
         try:

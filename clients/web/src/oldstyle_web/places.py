@@ -87,7 +87,7 @@ def run_text(run: Run) -> str:
 
 
 def place_found(printer: Printer, asking: Asking, code: str, name: str) -> PlaceFound:
-    """What the program tells of a territory."""
+    """What the program returns for a territory."""
     periods = asking.periods(code)
     changes = changes_of(asking, code, periods)
     window = window_of(periods)
@@ -106,7 +106,7 @@ def window_of(periods: list[Period]) -> tuple[int, int]:
 
 
 def marks_in(asking: Asking, code: str, first: int, last: int) -> list[tuple[int, int]]:
-    """Round years of the window, each with the number of its first day, as the program tells it."""
+    """Round years of the window, each with the number of its first day, from the program."""
     low, high = (year_in(end.gregorian) for end in asking.days(code, (first, last)))
     step = next((step for step in STEPS if (high - low) // step < MOST_MARKS), STEPS[-1])
     years = [year for year in range(low - low % step + step, high + 1, step) if 1 <= year <= 9999]
@@ -115,7 +115,7 @@ def marks_in(asking: Asking, code: str, first: int, last: int) -> list[tuple[int
 
 
 def groups(changes: list[Change]) -> list[list[Change]]:
-    """Changes, those together that are at most two years apart as the place counted them."""
+    """Changes in groups: at most two years apart as the place counted them."""
     grouped: list[list[Change]] = []
     for change in changes:
         if grouped and year_in(change.found.label) - year_in(grouped[-1][-1].found.label) <= 2:

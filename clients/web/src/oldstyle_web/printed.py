@@ -1,6 +1,6 @@
-"""What the program prints for people, read by its lines: what no query of the service tells yet.
+"""What the program prints for people, read by its lines: what no query of the service returns yet.
 
-All that reads a printed page is here: what `read` says of a date beside its days, the Easters that
+All that reads a printed page is here: what `read` prints besides a date's days, the Easters that
 `territory` lists, and the feasts and months of `almanac`.
 """
 from __future__ import annotations
@@ -20,7 +20,7 @@ from .words import MONTHS, WEEKDAYS
 EDITION = re.compile(r", edition (\d+)$")
 KEPT = 2_000
 NO_LAND = "no territory has the code"
-# Of a line of the journal that is just being written, which is awaited for so many seconds.
+# The fault of a line of the journal that is just being written, and the seconds to wait for it.
 UNFINISHED, AWAITED = "oldstyle: journal line ", 1
 
 DAY_LINE = re.compile(r"day (\d+)    JDN \d+( ok| not \w+)?$")
@@ -37,14 +37,14 @@ FEASTS = {"Septuagesima", "Ash Wednesday", "Easter", "Ascension", "Pentecost", "
 
 @dataclass(frozen=True)
 class Page:
-    """The lines of a page, and what was told if there is none."""
+    """The lines of a page, and what was reported if there is none."""
 
     lines: list[str]
     told: str
 
 
 class Printer:
-    """Runs commands of the program, some at once, and keeps pages that were told of an edition."""
+    """Runs commands of the program, some in parallel, and keeps the pages of each edition."""
 
     def __init__(self, settings: Settings):
         self.settings = settings
@@ -54,11 +54,11 @@ class Printer:
 
     def page(self, asking: Asking, *words: str) -> Page:
         """A page that names its edition in its first line, or one that is kept of the edition that
-        was told."""
+        was given."""
         return self.held(asking, words) or self.keep(asking, words, self.printed(asking, words))
 
     def framed_page(self, asking: Asking, *words: str) -> Page:
-        """A page that names no edition: those before it and after it have to be the same one."""
+        """A page that names no edition: those before it and after it must be the same one."""
         if (page := self.held(asking, words)) is None:
             asking.lands()
             page = self.printed(asking, words)
@@ -75,7 +75,7 @@ class Printer:
         return None
 
     def keep(self, asking: Asking, words: tuple[str, ...], page: Page) -> Page:
-        """Keeps a page if one edition alone was told with it."""
+        """Keeps a page if one edition alone was given with it."""
         if len(asking.editions) == 1:
             with self.lock:
                 self.kept[next(iter(asking.editions)), words] = page
@@ -104,7 +104,7 @@ class Printer:
         """The status of a command over the journal, and what it wrote on both streams."""
         settings, (command, *others) = self.settings, words
         if not self.places.acquire(timeout=settings.question_seconds):
-            raise busy("Many questions are asked at once.")
+            raise busy("Too many questions are asked now.")
         try:
             done = subprocess.run(
                 in_bytes([settings.program, command, *settings.limit_words(), settings.journal,
@@ -122,7 +122,7 @@ class Printer:
 
 @dataclass
 class PrintedDate:
-    """What `read` prints of a date beside what the query `written` answers."""
+    """What `read` prints of a date in addition to the answer of the query `written`."""
 
     read_as: str = ""
     notes: list[str] = field(default_factory=list)
@@ -141,7 +141,7 @@ def printed_date(printer: Printer, asking: Asking, code: str, name: str, date: s
 
 
 def date_on(page: Page, name: str, code: str, date: str = "", weekday: str = "") -> PrintedDate:
-    """What the lines of a page say of a date."""
+    """The contents of a page about a date."""
     found = PrintedDate()
     if not page.lines:
         if page.told:
@@ -165,7 +165,7 @@ def date_on(page: Page, name: str, code: str, date: str = "", weekday: str = "")
 
 
 def without_word(told: str, date: str, weekday: str) -> str:
-    """What is told of a wrong word, without that word and the program's name."""
+    """The report of a wrong argument, without that argument and the program's name."""
     told = told.removeprefix("oldstyle: ")
     for word in (date, weekday, *WEEKDAYS):
         if word and told.startswith(f"{word}: "):

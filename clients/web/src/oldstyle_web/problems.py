@@ -1,9 +1,9 @@
-"""What is told to a reader who can't be answered: a status of HTTP and a sentence."""
+"""What a reader is sent who can't be answered: a status of HTTP and a sentence."""
 from __future__ import annotations
 
 from werkzeug.exceptions import HTTPException
 
-AGAIN = "Try again in a moment, or tell those who run this page."
+AGAIN = "Try again in a moment, or ask those who run this page."
 
 
 class Problem(HTTPException):
@@ -22,7 +22,7 @@ def no_place(code: str) -> Problem:
 
 
 def busy(what: str) -> Problem:
-    """The problem of more requests at once than are allowed."""
+    """The problem of more concurrent requests than are allowed."""
     return Problem(503, f"{what} Try again in a moment.", Retry_After="2")
 
 

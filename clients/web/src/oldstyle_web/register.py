@@ -45,9 +45,9 @@ class Register:
                             opening=SWEDISH)
 
     def of_one_edition(self, work: Callable[[Asking], Found]) -> tuple[int, Found]:
-        """The edition, and what the work gives that was told of it alone. The work is done again
-        if an edition came between, or if the edition is an earlier one than somebody was told
-        before. What such an edition lacks is told to nobody."""
+        """The edition, and what the work gives from it alone. The work is done again if an edition
+        came between, or if the edition is an earlier one than somebody was given before. What such
+        an edition lacks is never reported."""
         least = self.highest
         for _ in range(TRIES):
             asking = Asking(self)
@@ -64,8 +64,8 @@ class Register:
                       f"editions than before. {AGAIN}", Retry_After="2")
 
     def may_tell(self, asking: Asking, least: int) -> bool:
-        """Whether one edition alone was told, from the least one on. If the journal is gone there
-        is none, whoever asks first."""
+        """Returns whether one edition alone was given, from the least one on. If the journal is
+        gone there is none, whoever asks first."""
         if 0 in asking.editions and not os.path.exists(self.settings.journal):
             raise unavailable("its journal isn't there")
         with self.lock:
@@ -91,7 +91,7 @@ class Register:
 
 
 class Asking:
-    """What one request asks, and the editions that were told."""
+    """What one request asks, and the editions of its replies."""
 
     def __init__(self, register: Register):
         self.register = register
@@ -160,7 +160,7 @@ def line_of(question: dict[str, Any]) -> bytes:
 
 
 def name_in(lands: list[Land], code: str) -> str:
-    """The name of a territory that the list has to have."""
+    """The name of a territory, which the list must have."""
     for land in lands:
         if land.code == code:
             return land.name

@@ -21,7 +21,7 @@ def named_edition() -> int | None:
 
 
 def tagged(response: Response, edition: int) -> Response:
-    """A reply of an edition, or the word that the browser holds it already."""
+    """A reply of an edition, or status 304 if the browser has it already."""
     digest = hashlib.sha256(response.get_data()).hexdigest()[:16]
     response.set_etag(f"{edition}-{digest}")
     response.headers["Cache-Control"] = "no-cache"

@@ -1,4 +1,4 @@
-"""What the page is told when it starts: the journal, the program and the limits."""
+"""The settings of the page: the journal, the program and the limits."""
 from __future__ import annotations
 
 import ipaddress
@@ -13,12 +13,12 @@ MEBIBYTE = 1024 * 1024
 
 
 class Misuse(Exception):
-    """What keeps the page from being started, told in one line."""
+    """What keeps the page from being started, reported in one line."""
 
 
 @dataclass(frozen=True)
 class Settings:
-    """The journal and the program, both by absolute paths, and what may run at once.
+    """The journal and the program, both by absolute paths, and how much may run in parallel.
 
     The page answers requests for `hosts` alone; it answers all if there are none.
     """
@@ -40,11 +40,11 @@ class Settings:
 
     @property
     def is_local(self) -> bool:
-        """Whether the page is for this machine alone."""
+        """Returns whether the page is for this machine alone."""
         return bool(self.hosts) and all(map(is_loopback, self.hosts))
 
     def shown(self, told: str) -> str:
-        """What the program told, without its own name and the folder of the journal."""
+        """What the program printed, without its own name and the folder of the journal."""
         return told.strip().removeprefix("oldstyle: ").replace(self.journal, self.journal_name)
 
     def serving_words(self) -> list[str]:
@@ -57,7 +57,7 @@ class Settings:
 
 
 def is_loopback(name: str) -> bool:
-    """Whether a name is an address of this machine alone."""
+    """Returns whether a name is an address of this machine alone."""
     if name == "localhost":
         return True
     try:
@@ -72,7 +72,7 @@ def in_bytes(words: list[str]) -> list[bytes]:
 
 
 def reason_of(why: OSError) -> str:
-    """What the system says of an error, without the paths that it met."""
+    """The system's reason for an error, without the paths that it met."""
     if isinstance(why, FileNotFoundError):
         return "no such file"
     return (why.strerror or str(why)).lower()

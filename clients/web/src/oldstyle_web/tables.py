@@ -17,12 +17,12 @@ from .settings import Settings, in_bytes, reason_of
 from .words import order_of
 
 BLOCK = 65536
-# What stands between the table and the line of how it ended, if that is asked for.
+# The byte between the table and the line of how it ended, if that is asked for.
 MARK = b"\x1e"
 ROLES = ["place", "date", "weekday", "year", "month", "day"]
 SEPARATORS = ["comma", "semicolon", "tab"]
 LONGEST_NAME = 200
-# Of a line of the journal that is just being written, which is awaited for so many seconds.
+# The fault of a line of the journal that is just being written, and the seconds to wait for it.
 OF_JOURNAL, AWAITED = "journal line ", 1
 NAME_YOURS = re.compile(r"name yours by --(\w+)$")
 YOUR_NAME = r"name yours in the field “Column of \1s” (column_\1)"
@@ -64,8 +64,8 @@ def byte_order_mark(file: IO[bytes]) -> bytes:
 
 
 class Tables:
-    """Runs `letters`, some at once, from files into files: neither a table nor its rows are held in
-    memory, and no run waits for who reads its rows."""
+    """Runs `letters`, some in parallel, from files into files: neither a table nor its rows are
+    held in memory, and no run waits for who reads its rows."""
 
     def __init__(self, settings: Settings):
         self.settings = settings
@@ -94,8 +94,8 @@ class Tables:
 
     def written(self, options: list[str], table: IO[bytes], places: IO[bytes] | None,
                 rows: IO[bytes], mark: bytes) -> End:
-        """Has the program write the rows after a mark, or raises why there is none. A line of the
-        journal that is just being written is awaited."""
+        """Makes the program write the rows after a mark, or raises why there is none. Waits for a
+        line of the journal that is just being written."""
         words, passed = [self.settings.program, "letters", self.settings.journal, *options,
                          *self.settings.limit_words()], []
         if places:
@@ -138,7 +138,7 @@ class Tables:
 
 @dataclass(frozen=True)
 class End:
-    """How a run ended: its status, and what it told."""
+    """How a run ended: its status, and what it printed on standard error."""
 
     status: int
     told: str

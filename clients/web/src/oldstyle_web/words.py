@@ -1,4 +1,4 @@
-"""The words of a request, each held against what is allowed, and words for what comes back."""
+"""Checks the words of a request, and gives the words for what comes back."""
 from __future__ import annotations
 
 from typing import Any
@@ -29,7 +29,7 @@ def visible(text: str) -> str:
 
 
 def written_out(value: Any) -> Any:
-    """What a template writes of a value: a text that is visible, and nothing of None."""
+    """What a template writes for a value: a text that is visible, and nothing for None."""
     if value is None:
         return ""
     if isinstance(value, str) and not isinstance(value, Markup):
@@ -38,9 +38,9 @@ def written_out(value: Any) -> Any:
 
 
 def code_of(text: str) -> str:
-    """A code of a territory, or nothing if none is chosen."""
+    """The code of the chosen territory, or an empty text without a choice."""
     if text and not CODE.fullmatch(text):
-        raise Problem(400, f"{shown(text)} is no code of a territory: a code is 2 to 8 capital "
+        raise Problem(400, f"{shown(text)} is not a code of a territory: a code is 2 to 8 capital "
                       "letters or digits, the first a letter. Choose one of the list.")
     return text
 
@@ -51,27 +51,28 @@ def date_of(text: str) -> str:
     if len(text) > LONGEST_DATE:
         raise Problem(400, f"The date has {len(text)} characters: write {LONGEST_DATE} at most.")
     if text != visible(text):
-        raise Problem(400, "The date has a character that is not printed: write it anew.")
+        raise Problem(400, "The date has a character that is not printed: write it again.")
     return text
 
 
 def weekday_of(text: str) -> str:
     """The English name of a weekday, or nothing."""
     if text and text.capitalize() not in WEEKDAYS:
-        raise Problem(400, f"{shown(text)} is no weekday: write its English name, as Friday.")
+        raise Problem(400, f"{shown(text)} is not a weekday: write its English name, such as "
+                      "Friday.")
     return text.capitalize()
 
 
 def order_of(text: str) -> str:
     """The order of day and month in numbers, or nothing."""
     if text and text not in ORDERS:
-        raise Problem(400, f"{shown(text)} is no order: it is dmy, for 11/2/1731 as 11 February, "
-                      "or mdy, for 2/11/1731.")
+        raise Problem(400, f"{shown(text)} is not an order: it is dmy, for 11/2/1731 as 11 "
+                      "February, or mdy, for 2/11/1731.")
     return text
 
 
 def number_of(name: str, text: str, least: int, most: int) -> int | None:
-    """A whole number, or None if none is written."""
+    """A whole number, or None if the text is empty."""
     text = text.strip()
     if not text:
         return None
@@ -82,21 +83,21 @@ def number_of(name: str, text: str, least: int, most: int) -> int | None:
 
 
 def month_of(text: str) -> int | None:
-    """A month by its number or its English name, or None if none is written."""
+    """A month by its number or its English name, or None if the text is empty."""
     if (name := text.strip().capitalize()) in MONTHS:
         return MONTHS.index(name) + 1
     if text.strip() and not (text.strip().isascii() and text.strip().isdigit()):
-        raise Problem(400, f"{shown(text)} is no month: write its English name, or 1 to 12.")
+        raise Problem(400, f"{shown(text)} is not a month: write its English name, or 1 to 12.")
     return number_of("month", text, 1, 12)
 
 
 def shown(text: str) -> str:
-    """A word of a reader as a sentence has it."""
+    """A word of a reader, as it is shown in a sentence."""
     return f"“{text[:60]}{'…' if len(text) > 60 else ''}”"
 
 
 def in_words(date: str) -> str:
-    """A date of the program, as 1732-02-22, in words."""
+    """A date of the program, such as 1732-02-22, in words."""
     year, month, day = date.split("-")
     return f"{int(day)} {MONTHS[int(month) - 1]} {int(year)}"
 

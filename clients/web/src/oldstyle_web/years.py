@@ -15,7 +15,7 @@ from .words import year_in
 
 @dataclass(frozen=True)
 class YearFound:
-    """A year counted from 1 January, and what the almanac of the territory has of it."""
+    """A year counted from 1 January, and its part of the almanac of the territory."""
 
     year: int
     figures: dict[str, Any]

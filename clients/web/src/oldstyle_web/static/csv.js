@@ -1,13 +1,13 @@
-// CSV as the program writes it: cut into records as it comes, and a record into its fields.
+// CSV as the program writes it: cuts pieces of it into records, and a record into its fields.
 const SEPARATORS = [",", ";", "\t"];
 
-// Cuts a text that comes in pieces. A line feed ends a record where no quote is open.
+// Cuts a text that comes in pieces. A line feed ends a record unless a quote is open.
 export class Records {
     constructor() {
         this.rest = "";
     }
 
-    // The whole records that a further piece ends.
+    // The whole records that the next piece ends.
     take(piece) {
         const text = this.rest + piece;
         const records = [];
@@ -28,7 +28,7 @@ export class Records {
     }
 }
 
-// The separator of a header: the first one that stands outside quotes.
+// The separator of a header: the first one outside quotes.
 export function separatorOf(header) {
     let open = false;
     for (const sign of header) {

@@ -8,7 +8,7 @@ let timer = 0;
 let asking = null;
 let shown = questionOf((field) => field.defaultValue ?? chosenFirst(field));
 
-// The question by the fields' words, as an address has it.
+// The question by the fields' words, in the form of an address.
 function questionOf(word) {
     const members = new URLSearchParams();
     for (const field of form.elements) {
@@ -22,7 +22,7 @@ function chosenFirst(list) {
     return [...list.options].find((option) => option.defaultSelected)?.value ?? "";
 }
 
-// Whatever is on its way is the answer to other words than those that are typed now.
+// An answer that is on its way is to other words than those that are typed now.
 function later() {
     asking?.abort();
     clearTimeout(timer);
@@ -69,7 +69,7 @@ function tell(sentence, question) {
     said.textContent = sentence;
 }
 
-// Puts buttons that copy beside the link, where the browser lets a page copy.
+// Puts buttons that copy beside the link, if the browser lets a page copy.
 function offerCopy() {
     const link = document.getElementById("link");
     if (!link || !navigator.clipboard) return;

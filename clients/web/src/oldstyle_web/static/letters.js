@@ -1,4 +1,4 @@
-// A table of letters: sends it, shows its rows as they come, has them mended, and saves them.
+// A table of letters: sends it, shows its rows as they come, has them corrected, and saves them.
 import {Records, fieldsOf, lastField, separatorOf} from "./csv.js";
 import {Mending} from "./mending.js";
 import {Sheet} from "./sheet.js";
@@ -54,7 +54,7 @@ async function send(event) {
     return null;
 }
 
-// Reads a table. What is told of how it ended, if it did not end well.
+// Reads a table. Returns the report of how it ended, if it did not end well.
 async function read(file, {stopping, words}) {
     const {signal} = stopping;
     try {
@@ -86,7 +86,7 @@ function begin(name) {
     return run;
 }
 
-// Takes the rows as they come, and gives the browser time between them.
+// Takes the rows as they come, and lets the browser work between them.
 async function take(reader, total, signal) {
     const decoder = new TextDecoder("utf-8", {ignoreBOM: true});
     const records = new Records();
@@ -133,7 +133,7 @@ function progress(total) {
     sheet.later();
 }
 
-// What is told of a table, as a sentence of this page.
+// The report of a table, as a sentence of this page.
 function explained(told) {
     const sentence = told.replace(/\.$/, "");
     return `${sentence.replace(/ or rename it$/, " or rename it, and send the table again")}.`;
@@ -156,7 +156,7 @@ function summary() {
     return `${number(count)} ${count === 1 ? "row" : "rows"}, ${number(remarks)} with a remark.`;
 }
 
-// Counts the remarks anew and offers each of them.
+// Counts the remarks again and offers each of them.
 function counted(row = null) {
     if (row !== null) isSaved = false;
     const counts = new Map();
@@ -227,8 +227,8 @@ async function offerColumns() {
     named("columns").replaceChildren(...names.map((name) => new Option(name, name)));
 }
 
-// Whether files are dragged to the page: texts go into its fields, and a file over another field
-// of files goes there.
+// Returns whether files are dragged to the page: texts go into its fields, and a file over another
+// field of files goes there.
 function bringsTable(event) {
     const isOther = event.target.matches?.("input[type=file]") && event.target.id !== "table";
     return event.dataTransfer?.types.includes("Files") && !isOther;

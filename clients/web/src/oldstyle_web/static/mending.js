@@ -1,4 +1,4 @@
-// Mending: a row's place, date and weekday are changed in the row, and asked again alone.
+// Corrections: a row's place, date and weekday are changed in the row, which is asked again alone.
 import {Records, fieldsOf, lastField, recordOf} from "./csv.js";
 
 const ADDED = 12;
@@ -32,8 +32,8 @@ export class Mending {
             .filter((place) => place >= 0);
     }
 
-    // Begins to mend a row: its fields are kept apart from the row as they are typed, so that they
-    // are there still when the row is drawn anew.
+    // Begins to correct a row: its fields are kept outside the row as they are typed, so that they
+    // are still there when the row is drawn again.
     begin(row) {
         const {sheet} = this;
         const fields = fieldsOf(sheet.records[row], sheet.separator).slice(0, -ADDED);
@@ -93,8 +93,8 @@ export class Mending {
         if (isHere) drawn?.querySelector("button").focus();
     }
 
-    // Asks for the row alone, as a table of one row. A reply that is overtaken, by what is typed
-    // or asked since or by another table, is thrown away.
+    // Asks for the row alone, as a table of one row. A reply is thrown away if something was typed
+    // or asked since, or another table was read.
     async ask(row) {
         const {separator, columns, editing} = this.sheet;
         const typed = editing.get(row);

@@ -13,7 +13,7 @@ for (const grid of document.querySelectorAll("table[data-month]")) {
     });
 }
 
-// The day that a key goes to, or nothing.
+// The day to which a key leads, or nothing.
 function target(key, at, links) {
     if (key in STEPS) {
         let place = at + STEPS[key];

@@ -1,4 +1,4 @@
-// The rows of a table, of which only those that are seen stand in the page.
+// The rows of a table, of which only those that are seen are in the page.
 import {fieldsOf} from "./csv.js";
 
 const MORE = 6;
@@ -8,7 +8,7 @@ const NARROWEST = 10;
 const HIGHEST = 12_000_000;
 
 export class Sheet {
-    // `mend` is called with the number of a row whose button is pressed.
+    // Calls `mend` with the number of the row whose button is pressed.
     constructor(view, head, body, mend) {
         Object.assign(this, {view, head, body, mend});
         this.table = body.parentElement;
@@ -103,7 +103,7 @@ export class Sheet {
         const {scrollTop, clientHeight} = this.view;
         const whole = this.count * this.height;
         const high = Math.min(whole, HIGHEST);
-        // Of more rows than fit that height, a step of the scroll bar passes over several.
+        // If there are more rows than fit that height, a step of the scroll bar skips several.
         const scale = whole > high ? (whole - clientHeight) / (high - clientHeight) : 1;
         const at = Math.min(scrollTop * scale, Math.max(0, whole - clientHeight));
         const first = Math.max(0, Math.floor(at / this.height) - MORE);
@@ -123,7 +123,7 @@ export class Sheet {
         return null;
     }
 
-    // Puts rows into the page, between rooms of these heights, and moves none that stands there.
+    // Puts rows into the page, between rooms of these heights, and moves none that is there.
     place(kept, above, below) {
         for (const [row, drawn] of this.drawn) if (kept.get(row) !== drawn) drawn.remove();
         this.top ??= room();
@@ -183,7 +183,7 @@ export class Sheet {
         return cell;
     }
 
-    // Draws one row anew.
+    // Draws one row again.
     renew(row) {
         const old = this.drawn.get(row);
         if (!old) return null;
