@@ -74,34 +74,16 @@ def in_gramps(folder):
 
 
 def in_r(installed, folder):
-    """The example of R's README, as it is there, and what its functions refuse."""
+    """The package of R, installed as its README says, and the example that is there."""
     with open(os.path.join(CLIENTS, "r", "README.md"), encoding="utf-8") as file:
         blocks = dict(re.findall(r"```(\w+)\n(.*?)```", file.read(), re.DOTALL))
+    library = os.path.join(folder, "library")
+    os.mkdir(library)
+    done = installed.run(["sh", "-c", blocks["sh"]], R_LIBS=library)
+    yield f"R CMD INSTALL: {done.stdout}{done.stderr}", os.listdir(library) == ["oldstyle"]
     tried.append("R")
-    done = installed.run(["Rscript", "-e", blocks["r"]])
+    done = installed.run(["Rscript", "-e", blocks["r"]], R_LIBS=library)
     yield f"R: {done.stdout}{done.stderr}", done.stdout.decode() == blocks["text"]
-    source = 'source("clients/r/oldstyle.R"); read <- function(...) oldstyle_read("%s", ...);'
-    calls = [
-        ('read(c("GB", "FR"), c("1640", "1640"))$fault', '[1] NA            "UnknownLand"\n'),
-        ('read("GB", c("before 25 March 1640", "after 25 March 1640"))[c("first", "last")]',
-         "       first       last\n1       <NA> 1640-04-03\n2 1640-04-05       <NA>\n"),
-        ('read("GB", "11 Feb. 1731/32", c("Friday"))$weekday_fits', "[1] TRUE\n"),
-        ('read("GB", "11 f\\u00e9vrier 1731")$dual', '[1] "11 February 1731/2"\n'),
-        ('read("GB", c(NA, "\\"\\\\\\n"))$kind', '[1] "none" "none"\n'),
-        ('dim(read("GB", character(0))) - dim(read("GB", "1640"))', "[1] -1  0\n"),
-        (f'oldstyle_lands("{JOURNAL}")$code', '[1] "RM" "GB" "SE" "RU" "DE"\n'),
-    ]
-    for code, told in calls:
-        done = installed.run(["Rscript", "-e", source % JOURNAL, "-e", code])
-        yield f"R {code}: {done.stdout}{done.stderr}", done.stdout.decode() == told
-    for code, told in (('oldstyle_read("none.journal", "GB", "1640")', "no such file"),
-                       ('oldstyle_read("README.md", "GB", "1640")', "README.md: mend"),
-                       ('oldstyle_lands("x", program = "no-such-oldstyle")', "OLDSTYLE"),
-                       ('read(c("GB", "GB"), "1640")', "as long as date")):
-        done = installed.run(["Rscript", "-e", source % JOURNAL, "-e", code])
-        yield f"R {code}: {done.stderr}", done.returncode == 1 and told in done.stderr.decode()
-    shutil.copy(JOURNAL, os.path.join(folder, "--help"))
-    code = (f'source("{CLIENTS}/r/oldstyle.R"); cat(ls(), oldstyle_lands("--help")$code)')
-    done = installed.run(["Rscript", "-e", code], folder=folder)
-    yield f"R: a journal named --help: {done}", \
-        done.stdout == b"oldstyle_lands oldstyle_read RM GB SE RU DE"
+    done = installed.run(["Rscript", "-e", 'library(oldstyle); cat(ls("package:oldstyle"))'],
+                         R_LIBS=library)
+    yield f"R: what is exported: {done}", done.stdout == b"oldstyle_lands oldstyle_read"

@@ -183,6 +183,8 @@ try_install() {
     hold "in fish" cmp "$at/under/share/fish/vendor_completions.d/oldstyle.fish" <(completed fish)
     hold "and the samples" diff -r "$clone/examples" "$at/under/share/oldstyle/examples"
     hold "which find the program" test -x "$at/under/share/oldstyle/examples/../oldstyle"
+    hold "and the package of R with them" cmp "$clone/examples/samples.journal" \
+        "$at/under/share/oldstyle/r/inst/extdata/samples.journal"
     words=(install)
     run PATH=/usr/bin:/bin "HOME=$at/home"
     hold "with no folder it goes to ~/.local" test -x "$at/home/.local/bin/oldstyle"

@@ -1,6 +1,6 @@
 # shellcheck shell=bash disable=SC2154  # part of `oldstyle`
-# Puts the program, its manual, the texts that complete its words, the clients in Python and the
-# samples under a folder, in which they need neither the kit nor this repository, and takes them
+# Puts the program, its manual, the texts that complete its words, the clients in Python and R, and
+# the samples under a folder, in which they need neither the kit nor this repository, and takes them
 # away again.
 to=""
 # Below the folder: names each file that was put there, this one too.
@@ -27,8 +27,8 @@ install_program() {
         refuse "it can't be installed under $to:" \
             "name a folder that you may write to, as ./oldstyle install FOLDER"
     say "installed under $to: bin/oldstyle, bin/oldstyle-web, bin/oldstyle-tei," \
-        "bin/oldstyle-gedcom, share/man/man1/oldstyle.1, share/oldstyle/examples and completions" \
-        "of bash, zsh and fish"
+        "bin/oldstyle-gedcom, share/man/man1/oldstyle.1, share/oldstyle/examples," \
+        "share/oldstyle/r and completions of bash, zsh and fish"
     [[ :$PATH: == *":$to/bin:"* ]] ||
         say "$to/bin is not on the PATH: add it, or start $to/bin/oldstyle"
 }
@@ -39,15 +39,21 @@ put() { install -D -m "$1" "$2" "$to/$3" && echo "$3" >> "$to/$list.new"; }
 # put_completions SHELL TARGET: the program says how the shell completes its words.
 put_completions() { "$program" completions "$1" | put 644 /dev/stdin "$2"; }
 
-# put_clients: puts the packages of Python, and a command for each of their programs.
+# put_folder FOLDER TARGET: puts the files of a folder, except those that Python and pip make.
+put_folder() {
+    local file
+    while read -r -d '' file; do
+        put 644 "$1/$file" "$2/$file" || return
+    done < <(find -L "$1" -name __pycache__ -prune -o -name '*.egg-info' -prune \
+        -o -type f -printf '%P\0')
+}
+
+# put_clients: puts the packages of Python and R, and a command for each program of the former.
 put_clients() {
-    local folder file name
-    for folder in clients/python/src clients/web/src; do
-        while read -r -d '' file; do
-            put 644 "$folder/$file" "share/oldstyle/python/$file" || return
-        done < <(cd "$folder" && find . -name __pycache__ -prune -o -name '*.egg-info' -prune \
-            -o -type f -printf '%P\0')
-    done
+    local name
+    put_folder clients/python/src share/oldstyle/python &&
+        put_folder clients/web/src share/oldstyle/python &&
+        put_folder clients/r share/oldstyle/r || return
     for name in oldstyle-web oldstyle-tei oldstyle-gedcom; do
         put 755 tools/launcher/client.py "bin/$name" || return
     done

@@ -218,7 +218,7 @@ def write(tree: Tree, date: Dated, answers: Sequence[Answer], desk: Desk,
         if plain(date.given) not in forms:
             raise Unwritten(f"{date.given} is left, the program has {form.text}")
         return
-    if form.text == " ".join(date.raw.split()):
+    if form.text.upper() == " ".join(date.raw.upper().split()):
         return
     if tree.version == 7:
         phrase = f"{line.front.replace('2', '3', 1).replace('DATE', 'PHRASE')} {date.raw}"

@@ -13,6 +13,7 @@ KEYWORD = re.compile(r"(?:^| )(BEF|AFT|ABT|CAL|EST|FROM|TO|BET|AND) ", re.IGNORE
 ABBREVIATED = re.compile(r"(BEF|AFT|ABT|CAL|EST|BET)\b\.? *(?=\w)", re.IGNORECASE)
 TO_LATER = re.compile(r" *[-\u2013] *| and ", re.IGNORECASE)
 LATER_YEAR = re.compile(r"\b(\d{1,4})/(\d{4}|\d)(?!\d)")
+BY_NUMBERS = re.compile(r"(?<![\d/-])(\d{4})-(0?[1-9]|1[0-2])-(\d\d?)(?![\d-])")
 SHAPES = ("", "BEF", "AFT", "ABT", "CAL", "EST", "FROM", "TO", "BET AND", "FROM TO")
 CALENDAR = r"@#D[A-Z ]+@|GREGORIAN|JULIAN|FRENCH_R|HEBREW|_\w+"
 SIMPLE = re.compile(rf"(?:(?P<calendar>{CALENDAR}) (?:(?:\d{{1,2}} )?[A-Z]{{3,4}} )?"
@@ -37,15 +38,21 @@ class Form:
 def normal(payload: str) -> str:
     """A payload in the form of the standard, if it has one: blanks, words and double years.
 
-    Other programs write `Abt.  1731`, `Bet. 1731 - 1735` and `11 FEB 1731/2`. What is not a date of
-    the standard even so is left as it is.
+    Other programs write `Abt.  1731`, `Bet. 1731 - 1735`, `11 FEB 1731/2` and `1731-02-11`. What is
+    not a date of the standard even so is left as it is.
     """
-    text = " ".join(payload.split())
+    text = BY_NUMBERS.sub(by_name, " ".join(payload.split()))
     if found := ABBREVIATED.match(text):
         word, rest = found[1].upper(), text[found.end():]
         text = f"{word} {TO_LATER.sub(' AND ', rest, count=1) if word == 'BET' else rest}"
+    text = KEYWORD.sub(lambda found: found[0].upper(), text)
     text = LATER_YEAR.sub(double_year, text)
     return payload if pieces_of(text) is None else text
+
+
+def by_name(date: "re.Match[str]") -> str:
+    """A date of three numbers with the name of its month."""
+    return f"{int(date[3])} {MONTHS[int(date[2]) - 1]} {date[1]}"
 
 
 def double_year(years: "re.Match[str]") -> str:

@@ -4,7 +4,7 @@ from __future__ import annotations
 import itertools
 import re
 from dataclasses import dataclass, field
-from typing import Dict, List, Optional
+from typing import Dict, Iterator, List, Optional
 from xml.parsers import expat
 
 from .commands import Unfit
@@ -115,6 +115,7 @@ class Finder:
         if local == "date" and (scopes := self._scopes()):
             frame.date = Date(self._parser.CurrentByteIndex, self._parser.CurrentLineNumber,
                               attributes, scopes)
+            frame.date.is_unclear = any(outer.name == "unclear" for outer in self._inner())
             self.dates.append(frame.date)
         elif local in SCOPES:
             frame.scope = Scope()
@@ -133,8 +134,11 @@ class Finder:
 
         What is about an editor's note, or about deleted text, doesn't count for a date in there.
         """
-        inner = itertools.takewhile(lambda frame: frame.silenced is None, reversed(self._open))
-        return [frame.scope for frame in inner if frame.scope]
+        return [frame.scope for frame in self._inner() if frame.scope]
+
+    def _inner(self) -> Iterator[Frame]:
+        """The open elements up to the first one whose text is not read, the innermost first."""
+        return itertools.takewhile(lambda frame: frame.silenced is None, reversed(self._open))
 
     def _is_place(self, local: str, attributes: Dict[str, str]) -> bool:
         return local in PLACES or (local in PLACES_BY_TYPE and attributes.get("type") == "place")
@@ -168,7 +172,7 @@ class Finder:
 
     def _end_place(self, place: Place, text: str) -> None:
         place.names.append(text)
-        outer = next((frame.place for frame in reversed(self._open) if frame.place), None)
+        outer = next((frame.place for frame in self._inner() if frame.place), None)
         if outer is not None:
             outer.parts += place.names
             return

@@ -1,18 +1,7 @@
-# Which day a written date means in a territory, by the program oldstyle. It requires jsonlite.
-#
-#     source("oldstyle.R")
-#     oldstyle_read("samples.journal", "GB", c("11 Feb. 1731/32", "March 1731"))
-#
-# No date is computed here: the program reads the texts, and answers in lines of JSON. What begins
-# with a point is for the two functions oldstyle_read and oldstyle_lands.
+# No date is computed here: the program reads the texts, and answers in lines of JSON. A function
+# whose name begins with a point is internal; the pages of man/ describe the others.
 
 # What each date means: a data frame with a row for each date, in order.
-#
-# code and weekday are as long as date, or one for all. first and last are the Gregorian dates of
-# the days that a date may mean, NA at an open end. day, jdn, dual and found_weekday are given for a
-# date that means one day alone. runs counts the runs of days: if there are two, the days
-# between first and last are not all meant. reason says why there is no day, and fault names what
-# was refused. The column answer has the whole answer of the program.
 oldstyle_read <- function(journal, code, date, weekday = NA, program = NULL) {
   count <- length(date)
   if (!length(code) %in% c(1, count) || !length(weekday) %in% c(1, count)) {

@@ -1,0 +1,4 @@
+library(testthat)
+library(oldstyle)
+
+test_check("oldstyle")
