@@ -10,6 +10,7 @@ are asked again. Each page is checked for contrast, names of its fields, width, 
 the browser reports, at three sizes, in light and in dark. `--pictures FOLDER` keeps the pictures.
 """
 import os
+import re
 import subprocess
 import tempfile
 import time
@@ -30,7 +31,10 @@ TYPED = [("GB", "11 February 1731", "Friday"), ("GB", "5 September 1752", ""),
 PAGES = ["/", "/?code=GB&date=11+February+1731&weekday=Friday", "/?code=GB&date=1752-09-05",
          "/month?code=GB&year=1752&month=9", "/month?code=GB&year=1731&month=3", "/place?code=GB",
          "/place?code=SE", "/place", "/year?code=GB&year=1752", "/letters",
-         "/day?code=SE&day=625000"]
+         "/day?code=SE&day=625000", "/edition?edition=2&code=GB", "/forms?lang=sv",
+         "/compare?code=GB&other=SE&date=11+February+1731", "/year?code=GB&year=1731&lang=de",
+         "/letters?lang=fr"]
+FEAST = re.compile(r"([A-Z][\w ]+): (.+?)    (.+) Gregorian .* day (\d+)    JDN")
 GAPS = """
 window.longest = 0;
 let last = performance.now();
@@ -163,7 +167,7 @@ def hold_month(browser, page):
     browser.driver.get(page.address + "/month?code=GB&year=1752&month=September")
     marked = [cell.text for cell in browser.all(".month .changed")]
     hold("the day after the gap is marked", marked == ["14"], marked)
-    hold("the gap is told", "Wednesday 2 September 1752 was followed by Thursday 14 September 1752."
+    hold("the gap is told", "by Thursday 14 September 1752. 11 dates left out."
          in browser.one(".gap-note").text)
     browser.run("document.querySelector('.month td a').focus()")
     for wanted in ("2", "14", "15"):
@@ -180,7 +184,7 @@ def hold_month(browser, page):
 
 
 def hold_place_and_year(browser, page, program):
-    """The line of time compared with `territory`, and the year with `almanac`."""
+    """The line of time compared with `territory`, and the year with `year`."""
     for code in ("GB", "SE", "RU", "RM"):
         browser.driver.get(f"{page.address}/place?code={code}")
         lines = subprocess.run([program, "territory", SAMPLES, code], check=True, text=True,
@@ -196,11 +200,11 @@ def hold_place_and_year(browser, page, program):
         hold(f"the drawing of {code}", len(browser.all("svg .period")) == len(lines))
     browser.driver.get(f"{page.address}/year?code=GB&year=1752")
     text = " ".join(browser.one("main").text.split())
-    almanac = subprocess.run([program, "almanac", SAMPLES, "GB", "1752"], check=True, text=True,
-                             capture_output=True).stdout.splitlines()
-    for line in almanac[7:13]:
-        name, weekday, number, dual = line[:13].strip(), *line[13:].split(maxsplit=2)
-        hold(f"{name} of 1752", f"{name} {weekday} {dual} {number}" in text, line)
+    lines = subprocess.run([program, "year", SAMPLES, "GB", "1752"], check=True, text=True,
+                           capture_output=True).stdout.splitlines()
+    feasts = [FEAST.match(line) for line in lines if FEAST.match(line)]
+    hold("the feasts of 1752", len(feasts) == 6 and all(" ".join(feast.groups()) in text
+                                                         for feast in feasts), text)
     hold("the figures of 1752", "Golden number 5 5" in text and "Sunday letter ED BA" in text)
 
 

@@ -129,7 +129,8 @@ def journal_of(program, folder, name, lines):
 
 def paths_of(code):
     """A path to each page that names a place."""
-    return [f"/?code={code}&date=4+October+1582", f"/?code={code}&date=10+October+1582",
+    return [f"/compare?code={code}&other={code}&date=4+October+1582",
+            f"/?code={code}&date=4+October+1582", f"/?code={code}&date=10+October+1582",
             f"/?code={code}&date=October+1582", f"/?code={code}&date=after+1600",
             f"/day?code={code}&day=577736", f"/month?code={code}&year=1582&month=10",
             f"/year?code={code}&year=1582", f"/place?code={code}"]

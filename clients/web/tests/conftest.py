@@ -1,8 +1,14 @@
 """What the tests share: the program, if there is one, stand-ins for it, and the page over both."""
 from __future__ import annotations
 
+import http.client
 import os
+import re
 import shutil
+import signal
+import socket
+import subprocess
+import sys
 from pathlib import Path
 from typing import Any, Callable, Iterator
 
@@ -15,6 +21,42 @@ from oldstyle_web.settings import Settings
 TOP = Path(__file__).resolve().parents[3]
 SAMPLES = str(TOP / "examples" / "samples.journal")
 BUILT = TOP / "crates" / "oldstyle" / "out" / "oldstyle"
+VARIABLES = {**os.environ, "PYTHONPATH": os.pathsep.join(sys.path)}
+COMMAND = [sys.executable, "-m", "oldstyle_web"]
+
+
+class Served:
+    """A run of the command on a port of its own."""
+
+    def __init__(self, program: str, *words: str):
+        self.process = subprocess.Popen(
+            [*COMMAND, SAMPLES, "--program", program, "--port", "0", *words], env=VARIABLES,
+            text=True, stdout=subprocess.PIPE, stderr=subprocess.PIPE)
+        assert self.process.stdout
+        self.said = self.process.stdout.readline()
+        found = re.search(r"http://(.*):(\d+)/", self.said)
+        assert found, self.process.communicate()
+        self.host, self.port = found[1].strip("[]"), int(found[2])
+
+    def connect(self, given: bytes = b"") -> socket.socket:
+        connection = socket.create_connection((self.host, self.port), 30)
+        connection.setsockopt(socket.SOL_SOCKET, socket.SO_RCVBUF, 4096)
+        connection.sendall(given)
+        return connection
+
+    def ask(self, path: str = "/", body: bytes | None = None, **headers: str) -> int:
+        """The status of a reply."""
+        connection = http.client.HTTPConnection(self.host, self.port, timeout=30)
+        connection.request("GET" if body is None else "POST", path, body, headers)
+        reply = connection.getresponse()
+        reply.read()
+        connection.close()
+        return reply.status
+
+    def end(self, number: int = signal.SIGTERM) -> str:
+        """What it printed on standard error until it ended."""
+        self.process.send_signal(number)
+        return self.process.communicate(timeout=20)[1]
 
 
 @pytest.fixture(scope="session")
@@ -62,3 +104,16 @@ def page(program: str) -> Iterator[Page]:
 def client(page: Page) -> Any:
     """Asks the page over the samples."""
     return page.test_client()
+
+
+@pytest.fixture
+def served(program: str) -> Iterator[Callable[..., Served]]:
+    runs: list[Served] = []
+
+    def start(*words: str) -> Served:
+        runs.append(Served(program, *words))
+        return runs[-1]
+    yield start
+    for run in runs:
+        if run.process.poll() is None:
+            run.end(signal.SIGKILL)

@@ -11,7 +11,7 @@ import pytest
 from conftest import SAMPLES
 
 from oldstyle_web import printed
-from oldstyle_web.printed import AlmanacLine, Page, Printer
+from oldstyle_web.printed import Page, Printer
 from oldstyle_web.problems import Problem
 from oldstyle_web.settings import Settings
 
@@ -62,16 +62,18 @@ def test_listed_easters_have_their_sources() -> None:
     assert printed.listed_on(page) == ["listed Easter of 1: a (source: Y)", "listed Easter of 2: b"]
 
 
-def test_feasts_and_months_of_an_almanac() -> None:
-    found = printed.almanac_on(Page([
-        "From 1 January 1752, day 639551: julian calendar", "(source: Acts no 24 of 1751)",
-        "Easter by rule", "Easter        Sunday     639639 29 March 1752",
-        "Trinity       off the line", "January       Wednesday  639551 1752-01-12",
-        "February      none"], ""))
-    assert found.feasts == [AlmanacLine("Easter", "Sunday", 639639, "29 March 1752"),
-                            AlmanacLine("Trinity", "", None, "off the line")]
-    assert found.months == [AlmanacLine("January", "Wednesday", 639551, "1752-01-12"),
-                            AlmanacLine("February", "", None, "none")]
+def test_feasts_and_gaps_of_a_year(monkeypatch: pytest.MonkeyPatch) -> None:
+    printer = Printer(Settings(SAMPLES, "/bin/true"))
+    monkeypatch.setattr(printer, "printed", lambda _asking, _words: Page([
+        "the year 1752 in A (AA), edition 1",
+        "Tuesday 31 December 1751 was followed by Wednesday 1 January 1752 (day 639551)",
+        "Wednesday 2 September 1752 was followed by Thursday 14 September 1752 (day 639797): "
+        "11 dates left out", "(source: Easter: 24 Geo. II)",
+        "Ash Wednesday: Wednesday 12 February 1752    23 February 1752 Gregorian    12 February "
+        "1752 Julian    day 639593    JDN 2361018"], ""))
+    one = asking(1)
+    assert printed.feasts_of_year(printer, one, "AA", 1752) == [("Ash Wednesday", 639593)]
+    assert printed.gaps_of_year(printer, one, "AA", 1752) == {639797: "11 dates left out"}
 
 
 def test_the_page_that_was_asked_for_last_stays(monkeypatch: pytest.MonkeyPatch) -> None:

@@ -1,72 +1,20 @@
 """The command and its server: hosts, slow and idle clients, its log, and how it starts and ends."""
 from __future__ import annotations
 
-import http.client
 import os
 import re
 import signal
-import socket
 import subprocess
-import sys
 import threading
 import time
 from pathlib import Path
-from typing import Any, Callable, Iterator
+from typing import Any, Callable
 
 import pytest
-from conftest import SAMPLES
+from conftest import COMMAND, SAMPLES, VARIABLES, Served
 
-VARIABLES = {**os.environ, "PYTHONPATH": os.pathsep.join(sys.path)}
-COMMAND = [sys.executable, "-m", "oldstyle_web"]
 TABLE = b"place,date\n" + b"GB,11 February 1731\n" * 300_000
 POST = b"POST /letters HTTP/1.1\r\nContent-Length: %d\r\n\r\n"
-
-
-class Served:
-    """A run of the command on a port of its own."""
-
-    def __init__(self, program: str, *words: str):
-        self.process = subprocess.Popen(
-            [*COMMAND, SAMPLES, "--program", program, "--port", "0", *words], env=VARIABLES,
-            text=True, stdout=subprocess.PIPE, stderr=subprocess.PIPE)
-        assert self.process.stdout
-        self.said = self.process.stdout.readline()
-        found = re.search(r"http://(.*):(\d+)/", self.said)
-        assert found, self.process.communicate()
-        self.host, self.port = found[1].strip("[]"), int(found[2])
-
-    def connect(self, given: bytes = b"") -> socket.socket:
-        connection = socket.create_connection((self.host, self.port), 30)
-        connection.setsockopt(socket.SOL_SOCKET, socket.SO_RCVBUF, 4096)
-        connection.sendall(given)
-        return connection
-
-    def ask(self, path: str = "/", body: bytes | None = None, **headers: str) -> int:
-        """The status of a reply."""
-        connection = http.client.HTTPConnection(self.host, self.port, timeout=30)
-        connection.request("GET" if body is None else "POST", path, body, headers)
-        reply = connection.getresponse()
-        reply.read()
-        connection.close()
-        return reply.status
-
-    def end(self, number: int = signal.SIGTERM) -> str:
-        """What it printed on standard error until it ended."""
-        self.process.send_signal(number)
-        return self.process.communicate(timeout=20)[1]
-
-
-@pytest.fixture
-def served(program: str) -> Iterator[Callable[..., Served]]:
-    runs: list[Served] = []
-
-    def start(*words: str) -> Served:
-        runs.append(Served(program, *words))
-        return runs[-1]
-    yield start
-    for run in runs:
-        if run.process.poll() is None:
-            run.end(signal.SIGKILL)
 
 
 def test_a_page_for_this_machine_is_told_to_no_other_host(served: Callable[..., Served]) -> None:

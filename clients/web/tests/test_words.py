@@ -4,7 +4,7 @@ from __future__ import annotations
 import pytest
 from markupsafe import Markup
 
-from oldstyle_web import words
+from oldstyle_web import texts, words
 from oldstyle_web.problems import Problem
 
 
@@ -39,6 +39,6 @@ def test_months_by_name_and_number() -> None:
 
 
 def test_sources_stand_once_in_one_sentence() -> None:
-    assert words.sources_text([]) == ""
-    assert words.sources_text(["a.", "a."]) == "Source: a."
-    assert words.sources_text(["a", "b"]) == "Sources: a; b."
+    assert texts.sources_text([]) == ""
+    assert texts.sources_text(["a.", "a."]) == "Source: a."
+    assert texts.sources_text(["a", "b"]) == "Sources: a; b."

@@ -35,7 +35,7 @@ test_that("the program of OLDSTYLE is asked", {
   before <- Sys.getenv("OLDSTYLE", NA)
   on.exit(if (is.na(before)) Sys.unsetenv("OLDSTYLE") else Sys.setenv(OLDSTYLE = before))
   Sys.setenv(OLDSTYLE = "no-such-oldstyle")
-  expect_error(read("GB", "1640"), "no-such-oldstyle is no program")
+  expect_error(read("GB", "1640"), "no-such-oldstyle is not a program")
 })
 
 test_that("a journal that is missing or refused is an error that says what to do", {

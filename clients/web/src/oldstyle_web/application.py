@@ -6,10 +6,10 @@ from datetime import datetime, timezone
 from typing import Any, Callable
 from urllib.parse import unquote_to_bytes, urlsplit
 
-from flask import Response, jsonify, request
+from flask import Response, has_request_context, jsonify, request
 from werkzeug.exceptions import HTTPException
 
-from . import api, dates, letters, months, pages, words
+from . import api, dates, languages, letters, pages, texts, words
 from .context import NAME, Page, page
 from .problems import Problem
 from .settings import Settings, is_loopback
@@ -43,20 +43,25 @@ def create_app(settings: Settings) -> Page:
     app.jinja_env.globals.update(
         NAME=NAME, WEEKDAYS=words.WEEKDAYS, MONTHS=words.MONTHS, ORDERS=words.ORDERS,
         KINDS=dates.KINDS, MONTH_CHOICES=list(enumerate(words.MONTHS, 1)),
-        WEEKDAY_CHOICES=[("", "none given"), *((name, name) for name in words.WEEKDAYS)],
-        ORDER_CHOICES=[("", "as it is usual"), *words.ORDERS.items()])
+        WEEKDAY_CHOICES=[("", words.N_("none given")), *((name, name) for name in words.WEEKDAYS)],
+        ORDER_CHOICES=[("", words.N_("as it is usual")), *words.ORDERS.items()],
+        LANGUAGES=languages.LANGUAGES, language=languages.language,
+        other_language=languages.other_language, _=languages.in_template)
     filters: list[Callable[[Any], Any]] = [
-        words.full, words.in_words, words.year_in, words.regime_text, words.sources_text,
-        months.caption, dates.cited_day]
+        texts.full, texts.in_words, texts.regime_text, texts.sources_text, texts.month_text,
+        dates.cited_day, languages.date_text]
     for function in filters:
         app.add_template_filter(function)
     return app
 
 
 def add_version(endpoint: str, values: dict[str, Any]) -> None:
-    """Names the version in the address of a file."""
+    """Names the version in the address of a file, and the language in that of a page if the request
+    does."""
     if endpoint == "static":
         values.setdefault("v", page().version)
+    elif has_request_context() and request.args.get("lang") in languages.LANGUAGES:
+        values.setdefault("lang", request.args["lang"])
 
 
 def refuse_other_hosts() -> None:
@@ -127,6 +132,7 @@ def finished(response: Response) -> Response:
     for name, value in HEADERS.items():
         response.headers.setdefault(name, value)
     response.headers.setdefault("Cache-Control", "no-store")
+    response.vary.add("Accept-Language")
     access.info('%s - - [%s] "%s %s %s" %s %s', request.remote_addr or "-",
                 datetime.now(timezone.utc).strftime("%d/%b/%Y:%H:%M:%S %z"), request.method,
                 words.visible(request.environ.get("RAW_URI") or asked()),

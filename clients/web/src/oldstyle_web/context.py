@@ -12,7 +12,7 @@ from .register import Register
 from .settings import Settings
 from .tables import Tables
 
-NAME = "The calendar change register"
+NAME = words.N_("The calendar change register")
 YEAR = 31_536_000
 
 

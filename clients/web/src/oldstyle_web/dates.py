@@ -8,20 +8,23 @@ from typing import Any, Iterator
 from oldstyle import Day, Run
 from oldstyle.answers import run_of
 
+from .languages import gettext as _
 from .months import sources_of
 from .printed import PrintedDate, Printer, printed_date
 from .register import Asking, DatedDay
-from .words import full, in_words
+from .texts import full, in_words
+from .words import N_
 
 MOST_DAYS = 40
 SENTENCES = {
-    "malformed date": "The text has none of the forms of a date.",
-    "no date": "The text says that there is no date.",
+    "malformed date": N_("The text has none of the forms of a date."),
+    "no date": N_("The text says that there is no date."),
 }
-FLAGS = [("approximate", "approximate"), ("uncertain", "in doubt"),
-         ("supplied", "supplied by an editor")]
-KINDS = {"month": "a month", "year": "a year", "range": "a range", "before": "a bound",
-         "after": "a bound", "set": "one of these days"}
+FLAGS = [("approximate", N_("approximate")), ("uncertain", N_("in doubt")),
+         ("supplied", N_("supplied by an editor"))]
+KINDS = {"month": N_("The date is a month"), "year": N_("The date is a year"),
+         "range": N_("The date is a range"), "before": N_("The date is a bound"),
+         "after": N_("The date is a bound"), "set": N_("The date is one of these days")}
 
 
 @dataclass
@@ -61,7 +64,7 @@ class DateFound:
         reason = self.reason or ""
         if any(note.startswith(reason) for note in self.printed.notes):
             return None
-        return SENTENCES.get(reason, f"{reason.capitalize()}.")
+        return _(SENTENCES[reason]) if reason in SENTENCES else f"{reason.capitalize()}."
 
     @property
     def spans(self) -> Iterator[tuple[str | None, Day | None, Day | None, int | None]]:
@@ -74,46 +77,53 @@ class DateFound:
             is_one = run.first == run.last
             is_open = self.kind == "before" and len(self.runs) == 1
             has_last = self.kind == "before" or self.kind != "after" and not is_one
-            yield ("Day" if is_one else "From", None if is_open else run.first,
+            yield (_("Day") if is_one else _("From"), None if is_open else run.first,
                    run.last if has_last else None, count)
 
     def agreement(self, day: Day) -> str:
         """A day's weekday, and in a few words whether it is the one that was given."""
         told = self.printed.agreeing.get(day.day, "")
         if told.startswith("not "):
-            return f"{day.weekday}, not {told.removeprefix('not ')}"
+            return _("%(day)s, not %(other)s", day=_(day.weekday), other=_(told[4:]))
         if told == "ok" or (self.written["weekday"] is True and not self.printed.agreeing):
-            return f"{day.weekday}, as it is said"
-        return day.weekday
+            return _("%(day)s, as it is said", day=_(day.weekday))
+        return _(day.weekday)
+
+    @property
+    def flags(self) -> str:
+        """The marks of the date in a sentence, or nothing."""
+        flags = ", ".join(_(text) for name, text in FLAGS if self.written[name])
+        return _("The date is %(flags)s.", flags=flags) if flags else ""
 
     @property
     def remarks(self) -> list[str]:
-        """The marks of the date, and the notes that are printed with its days."""
-        flags = [text for name, text in FLAGS if self.written[name]]
-        lines = [f"The date is {', '.join(flags)}."] if flags else []
+        """The notes that are printed with its days."""
         notes = (note[:1].upper() + note[1:] for note in self.printed.notes)
-        return lines + [note if note.endswith(".") else f"{note}." for note in notes]
+        return [note if note.endswith(".") else f"{note}." for note in notes]
 
     @property
     def cited(self) -> str:
         """What the answer says, in one line."""
-        what = f"“{self.date}” in {self.name} ({self.code})"
+        place = f"{self.name} ({self.code})"
+        what = _("“%(date)s” in %(name)s", date=self.date, name=place)
         if self.reason:
-            return f"{what}: no day ({self.reason})"
+            return _("%(what)s: no day (%(reason)s)", what=what, reason=self.reason)
         if self.days:
-            return f"{what}: " + "; or ".join(cited_day(day.found) for day in self.days)
-        texts = [full(run.first) if run.first == run.last
-                 else f"{full(run.first)} to {full(run.last)}" for run in self.runs]
+            return f"{what}: " + _("; or ").join(cited_day(day.found) for day in self.days)
+        texts = [full(run.first) if run.first == run.last else _(
+            "%(first)s to %(last)s", first=full(run.first), last=full(run.last))
+            for run in self.runs]
         if self.kind == "before":
-            texts = [f"to {full(self.runs[-1].last)}"]
+            texts = [_("to %(day)s", day=full(self.runs[-1].last))]
         elif self.kind == "after":
-            texts = [f"from {full(self.runs[0].first)}"]
-        return f"{what}: {(', or ' if self.kind == 'set' else ', and ').join(texts)}"
+            texts = [_("from %(day)s", day=full(self.runs[0].first))]
+        joint = _(", or ") if self.kind == "set" else _(", and ")
+        return f"{what}: {joint.join(texts)}"
 
 
 def cited_day(found: Day) -> str:
-    return (f"{full(found)}, {in_words(found.gregorian)} Gregorian, {in_words(found.julian)} "
-            f"Julian, JDN {found.jdn}")
+    return _("%(day)s, %(gregorian)s Gregorian, %(julian)s Julian, JDN %(jdn)s", day=full(found),
+             gregorian=in_words(found.gregorian), julian=in_words(found.julian), jdn=found.jdn)
 
 
 def date_found(printer: Printer, asking: Asking, code: str, name: str, date: str, weekday: str,

@@ -6,9 +6,10 @@ from typing import Callable
 
 from oldstyle import Period, Run
 
+from .languages import date_text, gettext as _
 from .months import Change
 from .places import Detail, PlaceFound, YearRow, run_text
-from .words import regime_text
+from .texts import regime_text
 
 WIDTH, MARGIN = 1000, 10
 ROW, LABEL = 34, 70
@@ -102,7 +103,7 @@ def across(first: int, last: int, left: int = MARGIN, right: int = WIDTH - MARGI
 def line_of_time(found: PlaceFound) -> LineOfTime:
     place = across(*found.window)
     description = " ".join(change.sentence for change in found.changes) or \
-        f"One period, always: {regime_text(found.periods[0])}."
+        _("One period, always: %(regime)s.", regime=regime_text(found.periods[0]))
     boxes = [period_box(number, period, place) for number, period in enumerate(found.periods, 1)]
     ticks = [Tick(year, place(day), min(max(place(day), TICK), WIDTH - TICK))
              for year, day in found.marks]
@@ -113,7 +114,7 @@ def period_box(number: int, period: Period, place: Place) -> Box:
     """The box of a period, coloured by its calendar, with its number if that has room."""
     left, right = place(period.first), place(period.last + 1)
     kind = f"period {period.calendar}" + (" early" if period.style != "january" else "")
-    return Box(left, max(2, round(right - left, 1)), f"Period {number}: {regime_text(period)}",
+    return Box(left, max(2, round(right - left, 1)), f"{number}: {regime_text(period)}",
                kind, number if right - left > 30 else None)
 
 
@@ -130,7 +131,7 @@ def change_marks(changes: list[Change], place: Place) -> list[Mark]:
         if level is not None:
             ends[level] = at
         marks.append(Mark(at, TOP if level is None else LEVELS[level] - 14, change.sentence,
-                          change.found.dual, None if level is None else LEVELS[level]))
+                          date_text(change.found.dual), None if level is None else LEVELS[level]))
     return marks
 
 

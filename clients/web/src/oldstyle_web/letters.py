@@ -4,15 +4,17 @@ from __future__ import annotations
 import os
 import shutil
 import tempfile
-from dataclasses import dataclass
+from dataclasses import dataclass, replace
 from typing import IO
 
 from flask import Blueprint, Response, abort, render_template, request
 from werkzeug.wsgi import wrap_file
 
 from .context import page
+from .languages import gettext as _
 from .problems import Problem
 from .replies import tagged
+from .workbooks import as_csv
 
 blueprint = Blueprint("letters", __name__)
 
@@ -30,7 +32,7 @@ class Sent:
 @blueprint.get("/letters")
 def form() -> Response:
     """The form, and the room for the rows."""
-    text = render_template("letters.html", title="Letters", here="letters",
+    text = render_template("letters.html", title=_("Letters"), here="letters",
                            most=page().settings.max_upload)
     return tagged(Response(text), 0)
 
@@ -58,14 +60,35 @@ def received() -> Sent:
         abort(413)
     fields = request.args.to_dict()
     if request.mimetype == "multipart/form-data":
-        if (table := request.files.get("table")) is None:
-            raise Problem(400, "No table was sent: choose a file in CSV.")
-        places = request.files.get("places")
-        return Sent(request.form.to_dict() | fields, table.stream, table.filename or "",
-                    places.stream if places and places.filename else None)
+        table, places = request.files.get("table"), request.files.get("places")
+        return without_workbooks(Sent(
+            request.form.to_dict() | fields,
+            table.stream if table and table.filename else pasted_table(),
+            table.filename or "" if table else "",
+            places.stream if places and places.filename else None))
     table_file = tempfile.TemporaryFile()
     shutil.copyfileobj(request.stream, table_file)
-    return Sent(fields, table_file, "", None)
+    return without_workbooks(Sent(fields, table_file, "", None))
+
+
+def pasted_table() -> IO[bytes]:
+    """The rows that were pasted into a form without a file."""
+    pasted = request.form.get("pasted", "")
+    if not pasted.strip():
+        raise Problem(400, "No table was sent: choose a file, or paste its rows.")
+    table = tempfile.TemporaryFile()
+    table.write(pasted.encode())
+    return table
+
+
+def without_workbooks(sent: Sent) -> Sent:
+    """What was sent, with the first sheets of workbooks as CSV."""
+    most = page().settings.max_upload
+    if sent.places and (places := as_csv(sent.places, most)):
+        sent = replace(sent, places=places)
+    if table := as_csv(sent.table, most):
+        sent = replace(sent, table=table, fields=sent.fields | {"separator": "comma"})
+    return sent
 
 
 def found_name(name: str) -> str:

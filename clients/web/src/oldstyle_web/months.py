@@ -1,12 +1,15 @@
 """The month as it was lived: its days by lines of the program, and the changes that it meets."""
 from __future__ import annotations
 
-from dataclasses import dataclass
+from dataclasses import dataclass, replace
 
 from oldstyle import Day, Period, Run
 
+from .languages import date_text, gettext as _
+from .printed import Printer, gaps_of_year, printed_date
 from .register import Asking
-from .words import MONTHS, WEEKDAYS, full, regime_text
+from .texts import full, regime_text, sources_text
+from .words import BEGINNINGS, LAST_DAY, MONTHS, WEEKDAYS
 
 MOST_DAYS = 100
 Week = list[Day | None]
@@ -14,54 +17,86 @@ Week = list[Day | None]
 
 @dataclass(frozen=True)
 class Change:
-    """A change: the day before it, its day, and the regimes on both sides."""
+    """A change: the day before it, its day, and the regimes on both sides. The gap is how many
+    dates it left out or repeated, as the program says it."""
 
     before: Day
     found: Day
     old: Period
     new: Period
+    gap: str = ""
 
     @property
     def sentence(self) -> str:
-        return f"{full(self.before)} was followed by {full(self.found)}."
+        return _("%(before)s was followed by %(day)s.", before=full(self.before),
+                 day=full(self.found))
 
     @property
     def difference(self) -> str:
-        source = f" Source: {self.new.source.removesuffix('.')}." if self.new.source else ""
-        return (f"Until then: {regime_text(self.old)}. From then on: {regime_text(self.new)}."
-                f"{source}")
+        text = _("Until then: %(old)s. From then on: %(new)s.", old=regime_text(self.old),
+                 new=regime_text(self.new))
+        return f"{text} {sources_text([self.new.source] if self.new.source else [])}".strip()
+
+
+@dataclass(frozen=True)
+class MonthRun:
+    """Days of a month that follow one another: weeks, each seven days or gaps, and the days before
+    and after them, if the line has these."""
+
+    weeks: list[Week]
+    before: Day | None
+    after: Day | None
+
+    @property
+    def days(self) -> list[Day]:
+        return [day for week in self.weeks for day in week if day]
 
 
 @dataclass(frozen=True)
 class MonthFound:
-    """A month of a territory: runs of weeks, each week seven days or gaps, its changes, and the
-    sources of its periods."""
+    """A month of a territory: its runs, its changes, why it has no day if it has none, the
+    beginnings of its years, and the sources of its periods."""
 
     year: int
     month: int
-    runs: list[list[Week]]
+    runs: list[MonthRun]
     changes: list[Change]
+    reasons: list[str]
+    styles: list[str]
     sources: list[str]
+
+    @property
+    def parted(self) -> str:
+        """Why the month is in several runs, in a sentence."""
+        if len(self.runs) < 2:
+            return ""
+        if self.changes or len(self.styles) > 1:
+            return _("A change parted it: the year came to this month more than once.")
+        return _("Years went there from %(beginning)s, which is in this month: its days are at the "
+                 "beginning of the year %(year)s and at its end.",
+                 beginning=_(BEGINNINGS[self.styles[0]]), year=self.year)
 
     @property
     def marked(self) -> set[int]:
         """The days on which a change was."""
         return {change.found.day for change in self.changes}
 
+    @property
+    def has_gregorian(self) -> bool:
+        """Returns whether a day has another date by the Gregorian calendar."""
+        return any(day.gregorian != day.label for run in self.runs for day in run.days)
+
     def title(self, name: str) -> str:
-        return f"{MONTHS[self.month - 1]} {self.year} in {name}"
+        date = date_text(f"{MONTHS[self.month - 1]} {self.year}")
+        return _("%(date)s in %(name)s", date=date, name=name)
 
     def cited(self, title: str) -> str:
         """The contents of the page, in one line."""
-        days = [day for weeks in self.runs for week in weeks for day in week if day]
+        days = [day for run in self.runs for day in run.days]
         if not days:
-            return f"{title}: no such month"
-        return f"{title}: {full(days[0])} to {full(days[-1])}, {len(days)} days"
-
-
-def caption(weeks: list[Week]) -> str:
-    """The month and the year of some weeks, by the first day of them."""
-    return next(day for day in weeks[0] if day).dual.partition(" ")[2]
+            return _("%(title)s: no such month", title=title)
+        return _("%(title)s: %(first)s to %(last)s, %(count)s days", title=title,
+                 first=full(days[0]), last=full(days[-1]), count=len(days))
 
 
 def sources_of(periods: list[Period], runs: list[Run]) -> list[str]:
@@ -79,17 +114,40 @@ def changes_of(asking: Asking, code: str, periods: list[Period]) -> list[Change]
             for (old, new), before, found in zip(pairs, days[::2], days[1::2])]
 
 
-def month_found(asking: Asking, code: str, year: int, month: int) -> MonthFound:
+def with_gaps(printer: Printer, asking: Asking, code: str, year: int,
+              changes: list[Change]) -> list[Change]:
+    """Changes that a year meets, with what they left out or repeated."""
+    gaps = gaps_of_year(printer, asking, code, year) if changes and 1 <= year <= 9_999 else {}
+    return [replace(change, gap=gaps.get(change.found.day, "")) for change in changes]
+
+
+def month_found(printer: Printer, asking: Asking, code: str, name: str, year: int,
+                month: int) -> MonthFound:
     """The days that a territory dated in a month of its year."""
-    written, = asking.runs(code, [f"{year:04}-{month:02}"])
-    runs = [asking.days(code, range(run.first.day, run.last.day + 1)[:MOST_DAYS])
-            for run in written]
+    date = f"{year:04}-{month:02}"
+    written, = asking.runs(code, [date])
+    runs = [run_found(asking, code, run) for run in written]
     periods = asking.periods(code)
-    held = {found.day for run in runs for found in run}
+    held = {found.day for run in runs for found in run.days}
     met = [change for change in changes_of(asking, code, periods)
            if held & {change.before.day, change.found.day}]
-    return MonthFound(year, month, [weeks_of(run) for run in runs], met,
-                      sources_of(periods, written))
+    reasons = [] if runs else printed_date(printer, asking, code, name, date, "", "").notes
+    return MonthFound(year, month, runs, with_gaps(printer, asking, code, year, met), reasons,
+                      styles_of(periods, held), sources_of(periods, written))
+
+
+def run_found(asking: Asking, code: str, run: Run) -> MonthRun:
+    """A run of a month, with the days around it."""
+    days = asking.days(code, range(run.first.day, run.last.day + 1)[:MOST_DAYS])
+    before = asking.days(code, [run.first.day - 1] if run.first.day > 1 else [])
+    after = asking.days(code, [run.last.day + 1] if run.last.day < LAST_DAY else [])
+    return MonthRun(weeks_of(days), next(iter(before), None), next(iter(after), None))
+
+
+def styles_of(periods: list[Period], days: set[int]) -> list[str]:
+    """The beginnings of years that were in force on some days."""
+    return list(dict.fromkeys(period.style for period in periods
+                              if any(period.first <= day <= period.last for day in days)))
 
 
 def weeks_of(days: list[Day]) -> list[Week]:

@@ -1,6 +1,7 @@
 """The pages: each reads its words, asks for what it shows, all of one edition, and is written."""
 from __future__ import annotations
 
+import json
 from dataclasses import dataclass
 from typing import Any
 
@@ -10,6 +11,9 @@ from oldstyle import Land
 from .context import NAME, page
 from .dates import DateFound, date_found
 from .drawing import line_of_time, years_of
+from .editions import edition_found
+from .forms import forms_read
+from .languages import gettext as _, messages
 from .months import month_found
 from .places import place_found
 from .problems import Problem
@@ -35,18 +39,28 @@ class Asked:
 def asked_date() -> tuple[Asked, int, list[Land], DateFound | None]:
     """The question, the edition, the territories, and what was asked, if it is enough for an
     answer."""
-    asked = Asked(code_of(word("code")), date_of(word("date")), weekday_of(word("weekday")),
-                  order_of(word("order")))
+    asked = asked_words()
+    edition, lands, found = dates_found(asked, [asked.code])
+    return asked, edition, lands, found[0] if found else None
 
-    def work(asking: Asking) -> tuple[list[Land], DateFound | None]:
+
+def asked_words() -> Asked:
+    return Asked(code_of(word("code")), date_of(word("date")), weekday_of(word("weekday")),
+                 order_of(word("order")))
+
+
+def dates_found(asked: Asked, codes: list[str]) -> tuple[int, list[Land], list[DateFound]]:
+    """The edition, the territories, and what a date means in some of them, unless a word is
+    missing."""
+    def work(asking: Asking) -> tuple[list[Land], list[DateFound]]:
         lands = asking.lands()
-        name = name_in(lands, asked.code) if asked.code else ""
-        if not asked.code or not asked.date:
-            return lands, None
-        return lands, date_found(page().printer, asking, asked.code, name, asked.date,
-                                 asked.weekday, asked.order)
+        names = {code: name_in(lands, code) for code in codes if code}
+        if not asked.date or not all(codes):
+            return lands, []
+        return lands, [date_found(page().printer, asking, code, names[code], asked.date,
+                                  asked.weekday, asked.order) for code in codes]
     edition, (lands, found) = page().register.of_one_edition(work)
-    return asked, edition, lands, found
+    return edition, lands, found
 
 
 @blueprint.get("/")
@@ -54,9 +68,21 @@ def date() -> Response:
     """One date: the question and its answer."""
     named = named_edition()
     asked, edition, lands, found = asked_date()
-    title = f"{asked.date} in {found.name}" if found else ""
+    title = _("%(date)s in %(name)s", date=asked.date, name=found.name) if found else \
+        _("One date")
     return written("date.html", edition, title=title, here="date", code=asked.code,
                    named_edition=named, asked=asked, lands=lands, found=found)
+
+
+@blueprint.get("/compare")
+def compare() -> Response:
+    """One date in two places."""
+    named, asked, other = named_edition(), asked_words(), code_of(word("other"))
+    edition, lands, both = dates_found(asked, [asked.code, other])
+    title = _("%(date)s in %(name)s", date=asked.date, name=" / ".join(
+        found.name for found in both)) if both else _("Two places")
+    return written("compare.html", edition, title=title, here="compare", code=asked.code,
+                   other=other, named_edition=named, asked=asked, lands=lands, both=both)
 
 
 @blueprint.get("/answer.json")
@@ -65,8 +91,8 @@ def answer_json() -> Response:
     for screen readers."""
     named_edition()
     asked, edition, lands, found = asked_date()
-    title = visible(f"{asked.date} in {found.name} – {NAME}") if found else \
-        NAME
+    title = visible(_("%(date)s in %(name)s", date=asked.date, name=found.name)
+                    + f" – {_(NAME)}") if found else _(NAME)
     told = {"edition": edition, "title": title,
             "html": render_template("answer.html", asked=asked, edition=edition, lands=lands,
                                     found=found),
@@ -88,7 +114,8 @@ def day() -> Response:
     def work(asking: Asking) -> tuple[str, DatedDay]:
         return name_in(asking.lands(), code), asking.dated_days(code, [number])[0]
     edition, (name, found) = page().register.of_one_edition(work)
-    return written("day.html", edition, title=f"Day {number} in {name}", code=code, name=name,
+    return written("day.html", edition, title=_("Day %(number)s in %(name)s", number=number,
+                                                  name=name), code=code, name=name,
                    day=found, named_edition=named)
 
 
@@ -104,9 +131,10 @@ def month() -> Response:
         if not code or year_asked is None:
             return lands, "", None
         name = name_in(lands, code)
-        return lands, name, month_found(asking, code, year_asked, month_asked)
+        return lands, name, month_found(page().printer, asking, code, name, year_asked,
+                                        month_asked)
     edition, (lands, name, found) = page().register.of_one_edition(work)
-    return written("month.html", edition, title=found.title(name) if found else "A month",
+    return written("month.html", edition, title=found.title(name) if found else _("A month"),
                    here="month", code=code, name=name, year=year_asked, month=month_asked,
                    lands=lands, found=found, named_edition=named)
 
@@ -124,13 +152,14 @@ def place() -> Response:
     edition, (lands, found) = page().register.of_one_edition(work)
     drawn = {"line": line_of_time(found), "details": [(detail, years_of(detail))
                                                       for detail in found.details]} if found else {}
-    return written("place.html", edition, title=found.name if found else "Places", here="place",
-                   code=code, lands=lands, found=found, named_edition=named, **drawn)
+    return written("place.html", edition, title=found.name if found else _("Places"), here="place",
+                   code=code, name=word("name").strip()[:60], lands=lands, found=found,
+                   named_edition=named, **drawn)
 
 
 @blueprint.get("/year")
 def year() -> Response:
-    """The Easters, feasts and figures of a year."""
+    """A year as the place counted it."""
     named, code = named_edition(), code_of(word("code"))
     year_asked = number_of("year", word("year"), 1, 9_999)
 
@@ -142,16 +171,46 @@ def year() -> Response:
         return lands, name, year_found(page().printer, asking, code, year_asked)
     edition, (lands, name, found) = page().register.of_one_edition(work)
     return written("year.html", edition, here="year", code=code, name=name, year=year_asked,
-                   title=f"The year {year_asked} in {name}" if found else "A year", lands=lands,
+                   title=_("The year %(year)s in %(name)s", year=year_asked, name=name) if found
+                   else _("A year"), lands=lands,
                    found=found, named_edition=named)
+
+
+@blueprint.get("/edition")
+def edition() -> Response:
+    """What an edition changed, and a place in it."""
+    named, code = named_edition(), code_of(word("code"))
+    newest = page().register.of_one_edition(Asking.lands)[0]
+    number = newest if named is None else named
+    if not 1 <= number <= newest:
+        raise Problem(404, f"The journal has no edition {number}: its newest is {newest}.")
+    title = _("Edition %(number)s of %(journal)s", number=number,
+              journal=page().settings.journal_name)
+    return written("edition.html", newest, title=f"{title}: {code}" if code else title, code=code,
+                   found=edition_found(page().printer, number, code))
+
+
+@blueprint.get("/forms")
+def forms() -> Response:
+    """The forms of dates that are read."""
+    return written("forms.html", 0, title=_("Dates that are read"), code=code_of(word("code")),
+                   forms=forms_read())
+
+
+@blueprint.get("/messages.js")
+def spoken() -> Response:
+    """The messages of a language, as a script of the page."""
+    held = json.dumps(messages(), ensure_ascii=False)
+    return tagged(Response(f"export default {held};\n", mimetype="text/javascript"), 0)
 
 
 def problem(status: int, sentence: str) -> str:
     """The page of what can't be answered: the form again if its words were wrong, or a link."""
-    shown: dict[str, Any] = {"title": "", "sentence": sentence, "page": request.path[1:]}
+    shown: dict[str, Any] = {"title": _("No answer"), "sentence": sentence,
+                             "page": request.path[1:]}
     if request.path[1:] in ("", "month", "place", "year", "day") and status in (400, 404):
         try:
-            _, shown["lands"] = page().register.of_one_edition(Asking.lands)
+            shown["lands"] = page().register.of_one_edition(Asking.lands)[1]
             shown["asked"] = {name: word(name) for name in ("code", "date", "weekday", "order",
                                                             "year", "month")}
         except Problem:

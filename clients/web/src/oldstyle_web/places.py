@@ -5,10 +5,12 @@ from dataclasses import dataclass
 
 from oldstyle import Day, Period, Run
 
+from .languages import date_text, gettext as _
 from .months import Change, changes_of
 from .printed import Printer, listed_easters
 from .register import Asking
-from .words import BEGINNINGS, LAST_DAY, full, year_in
+from .texts import full
+from .words import BEGINNINGS, LAST_DAY, year_in
 
 STEPS = [10, 20, 25, 50, 100, 200, 500, 1000, 2000]
 MOST_MARKS = 9
@@ -26,10 +28,11 @@ class YearRow:
     def text(self) -> str:
         """The year in words."""
         if not self.runs:
-            return f"The place had no day of the year {self.year}."
-        text = f"The year {self.year} went from {' and from '.join(map(run_text, self.runs))}."
+            return _("The place had no day of the year %(year)s.", year=self.year)
+        text = _("The year %(year)s: %(runs)s.", year=self.year,
+                 runs="; ".join(map(run_text, self.runs)))
         if self.double:
-            text += f" Counted double: {' and '.join(map(run_text, self.double))}."
+            text += " " + _("Counted double: %(runs)s.", runs="; ".join(map(run_text, self.double)))
         return text
 
 
@@ -42,7 +45,8 @@ class Detail:
 
     @property
     def title(self) -> str:
-        return "The change of " + " and of ".join(change.found.dual for change in self.changes)
+        return _("The change: %(days)s",
+                 days="; ".join(date_text(change.found.dual) for change in self.changes))
 
 
 @dataclass(frozen=True)
@@ -77,13 +81,13 @@ class PlaceFound:
     def rows(self) -> list[PeriodRow]:
         firsts = [None, *(change.found for change in self.changes)]
         lasts = [*(change.before for change in self.changes), None]
-        return [PeriodRow(first, last, period.calendar.capitalize(), BEGINNINGS[period.style],
-                          period.rule.capitalize())
+        return [PeriodRow(first, last, _(period.calendar.capitalize()),
+                          _(BEGINNINGS[period.style]), _(period.rule.capitalize()))
                 for period, first, last in zip(self.periods, firsts, lasts)]
 
 
 def run_text(run: Run) -> str:
-    return f"{full(run.first)} to {full(run.last)}"
+    return _("%(first)s to %(last)s", first=full(run.first), last=full(run.last))
 
 
 def place_found(printer: Printer, asking: Asking, code: str, name: str) -> PlaceFound:

@@ -1,7 +1,7 @@
 """What the program prints for people, read by its lines: what no query of the service returns yet.
 
 All that reads a printed page is here: what `read` prints besides a date's days, the Easters that
-`territory` lists, and the feasts and months of `almanac`.
+`territory` lists, and the feasts and changes of `year`.
 """
 from __future__ import annotations
 
@@ -15,7 +15,7 @@ from dataclasses import dataclass, field
 from .problems import busy, no_place, unavailable
 from .register import Asking
 from .settings import Settings, in_bytes, reason_of
-from .words import MONTHS, WEEKDAYS
+from .words import WEEKDAYS
 
 EDITION = re.compile(r", edition (\d+)$")
 KEPT = 2_000
@@ -31,8 +31,8 @@ FLAGS = {"approximate", "in doubt", "supplied by an editor"}
 OPEN_ENDS = {"from any earlier day", "to   any later day"}
 OTHER_ORDER = ", or say --order dmy or mdy"
 LISTED = "listed Easter of "
-ALMANAC_DAY = re.compile(r"(\w+) +(\d+) (.+)")
-FEASTS = {"Septuagesima", "Ash Wednesday", "Easter", "Ascension", "Pentecost", "Trinity"}
+FEAST = re.compile(r"([A-Z][\w ]+): .* day (\d+)    JDN \d+$")
+GAP = re.compile(r".* was followed by .* \(day (\d+)\): (.+)$")
 
 
 @dataclass(frozen=True)
@@ -56,15 +56,6 @@ class Printer:
         """A page that names its edition in its first line, or one that is kept of the edition that
         was given."""
         return self.held(asking, words) or self.keep(asking, words, self.printed(asking, words))
-
-    def framed_page(self, asking: Asking, *words: str) -> Page:
-        """A page that names no edition: those before it and after it must be the same one."""
-        if (page := self.held(asking, words)) is None:
-            asking.lands()
-            page = self.printed(asking, words)
-            asking.lands()
-            self.keep(asking, words, page)
-        return page
 
     def held(self, asking: Asking, words: tuple[str, ...]) -> Page | None:
         with self.lock:
@@ -100,15 +91,16 @@ class Printer:
             raise no_place(words[1])
         raise unavailable(self.settings.shown(told.partition("\n")[0]))
 
-    def run(self, words: tuple[str, ...]) -> tuple[int, str, str]:
-        """The status of a command over the journal, and what it wrote on both streams."""
+    def run(self, words: tuple[str, ...], journal: str = "") -> tuple[int, str, str]:
+        """The status of a command over the journal or another one, and what it wrote on both
+        streams."""
         settings, (command, *others) = self.settings, words
         if not self.places.acquire(timeout=settings.question_seconds):
             raise busy("Too many questions are asked now.")
         try:
             done = subprocess.run(
-                in_bytes([settings.program, command, *settings.limit_words(), settings.journal,
-                          *others]),
+                in_bytes([settings.program, command, *settings.limit_words(),
+                          journal or settings.journal, *others]),
                 stdin=subprocess.DEVNULL, capture_output=True, check=False,
                 timeout=settings.question_seconds)
         except subprocess.TimeoutExpired:
@@ -189,37 +181,14 @@ def listed_on(page: Page) -> list[str]:
     return listed
 
 
-@dataclass(frozen=True)
-class AlmanacLine:
-    """A line of the almanac. If there is no day of it, the text says why."""
-
-    name: str
-    weekday: str
-    day: int | None
-    text: str
+def feasts_of_year(printer: Printer, asking: Asking, code: str,
+                   year: int) -> list[tuple[str, int]]:
+    """The feasts of a year as the place counted it, each with the number of its day."""
+    lines = printer.page(asking, "year", code, str(year)).lines
+    return [(feast[1], int(feast[2])) for line in lines if (feast := FEAST.match(line))]
 
 
-@dataclass
-class Almanac:
-    """The feasts of a year, and the first days of its months."""
-
-    feasts: list[AlmanacLine] = field(default_factory=list)
-    months: list[AlmanacLine] = field(default_factory=list)
-
-
-def almanac(printer: Printer, asking: Asking, code: str, year: int) -> Almanac:
-    """What the almanac of a year has."""
-    return almanac_on(printer.framed_page(asking, "almanac", code, str(year)))
-
-
-def almanac_on(page: Page) -> Almanac:
-    """The lines of feasts and of months."""
-    found = Almanac()
-    for line in page.lines:
-        name, text = line[:13].strip(), line[13:].strip()
-        lines = found.feasts if name in FEASTS else found.months if name in MONTHS else None
-        if lines is not None:
-            day = ALMANAC_DAY.fullmatch(text)
-            lines.append(AlmanacLine(name, day[1], int(day[2]), day[3]) if day
-                         else AlmanacLine(name, "", None, text))
-    return found
+def gaps_of_year(printer: Printer, asking: Asking, code: str, year: int) -> dict[int, str]:
+    """How many dates the changes of a year left out or repeated, by the number of their day."""
+    lines = printer.page(asking, "year", code, str(year)).lines
+    return {int(gap[1]): gap[2] for line in lines if (gap := GAP.match(line))}

@@ -124,8 +124,10 @@ class Asking:
         raise Problem(400, f"The register refuses that: {reply['fault']} {reply['name']}.")
 
     def lands(self) -> list[Land]:
+        """The territories by their names."""
         answer, = self.answers([{"op": "lands"}])
-        return [known(Land, land) for land in answer["lands"]]
+        return sorted((known(Land, land) for land in answer["lands"]),
+                      key=lambda land: (land.name.casefold(), land.code))
 
     def periods(self, code: str) -> list[Period]:
         answer, = self.answers([{"op": "periods", "code": code}])

@@ -5,19 +5,29 @@ from typing import Any
 import re
 
 from markupsafe import Markup
-from oldstyle import Day, Period
 
 from .problems import Problem
 
-MONTHS = ["January", "February", "March", "April", "May", "June", "July", "August", "September",
-          "October", "November", "December"]
-WEEKDAYS = ["Sunday", "Monday", "Tuesday", "Wednesday", "Thursday", "Friday", "Saturday"]
-ORDERS = {"dmy": "day, month, year", "mdy": "month, day, year"}
+
+def N_(message: str) -> str:
+    """Marks a message that is translated elsewhere."""
+    return message
+
+
+MONTHS = [N_("January"), N_("February"), N_("March"), N_("April"), N_("May"), N_("June"),
+          N_("July"), N_("August"), N_("September"), N_("October"), N_("November"), N_("December")]
+WEEKDAYS = [N_("Sunday"), N_("Monday"), N_("Tuesday"), N_("Wednesday"), N_("Thursday"),
+            N_("Friday"), N_("Saturday")]
+FEASTS = [N_("Septuagesima"), N_("Ash Wednesday"), N_("Easter"), N_("Ascension"), N_("Pentecost"),
+          N_("Trinity")]
+CALENDARS = [N_("Julian"), N_("Gregorian"), N_("Swedish")]
+ORDERS = {"dmy": N_("day, month, year"), "mdy": N_("month, day, year")}
 CODE = re.compile(r"[A-Z][A-Z0-9]{1,7}")
 LONGEST_DATE = 200
 LAST_DAY = 3_652_059
-BEGINNINGS = {"january": "1 January", "annunciation": "25 March", "nativity": "25 December",
-              "september": "1 September", "pisan": "the 25 March before", "easter": "Easter"}
+BEGINNINGS = {"january": N_("1 January"), "annunciation": N_("25 March"),
+              "nativity": N_("25 December"), "september": N_("1 September"),
+              "pisan": N_("the 25 March before"), "easter": N_("Easter")}
 # Control characters, and those that turn the direction of the text around them.
 HIDDEN = [*range(0x20), *range(0x7f, 0xa0), *range(0x202a, 0x202f), *range(0x2066, 0x206a)]
 SHOWN = {sign: f"<U+{sign:04X}>" for sign in HIDDEN}
@@ -96,30 +106,6 @@ def shown(text: str) -> str:
     return f"“{text[:60]}{'…' if len(text) > 60 else ''}”"
 
 
-def in_words(date: str) -> str:
-    """A date of the program, such as 1732-02-22, in words."""
-    year, month, day = date.split("-")
-    return f"{int(day)} {MONTHS[int(month) - 1]} {int(year)}"
-
-
-def full(found: Day) -> str:
-    """The weekday and the dual text of a day found."""
-    return f"{found.weekday} {found.dual}"
-
-
 def year_in(date: str) -> int:
     """The year of a date of the program."""
     return int(date.split("-")[0])
-
-
-def regime_text(regime: Period) -> str:
-    """A regime in words."""
-    return (f"{regime.calendar.capitalize()} calendar, years from {BEGINNINGS[regime.style]}, "
-            f"Easter by the {regime.rule.capitalize()} rule")
-
-
-def sources_text(sources: list[str]) -> str:
-    """Sources in a sentence of their own, or nothing."""
-    kept = list(dict.fromkeys(sources))
-    text = "; ".join(kept).removesuffix(".")
-    return f"Source{'s' if len(kept) > 1 else ''}: {text}." if kept else ""

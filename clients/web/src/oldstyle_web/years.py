@@ -1,41 +1,59 @@
-"""The year: its figures and Easters by lines of the program, feasts and months by its almanac."""
+"""The year as a territory counted it: its months, changes and feasts, and its figures."""
 from __future__ import annotations
 
 from dataclasses import dataclass
 from typing import Any
 
 from oldstyle import Day, Run
-from oldstyle.answers import day_of, run_of
 
-from .months import Change, changes_of, sources_of
-from .printed import Almanac, Printer, almanac
+from .months import Change, changes_of, sources_of, with_gaps
+from .printed import Printer, feasts_of_year
 from .register import Asking
 from .words import year_in
 
 
 @dataclass(frozen=True)
 class YearFound:
-    """A year counted from 1 January, and its part of the almanac of the territory."""
+    """A year as the place counted it. Its months are in the order in which they came, each with its
+    number; the feasts are those that the place dated in it."""
 
     year: int
-    figures: dict[str, Any]
-    easters: list[Day]
-    is_listed: bool
     runs: list[Run]
+    months: list[tuple[int, Run]]
     changes: list[Change]
+    feasts: list[tuple[str, Day]]
+    listed: list[Day]
+    figures: dict[str, Any]
     sources: list[str]
-    almanac: Almanac
+
+    @property
+    def easters(self) -> list[Day]:
+        return [found for name, found in self.feasts if name == "Easter"]
 
 
 def year_found(printer: Printer, asking: Asking, code: str, year: int) -> YearFound:
-    """The figures, the Easters and the almanac of a year."""
-    figures, easter, written = asking.answers([
-        {"op": "figures", "year": year}, {"op": "easter", "code": code, "year": year},
-        {"op": "written", "code": code, "date": f"{year:04}"}])
+    """The days, the feasts and the figures of a year."""
+    runs, *months = asking.runs(code, [f"{year:04}", *(f"{year:04}-{month:02}"
+                                                       for month in range(1, 13))])
+    named = feasts_of_year(printer, asking, code, year)
+    days = asking.days(code, (number for _, number in named))
+    feasts = [(name, found) for (name, _), found in zip(named, days)]
+    easters = [found for name, found in feasts if name == "Easter"]
+    figures, *answers = asking.answers([{"op": "figures", "year": year}, *(
+        {"op": "easter", "code": code, "year": year_in(found.gregorian)} for found in easters)])
     periods = asking.periods(code)
-    runs = [run_of(run) for run in written["runs"]]
-    changes = [change for change in changes_of(asking, code, periods)
-               if year_in(change.found.gregorian) == year]
-    sources = sources_of(periods, runs) + ([easter["source"]] if "source" in easter else [])
-    return YearFound(year, figures, [day_of(day) for day in easter["days"]], easter["listed"], runs,
-                     changes, sources, almanac(printer, asking, code, year))
+    changes = [change for change in changes_of(asking, code, periods) if meets(change, year)]
+    sources = sources_of(periods, runs) + [change.new.source for change in changes
+                                           if change.new.source]
+    return YearFound(
+        year, runs, sorted(((month, run) for month, found in enumerate(months, 1) for run in found),
+                           key=lambda one: one[1].first.day),
+        with_gaps(printer, asking, code, year, changes), feasts,
+        [found for found, answer in zip(easters, answers) if answer["listed"]], figures,
+        sources + [answer["source"] for answer in answers if "source" in answer])
+
+
+def meets(change: Change, year: int) -> bool:
+    """Returns whether a change begins, interrupts, ends or skips a year."""
+    first, last = sorted(year_in(found.label) for found in (change.before, change.found))
+    return first <= year <= last

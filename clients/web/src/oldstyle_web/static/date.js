@@ -1,4 +1,7 @@
-// One date: asks as it is typed, keeps the address, and copies the citation.
+// One date: asks as it is typed, and keeps the address.
+import {offerCopy} from "./cite.js";
+import {_} from "./messages.js";
+
 const form = document.getElementById("question");
 const answer = document.getElementById("answer");
 // What is read aloud: one sentence of an answer, and not all of it at each pause in typing.
@@ -45,7 +48,7 @@ async function ask() {
         }
     } catch (why) {
         if (why.name === "AbortError") return;
-        tell("The page’s server doesn’t answer. Try again.", question);
+        tell(_("The page’s server doesn’t answer. Try again."), question);
     }
 }
 
@@ -55,6 +58,11 @@ function show(told, question) {
     said.textContent = told.said ?? "";
     document.title = told.title;
     history.replaceState(null, "", told.address);
+    for (const link of document.querySelectorAll("[hreflang]")) {
+        const address = new URL(told.address, location.href);
+        address.searchParams.set("lang", link.hreflang);
+        link.href = address;
+    }
     offerCopy();
 }
 
@@ -69,35 +77,7 @@ function tell(sentence, question) {
     said.textContent = sentence;
 }
 
-// Puts buttons that copy beside the link, if the browser lets a page copy.
-function offerCopy() {
-    const link = document.getElementById("link");
-    if (!link || !navigator.clipboard) return;
-    const citation = document.getElementById("citation");
-    link.after(copyButton("Copy the citation", () => citation.textContent),
-        copyButton("Copy the link", () => link.href));
-}
-
-function copyButton(name, text) {
-    const button = document.createElement("button");
-    button.type = "button";
-    button.className = "plain";
-    button.textContent = name;
-    button.addEventListener("click", async () => {
-        try {
-            await navigator.clipboard.writeText(text());
-            button.textContent = "Copied";
-            said.textContent = "Copied.";
-        } catch {
-            button.textContent = "Not allowed: mark it and copy";
-        }
-        setTimeout(() => { button.textContent = name; }, 2000);
-    });
-    return button;
-}
-
 form.addEventListener("input", later);
 form.addEventListener("change", later);
 // A page that comes back from the browser's memory may have other words in its fields.
 window.addEventListener("pageshow", ask);
-offerCopy();

@@ -1,14 +1,17 @@
 // A table of letters: sends it, shows its rows as they come, has them corrected, and saves them.
 import {Records, fieldsOf, lastField, separatorOf} from "./csv.js";
+import {_} from "./messages.js";
 import {Mending} from "./mending.js";
 import {Sheet} from "./sheet.js";
 
 const MARK = "\u001e";
 const FIRST = ["remark", "dual", "weekday_found", "earliest", "latest", "kind"];
 const WORK = 12;
+const WORKBOOK = /\.(xlsx|ods)$/i;
 const named = (id) => document.getElementById(id);
 const form = named("letters");
-const sheet = new Sheet(named("view"), named("head"), named("rows"), (row) => mending.begin(row));
+const sheet = new Sheet(named("view"), named("head"), named("rows"), (row) => mending.begin(row),
+    (row) => mending.undo(row));
 const mending = new Mending(sheet, form, tell, counted);
 // The run of the table that is read, or of the one whose rows are shown.
 let run = null;
@@ -18,7 +21,7 @@ function tell(sentence) { named("told").textContent = sentence; }
 
 function fault(sentence) { named("fault").textContent = sentence; }
 
-const number = (count) => count.toLocaleString("en");
+const number = (count) => count.toLocaleString(document.documentElement.lang);
 
 // How many lines a file has, for the bar of progress.
 async function linesOf(file) {
@@ -36,17 +39,26 @@ const isKept = () => isSaved && !sheet.editing.size;
 
 async function send(event) {
     event.preventDefault();
-    const file = named("table").files[0];
-    if (!file) return fault("Choose a table first, or drop one on the page.");
+    const chosen = named("table").files[0];
+    const pasted = named("pasted").value;
+    const file = chosen ?? new File([pasted], "pasted.csv");
+    if (!chosen && !pasted.trim()) {
+        return fault(_("Choose a table first, drop one on the page, or paste its rows."));
+    }
+    if (chosen && pasted.trim()) {
+        return fault(_("A table is chosen and rows are pasted: take one of both away."));
+    }
     const most = Number(form.dataset.most);
     if (file.size > most) {
-        return fault(`The table has ${number(file.size)} bytes, and ${number(most)} are the most `
-            + "that is taken here. Send it in parts, or use oldstyle letters.");
+        return fault(_("The table has %(size)s bytes, and %(most)s are the most that is taken "
+            + "here. Send it in parts, or use oldstyle letters.",
+        {size: number(file.size), most: number(most)}));
     }
-    if (!isKept() && !window.confirm("Rows that you mended are not saved. Throw them away?")) {
+    if (!isKept() && !window.confirm(
+        _("Rows that you mended are not saved. Throw them away?"))) {
         return null;
     }
-    const mine = begin(file.name);
+    const mine = begin(file);
     const told = await read(file, mine);
     if (mine !== run) return null;
     finish();
@@ -65,19 +77,22 @@ async function read(file, {stopping, words}) {
         if (!reply.ok) return explained((await reply.json()).told);
         return await take(reply.body.getReader(), Math.max(1, lines - 1), signal);
     } catch (why) {
-        if (why.name === "NotReadableError") return "The file can’t be read: choose it again.";
-        return why.name === "AbortError" ? "It was stopped: the rows that came are here."
-            : "The connection ended before the table did. Send it again.";
+        if (why.name === "NotReadableError") return _("The file can’t be read: choose it again.");
+        return why.name === "AbortError" ? _("It was stopped: the rows that came are here.")
+            : _("The connection ended before the table did. Send it again.");
     }
 }
 
-function begin(name) {
+function begin(file) {
     run?.stopping.abort();
     const words = new FormData(form);
     words.set("told", "1");
-    run = {name, words, stopping: new AbortController(), mark: ""};
+    words.set("table", file);
+    words.delete("pasted");
+    if (WORKBOOK.test(file.name)) words.set("separator", "comma");
+    run = {name: file.name, words, stopping: new AbortController(), mark: ""};
     fault("");
-    tell("The table is being sent.");
+    tell(_("The table is being sent."));
     sheet.clear();
     mending.keep(words);
     isSaved = true;
@@ -118,7 +133,7 @@ function beginTable(first) {
     const header = first.replace(/^\uFEFF/, "");
     run.mark = first.slice(0, first.length - header.length);
     const separators = {comma: ",", semicolon: ";", tab: "\t"};
-    const separator = separators[named("separator").value] ?? separatorOf(header);
+    const separator = separators[run.words.get("separator")] ?? separatorOf(header);
     sheet.begin(fieldsOf(header, separator), [], separator);
     named("result").hidden = false;
 }
@@ -127,7 +142,9 @@ function progress(total) {
     const bar = named("progress");
     bar.value = Math.min(1, sheet.records.length / total);
     const tenth = Math.floor(bar.value * 10);
-    if (tenth !== progress.last) tell(`${number(sheet.records.length)} rows are answered.`);
+    if (tenth !== progress.last) {
+        tell(_("%(count)s rows are answered.", {count: number(sheet.records.length)}));
+    }
     progress.last = tenth;
     if (!sheet.shown.length) setColumns();
     sheet.later();
@@ -153,7 +170,9 @@ function finish() {
 function summary() {
     const remarks = sheet.remarks.filter((remark) => remark).length;
     const count = sheet.records.length;
-    return `${number(count)} ${count === 1 ? "row" : "rows"}, ${number(remarks)} with a remark.`;
+    const parts = {count: number(count), remarks: number(remarks)};
+    return count === 1 ? _("1 row, %(remarks)s with a remark.", parts)
+        : _("%(count)s rows, %(remarks)s with a remark.", parts);
 }
 
 // Counts the remarks again and offers each of them.
@@ -168,10 +187,11 @@ function counted(row = null) {
     const list = named("remark");
     const held = list.value;
     const remarked = sheet.remarks.filter((remark) => remark).length;
-    const choices = [["", `all rows (${number(sheet.records.length)})`],
-        ["*", `rows with a remark (${number(remarked)})`],
-        ...[...counts].sort().map(([remark, count]) => [remark, `${remark} (${number(count)})`])];
-    list.replaceChildren(...choices.map(([value, text]) => new Option(text, value)));
+    const choices = [["", _("all rows"), sheet.records.length],
+        ["*", _("rows with a remark"), remarked],
+        ...[...counts].sort().map(([remark, count]) => [remark, remark, count])];
+    list.replaceChildren(...choices.map(([value, text, count]) =>
+        new Option(`${text} (${number(count)})`, value)));
     list.value = choices.some(([value]) => value === held) ? held : "";
 }
 
@@ -198,11 +218,12 @@ function setColumns() {
 function save() {
     const [open] = sheet.editing.keys();
     if (open !== undefined) {
-        tell(`Row ${number(open + 1)} is not asked yet: press its “Ask” or “Cancel”, then save.`);
+        tell(_("Row %(row)s is not asked yet: press its “Ask” or “Cancel”, then save.",
+            {row: number(open + 1)}));
         return;
     }
     if (!named("running").hidden) {
-        tell("The table is still being read: wait for its end, or stop it, then save.");
+        tell(_("The table is still being read: wait for its end, or stop it, then save."));
         return;
     }
     const parts = [`${run.mark}${mending.header()}\n`];
@@ -219,8 +240,8 @@ function save() {
 
 // The names of a table's columns, to choose from.
 async function offerColumns() {
-    const file = named("table").files[0];
-    if (!file) return;
+    const file = named("table").files[0] ?? new File([named("pasted").value], "pasted.csv");
+    if (WORKBOOK.test(file.name)) return;
     const text = (await file.slice(0, 65_536).text()).replace(/^\uFEFF/, "").trimStart();
     const header = text.split(/\r\n|\n|\r/)[0];
     const names = fieldsOf(header, separatorOf(header)).slice(0, 60);
@@ -238,7 +259,7 @@ function drop(event) {
     named("drop").classList.remove("over");
     if (!bringsTable(event)) return;
     event.preventDefault();
-    if (event.dataTransfer.files.length !== 1) return fault("Drop one table at a time.");
+    if (event.dataTransfer.files.length !== 1) return fault(_("Drop one table at a time."));
     named("table").files = event.dataTransfer.files;
     offerColumns();
     return form.requestSubmit();
@@ -251,6 +272,7 @@ function over(event) {
 
 form.addEventListener("submit", send);
 named("table").addEventListener("change", offerColumns);
+named("pasted").addEventListener("change", offerColumns);
 named("stop").addEventListener("click", () => run.stopping.abort());
 named("remark").addEventListener("change", choose);
 named("wide").addEventListener("change", setColumns);

@@ -1,5 +1,7 @@
 // Corrections: a row's place, date and weekday are changed in the row, which is asked again alone.
 import {Records, fieldsOf, lastField, recordOf} from "./csv.js";
+import {_} from "./messages.js";
+import {button} from "./sheet.js";
 
 const ADDED = 12;
 const MARK = "\u001e";
@@ -49,9 +51,11 @@ export class Mending {
             const cell = cells[this.sheet.shown.indexOf(place)];
             if (cell) cell.replaceChildren(this.input(row, place, typed));
         }
-        const button = drawn.querySelector("button");
-        button.replaceWith(this.button("Ask", `Ask again for row ${row + 1}`, () => this.ask(row)),
-            this.button("Cancel", `Leave row ${row + 1} as it was`, () => this.leave(row)));
+        drawn.children[1].replaceChildren(
+            button(_("Ask"), _("Ask again for row %(row)s", {row: row + 1}),
+                () => this.ask(row)),
+            button(_("Cancel"), _("Leave row %(row)s as it was", {row: row + 1}),
+                () => this.leave(row)));
         drawn.addEventListener("keydown", (event) => {
             if (event.key === "Enter" && event.target.matches("input")) {
                 event.preventDefault();
@@ -66,22 +70,13 @@ export class Mending {
         const input = document.createElement("input");
         input.type = "text";
         input.value = typed.fields[place] ?? "";
-        input.setAttribute("aria-label", `${this.sheet.columns[place]} of row ${row + 1}`);
+        input.setAttribute("aria-label", _("%(column)s of row %(row)s",
+            {column: this.sheet.columns[place], row: row + 1}));
         input.addEventListener("input", () => {
             typed.asking?.abort();
             typed.fields[place] = input.value;
         });
         return input;
-    }
-
-    button(name, label, press) {
-        const button = document.createElement("button");
-        button.type = "button";
-        button.className = "plain";
-        button.textContent = name;
-        button.setAttribute("aria-label", label);
-        button.addEventListener("click", press);
-        return button;
     }
 
     leave(row) {
@@ -114,19 +109,35 @@ export class Mending {
             if (!reply.ok) throw new Error(JSON.parse(text).told);
             this.take(row, text.slice(0, text.lastIndexOf(MARK)));
         } catch (why) {
-            if (!isOvertaken()) this.tell(`Row ${row + 1} was not asked: ${why.message}`);
+            if (!isOvertaken()) {
+                this.tell(_("Row %(row)s was not asked: %(why)s",
+                    {row: row + 1, why: why.message}));
+            }
         }
     }
 
     take(row, text) {
         const [, record] = new Records().take(text);
-        if (record === undefined) throw new Error("the row has a quote or a line end too many");
+        if (record === undefined) throw new Error(_("the row has a quote or a line end too many"));
         const {sheet} = this;
-        sheet.records[row] = record;
-        sheet.remarks[row] = lastField(record, sheet.separator);
-        sheet.mended.add(row);
+        if (!sheet.mended.has(row)) sheet.mended.set(row, sheet.records[row]);
+        this.put(row, record);
+        const remark = sheet.remarks[row] || _("no remark now");
+        this.tell(_("Row %(row)s: %(remark)s.", {row: row + 1, remark}));
+    }
+
+    // Puts back the record that came.
+    undo(row) {
+        const record = this.sheet.mended.get(row);
+        this.sheet.mended.delete(row);
+        this.put(row, record);
+        this.tell(_("Row %(row)s is as it was sent.", {row: row + 1}));
+    }
+
+    put(row, record) {
+        this.sheet.records[row] = record;
+        this.sheet.remarks[row] = lastField(record, this.sheet.separator);
         this.leave(row);
         this.counted(row);
-        this.tell(`Row ${row + 1}: ${sheet.remarks[row] || "no remark now"}.`);
     }
 }

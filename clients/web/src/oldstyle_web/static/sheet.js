@@ -1,5 +1,6 @@
 // The rows of a table, of which only those that are seen are in the page.
 import {fieldsOf} from "./csv.js";
+import {_} from "./messages.js";
 
 const MORE = 6;
 const WIDEST = 26;
@@ -8,9 +9,9 @@ const NARROWEST = 10;
 const HIGHEST = 12_000_000;
 
 export class Sheet {
-    // Calls `mend` with the number of the row whose button is pressed.
-    constructor(view, head, body, mend) {
-        Object.assign(this, {view, head, body, mend});
+    // Calls `mend` or `undo` with the number of the row whose button is pressed.
+    constructor(view, head, body, mend, undo) {
+        Object.assign(this, {view, head, body, mend, undo});
         this.table = body.parentElement;
         this.editing = new Map();
         this.clear();
@@ -22,7 +23,8 @@ export class Sheet {
         this.records = [];
         this.remarks = [];
         this.chosen = null;
-        this.mended = new Set();
+        // The rows that were corrected, each with the record that came.
+        this.mended = new Map();
         for (const typed of this.editing.values()) typed.asking?.abort();
         this.editing.clear();
         this.columns = [];
@@ -56,11 +58,11 @@ export class Sheet {
 
     drawHead() {
         const names = this.shown.map((place) => this.columns[place]);
-        const cells = ["Row", "", ...names].map((name) => {
+        const cells = [_("Row"), "", ...names].map((name) => {
             const cell = document.createElement("th");
             cell.scope = "col";
             cell.textContent = name;
-            if (!name) cell.append(heard("Mend"));
+            if (!name) cell.append(heard(_("Mend")));
             return cell;
         });
         this.head.setAttribute("aria-rowindex", 1);
@@ -156,7 +158,7 @@ export class Sheet {
         if (this.mended.has(row)) drawn.className = "mended";
         const number = document.createElement("th");
         number.scope = "row";
-        number.textContent = (row + 1).toLocaleString("en");
+        number.textContent = (row + 1).toLocaleString(document.documentElement.lang);
         const fields = fieldsOf(this.records[row], this.separator);
         const remark = this.columns.length - 1;
         const cells = this.shown.map((place) => {
@@ -173,13 +175,12 @@ export class Sheet {
 
     tools(row) {
         const cell = document.createElement("td");
-        const button = document.createElement("button");
-        button.type = "button";
-        button.className = "plain";
-        button.textContent = "Mend";
-        button.setAttribute("aria-label", `Mend row ${row + 1}`);
-        button.addEventListener("click", () => this.mend(row));
-        cell.append(button);
+        cell.append(button(_("Mend"), _("Mend row %(row)s", {row: row + 1}),
+            () => this.mend(row)));
+        if (this.mended.has(row)) {
+            cell.append(button(_("Undo"), _("Undo row %(row)s", {row: row + 1}),
+                () => this.undo(row)));
+        }
         return cell;
     }
 
@@ -192,6 +193,16 @@ export class Sheet {
         this.drawn.set(row, drawn);
         return drawn;
     }
+}
+
+export function button(name, label, press) {
+    const made = document.createElement("button");
+    made.type = "button";
+    made.className = "plain";
+    made.textContent = name;
+    made.setAttribute("aria-label", label);
+    made.addEventListener("click", press);
+    return made;
 }
 
 function room() {
