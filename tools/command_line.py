@@ -135,4 +135,4 @@ def end(main):
         told = told if isinstance(told, str) else told.decode(errors="replace")
         sys.exit(f"{SCRIPT}: {shlex.join(map(str, why.cmd))}: status {why.returncode} {told}")
     except OSError as why:
-        sys.exit(f"{SCRIPT}: {why.filename or 'the system'}: {why.strerror}")
+        sys.exit(f"{SCRIPT}: {why.filename or 'the system'}: {why.strerror or why}")

@@ -202,7 +202,7 @@ def cut(program, seconds, pause, is_one_by_one):
     beside = []
     is_over = threading.Event()
     with opened(program) as register:
-        thread = threading.Thread(target=ask_beside, args=(is_over, register, beside))
+        thread = threading.Thread(target=ask_beside, args=(is_over, register, beside), daemon=True)
         thread.start()
         signal.signal(signal.SIGALRM, raise_limit)
         until = time.monotonic() + seconds

@@ -17,7 +17,7 @@ except ImportError:
 
 __all__ = ["Keys", "By", "NoAlertPresentException", "Select"]
 SIZES = {"telephone": (390, 844), "screen": (1280, 800), "large": (3840, 2160)}
-WAIT = 10
+WAIT = 60
 # The least contrast of a text to what is below it, in the whole page.
 CONTRAST = """
 const channel = (part) => {

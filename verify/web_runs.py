@@ -1,5 +1,6 @@
 """The page in runs of its own, by its command or by gunicorn: what it is asked, and what it
 leaves."""
+import atexit
 import http.client
 import json
 import os
@@ -92,6 +93,7 @@ class Page:
         self.errors = tempfile.TemporaryFile("w+")
         self.process = subprocess.Popen(words, cwd=TOP, env=variables, stdout=subprocess.DEVNULL,
                                         stderr=self.errors)
+        atexit.register(self.process.terminate)  # a script that an exception ends leaves no page
         self.wait_until_it_answers()
 
     def wait_until_it_answers(self):

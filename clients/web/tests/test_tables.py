@@ -3,6 +3,7 @@ from __future__ import annotations
 
 import io
 import tempfile
+import threading
 from pathlib import Path
 from typing import IO, Callable
 
@@ -62,6 +63,15 @@ def test_a_table_that_is_late_is_told(script: Callable[[str], str]) -> None:
     rows = held_in(work.rows({}, table_of(b"place,date\n"), None))
     assert rows == b"row\nthe table took too long, and was ended\n"
     assert work.places.acquire(blocking=False)
+
+
+def test_a_run_is_ended_once_the_tables_are_closed(script: Callable[[str], str]) -> None:
+    work = Tables(Settings(SAMPLES, script("exec sleep 60"), tables=1))
+    threading.Timer(0.5, work.close).start()
+    for _ in range(2):
+        with pytest.raises(Problem) as why:
+            work.rows({}, table_of(b"place,date\n"), None)
+        assert why.value.code == 503 and not work.running
 
 
 def test_a_line_of_the_journal_that_is_just_written_is_awaited(

@@ -8,7 +8,6 @@ import select
 import shutil
 import signal
 import subprocess
-import tempfile
 import threading
 import time
 import weakref
@@ -133,7 +132,9 @@ class Connection:
         self._tickets: Deque[Ticket] = collections.deque()
         self._unsent = bytearray()
         self._rest = b""
-        self._errors: IO[bytes] = tempfile.TemporaryFile()
+        # (In Python 3.9, tempfile.TemporaryFile closes its descriptor twice if a signal handler
+        # raises an exception in it.)
+        self._errors: IO[bytes] = os.fdopen(os.memfd_create("errors"), "w+b")
         try:
             # A session of its own, so that Ctrl-C in a terminal interrupts the caller alone.
             self._process = subprocess.Popen(command, stdin=subprocess.PIPE, bufsize=0,

@@ -35,6 +35,7 @@ class Page(Flask):
 
     def close(self) -> None:
         """Ends the runs of the program."""
+        self.tables.close()
         self.register.close()
 
 

@@ -70,6 +70,14 @@ class Tables:
     def __init__(self, settings: Settings):
         self.settings = settings
         self.places = threading.BoundedSemaphore(settings.tables)
+        self.running: set[subprocess.Popen[bytes]] = set()
+        self.is_closed = False
+
+    def close(self) -> None:
+        """Ends the runs of `letters`. One that begins later is ended at once."""
+        self.is_closed = True
+        for process in list(self.running):
+            process.kill()
 
     def rows(self, fields: Mapping[str, str], table: IO[bytes],
              places: IO[bytes] | None) -> IO[bytes]:
@@ -122,18 +130,25 @@ class Tables:
         """How a run of the program over a table ended."""
         rows.flush()
         try:
-            done = subprocess.run(in_bytes(words), stdin=table, stdout=rows, pass_fds=passed,
-                                  stderr=subprocess.PIPE, check=False,
-                                  timeout=self.settings.table_seconds)
+            with subprocess.Popen(in_bytes(words), stdin=table, stdout=rows, pass_fds=passed,
+                                  stderr=subprocess.PIPE) as process:
+                self.running.add(process)
+                try:
+                    if self.is_closed:
+                        process.kill()
+                    errors = process.communicate(timeout=self.settings.table_seconds)[1]
+                finally:
+                    process.kill()
+                    self.running.discard(process)
         except subprocess.TimeoutExpired:
             return End(-1, "the table took too long, and was ended")
         except OSError as why:
             return End(-1, reason_of(why))
-        told = self.settings.shown(done.stderr.decode(errors="replace"))
+        told = self.settings.shown(errors.decode(errors="replace"))
         told = PLACES_FILE.sub("the table of places", told)
-        if done.returncode < 0 and not told:
+        if process.returncode < 0 and not told:
             told = "the program was ended before the table did"
-        return End(done.returncode, told)
+        return End(process.returncode, told)
 
 
 @dataclass(frozen=True)
