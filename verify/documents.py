@@ -78,7 +78,7 @@ def text_of(path):
 
 
 def in_help():
-    """The arguments and the options of each command, with their values, as the help has them."""
+    """The arguments and the options of each command, with their values, in the help."""
     for page in text_of(HELP).split("\n== ")[1:]:
         usage = re.search(r"^Usage: oldstyle ([a-z]+)", page, flags=re.M)
         arguments = re.findall(rf"^  [<\[]({VALUE})[>\]]", page, flags=re.M)

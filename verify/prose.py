@@ -1,10 +1,9 @@
 #!/usr/bin/env python3
-"""Finds the forms of prose.words in documents, help texts and comments, and counts them by folder.
+"""Finds the forms of prose.words in documents, help texts and comments.
 
-A document is a file of Markdown, or the manual. It must have none of these forms, and no link that
-leads nowhere: each is printed with its line, and the status is 1. Code, and what a program prints,
-is ignored. In comments and help texts the forms are only counted; --all prints these too, and
-FOLDER.. names where to look.
+None of them may have such a form, and no document a link that leads nowhere: each is printed with
+its line, and the status is 1. Code, and what a program prints, is ignored. FOLDER.. names where to
+look.
 
 The words of README.md and docs/ are counted as `wc -w` does, without what scripts write there.
 """
@@ -130,21 +129,6 @@ def reader_of(path, text):
     return READERS.get(os.path.splitext(path)[1])
 
 
-def is_document(path):
-    return path.endswith((".md", ".1"))
-
-
-def folder_of(path):
-    """The folder under which a file is counted."""
-    parts = path.split("/")
-    if os.path.basename(path) == HELP:
-        return "help texts"
-    if parts[0] == "crates":
-        return f"crates/*/{parts[2]}" if len(parts) > 3 else "crates"
-    return (parts[0] if len(parts) > 1 else "top") + (
-        ", documents" if is_document(path) else ", comments")
-
-
 def finds(path, text, forms, allowed):
     """Each form in a file: its line, the text that has it, and what to write instead."""
     reader = reader_of(path, text)
@@ -188,10 +172,9 @@ def words_of(text):
 def main():
     line = CommandLine(__doc__)
     line.add_argument("folders", nargs="*", metavar="FOLDER", help="where to look; all without one")
-    line.add_argument("--all", action="store_true", help="print what comments have too")
     options = line.parse_args()
     forms, allowed = read_list()
-    count, files, words, wrong = collections.Counter(), collections.Counter(), 0, 0
+    files, words, wrong = 0, 0, 0
     for path in listed():
         if options.folders and not path.startswith(tuple(options.folders)):
             continue
@@ -200,23 +183,17 @@ def main():
                 text = file.read()
         except UnicodeDecodeError:
             continue
-        files[folder_of(path)] += 1
+        files += 1
         if path.endswith(".md") and path.split("/")[0] in ("README.md", "docs"):
             words += words_of(text)
-        for number, found, better in finds(path, text, forms, allowed):
-            count[folder_of(path)] += 1
-            wrong += is_document(path)
-            if is_document(path) or options.all:
-                print(f"{path}:{number}: {found}: write {better}")
-        for number, link in lost_links(path, text) if path.endswith(".md") else ():
-            wrong += 1
-            print(f"{path}:{number}: {link} leads nowhere")
-    for folder in sorted(files):
-        if count[folder]:
-            print(f"{count[folder]:6} in {files[folder]:4} files of {folder}")
-    others = sum(count[folder] for folder in count if not folder.endswith("documents"))
-    print(f"{wrong} faults in documents, {others} forms in comments and help texts; README.md and "
-          f"docs have {words} words")
+        faults = [(number, f"{found}: write {better}")
+                  for number, found, better in finds(path, text, forms, allowed)]
+        if path.endswith(".md"):
+            faults += [(number, f"{link} leads nowhere") for number, link in lost_links(path, text)]
+        wrong += len(faults)
+        for number, fault in faults:
+            print(f"{path}:{number}: {fault}")
+    print(f"{wrong} faults in {files} files; README.md and docs have {words} words")
     return 1 if wrong else 0
 
 
