@@ -211,6 +211,8 @@ class Registers(Program):
         for journal, text in (("first", "b.toml"), ("first", "a.toml")):
             again = self.run("plan", journal, text)
             self.is_right(f"{text} plans {again and again.out!r}", again and again.out == NOTHING)
+        # (the line `edition = 1` goes: an empty journal has no such edition)
+        self.put("b.toml", first.out.partition(b"\n")[2])
         self.run("publish", "second", "b.toml")
         second = self.run("text", "second")
         self.is_right("another text of its own text", second and second.out == first.out)
