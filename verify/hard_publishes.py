@@ -24,6 +24,7 @@ from lib.text_draws import journal_lines
 
 KEYS = "".join(f'{word} = "{value}"\n' for word, value in JULIAN.items())
 SOURCE = ', source = "24 Geo. II c. 23"'
+NOT_PRINTED = (0, "oldstyle: the edition is in the journal, but its report could not be printed\n")
 
 
 def text_of(count, changes, source):
@@ -65,6 +66,12 @@ class Trial:
                                text or self.text], text=True, timeout=60, check=False, **streams)
         return done.returncode, done.stderr
 
+    def not_written(self, cause):
+        """How a publish ends if the journal can't be written for this cause, which is named if the
+        journal is saved again."""
+        note = f"note: {self.journal}: {cause}\n" if self.is_anew else ""
+        return WRITE_FAULT[0], WRITE_FAULT[1] + note
+
     def hold_whole(self, what, told, wanted, is_published):
         """Checks how the run ended, and whether the journal has the edition."""
         hold(f"{what} prints {told}", told == wanted)
@@ -87,11 +94,11 @@ def try_outputs(trial):
     for what, opened in (("output full", full), ("output a closed pipe", closed_pipe)):
         trial.begin()
         output = opened()
-        trial.hold_whole(what, trial.publish(stdout=output), WRITE_FAULT, True)
+        trial.hold_whole(what, trial.publish(stdout=output), NOT_PRINTED, True)
         os.close(output)
     trial.begin()
     told = trial.publish(stdout=None, preexec_fn=lambda: os.close(1))
-    trial.hold_whole("output closed", told, WRITE_FAULT, True)
+    trial.hold_whole("output closed", told, NOT_PRINTED, True)
 
 
 def try_files(trial, folder):
@@ -99,7 +106,7 @@ def try_files(trial, folder):
     none = os.path.join(folder, "none")
     inside = os.path.join(none, "journal")
     for what, given, wanted in (
-            ("a folder as a text", {"text": folder}, f"oldstyle: {folder}: read fault\n"),
+            ("a folder as a text", {"text": folder}, f"oldstyle: {folder}: is a directory\n"),
             ("no text", {"text": none}, f"oldstyle: {none}: no such file\n"),
             ("a folder as a journal", {"journal": folder},
              f"oldstyle: {folder}: it is no file, but a folder or a pipe\n"),
@@ -116,7 +123,8 @@ def try_lengths(trial):
     for length in range(first, last, max(1, (last - first) // 40)):
         trial.begin()
         told = trial.publish(preexec_fn=lambda: limited(length))
-        trial.hold_whole(f"a limit of {length} bytes", told, WRITE_FAULT, False)
+        wanted = trial.not_written("write fault")
+        trial.hold_whole(f"a limit of {length} bytes", told, wanted, False)
     trial.hold_next("limits")
 
 
@@ -127,7 +135,8 @@ def try_full_disk(program, folder, source):
             return
         trial, other = Trial(program, disk, (40, 10), source), os.path.join(disk, "other")
         fill(other)
-        trial.hold_whole("a full disk", trial.publish(), WRITE_FAULT, False)
+        trial.hold_whole("a full disk", trial.publish(),
+                         trial.not_written("no space left on the device"), False)
         os.remove(other)
         trial.hold_next("a full disk")
 
