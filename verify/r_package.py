@@ -5,6 +5,7 @@
 the program all tests of the package are run; without it they are skipped. R is kept off the
 network. It requires R, and the packages jsonlite and testthat of R.
 """
+import filecmp
 import os
 import re
 import subprocess
@@ -53,6 +54,9 @@ def main():
                           check=False).returncode:
             print(f"R lacks {package}: install {PACKAGES}", file=sys.stderr)
             return MISSING
+    if not filecmp.cmp(os.path.join(SOURCE, "inst", "extdata", "samples.journal"),
+                       os.path.join(TOP, "examples", "samples.journal"), shallow=False):
+        sys.exit("inst/extdata/samples.journal is not examples/samples.journal: copy it again")
     with tempfile.TemporaryDirectory() as folder:
         built = r_command(["build", SOURCE], folder)
         if built.returncode or "WARNING" in built.stdout:

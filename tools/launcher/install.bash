@@ -44,7 +44,7 @@ put_folder() {
     local file
     while read -r -d '' file; do
         put 644 "$1/$file" "$2/$file" || return
-    done < <(find -L "$1" -name __pycache__ -prune -o -name '*.egg-info' -prune \
+    done < <(find "$1" -name __pycache__ -prune -o -name '*.egg-info' -prune \
         -o -type f -printf '%P\0')
 }
 

@@ -4,6 +4,7 @@ from __future__ import annotations
 import json
 import re
 import subprocess
+from importlib.resources import files
 from typing import Any
 
 from conftest import SAMPLES, TOP
@@ -21,6 +22,7 @@ def examples(title: str) -> list[str]:
 
 def test_the_tables_are_those_of_the_document() -> None:
     text = (TOP / "docs" / "DATES.md").read_text(encoding="utf-8")
+    assert files("oldstyle_web").joinpath("forms.txt").read_text(encoding="utf-8") == text
     assert len(forms_read()) == text.count("\n| Written |")
     rows = re.findall(r"\n\| (?!Written)", text.partition("\n## Which days")[0])
     assert sum(len(table.rows) for table in forms_read()) == len(rows)
