@@ -90,6 +90,12 @@ def test_a_fault_of_the_page_is_told_and_logged(client: Any, page: Page, caplog:
     assert "ZeroDivisionError" in caplog.text
 
 
+def test_a_year_of_three_digits_is_remarked(client: Any) -> None:
+    for date, is_remarked in (("11+July+841", True), ("11+July+0841", False)):
+        told = client.get(f"/answer.json?code=GB&date={date}").json
+        assert told and ("Year of three digits." in told["html"]) is is_remarked
+
+
 def test_the_live_region_reads_one_sentence(client: Any) -> None:
     page = client.get("/?code=GB&date=11+February+1731").text
     assert re.findall(r'<[^>]*(?:aria-live|role="status")[^>]*>', page) == [

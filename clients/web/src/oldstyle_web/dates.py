@@ -1,6 +1,7 @@
 """What the program says of one date: its days, their periods, and the reason if there is none."""
 from __future__ import annotations
 
+import re
 from dataclasses import dataclass, field
 from itertools import zip_longest
 from typing import Any, Iterator
@@ -157,7 +158,8 @@ def shown_runs(kind: str, runs: list[Run]) -> list[Run]:
 
 
 def needs_page(written: dict[str, Any], date: str) -> bool:
-    """Returns whether the page of the date says more than its answer."""
+    """Returns whether the page of the date says more than its answer, such as that its year has
+    three digits."""
     return bool(written["kind"] != "day" or written["reason"] is not None or "/" in date
-                or len(written["runs"]) > 1 or written["weekday"] is False
+                or not re.search(r"\d{4}", date) or len(written["runs"]) > 1 or written["weekday"] is False
                 or written["other_calendar"])
