@@ -37,8 +37,9 @@ CHANGED = "oldstyle: the file has changed meanwhile and is left as it is: the jo
 NOTED = " held another journal, which is now "
 NOT_SYNCED = "oldstyle: the journal is saved, and the disk may not have it yet\n"
 FAULTS = ["oldstyle: read fault\n", "oldstyle: write fault\n"]
-# The cause that is reported after one of them is not checked: it is that of the refused call.
-FAULT_NOTE = re.compile(r"(oldstyle: (?:read|write) fault\n)note: .*\n")
+# What is reported after one of them is not checked: the cause, which is that of the refused call, or
+# what to do.
+FAULT_NOTE = re.compile(r"(oldstyle: (?:read|write) fault\n)(?:note|help): .*\n")
 # The errors that a call may meet.
 ERRORS = {
     "open": ["EACCES", "EMFILE", "ENOSPC"], "lock": ["ENOLCK", "EAGAIN"], "read": ["EIO"],
@@ -136,8 +137,9 @@ def cut_line(way):
 
 
 def is_noted(told):
-    """Returns whether it is reported that a journal stays beside the new one."""
-    return told.startswith("note: ") and NOTED in told and told.endswith(".~1~\n")
+    """Returns whether it is reported that a journal stays beside the new one, by the first number
+    or, if that name was refused, the next one."""
+    return told.startswith("note: ") and NOTED in told and told.endswith((".~1~\n", ".~2~\n"))
 
 
 def new_mode():
