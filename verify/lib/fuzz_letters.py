@@ -13,6 +13,7 @@ from lib.letter_rows import COLUMNS, letter_fields
 from letters import (IS_THERE, LACKS, LONGEST, OPEN_QUOTE, OTHER_NUMBER, SEPARATORS, TEXT_AFTER,
                      TOO_LONG, line_ends)
 from lib.mutations import Run, mutated
+from lib.text_pages import escaped
 from reference import REGIME, Service
 from lib.date_meaning import Malformed, Territory, days_by_month_and_day, parse, weekday_named
 
@@ -135,7 +136,7 @@ def bad_header(columns):
             return IS_THERE.format(name=name).encode()
     for role in ROLES[:2]:
         if role.encode() not in columns:
-            found = b", ".join(columns).decode("utf-8", "replace")
+            found = escaped(b", ".join(columns).decode("utf-8", "replace"))
             return LACKS.format(name=role, found=found, role=role).encode()
     return None
 

@@ -206,6 +206,11 @@ def publish_end(count, editions):
 # ---- faults
 
 
+def escaped(text):
+    """A text as in a message: the characters on which a terminal acts are escaped."""
+    return ESCAPED.sub(lambda found: SHORT.get(found[0], f"\\u{{{ord(found[0]):x}}}"), text)
+
+
 def fault_words(fault):
     """The message of a fault, with the path to it."""
     key = fault.path.rsplit(".", 1)[-1]
@@ -221,8 +226,7 @@ def fault_words(fault):
     words |= {f"No{word.capitalize()}": lambda: f'"{fault.said}" is no {key}: {ALLOWED[key]}'
               for word in WORDS}
     said = words.get(fault.reason, lambda: ALLOWED[key])()
-    return ESCAPED.sub(lambda found: SHORT.get(found[0], f"\\u{{{ord(found[0]):x}}}"),
-                       f"{fault.path}: {said}")
+    return escaped(f"{fault.path}: {said}")
 
 
 def part_of(path, name):
