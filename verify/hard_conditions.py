@@ -66,12 +66,13 @@ def compare(condition, words, got, wanted):
 
 
 def run(folder, words, given="", **streams):
-    """The status of a run in a folder, with what it wrote on the standard streams that are read."""
+    """The status of a run in a folder, with what it wrote on the standard streams that are read. In
+    the latter the folder has no name."""
     if "stdin" not in streams:
         streams["input"] = given
     streams = {"stdout": subprocess.PIPE, "stderr": subprocess.PIPE, **streams}
     done = subprocess.run([PROGRAM, *words.split()], cwd=folder, text=True, timeout=60, **streams)
-    return done.returncode, done.stdout, done.stderr
+    return done.returncode, done.stdout, done.stderr and done.stderr.replace(folder, "")
 
 
 # ---- standard streams
