@@ -235,12 +235,12 @@ def run_watched(command, source=None):
         except StopIteration:
             break
         time.sleep(0.002)
-    told = child.stdout.read()
+    output = child.stdout.read()
     _, status, usage = os.wait4(child.pid, 0)
     child.returncode = os.waitstatus_to_exitcode(status)
     if child.returncode != 0:
-        sys.exit(f"{command}: {told!r}, status {child.returncode}")
-    return usage.ru_utime + usage.ru_stime, peak, told
+        sys.exit(f"{command}: {output!r}, status {child.returncode}")
+    return usage.ru_utime + usage.ru_stime, peak, output
 
 
 def print_head(title, commands, *more):

@@ -131,8 +131,8 @@ def end(main):
     except KeyboardInterrupt:
         sys.exit(130)
     except subprocess.CalledProcessError as why:
-        told = why.stderr or ""
-        told = told if isinstance(told, str) else told.decode(errors="replace")
-        sys.exit(f"{SCRIPT}: {shlex.join(map(str, why.cmd))}: status {why.returncode} {told}")
+        errors = why.stderr or ""
+        errors = errors if isinstance(errors, str) else errors.decode(errors="replace")
+        sys.exit(f"{SCRIPT}: {shlex.join(map(str, why.cmd))}: status {why.returncode} {errors}")
     except OSError as why:
         sys.exit(f"{SCRIPT}: {why.filename or 'the system'}: {why.strerror or why}")

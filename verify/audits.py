@@ -14,7 +14,7 @@ import re
 import subprocess
 import tempfile
 
-from lib.checks import hold, verdict
+from lib.checks import check, verdict
 from lib.common import JULIAN, CommandLine, compact, end, run
 
 CODES = ["RM", "GB", "FR", "DE"]
@@ -49,8 +49,8 @@ def served(oldstyle, chance, journal):
         requests = [edit(chance), edit(chance), {"op": "publish"}, ask, ask, ask]
         lines.append(compact(chance.choice(requests)))
     replies = run(oldstyle, ["serve", "--save", journal], lines).stdout.splitlines()
-    told = [(line, reply) for line, reply in zip(lines, replies) if '"reader"' in line]
-    return [f'{{"ask":{line},"reply":{reply}}}' for line, reply in told]
+    pairs = [(line, reply) for line, reply in zip(lines, replies) if '"reader"' in line]
+    return [f'{{"ask":{line},"reply":{reply}}}' for line, reply in pairs]
 
 
 def at_desk(oldstyle, chance, journal, questions):
@@ -68,7 +68,7 @@ def audited(oldstyle, journal, transcript, lines):
     return done.returncode, done.stdout + done.stderr
 
 
-def spoilt(chance, line):
+def with_other_digit(chance, line):
     """A line with one digit of its reply changed, except in the edition: another edition may have
     the same answer."""
     start = line.index('"reply":')
@@ -90,24 +90,24 @@ def long_audit(oldstyle, journal, transcript, line):
     terminal, ours = pty.openpty()
     shown = subprocess.run(command, stdout=subprocess.PIPE, stderr=ours, check=True).stdout
     os.close(ours)
-    told = os.read(terminal, 4096)
+    output = os.read(terminal, 4096)
     os.close(terminal)
     unseen = subprocess.run(command, capture_output=True, check=True)
-    hold("a terminal is sent other output", shown == unseen.stdout)
-    hold("the audit does not agree", shown.endswith(AGREE))
-    return told.decode().splitlines(), unseen.stderr.decode().splitlines()
+    check("a terminal is sent other output", shown == unseen.stdout)
+    check("the audit does not agree", shown.endswith(AGREE))
+    return output.decode().splitlines(), unseen.stderr.decode().splitlines()
 
 
 def try_transcript(oldstyle, chance, journal, transcript, lines):
     """Tries a transcript as it is, and with a reply changed if it has one."""
     found = audited(oldstyle, journal, transcript, lines)
-    hold(f"{found} of", found == (0, f"audit: {len(lines)} replies agree\n"), lines)
+    check(f"{found} of", found == (0, f"audit: {len(lines)} replies agree\n"), lines)
     if lines:
         bad = chance.randrange(len(lines))
-        changed = lines[:bad] + [spoilt(chance, lines[bad])] + lines[bad + 1:]
+        changed = lines[:bad] + [with_other_digit(chance, lines[bad])] + lines[bad + 1:]
         found = audited(oldstyle, journal, transcript, changed)
-        wanted = (1, f"oldstyle: transcript line {bad + 1}: 42 WrongReply\n")
-        hold(f"{found} of", found == wanted, changed[bad])
+        expected = (1, f"oldstyle: transcript line {bad + 1}: 42 WrongReply\n")
+        check(f"{found} of", found == expected, changed[bad])
 
 
 def main():
@@ -127,9 +127,9 @@ def main():
             try_transcript(oldstyle, chance, journal, transcript, lines)
             agreed, refused = agreed + len(lines), refused + bool(lines)
         one = at_desk(oldstyle, chance, journal, questions)[0]
-        told = long_audit(oldstyle, journal, transcript, one)
-        wanted = [f"oldstyle: {place} MiB of the transcript read" for place in (64, 128)]
-        hold(f"standard error has {told}", told == (wanted, []))
+        output = long_audit(oldstyle, journal, transcript, one)
+        expected = [f"oldstyle: {place} MiB of the transcript read" for place in (64, 128)]
+        check(f"standard error has {output}", output == (expected, []))
     return verdict(f"{options.count} transcripts: {agreed} replies agreed to, {refused} changed "
                    "ones refused")
 

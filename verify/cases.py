@@ -16,7 +16,7 @@ from concurrent.futures import ThreadPoolExecutor
 from dataclasses import dataclass, field
 from itertools import zip_longest
 
-from lib.checks import hold, verdict
+from lib.checks import check, verdict
 from lib.common import TOP, CommandLine, end, file_at
 
 FILES = os.path.join(TOP, "crates", "osn_cases", "data", "*.cases")
@@ -33,7 +33,7 @@ class Step:
 
     line: int
     words: list
-    given: bytes = b""
+    stdin: bytes = b""
     output: bytes = b""
     errors: bytes = b""
     status: int = 0
@@ -86,14 +86,14 @@ def read_cases(text):
             if line == closing:
                 closing = None
             else:
-                steps[-1].given += bytes_of(line)
+                steps[-1].stdin += bytes_of(line)
         elif line.startswith(b"== "):
             parts.append(Case(number, line[3:]))
         elif line.startswith(b"$ "):
             steps.append(Step(number, words_of(line[2:])))
             closing = steps[-1].words[-1] if b"<<" in steps[-1].words[-2:-1] else None
         elif line == b">" or line.startswith(b"> "):
-            steps[-1].given += bytes_of(line[2:])
+            steps[-1].stdin += bytes_of(line[2:])
         elif steps and not line.startswith(b"# "):
             steps[-1].expect(line)
     return parts
@@ -101,21 +101,21 @@ def read_cases(text):
 
 def left(program, folder, step):
     """What a command leaves in a folder: its output, its text on standard error, its status."""
-    words, given = step.words, step.given
+    words, stdin = step.words, step.stdin
     if words[-2:-1] in ([b"<<"], [b"<"]):
         if words[-2] == b"<":
             with open(os.path.join(folder, words[-1]), "rb") as file:
-                given = file.read()
+                stdin = file.read()
         words = words[:-2]
     match words:
         case [b"oldstyle" | b"./oldstyle" as name, *rest]:
-            done = subprocess.run([name, *rest], executable=program, input=given, cwd=folder,
+            done = subprocess.run([name, *rest], executable=program, input=stdin, cwd=folder,
                                   capture_output=True, timeout=60, check=False)
             return done.stdout, done.stderr, done.returncode
         case [b"cat", b">", name]:
             os.makedirs(os.path.dirname(os.path.join(folder, name)), exist_ok=True)
             with open(os.path.join(folder, name), "wb") as file:
-                file.write(given)
+                file.write(stdin)
             return b"", b"", 0
         case [b"cat", name]:
             with open(os.path.join(folder, name), "rb") as file:
@@ -126,9 +126,9 @@ def left(program, folder, step):
     raise ValueError(f"line {step.line} is not a command")
 
 
-def difference(wanted, got):
+def difference(expected, got):
     """The first line of some bytes that differs from the expected one, and that line."""
-    lines = zip_longest(got.splitlines(True), wanted.splitlines(True), fillvalue=b"(nothing)")
+    lines = zip_longest(got.splitlines(True), expected.splitlines(True), fillvalue=b"(nothing)")
     return next((f"{is_there!r}, and not {other!r}" for is_there, other in lines
                  if is_there != other), "")
 
@@ -143,10 +143,11 @@ def run_case(program, name, head, case):
                 continue
             count += 1
             output, errors, status = left(program, os.fsencode(folder), step)
-            for what, wanted, got in (("errors", step.errors, errors),
-                                      ("output", step.output, output),
-                                      ("status", b"%d" % step.status, b"%d" % status)):
-                hold(f"{place}: line {step.line}, {what}:", wanted == got, difference(wanted, got))
+            for what, expected, got in (("errors", step.errors, errors),
+                                        ("output", step.output, output),
+                                        ("status", b"%d" % step.status, b"%d" % status)):
+                check(f"{place}: line {step.line}, {what}:", expected == got,
+                      difference(expected, got))
     return count
 
 

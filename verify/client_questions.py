@@ -71,8 +71,8 @@ def is_own(reading, number):
     return reading.day.label == f"{year}-05-{int(day):02}"
 
 
-def hold(what, holds):
-    if not holds:
+def check(what, is_true):
+    if not is_true:
         failures.append(what)
         print(f"doesn't hold: {what}", flush=True)
 
@@ -99,18 +99,18 @@ def forks(program, count):
     context = multiprocessing.get_context("fork")
     for function in (ask, ask_in_frames):
         with opened(program) as register:
-            hold("before a fork", ask(1))
+            check("before a fork", ask(1))
             with concurrent.futures.ProcessPoolExecutor(4, mp_context=context) as pool:
-                told = list(pool.map(function, range(count)))
-            hold(f"{function.__name__} in a pool: {told.count(True)} of {count}", all(told))
+                answers = list(pool.map(function, range(count)))
+            check(f"{function.__name__} in a pool: {answers.count(True)} of {count}", all(answers))
             with context.Pool(4) as pool:
                 results = pool.map_async(function, range(count), chunksize=1)
                 own = [is_own(register.read("GB", text_of(number)), number)
                        for number in range(count)]
-                told = results.get(60)
-            hold(f"{function.__name__} beside its parent: {told.count(True)}", all(told))
-            hold(f"the parent: {own.count(True)} of {count}", all(own))
-            hold("after the pools", ask(2))
+                answers = results.get(60)
+            check(f"{function.__name__} beside its parent: {answers.count(True)}", all(answers))
+            check(f"the parent: {own.count(True)} of {count}", all(own))
+            check("after the pools", ask(2))
 
 
 def in_child(work):
@@ -118,20 +118,20 @@ def in_child(work):
     reader, writer = os.pipe()
     if (child := os.fork()) == 0:
         try:
-            said = str(work())
+            message = str(work())
         except BaseException as why:
-            said = f"{type(why).__name__}: {why}"
-        os.write(writer, said.encode())
+            message = f"{type(why).__name__}: {why}"
+        os.write(writer, message.encode())
         os._exit(0)
     os.close(writer)
     os.set_blocking(reader, True)
     ready = threading.Timer(20, os.kill, (child, signal.SIGKILL))
     ready.start()
-    said = os.read(reader, 4096).decode() or "silence"
+    message = os.read(reader, 4096).decode() or "silence"
     ready.cancel()
     os.close(reader)
     os.waitpid(child, 0)
-    return said
+    return message
 
 
 def one_fork(program, folder):
@@ -140,29 +140,29 @@ def one_fork(program, folder):
     with opened(program) as register:
         rows = register.read_many((("GB", text_of(number)) for number in range(5000)), ahead=100)
         next(rows)
-        said = in_child(lambda: [next(rows) for _ in range(200)])
-        hold(f"rows of the parent in a child: {said}", said.startswith("ProgramEnded"))
-        hold("the same rows in the parent", all(is_own(reading, number)
-                                                for number, reading in enumerate(rows, 1)))
+        message = in_child(lambda: [next(rows) for _ in range(200)])
+        check(f"rows of the parent in a child: {message}", message.startswith("ProgramEnded"))
+        check("the same rows in the parent", all(is_own(reading, number)
+                                                 for number, reading in enumerate(rows, 1)))
         is_over = threading.Event()
         asking = [threading.Thread(target=ask_until, args=(is_over, register)) for _ in range(3)]
         for thread in asking:
             thread.start()
-        said = [in_child(lambda: all(map(ask, range(20)))) for _ in range(20)]
+        message = [in_child(lambda: all(map(ask, range(20)))) for _ in range(20)]
         is_over.set()
         for thread in asking:
             thread.join()
-        hold(f"forks beside threads: {said}", said == ["True"] * 20)
-        said = in_child(lambda: (register.close(), "closed")[1])
-        hold(f"closed in a child: {said}", said == "closed" and ask(3))
-        said = in_child(lambda: (os.chdir("/"), ask(4))[1])
-        hold(f"in another folder: {said}", said == "True")
-    said = in_child(lambda: ask(5))
-    hold(f"a closed register in a child: {said}", "closed" in said)
+        check(f"forks beside threads: {message}", message == ["True"] * 20)
+        message = in_child(lambda: (register.close(), "closed")[1])
+        check(f"closed in a child: {message}", message == "closed" and ask(3))
+        message = in_child(lambda: (os.chdir("/"), ask(4))[1])
+        check(f"in another folder: {message}", message == "True")
+    message = in_child(lambda: ask(5))
+    check(f"a closed register in a child: {message}", "closed" in message)
     path = os.path.relpath(JOURNAL, os.getcwd())
     with oldstyle.Register(path, program=program) as register:
-        said = in_child(lambda: (os.chdir(folder), register.read("GB", text_of(6)).code)[1])
-        hold(f"a relative path in another folder: {said}", said == "GB")
+        message = in_child(lambda: (os.chdir(folder), register.read("GB", text_of(6)).code)[1])
+        check(f"a relative path in another folder: {message}", message == "GB")
     register = oldstyle.Register(JOURNAL, program=program)
     if (child := os.fork()) == 0:
         time.sleep(30)
@@ -170,7 +170,7 @@ def one_fork(program, folder):
     begun = time.monotonic()
     register.close()
     took = time.monotonic() - begun
-    hold(f"closing beside a child that holds the pipes took {took:.1f} s", took < 5)
+    check(f"closing beside a child that holds the pipes took {took:.1f} s", took < 5)
     os.kill(child, signal.SIGKILL)
     os.waitpid(child, 0)
 
@@ -180,7 +180,7 @@ def ask_until(is_over, register):
         if is_over.is_set():
             return
         if not is_own(register.read("GB", text_of(number)), number):
-            hold("a thread beside forks", False)
+            check("a thread beside forks", False)
             return
 
 
@@ -217,13 +217,13 @@ def cut(program, seconds, pause, is_one_by_one):
                 cuts += 1
         is_over.set()
         thread.join(20)
-        hold("a thread beside interruptions hangs", not thread.is_alive())
-        hold("after interruptions", ask(7))
+        check("a thread beside interruptions hangs", not thread.is_alive())
+        check("after interruptions", ask(7))
     kind = "questions" if is_one_by_one else "rows"
     what = (f"{kind} with {cuts} interruptions: {right} right, {wrong} wrong; beside them "
             f"{beside.count(True)} right, {beside.count(False)} wrong")
     print(what, flush=True)
-    hold(what, cuts and right and not wrong and False not in beside)
+    check(what, cuts and right and not wrong and False not in beside)
 
 
 def ask_beside(is_over, register, beside):
@@ -253,7 +253,7 @@ for send in (os.killpg, os.kill) * 20:
 """
     done = subprocess.run([sys.executable, "-c", code], capture_output=True, text=True,
                           start_new_session=True, timeout=120, check=False)
-    hold(f"Ctrl-C: {done.stdout} {done.stderr}", done.stdout == "1641\n" * 40)
+    check(f"Ctrl-C: {done.stdout} {done.stderr}", done.stdout == "1641\n" * 40)
 
 
 def closing(program, has_hang):
@@ -269,8 +269,8 @@ def closing(program, has_hang):
         register.close()
         for thread in threads:
             thread.join(10)
-        hold(f"threads of a closed register: {raised} {wrong}",
-             not wrong and len(raised) == 8 and all("closed" in why for why in raised))
+        check(f"threads of a closed register: {raised} {wrong}",
+              not wrong and len(raised) == 8 and all("closed" in why for why in raised))
     if not has_hang:
         return
     register = oldstyle.Register(JOURNAL, program=program)
@@ -282,8 +282,8 @@ def closing(program, has_hang):
     register.close()
     thread.join(10)
     took = time.monotonic() - begun
-    hold(f"a program that hangs is closed in {took:.1f} s: {raised}",
-         took < 5 and len(raised) == 1 and "closed" in raised[0])
+    check(f"a program that hangs is closed in {took:.1f} s: {raised}",
+          took < 5 and len(raised) == 1 and "closed" in raised[0])
 
 
 def ask_to_end(register, raised, wrong, text=None):
@@ -304,17 +304,17 @@ def ask_to_end(register, raised, wrong, text=None):
 def newer(program):
     """A program whose answers have more members, and one that ends."""
     with opened(program) as register:
-        hold("a newer territory", register.lands() == [oldstyle.Land("GB", "Great Britain")])
-        hold("a newer period", register.periods("GB")[0].source is None)
+        check("a newer territory", register.lands() == [oldstyle.Land("GB", "Great Britain")])
+        check("a newer period", register.periods("GB")[0].source is None)
         day = register.read("GB", "day").day
-        hold(f"a newer day: {day}", day is not None and "newer" not in vars(day))
+        check(f"a newer day: {day}", day is not None and "newer" not in vars(day))
         for _ in range(2):
             why = None
             try:
                 register.read("GB", "end")
             except oldstyle.ProgramEnded as raised:
                 why = raised
-            hold(f"a program that ended: {why!r}", "status 1" in str(why))
+            check(f"a program that ended: {why!r}", "status 1" in str(why))
 
 
 def main():
@@ -338,7 +338,7 @@ def main():
         for is_one_by_one in (True, False):
             for pause in (0.004, 0.03):
                 cut(program, options.seconds, pause, is_one_by_one)
-    print(f"Python {sys.version.split()[0]}: {len(failures)} don't hold")
+    print(f"Python {sys.version.split()[0]}: {len(failures)} failed")
     return 1 if failures else 0
 
 

@@ -25,8 +25,8 @@ from lib.common import TOP, CommandLine, compact, end, file_at, run
 
 sys.path.append(os.path.join(TOP, "clients", "python", "src"))
 
-import client_files
-import client_tools
+from lib import client_files
+from lib import client_tools
 import oldstyle
 
 JOURNAL = os.path.join(TOP, "examples", "samples.journal")
@@ -110,16 +110,16 @@ def worked(register):
 def piped(register, program, options):
     """Compares the replies to many rows with what the program writes for the same lines."""
     rows = list(rows_drawn(random.Random(options.seed), options.count))
-    told = run(program, ["serve", "--journal", JOURNAL], map(request, rows)).stdout.splitlines()
+    replies = run(program, ["serve", "--journal", JOURNAL], map(request, rows)).stdout.splitlines()
     found = [reply_of(reading) for reading in register.read_many(rows)]
-    yield f"{len(rows)} readings", found == list(map(json.loads, told))
+    yield f"{len(rows)} readings", found == list(map(json.loads, replies))
     few = rows[:500]
     one_by_one = [reply_of(reading) for reading in register.read_many(few, ahead=1)]
     yield "rows one by one", one_by_one == found[:500]
-    taken = itertools.count()
-    endless = (("GB", f"{next(taken) % 300 + 1500}") for _ in itertools.count())
-    given = list(itertools.islice(register.read_many(endless, ahead=50), 120))
-    yield "an endless source", len(given) == 120 and next(taken) <= 120 + 50
+    counter = itertools.count()
+    endless = (("GB", f"{next(counter) % 300 + 1500}") for _ in itertools.count())
+    readings = list(itertools.islice(register.read_many(endless, ahead=50), 120))
+    yield "an endless source", len(readings) == 120 and next(counter) <= 120 + 50
     long = [("GB", "x" * 60_000)] * 300
     yield "long lines", [reading.kind for reading in register.read_many(long)] == ["none"] * 300
     mixed = [(reading.date, register.read("GB", "1640").date)
@@ -130,17 +130,17 @@ def piped(register, program, options):
 
 def threaded(register, rows, found):
     """Four threads that ask one register."""
-    told = {}
+    replies = {}
 
     def ask(place):
-        told[place] = [reply_of(register.read(*row)) for row in rows[place::4]]
+        replies[place] = [reply_of(register.read(*row)) for row in rows[place::4]]
 
     threads = [threading.Thread(target=ask, args=(place,)) for place in range(4)]
     for thread in threads:
         thread.start()
     for thread in threads:
         thread.join(60)
-    yield "four threads", all(told.get(place) == found[place::4] for place in range(4))
+    yield "four threads", all(replies.get(place) == found[place::4] for place in range(4))
 
 
 def failing_rows():
@@ -186,14 +186,15 @@ def faults(register, program, folder):
         (opened(program="cat"), "ProgramEnded", "status 1"),
         (opened(program="true"), "ProgramEnded", "before"),
     ]
-    for place, (call, name, told) in enumerate(calls):
+    for place, (call, name, reason) in enumerate(calls):
         why = raised(call)
-        yield f"fault {place}: {why!r}", type(why).__name__ == name and told in str(why)
+        yield f"fault {place}: {why!r}", type(why).__name__ == name and reason in str(why)
         is_alone = why.__context__ is None or why.__suppress_context__
         yield f"fault {place} has one cause", is_alone
         yield f"fault {place} can be shown", len(str(why)) < 900 and str(why).encode() != b""
-    kept = list(register.read_many([("FR", "1"), ("GB", "1640")], refused=True))
-    yield "a fault in its place", [type(row).__name__ for row in kept] == ["UnknownLand", "Reading"]
+    results = list(register.read_many([("FR", "1"), ("GB", "1640")], refused=True))
+    kinds = [type(row).__name__ for row in results]
+    yield "a fault in its place", kinds == ["UnknownLand", "Reading"]
     rows = register.read_many(failing_rows())
     yield "a source that fails", next(rows).date == "1640" and isinstance(
         raised(lambda: next(rows)), LookupError)
@@ -233,21 +234,21 @@ def followed(program, journal):
         publish(keeper, 1)
         register = oldstyle.Register(journal, program=program, follow=True)
         for edition in range(2, 21):
-            told = publish(keeper, edition)
+            newest = publish(keeper, edition)
             found = register.read(f"L{edition}", "1640").edition
-            yield f"a followed edition: {found}", found == told == edition
+            yield f"a followed edition: {found}", found == newest == edition
         keeper.stdin.close()
     register.close()
     with open(journal, "rb") as file:
         whole = file.read()
-    for text, told in ((whole[:200], "got shorter"), (None, "none, stands"),
-                       (whole + b"{}\n", "journal line")):
+    for text, reason in ((whole[:200], "got shorter"), (None, "none, stands"),
+                         (whole + b"{}\n", "journal line")):
         put(journal, whole)
         register = oldstyle.Register(journal, program=program, follow=True)
         put(journal, text)
         why = raised(lambda: register.read("L1", "1640"))
         yield f"a followed journal: {why!r}", (isinstance(why, oldstyle.ProgramEnded)
-                                               and told in str(why) and journal in str(why))
+                                               and reason in str(why) and journal in str(why))
 
 
 def publish(keeper, edition):
@@ -278,8 +279,8 @@ def in_frames(register):
     found = oldstyle.read_frame(register, frame, weekday="weekday")
     ordinal = datetime.date(1732, 2, 22).toordinal()
     yield "pandas: a day", found.loc[7, "day"] == ordinal and bool(found.loc[7, "weekday_fits"])
-    faults_told = [None if pandas.isna(name) else name for name in found["fault"]]
-    yield "pandas: faults", faults_told == [None, "UnknownLand", "BadCode", None]
+    fault_names = [None if pandas.isna(name) else name for name in found["fault"]]
+    yield "pandas: faults", fault_names == [None, "UnknownLand", "BadCode", None]
     yield "pandas: no date", found.loc[10, "reason"] == "no date"
     years = pandas.DataFrame({"code": ["GB"] * 3, "date": [1731.0, None, 1640]})
     reasons = list(oldstyle.read_frame(register, years)["kind"])
@@ -296,10 +297,10 @@ def speed(register, program, count):
     lines = list(map(request, rows))
     clock = time.perf_counter
     begun = clock()
-    told = run(program, ["serve", "--journal", JOURNAL], lines).stdout.splitlines()
+    replies = run(program, ["serve", "--journal", JOURNAL], lines).stdout.splitlines()
     alone = clock() - begun
     begun = clock()
-    for line in told:
+    for line in replies:
         json.loads(line)
     parsed = clock() - begun
     begun = clock()
@@ -332,15 +333,15 @@ def main():
     line.add_number("--speed", None, "prints the seconds of that many rows too")
     line.add_argument("--schema", type=file_at, metavar="FILE", help="TEI's schema, RELAX NG")
     options = line.read()
-    held = differ = 0
+    passed = differ = 0
     with tempfile.TemporaryDirectory() as folder:
-        for what, holds in checks(options, folder):
-            held += 1
-            if not holds:
+        for what, is_true in checks(options, folder):
+            passed += 1
+            if not is_true:
                 differ += 1
                 print(f"failed: {what}")
     tried = ", ".join(client_tools.tried)
-    print(f"{held} checks of the clients, with {tried}: {differ} failed")
+    print(f"{passed} checks of the clients, with {tried}: {differ} failed")
     return 1 if differ else 0
 
 

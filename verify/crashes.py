@@ -21,10 +21,10 @@ import shutil
 import tempfile
 from typing import NamedTuple
 
-from lib.checks import hold, verdict
+from lib.checks import check, verdict
 from lib.common import CommandLine, end, need, run
 from lib.keeper import HEAD, HEAD_4, PUBLISH
-from lib.session_draws import LANDS, bytes_at, journal, last_edition, session, told_lines
+from lib.session_draws import LANDS, bytes_at, journal, last_edition, session, reported_changes
 from lib.strace_lines import traced
 
 FRONTS = 6
@@ -43,10 +43,10 @@ class Disk:
         # the names of the last sync of their folder, and what was done to names since
         self.synced_names, self.names = {}, []
 
-    def add(self, name, held):
+    def add(self, name, content):
         """A file that is on the disk."""
         self.number += 1
-        self.files[self.number] = [("write", held)], 1
+        self.files[self.number] = [("write", content)], 1
         self.synced_names[name] = self.number
 
     def copy(self):
@@ -80,16 +80,16 @@ class Disk:
             self.take_name(step)
 
     def take_open(self, step):
-        held = self.names_now()
-        if "O_CREAT" in step.flags and step.name not in held:
+        names = self.names_now()
+        if "O_CREAT" in step.flags and step.name not in names:
             self.number += 1
             self.files[self.number] = [], 0
             self.change_name(folder_of(step.name), {step.name: self.number})
-            held = self.names_now()
-        if step.name in held:
-            self.opens[step.file] = held[step.name]
+            names = self.names_now()
+        if step.name in names:
+            self.opens[step.file] = names[step.name]
             if "O_TRUNC" in step.flags:
-                self.change_file(held[step.name], ("cut", 0))
+                self.change_file(names[step.name], ("cut", 0))
 
     def take_sync(self, step):
         if step.file in self.opens:
@@ -107,7 +107,7 @@ class Disk:
         self.change_name(folder_of(step.name),
                          {**change, **({} if step.kind == "link" else {step.name: None})})
 
-    def held_now(self):
+    def contents_now(self):
         """What each name holds while the machine runs."""
         return {name: bytes_of(self.files[number][0]) for name, number in self.names_now().items()}
 
@@ -117,8 +117,8 @@ class Disk:
             for chosen in itertools.combinations(self.names, count):
                 names = named(self.synced_names, [change for _, change in chosen])
                 fronts = [self.fronts(number, chance) for number in names.values()]
-                for held in itertools.product(*fronts):
-                    yield dict(zip(names, held))
+                for choice in itertools.product(*fronts):
+                    yield dict(zip(names, choice))
 
     def fronts(self, number, chance):
         """What a file may hold: what was synced, and any prefix of what was done since."""
@@ -141,10 +141,10 @@ def named(names, changes):
 
 
 def bytes_of(changes):
-    held = b""
+    content = b""
     for kind, value in changes:
-        held = held + value if kind == "write" else held[:value].ljust(value, b"\0")
-    return held
+        content = content + value if kind == "write" else content[:value].ljust(value, b"\0")
+    return content
 
 
 def folder_of(name):
@@ -161,13 +161,13 @@ class Way(NamedTuple):
     place: str
     old: bytes | None
     begun: list
-    taken: list
-    given: bytes
+    accepted: list
+    stdin: bytes
     head: str = HEAD
 
     def lines(self, count=None):
         """The bytes of the head and of as many of the lines as `count` says."""
-        return journal([*self.begun, *self.taken][:count], self.head)
+        return journal([*self.begun, *self.accepted][:count], self.head)
 
     def new(self):
         return self.lines()
@@ -180,28 +180,29 @@ class Way(NamedTuple):
 
     def whole(self):
         """The lines with their line feeds that are there at first."""
-        held = self.old or b""
-        return held[:held.rfind(b"\n") + 1]
+        content = self.old or b""
+        return content[:content.rfind(b"\n") + 1]
 
 
 def ways(chance):
     """A save over a file and one to a new name, and keepers of files that a run may find."""
-    begun = session(chance, chance.randint(2, 12)).taken
+    begun = session(chance, chance.randint(2, 12)).accepted
     more, anew = session(chance, chance.randint(8, 25), begun), session(chance, 25)
     old, cut = journal(begun), PUBLISH[:chance.randint(1, len(PUBLISH) - 1)].encode()
-    yield Way("serve --journal a --save a", "a", old, begun, more.taken, more.given())
-    yield Way("serve --save a", "a", None, [], anew.taken, anew.given())
-    for held in (old, old[:-1], old + cut):
-        yield Way("serve --keep a", "a", held, begun, more.taken, more.given())
-    for held in (None, HEAD[:4].encode(), b""):
-        yield Way("serve --keep a", "a", held, [], anew.taken, anew.given())
-    for held in (old, old + cut):
-        yield Way("serve --keep a --upgrade", "a", held, begun, more.taken, more.given(), HEAD_4)
-    yield Way("serve --keep a --upgrade", "a", None, [], anew.taken, anew.given(), HEAD_4)
+    yield Way("serve --journal a --save a", "a", old, begun, more.accepted, more.stdin())
+    yield Way("serve --save a", "a", None, [], anew.accepted, anew.stdin())
+    for content in (old, old[:-1], old + cut):
+        yield Way("serve --keep a", "a", content, begun, more.accepted, more.stdin())
+    for content in (None, HEAD[:4].encode(), b""):
+        yield Way("serve --keep a", "a", content, [], anew.accepted, anew.stdin())
+    for content in (old, old + cut):
+        yield Way("serve --keep a --upgrade", "a", content, begun, more.accepted, more.stdin(),
+                  HEAD_4)
+    yield Way("serve --keep a --upgrade", "a", None, [], anew.accepted, anew.stdin(), HEAD_4)
 
 
 def steps_of(program, way, folder, inject=None):
-    done = traced([program, *way.words.split()], folder, way.given, inject)
+    done = traced([program, *way.words.split()], folder, way.stdin, inject)
     return done, [step for step in done.steps if step.name != "in"]
 
 
@@ -222,34 +223,34 @@ def disk_of(way):
 
 def moments(disk, steps):
     """The disk between any two calls, with what was reported by then."""
-    told = b""
-    yield disk.copy(), told
+    output = b""
+    yield disk.copy(), output
     for step in steps:
         if step.name == "out":
-            told += step.data
+            output += step.data
         elif step.name != "err":
             disk.take(step)
-        yield disk.copy(), told
+        yield disk.copy(), output
 
 
 # ---- what is left
 
 
-def may_be_left(way, held, told):
+def may_be_left(way, content, output):
     """Returns whether a crash may leave these bytes at the journal's path after these reports."""
     if not way.keeps():
-        return held in (way.old, way.new())
-    changes, edition = told_lines(told)
-    lines, sure = [*way.begun, *way.taken], way.whole()
+        return content in (way.old, way.new())
+    changes, edition = reported_changes(output)
+    lines, sure = [*way.begun, *way.accepted], way.whole()
     if way.upgrades():
-        if held == way.old and not told:
+        if content == way.old and not output:
             return True
-        is_new = way.old is None and not held and not told
+        is_new = way.old is None and not content and not output
         sure = b"" if is_new else way.lines(len(way.begun))
     if edition:
         sure = way.lines(published(lines[:len(way.begun) + changes]))
-    held = held or b""
-    return held.startswith(sure) and (way.new().startswith(held) or held == way.old)
+    content = content or b""
+    return content.startswith(sure) and (way.new().startswith(content) or content == way.old)
 
 
 def published(lines):
@@ -257,28 +258,29 @@ def published(lines):
     return max((n + 1 for n, line in enumerate(lines) if line == PUBLISH), default=0)
 
 
-def hold_state(program, way, held, told, what):
+def check_state(program, way, content, output, what):
     """Loads what is at the journal's path, and compares it with what was reported."""
-    hold(f"{what}: {held!r} is left, and {told!r} was reported", may_be_left(way, held, told))
+    check(f"{what}: {content!r} is left, and {output!r} was reported",
+          may_be_left(way, content, output))
     keeps = way.keeps()
-    edition = max(told_lines(told)[1], way.begun.count(PUBLISH)) if keeps else 0
-    if held is None:
-        hold(f"{what}: edition {edition} was reported, and there is no file",
-             way.old is None and edition == 0)
+    edition = max(reported_changes(output)[1], way.begun.count(PUBLISH)) if keeps else 0
+    if content is None:
+        check(f"{what}: edition {edition} was reported, and there is no file",
+              way.old is None and edition == 0)
         return
     with tempfile.TemporaryDirectory() as folder:
         path = os.path.join(folder, "a")
         with open(path, "wb") as file:
-            file.write(held)
+            file.write(content)
         done = run(program, ["serve", "--keep" if keeps else "--journal", path], [LANDS])
         later = bytes_at(path)
     counts["loaded"] += 1
-    wanted = journal([]) if not held.count(b"\n") else held[:held.rfind(b"\n") + 1]
-    wanted = held + b"\n" if keeps and held.endswith(b"}") else wanted
+    expected = journal([]) if not content.count(b"\n") else content[:content.rfind(b"\n") + 1]
+    expected = content + b"\n" if keeps and content.endswith(b"}") else expected
     editions = later.count(PUBLISH.encode() + b"\n")
-    hold(f"{what}: {held!r} is loaded as {done.stdout!r}, with {done.stderr!r}",
-         done.returncode == 0 and f'"edition":{editions},' in done.stdout
-         and editions >= edition and later == (wanted if keeps else held))
+    check(f"{what}: {content!r} is loaded as {done.stdout!r}, with {done.stderr!r}",
+          done.returncode == 0 and f'"edition":{editions},' in done.stdout
+          and editions >= edition and later == (expected if keeps else content))
 
 
 def try_way(program, way, chance, seen):
@@ -286,36 +288,37 @@ def try_way(program, way, chance, seen):
     folder = filled(way)
     try:
         done, steps = steps_of(program, way, folder)
-        hold(f"{way.words}: {done.status} {done.err!r}", done.status == 0)
+        check(f"{way.words}: {done.status} {done.err!r}", done.status == 0)
         disk = disk_of(way)
-        for number, (moment, told) in enumerate(moments(disk, steps)):
+        for number, (moment, output) in enumerate(moments(disk, steps)):
             counts["cuts"] += 1
-            try_moment(program, way, (moment, told), chance, seen, f"{way.words}, call {number}")
-        hold(f"{way.words}: the trace says {disk.held_now()!r}",
-             disk.held_now().get(way.place) == way.new() == bytes_at(os.path.join(folder, "a")))
-        hold_end(way, disk, chance)
+            try_moment(program, way, (moment, output), chance, seen, f"{way.words}, call {number}")
+        check(f"{way.words}: the trace says {disk.contents_now()!r}",
+              disk.contents_now().get(way.place) == way.new()
+              == bytes_at(os.path.join(folder, "a")))
+        check_end(way, disk, chance)
     finally:
         shutil.rmtree(folder)
 
 
-def hold_end(way, disk, chance):
+def check_end(way, disk, chance):
     """Once a save has ended well, no crash takes it back."""
     if not way.keeps():
         left = {state.get(way.place) for state in disk.left_by_crash(chance)}
-        hold(f"{way.words}: it ended well, and a crash leaves another journal",
-             left == {way.new()})
+        check(f"{way.words}: it ended well, and a crash leaves another journal",
+              left == {way.new()})
 
 
 def try_moment(program, way, moment, chance, seen, what):
     """Each state that a crash at one moment may leave, except those that were tried."""
-    disk, told = moment
-    _, edition = told_lines(told)
+    disk, output = moment
+    _, edition = reported_changes(output)
     for state in disk.left_by_crash(chance):
         counts["states"] += 1
-        held = state.get(way.place)
-        if (held, edition) not in seen:
-            seen.add((held, edition))
-            hold_state(program, way, held, told, f"{what}, a crash")
+        content = state.get(way.place)
+        if (content, edition) not in seen:
+            seen.add((content, edition))
+            check_state(program, way, content, output, f"{what}, a crash")
 
 
 def try_stops(program, way, chance):
@@ -333,12 +336,13 @@ def try_stops(program, way, chance):
             done, stopped = steps_of(program, way, folder, inject)
             what = f"{way.words}, killed at {step}"
             counts["stops"] += 1
-            held = {name: bytes_at(os.path.join(folder, name)) for name in os.listdir(folder)}
+            files = {name: bytes_at(os.path.join(folder, name)) for name in os.listdir(folder)}
             # the call in which it was killed was made or not
             last = list(moments(disk_of(way), stopped))[-2:]
-            fitting = [disk for disk, _ in last if disk.held_now() == held]
-            hold(f"{what}: the folder holds {held!r}, the trace says {last[-1][0].held_now()!r}",
-                 fitting and done.status != 0)
+            fitting = [disk for disk, _ in last if disk.contents_now() == files]
+            check(f"{what}: the folder holds {files!r}, "
+                  f"the trace says {last[-1][0].contents_now()!r}",
+                  fitting and done.status != 0)
             if fitting:
                 go_on(program, way, (fitting[-1], folder), chance, what)
         finally:
@@ -349,16 +353,18 @@ def go_on(program, way, stopped, chance, what):
     """A keeper over what a killed run left, and each crash of the machine after its first reply,
     which answers a query and so names the edition that it found."""
     disk, folder = stopped
-    held = bytes_at(os.path.join(folder, way.place)) or b""
-    lines = held[:held.rfind(b"\n") + 1].decode().splitlines()[1:]
+    content = bytes_at(os.path.join(folder, way.place)) or b""
+    lines = content[:content.rfind(b"\n") + 1].decode().splitlines()[1:]
     more = session(chance, 4, lines)
-    given = LANDS.encode() + b"\n" + more.given()
-    second = way._replace(words=SECOND, old=held, begun=lines, taken=more.taken, given=given)
+    stdin = LANDS.encode() + b"\n" + more.stdin()
+    second = way._replace(words=SECOND, old=content, begun=lines, accepted=more.accepted,
+                          stdin=stdin)
     done, steps = steps_of(program, second, folder)
-    hold(f"{what}, and the next run: {done.status} {done.err!r}", done.status == 0)
+    check(f"{what}, and the next run: {done.status} {done.err!r}", done.status == 0)
     lost = [last_edition(later) for moment, later in moments(disk, renumbered(steps))
             if is_lost(second, moment, later, chance)]
-    hold(f"{what}, and the next run reported edition {lost[:1]}: a crash may leave fewer", not lost)
+    check(f"{what}, and the next run reported edition {lost[:1]}: a crash may leave fewer",
+          not lost)
 
 
 def renumbered(steps):
@@ -366,9 +372,9 @@ def renumbered(steps):
     return [step._replace(file=step.file and step.file + 1_000) for step in steps]
 
 
-def is_lost(way, moment, told, chance):
+def is_lost(way, moment, output, chance):
     """Returns whether a crash may leave fewer editions than were reported."""
-    edition = last_edition(told)
+    edition = last_edition(output)
     states = list(moment.left_by_crash(chance)) if edition else []
     counts["states"] += len(states)
     return any((state.get(way.place) or b"").count(PUBLISH.encode() + b"\n") < edition

@@ -19,29 +19,29 @@ def rows(document, title):
     section = document.split(f"\n## {title}\n")[1].split("\n## ")[0]
     for line in section.split("\n"):
         if line.startswith("| `"):
-            written, told = line.strip("| ").split(" | ")
-            yield re.findall(r"`([^`]*)`", written), told
+            written, meaning = line.strip("| ").split(" | ")
+            yield re.findall(r"`([^`]*)`", written), meaning
 
 
 def expected(document):
     """Each text, and what the program must print for it."""
-    for texts, told in rows(document, "A day"):
-        days = re.findall(DAY, told)
-        assert len(days) in (1, len(texts)), told
+    for texts, meaning in rows(document, "A day"):
+        days = re.findall(DAY, meaning)
+        assert len(days) in (1, len(texts)), meaning
         yield from zip(texts, days if len(days) == len(texts) else days * len(texts))
     for title in ("A month, a year", "A range, a bound"):
         for texts, _ in rows(document, title):
             yield from ((text, NOT_ONE_DAY) for text in texts)
 
 
-def holds(program, text, told):
+def agrees(program, text, meaning):
     """Returns whether the program reads a text so. A text that is not one day has a page of
     `read` too."""
     page = run(program, ["read", "examples/samples.journal", "GB", text], folder=TOP)
-    if told != NOT_ONE_DAY:
-        return page.stdout.startswith(f"{told} in Great Britain")
+    if meaning != NOT_ONE_DAY:
+        return page.stdout.startswith(f"{meaning} in Great Britain")
     done = run(program, ["convert", "gregorian", text])
-    return page.returncode == 0 and f"oldstyle: {text}: {told}" in done.stderr
+    return page.returncode == 0 and f"oldstyle: {text}: {meaning}" in done.stderr
 
 
 def main():
@@ -50,9 +50,9 @@ def main():
     program = line.read().program
     with open(os.path.join(TOP, "docs", "DATES.md"), encoding="utf-8") as file:
         pairs = list(expected(file.read()))
-    others = [(text, told) for text, told in pairs if not holds(program, text, told)]
-    for text, told in others:
-        print(f"{text}: not {told}")
+    others = [(text, meaning) for text, meaning in pairs if not agrees(program, text, meaning)]
+    for text, meaning in others:
+        print(f"{text}: not {meaning}")
     print(f"{len(pairs)} texts, {len(others)} read otherwise")
     return 1 if others else 0
 

@@ -12,7 +12,7 @@ import os
 import random
 import tempfile
 
-from lib.checks import hold, verdict
+from lib.checks import check, verdict
 from lib.common import GREGORIAN, JULIAN, CommandLine, compact, end, run
 
 READERS, EDITIONS, LANDS = 64, 40, 12
@@ -60,24 +60,24 @@ def replies_of_service(oldstyle, batches, asked):
     for batch in [[], *batches]:
         publish = [compact({"op": "publish"})] if batch else []
         lines += [compact(edit) for edit in batch] + publish + ask
-    told = [json.loads(line) for line in run(oldstyle, ["serve"], lines).stdout.splitlines()]
-    told = [reply for reply in told if "reader" in reply]
-    pairs = zip(told, asked * (len(batches) + 1))
+    replies = [json.loads(line) for line in run(oldstyle, ["serve"], lines).stdout.splitlines()]
+    replies = [reply for reply in replies if "reader" in reply]
+    pairs = zip(replies, asked * (len(batches) + 1))
     return {(reply["edition"], compact(query)): reply for reply, query in pairs}
 
 
-def check(transcript, questions, told):
+def check_transcript(transcript, questions, replies):
     """Compares the lines of a transcript with what the service replied; returns the editions that
     were met."""
-    hold(f"{len(transcript)} replies to {len(questions)}", len(transcript) == len(questions))
+    check(f"{len(transcript)} replies to {len(questions)}", len(transcript) == len(questions))
     last, met = {}, set()
     for line, (reader, query) in zip(transcript, questions):
         value = json.loads(line)
         edition = value["reply"]["edition"]
-        reply = {**told[edition, compact(query)], "reader": reader}
-        wanted = {"ask": {**query, "reader": reader}, "reply": reply}
-        hold(f"{line} in place of", line == compact(wanted), compact(wanted))
-        hold(f"reader {reader} goes back to edition {edition}", edition >= last.get(reader, 0))
+        reply = {**replies[edition, compact(query)], "reader": reader}
+        expected = {"ask": {**query, "reader": reader}, "reply": reply}
+        check(f"{line} in place of", line == compact(expected), compact(expected))
+        check(f"reader {reader} goes back to edition {edition}", edition >= last.get(reader, 0))
         last[reader] = edition
         met.add(edition)
     return met
@@ -92,7 +92,7 @@ def main():
     options = line.read()
     oldstyle, chance, met = options.program, random.Random(options.seed), set()
     batches, asked = editions(chance), queries(chance)
-    told = replies_of_service(oldstyle, batches, asked)
+    replies = replies_of_service(oldstyle, batches, asked)
     script = [compact({"journal": 4})]
     for batch in batches:
         script += [compact(edit) for edit in batch] + [compact({"op": "publish"})]
@@ -107,7 +107,7 @@ def main():
                     file.write("".join(line + "\n" for line in text))
             by_reader = sorted(questions, key=lambda question: question[0])
             transcript = run(oldstyle, ["desk", *paths]).stdout.splitlines()
-            met |= check(transcript, by_reader, told)
+            met |= check_transcript(transcript, by_reader, replies)
     return verdict(f"{options.count} desks of {READERS} readers and {options.questions} questions: "
                    f"every reply as the service gives it, {len(met)} of {EDITIONS + 1} editions "
                    "met")

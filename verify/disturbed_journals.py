@@ -19,15 +19,15 @@ import shutil
 import subprocess
 import tempfile
 
-from lib.checks import hold, verdict
+from lib.checks import check, verdict
 from lib.common import CommandLine, compact, end, mounted, run
-from lib.keeper import HEAD, HELD, PUBLISH, REPLACED, Editor, Run, journal_lines, land
+from lib.keeper import HEAD, LOCKED, PUBLISH, REPLACED, Editor, Run, journal_lines, land
 
 
 
 def is_refused(what, done):
-    told = (done.returncode, done.stdout, done.stderr)
-    hold(f"{what} gives {told}", told == HELD)
+    result = (done.returncode, done.stdout, done.stderr)
+    check(f"{what} gives {result}", result == LOCKED)
 
 
 def keep_too(program, path):
@@ -88,14 +88,15 @@ def try_run(program, path, chance, number):
     replies, errors = running.stopped()
     status = running.process.returncode
     what = f"run {number}, {disturb.__name__}"
-    hold(f"{what}: {status} {errors!r}", (status, errors) == ((3, REPLACED) if ends else (0, "")))
+    check(f"{what}: {status} {errors!r}", (status, errors) == ((3, REPLACED) if ends else (0, "")))
     late = [reply for reply in replies[moment:] if reply.get("ok") == "published"]
-    hold(f"{what}: reported after it: {late}", not ends or not late)
-    told = [compact(request) for (request, taken), reply in zip(sent, replies) if taken]
+    check(f"{what}: reported after it: {late}", not ends or not late)
+    accepted = [compact(request) for (request, is_accepted), reply in zip(sent, replies)
+                if is_accepted]
     if not ends:
-        hold(f"{what}: other lines", journal_lines(path) == ([HEAD] + told, ""))
-    hold(f"{what}: lines were lost before it",
-         before[1:] == [compact(request) for request, taken in sent[:moment] if taken])
+        check(f"{what}: other lines", journal_lines(path) == ([HEAD] + accepted, ""))
+    check(f"{what}: lines were lost before it",
+          before[1:] == [compact(request) for request, is_accepted in sent[:moment] if is_accepted])
     return len(replies)
 
 
@@ -110,17 +111,17 @@ def last_of(turn, editor):
 def kept_before(path):
     """The lines that the file holds, each of which was reported."""
     lines, rest = journal_lines(path)
-    hold(f"{rest!r} is after the lines", rest == "")
+    check(f"{rest!r} is after the lines", rest == "")
     return lines
 
 
 def try_runs(options, folder):
-    told = 0
+    count = 0
     for number in range(options.count):
         path = os.path.join(folder, f"{number}.journal")
         chance = random.Random(options.seed * 1_000_003 + number)
-        told += try_run(options.program, path, chance, number)
-    print(f"{options.count} runs were disturbed: {told} replies given", flush=True)
+        count += try_run(options.program, path, chance, number)
+    print(f"{options.count} runs were disturbed: {count} replies given", flush=True)
 
 
 def try_savers(program, folder):
@@ -132,13 +133,13 @@ def try_savers(program, folder):
     with subprocess.Popen(words, stdin=subprocess.PIPE, stdout=subprocess.PIPE) as first:
         first.stdin.write((compact(land(0)) + "\n").encode())
         first.stdin.flush()
-        hold("the first saver is not answered", b"staged" in first.stdout.readline())
+        check("the first saver is not answered", b"staged" in first.stdout.readline())
         save_too(program, path)
         first.stdin.close()
         first.wait()
-    hold("the first saver's edit is not saved", journal_lines(path)[0] == [HEAD, compact(land(0))])
+    check("the first saver's edit is not saved", journal_lines(path)[0] == [HEAD, compact(land(0))])
     beside = [name for name in os.listdir(folder) if "unfinished" in name]
-    hold(f"{beside} are left", not beside)
+    check(f"{beside} are left", not beside)
     print("two runs that save to one path: the second is refused", flush=True)
 
 
@@ -178,17 +179,17 @@ def try_changed(program, folder, change):
                           stderr=subprocess.PIPE) as saver:
         saver.stdin.write((compact(land(0)) + "\n").encode())
         saver.stdin.flush()
-        hold("the saver is not answered", b"staged" in saver.stdout.readline())
+        check("the saver is not answered", b"staged" in saver.stdout.readline())
         change(program, path)
         left = text_at(path)
-        told = saver.communicate()[1].decode()
+        stderr = saver.communicate()[1].decode()
     what = f"{change.__name__}: a file that was changed"
-    hold(f"{what} is replaced: {saver.returncode} {told!r}",
-         saver.returncode == 3 and told.startswith("oldstyle: the file has changed meanwhile"))
-    hold(f"{what} is not left", text_at(path) == left)
-    beside = told.rstrip("\n").rsplit(" ", 1)[-1]
-    hold(f"{what}: the journal is not beside it",
-         journal_lines(beside)[0] == [HEAD, compact(land(7)), compact(land(0))])
+    check(f"{what} is replaced: {saver.returncode} {stderr!r}",
+          saver.returncode == 3 and stderr.startswith("oldstyle: the file has changed meanwhile"))
+    check(f"{what} is not left", text_at(path) == left)
+    beside = stderr.rstrip("\n").rsplit(" ", 1)[-1]
+    check(f"{what}: the journal is not beside it",
+          journal_lines(beside)[0] == [HEAD, compact(land(7)), compact(land(0))])
 
 
 def try_other_disk(program, folder):
@@ -208,14 +209,14 @@ def try_other_disk(program, folder):
         running.send([land(0), {"op": "publish"}, land(1)])
         running.wait_for(3)
         shutil.copy(files[0], files[1])
-        hold("the two files have other numbers",
-             os.stat(files[0]).st_ino == os.stat(files[1]).st_ino)
+        check("the two files have other numbers",
+              os.stat(files[0]).st_ino == os.stat(files[1]).st_ino)
         os.symlink(files[1], link + ".new")
         os.replace(link + ".new", link)
         running.send([{"op": "publish"}])
         replies, errors = running.stopped()
-        hold(f"another disk: {len(replies)} replies are given, and {errors!r}",
-             (len(replies), errors) == (3, REPLACED))
+        check(f"another disk: {len(replies)} replies are given, and {errors!r}",
+              (len(replies), errors) == (3, REPLACED))
 
 
 def main():

@@ -48,12 +48,12 @@ def folder_of(lines, folder):
 
 def printed_by(program, words, folder):
     """The lines that a run prints, with the input of the file that it names after '<'."""
-    given = []
+    stdin = []
     if "<" in words:
         words, (_, path) = words[:-2], words[-2:]
         with open(os.path.join(folder, path), encoding="utf-8", newline="\n") as file:
-            given = file.read().split("\n")[:-1]
-    ended = run(program, words, lines=given, folder=folder)
+            stdin = file.read().split("\n")[:-1]
+    ended = run(program, words, lines=stdin, folder=folder)
     return (ended.stdout + ended.stderr).split("\n")[:-1]
 
 
@@ -61,15 +61,15 @@ def differences(program, lines):
     """Each request and run of a document that has another answer than it shows."""
     requests, shown = marked(lines, "> "), marked(lines, "< ")
     replies = run(program, lines=requests).stdout.split("\n")[:-1]
-    for request, told, reply in itertools.zip_longest(requests, shown, replies):
-        if told != reply:
-            yield f"{request}\n  shown {told}\n  given  {reply}"
+    for request, expected, reply in itertools.zip_longest(requests, shown, replies):
+        if expected != reply:
+            yield f"{request}\n  shown {expected}\n  given  {reply}"
     with tempfile.TemporaryDirectory() as folder:
         folder_of(lines, folder)
-        for words, told in runs(lines):
+        for words, expected in runs(lines):
             printed = printed_by(program, words, folder)
-            if told != printed:
-                yield f"{shlex.join(words)}\n  shown {told}\n  given  {printed}"
+            if expected != printed:
+                yield f"{shlex.join(words)}\n  shown {expected}\n  given  {printed}"
 
 
 def text_of(path):

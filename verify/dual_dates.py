@@ -69,8 +69,8 @@ def row_differs(row, day, text, weekday):
         return "the day is not found"
     if weekday and row["weekday_found"].split("; ")[0] != weekday:
         return "a day of another weekday is first"
-    wanted = remark_of(row, text, weekday)
-    return "" if row["remark"] == wanted else f"the remark is not {wanted!r}"
+    expected = remark_of(row, text, weekday)
+    return "" if row["remark"] == expected else f"the remark is not {expected!r}"
 
 
 def letters_differ(program, journal, asked):

@@ -15,7 +15,7 @@ import tempfile
 import tomllib
 
 from lib.calendars import easter
-from lib.checks import hold, verdict
+from lib.checks import check, verdict
 from lib.common import TOP, CommandLine, compact, end, run
 from reference import cited
 from lib.territory_texts import WORDS, lands_of
@@ -28,42 +28,42 @@ def words_of(found):
     return f"{found['weekday']} {found['dual']}"
 
 
-def hold_notes(code, land, changes):
+def check_notes(code, land, changes):
     """Each change has a source, and that of a calendar or of a year's beginning a note with both of
     its days."""
-    for (first, last, old), (change, _, new), said in zip(land.periods(), land.periods()[1:],
-                                                          changes):
-        note = " ".join(said["note"].split())
-        hold(f"{code}: day {change} has no source", land.sources.get(change) == said["source"])
-        wanted = f"{words_of(land.found(last))} was followed by {words_of(land.found(change))}"
+    for (first, last, old), (change, _, new), entry in zip(land.periods(), land.periods()[1:],
+                                                           changes):
+        note = " ".join(entry["note"].split())
+        check(f"{code}: day {change} has no source", land.sources.get(change) == entry["source"])
+        expected = f"{words_of(land.found(last))} was followed by {words_of(land.found(change))}"
         if old[:2] != new[:2]:
-            hold(f"{code}: the note says no {wanted!r}", wanted in note)
-        hold(f"{code}: a note says another day", note.count("followed") == (old[:2] != new[:2]))
+            check(f"{code}: the note says no {expected!r}", expected in note)
+        check(f"{code}: a note says another day", note.count("followed") == (old[:2] != new[:2]))
 
 
-def hold_easters(code, land):
+def check_easters(code, land):
     for year, day in land.exceptions.items():
         by_rule = easter(land.period(day)[2][2], year)
-        hold(f"{code}: {year} has day {day}, the rule {by_rule}", abs(day - by_rule) == 7)
+        check(f"{code}: {year} has day {day}, the rule {by_rule}", abs(day - by_rule) == 7)
 
 
-def hold_program(program, lands):
+def check_program(program, lands):
     """The program makes the same territories of the text."""
     with tempfile.TemporaryDirectory() as folder:
         journal = os.path.join(folder, "europe.journal")
         done = run(program, ["publish", journal, EUROPE])
-        hold(f"publish: {done.returncode} {done.stderr!r}", done.returncode == 0)
+        check(f"publish: {done.returncode} {done.stderr!r}", done.returncode == 0)
         asked = [{"op": "periods", "reader": 1, "code": code} for code in lands]
         asked += [{"op": "easter", "reader": 1, "code": code, "year": year}
                   for code, land in lands.items() for year in land.exceptions]
-        told = run(program, ["serve", "--journal", journal], map(compact, asked))
-    answers = [json.loads(line).get("answer") for line in told.stdout.splitlines()]
-    wanted = [{"periods": [
+        done = run(program, ["serve", "--journal", journal], map(compact, asked))
+    answers = [json.loads(line).get("answer") for line in done.stdout.splitlines()]
+    expected = [{"periods": [
         {**dict(zip(WORDS, regime)), "first": first, "last": last, **cited(land.sources, first)}
         for first, last, regime in land.periods()]} for land in lands.values()]
-    wanted += [{"days": [land.found(day)], "listed": True, **cited(land.easter_sources, year)}
-               for land in lands.values() for year, day in land.exceptions.items()]
-    hold(f"the program answers {answers}", answers == wanted)
+    expected += [{"days": [land.found(day)], "listed": True, **cited(land.easter_sources, year)}
+                 for land in lands.values() for year, day in land.exceptions.items()]
+    check(f"the program answers {answers}", answers == expected)
 
 
 def main():
@@ -78,10 +78,10 @@ def main():
         text = file.read()
     lands, tables = lands_of(text), tomllib.loads(text)
     for code, land in lands.items():
-        hold_notes(code, land, tables[code].get("changes", []))
-        hold_easters(code, land)
+        check_notes(code, land, tables[code].get("changes", []))
+        check_easters(code, land)
     if not options.text_alone:
-        hold_program(options.program, lands)
+        check_program(options.program, lands)
     changes = sum(len(land.starts) - 1 for land in lands.values())
     return verdict(f"{len(lands)} territories with {changes} changes are as computed")
 

@@ -28,7 +28,7 @@ import time
 from concurrent.futures import ThreadPoolExecutor
 from contextlib import contextmanager
 
-from lib.checks import hold, verdict
+from lib.checks import check, verdict
 from lib.common import CommandLine, compact, end, run
 from lib.keeper import FOLLOWED_REPLACED, PUBLISH, journal_lines, land
 from lib.keeper_rounds import TOWNS, keep_all
@@ -38,15 +38,15 @@ READ_ONLY = {"fault": 45, "name": "ReadOnly"}
 GONE = re.compile(r"(oldstyle: (read|write) fault\n|.* socat\[\d+\] [EWN] .*\n)*")
 
 
-class Followed:
+class FollowedFile:
     """A file that is followed, and the last edition of it that anybody was given."""
 
     def __init__(self, path):
-        self.path, self.told, self.times_made, self.lock = path, 0, 0, threading.Lock()
+        self.path, self.highest, self.times_made, self.lock = path, 0, 0, threading.Lock()
 
-    def tell(self, edition):
+    def report(self, edition):
         with self.lock:
-            self.told = max(self.told, edition)
+            self.highest = max(self.highest, edition)
 
 
 # ---- copies
@@ -104,11 +104,11 @@ def listening(program, journal, folder):
     """The path of a socket with a follower for each connection, and a file of what they say."""
     path, errors = os.path.join(folder, "reader.sock"), os.path.join(folder, "errors")
     words = [program, "serve", "--follow", journal]
-    with open(errors, "wb") as told:
+    with open(errors, "wb") as errors_file:
         if shutil.which("socat"):
             command = ["socat", "-t", "60", f"UNIX-LISTEN:{path},fork,backlog=64",
                        "EXEC:" + " ".join(words)]
-            with subprocess.Popen(command, stderr=told) as server:
+            with subprocess.Popen(command, stderr=errors_file) as server:
                 try:
                     while not os.path.exists(path):
                         time.sleep(0.01)
@@ -116,19 +116,19 @@ def listening(program, journal, folder):
                 finally:
                     server.terminate()
             return
-        with server_of(path, words, told) as server:
+        with server_of(path, words, errors_file) as server:
             threading.Thread(target=server.serve_forever, daemon=True).start()
             yield path, errors
             server.shutdown()
 
 
-def server_of(path, words, told):
+def server_of(path, words, errors_file):
     class Handler(socketserver.BaseRequestHandler):
         """A run of the follower over the connection itself."""
 
         def handle(self):
             stream = self.request.fileno()
-            subprocess.run(words, stdin=stream, stdout=stream, stderr=told, check=False)
+            subprocess.run(words, stdin=stream, stdout=stream, stderr=errors_file, check=False)
 
     return socketserver.ThreadingUnixStreamServer(path, Handler)
 
@@ -159,15 +159,15 @@ class Connection:
         """Asks, in pieces cut anywhere, and compares the replies with the editions given before.
         Returns whether all were answered."""
         text = "".join(compact(request) + "\n" for request in requests).encode()
-        told, cut = self.file.told, chance.randint(0, len(text))
+        highest, cut = self.file.highest, chance.randint(0, len(text))
         try:
             for piece in (text[:cut], text[cut:]):
                 self.stream.sendall(piece)
         except (BrokenPipeError, ConnectionResetError):
             return False
-        return all(self.take(request, told) for request in requests)
+        return all(self.take(request, highest) for request in requests)
 
-    def take(self, request, told):
+    def take(self, request, highest):
         try:
             line = self.replies.readline()
         except ConnectionResetError:
@@ -176,12 +176,12 @@ class Connection:
             return False
         reply = json.loads(line)
         if request["op"] == "add_land":
-            hold(f"an edit is answered {reply}", reply == READ_ONLY)
+            check(f"an edit is answered {reply}", reply == READ_ONLY)
             return True
-        hold(f"edition {reply['edition']} of {self.file.path}, after {told} was given, and "
-             f"{self.edition} here", reply["edition"] >= max(told, self.edition))
+        check(f"edition {reply['edition']} of {self.file.path}, after {highest} was given, and "
+              f"{self.edition} here", reply["edition"] >= max(highest, self.edition))
         self.edition = reply["edition"]
-        self.file.tell(self.edition)
+        self.file.report(self.edition)
         self.transcript.append(f'{{"ask":{compact(request)},"reply":{line[:-1].decode()}}}\n')
         return True
 
@@ -191,10 +191,10 @@ class Connection:
             self.process.kill()
         if not is_killed:
             self.stream.shutdown(socket.SHUT_WR)
-            hold("more is answered than was asked", self.replies.read() == b"")
-        told = self.ended()
-        hold(f"a follower of {self.file.path} ends by {told}",
-             is_killed or told == (0, "") or self.is_replaced(told))
+            check("more is answered than was asked", self.replies.read() == b"")
+        outcome = self.ended()
+        check(f"a follower of {self.file.path} ends by {outcome}",
+              is_killed or outcome == (0, "") or self.is_replaced(outcome))
 
     def ended(self):
         """The status of a follower that ends, and what it says."""
@@ -205,16 +205,16 @@ class Connection:
         errors = self.process.communicate()[1].decode()
         return self.process.returncode, errors
 
-    def is_replaced(self, told):
+    def is_replaced(self, outcome):
         """Returns whether a follower says that its copy was made again, and it was."""
         with self.file.lock:
-            return told == (1, FOLLOWED_REPLACED) and self.file.times_made > self.times_made
+            return outcome == (1, FOLLOWED_REPLACED) and self.file.times_made > self.times_made
 
     def gave_up(self):
         """Checks why a follower stopped answering: its copy was made again."""
-        told = self.ended()
-        hold(f"a follower of {self.file.path} gives up: {told if self.process else 'a socket'}",
-             self.is_replaced(told))
+        outcome = self.ended()
+        check(f"a follower of {self.file.path} gives up: {outcome if self.process else 'a socket'}",
+              self.is_replaced(outcome))
 
 
 def query(chance):
@@ -248,7 +248,7 @@ class Follower(threading.Thread):
         try:
             self.follow()
         except (OSError, ValueError) as why:
-            hold(f"a client of {self.file.path} ends by {why!r}", False)
+            check(f"a client of {self.file.path} ends by {why!r}", False)
 
     def follow(self):
         while not self.is_over.is_set():
@@ -277,7 +277,8 @@ class Follower(threading.Thread):
 
 def follow_all(options, folder):
     """Keeps the journal and follows it. Returns the followers, and the number of stops."""
-    journal, *files = [Followed(os.path.join(folder, name)) for name in ("kept", "copy", "synced")]
+    journal, *files = [FollowedFile(os.path.join(folder, name))
+                       for name in ("kept", "copy", "synced")]
     copies, is_over = Copies(journal, files, options.seed), threading.Event()
     with listening(options.program, journal.path, folder) as (listener, errors):
         places = [(journal, None)] * 8 + [(journal, listener)] * 6
@@ -296,10 +297,10 @@ def follow_all(options, folder):
             for thread in [copying, *followers]:
                 thread.join()
         last = {follower.last_edition() for follower in followers}
-        hold(f"the followers end at the editions {last}", last == {options.count})
-    with open(errors, encoding="utf-8") as told:
-        text = told.read()
-    hold(f"followers of the socket say {text!r}", GONE.fullmatch(text))
+        check(f"the followers end at the editions {last}", last == {options.count})
+    with open(errors, encoding="utf-8") as file:
+        text = file.read()
+    check(f"followers of the socket say {text!r}", GONE.fullmatch(text))
     return journal, followers, stops
 
 
@@ -310,8 +311,8 @@ def audited(program, journal, folder, number, connection):
         file.writelines(connection.transcript)
     done = run(program, ["audit", journal.path, path])
     count = len(connection.transcript)
-    hold(f"{count} replies are audited: {done}", done.returncode == 0
-         and done.stdout == f"audit: {count} replies agree\n")
+    check(f"{count} replies are audited: {done}", done.returncode == 0
+          and done.stdout == f"audit: {count} replies agree\n")
     return count
 
 
@@ -326,7 +327,7 @@ def main():
     with tempfile.TemporaryDirectory() as folder:
         journal, followers, stops = follow_all(options, folder)
         lines, rest = journal_lines(journal.path)
-        hold(f"the journal ends in {rest!r}", rest == "" and lines.count(PUBLISH) == options.count)
+        check(f"the journal ends in {rest!r}", rest == "" and lines.count(PUBLISH) == options.count)
         every = [connection for follower in followers for connection in follower.connections]
         with ThreadPoolExecutor(4) as pool:
             counts = list(pool.map(lambda item: audited(options.program, journal, folder, *item),

@@ -66,10 +66,10 @@ TARGETS = {function.__name__: function for function in (letters, dates, web, sta
 
 def keep(target, number, found):
     """Reports an input at which something is wrong, and keeps it."""
-    why, words, given = found
+    why, words, stdin = found
     path = os.path.join(tempfile.gettempdir(), f"fuzz-{target}-{os.getpid()}-{number}")
     with open(path, "wb") as file:
-        file.write(given)
+        file.write(stdin)
     print(f"{path}, {words}: {why}"[:2_000], flush=True)
 
 

@@ -32,7 +32,7 @@ from concurrent.futures import ThreadPoolExecutor
 from lib.command_cases import (BEGUN, COMMANDS, EDITS, LEFT, PUBLISH, PUBLISHING, QUERIES,
                                QUESTIONS, SCRIPT)
 from lib.command_cases import SESSION, SETUP, STEPS, TRANSCRIPT
-from lib.command_cases import filled, held, is_refused, is_transcript, text_of
+from lib.command_cases import filled, contents_of, is_refused, is_transcript, text_of
 from lib.common import TOP, CommandLine, end, need
 from clone import add_program, built_program, cloned
 
@@ -48,13 +48,13 @@ LIBRARY = os.path.join(ROOM.name, "growths.so")
 # ---- runs, of which one growth is refused
 
 MARK = "called\nanswered\n"
-WANTS = {"NoMemory\n", "NoPlace\n", "Err(NoMemory)\n", "Err(NoPlace)\n", "Err(AllocError)\n"}
-WANTS_BEHIND = re.compile(r"Err\(Interrupted \{ lines: (\d+), cause: NoMemory \}\)\n")
+LACKS = {"NoMemory\n", "NoPlace\n", "Err(NoMemory)\n", "Err(NoPlace)\n", "Err(AllocError)\n"}
+LACKS_AFTER = re.compile(r"Err\(Interrupted \{ lines: (\d+), cause: NoMemory \}\)\n")
 
 NOT_SYNCED = (3, "oldstyle: the journal is saved, and the disk may not have it yet\n")
 NOT_KEPT = (3, "oldstyle: read fault\n")
 
-Run = namedtuple("Run", "status told errors growths")
+Run = namedtuple("Run", "status output errors growths")
 Row = namedtuple("Row", "growths same again wrong")
 
 
@@ -64,11 +64,11 @@ def build_library():
     subprocess.run([*command, os.path.join(PROGRAMS, "growths.c")], check=True)
 
 
-def run(command, given, refused, folder=None, **names):
+def run(command, stdin, refused, folder=None, **names):
     """A run of a command in a folder, in which the growth of that number is refused, 0 for none.
     The last line on standard error is the number of growths."""
     names = {**os.environ, "LD_PRELOAD": LIBRARY, "REFUSED": str(refused), **names}
-    done = subprocess.run(command, input=given, env=names, cwd=folder, capture_output=True,
+    done = subprocess.run(command, input=stdin, env=names, cwd=folder, capture_output=True,
                           text=True, timeout=60)
     *errors, growths = done.stderr.splitlines(True) or [""]
     if not growths.strip().isdigit():
@@ -89,25 +89,25 @@ def each_refused(count, outcome):
 # ---- calls of the libraries
 
 
-def lacks_memory(told, right):
+def lacks_memory(output, right):
     """Returns whether a call answered that it lacks memory; for a service with the replies to the
     lines that it names."""
-    if behind := WANTS_BEHIND.match(told):
+    if begun := LACKS_AFTER.match(output):
         replies = right.splitlines(True)[1:]
-        return told[behind.end():] == "".join(replies[: int(behind.group(1))])
-    return told in WANTS
+        return output[begun.end():] == "".join(replies[: int(begun.group(1))])
+    return output in LACKS
 
 
 def call_row(command, lines, is_right=None):
     """The row of a call that a program makes."""
-    given = text_of(lines)
-    ample = run(command, given, 0, WATCHED="1")
-    right = (ample.told.split(MARK)[1:] or [""])[0]
+    stdin = text_of(lines)
+    ample = run(command, stdin, 0, WATCHED="1")
+    right = (ample.output.split(MARK)[1:] or [""])[0]
     is_right = is_right or right.__eq__
 
     def outcome(number):
-        got = run(command, given, number, WATCHED="1")
-        first, *later = got.told.split(MARK)[1:] or [""]
+        got = run(command, stdin, number, WATCHED="1")
+        first, *later = got.output.split(MARK)[1:] or [""]
         if got.status == 0 and all(map(is_right, later)):
             if is_right(first):
                 return "same"
@@ -122,8 +122,8 @@ def call_row(command, lines, is_right=None):
 
 def request_calls():
     """The calls of the layers that hold a register: a name, words and lines."""
-    behind = str(len(SETUP) + 1)
-    for line, lines in [("1", EDITS), *((behind, [*SETUP, edit, *LEFT]) for edit in EDITS)]:
+    begun = str(len(SETUP) + 1)
+    for line, lines in [("1", EDITS), *((begun, [*SETUP, edit, *LEFT]) for edit in EDITS)]:
         yield "`Register::apply`", ["register", line], lines
         yield "`Object::stage`", ["object", line], lines
         yield "`Editor::stage`", ["running", line], lines
@@ -131,8 +131,8 @@ def request_calls():
         yield "`Object::publish`", ["object", str(place)], [*SETUP, *EDITS, *LEFT]
         yield "`Editor::publish`", ["running", str(place)], [*SETUP, *EDITS, *LEFT]
     for query in QUERIES:
-        yield "`Object::ask`", ["object", behind], [*SETUP, query, *LEFT]
-        yield "`Reader::ask`", ["running", behind], [*SETUP, query, *LEFT]
+        yield "`Object::ask`", ["object", begun], [*SETUP, query, *LEFT]
+        yield "`Reader::ask`", ["running", begun], [*SETUP, query, *LEFT]
     yield "`open`", ["running", "0"], [*SETUP, *LEFT]
 
 
@@ -163,7 +163,7 @@ def call_rows(program, built):
         for name, words, lines in calls:
             yield name, call_row([built[small], *words], lines)
     command = [built["streams"], "run_desk", text_of(SCRIPT)]
-    yield "`run_desk`", call_row(command, QUESTIONS, lambda told: is_transcript(program, told))
+    yield "`run_desk`", call_row(command, QUESTIONS, lambda output: is_transcript(program, output))
 
 
 # ---- the course of three editions
@@ -172,10 +172,10 @@ CODES = ["AA", "AB", "AC", "AD", "AE", "AF", "AG", "AH", "AI"]
 EDITIONS, STAGED = 3, 2
 
 
-def lost(told):
+def loss_of(output):
     """What was lost in a course of editions, by what the program wrote, or None. For each edition
     it writes the number and the territories; at the end what was counted."""
-    lines = [line.split() for line in told.splitlines()]
+    lines = [line.split() for line in output.splitlines()]
     if len(lines) != EDITIONS + 1:
         return "not all editions came"
     *editions, (_, refused, _, staged, _, published) = lines
@@ -195,9 +195,9 @@ def editions_row(program):
 
     def outcome(number):
         got = run([program], "", number)
-        if got.status != 0 or lost(got.told):
-            return f"{lost(got.told)}: {got}"
-        return "again" if "refused 1" in got.told else "same"
+        if got.status != 0 or loss_of(got.output):
+            return f"{loss_of(got.output)}: {got}"
+        return "again" if "refused 1" in got.output else "same"
 
     return each_refused(ample.growths, outcome)
 
@@ -212,31 +212,33 @@ def is_not_kept(words, got):
 
 def command_row(program, words, lines):
     """The row of a command. It is made again in the folder that the refused one left."""
-    command, given = [program, *words.split()], text_of(lines)
+    command, stdin = [program, *words.split()], text_of(lines)
     with filled() as folder:
-        before = held(folder)
-        ample = run(command, given, 0, folder)
-        after = held(folder)
+        before = contents_of(folder)
+        ample = run(command, stdin, 0, folder)
+        after = contents_of(folder)
 
     def is_right(got, folder):
         is_desk = words.startswith("desk")
-        told = is_transcript(program, got.told) if is_desk else got.told == ample.told
-        return told and got[::2] == ample[::2] and held(folder) == after
+        is_same_output = (is_transcript(program, got.output) if is_desk
+                          else got.output == ample.output)
+        return is_same_output and got[::2] == ample[::2] and contents_of(folder) == after
 
-    def is_front(told):
-        lines = told.splitlines(True) if given else []
-        return told == "".join(ample.told.splitlines(True)[: len(lines)])
+    def is_front(output):
+        lines = output.splitlines(True) if stdin else []
+        return output == "".join(ample.output.splitlines(True)[: len(lines)])
 
     def outcome(number):
         with filled() as folder:
-            got = run(command, given, number, folder)
+            got = run(command, stdin, number, folder)
             if is_right(got, folder):
                 return "same"
-            if got[::2] == NOT_SYNCED and got.told == ample.told and held(folder) == after:
+            is_saved = got[::2] == NOT_SYNCED and got.output == ample.output
+            if is_saved and contents_of(folder) == after:
                 return "saved"
             ends = is_refused(words, *got[::2]) or is_not_kept(words, got)
-            if ends and is_front(got.told) and held(folder) == before:
-                return "again" if is_right(run(command, given, 0, folder), folder) else "lost"
+            if ends and is_front(got.output) and contents_of(folder) == before:
+                return "again" if is_right(run(command, stdin, 0, folder), folder) else "lost"
             return got
 
     return each_refused(ample.growths, outcome)

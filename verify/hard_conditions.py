@@ -16,9 +16,9 @@ import os
 import signal
 import subprocess
 
-from lib.checks import hold
+from lib.checks import check
 from lib.command_cases import ADD_ROME, BEGUN, COMMANDS, GREGORIAN, PUBLISH, REGIME, SESSION
-from lib.command_cases import filled, held, is_refused, is_transcript, text_of
+from lib.command_cases import filled, contents_of, is_refused, is_transcript, text_of
 from lib.common import CommandLine, end, mounted
 from lib.conditions import WRITE_FAULT, closed_pipe, fill, full, limited, short_of_addresses
 
@@ -30,7 +30,7 @@ READ_FAULT = (3, "", "oldstyle: read fault\n")
 NAMED = ("serve", "replay", "desk", "almanac", "audit")
 FOR_PEOPLE = ("read", "day", "month", "territory", "letters", "text")
 SAVING = "serve --journal a.journal --save saved.journal"
-GIVEN = text_of(SESSION[:-1])
+INPUT = text_of(SESSION[:-1])
 
 counts, untried = {}, []
 
@@ -58,18 +58,19 @@ def not_written(condition, words):
     return 3, f"oldstyle: standard output: {cause}\n"
 
 
-def compare(condition, words, got, wanted):
+def compare(condition, words, got, expected):
     """Counts a run under its condition, and checks its result."""
     tried, right = counts.get(condition, (0, 0))
-    counts[condition] = (tried + 1, right + (got == wanted))
-    hold(f"{condition}: oldstyle {words}", got == wanted, f"\n  wanted {wanted}\n  got    {got}")
+    counts[condition] = (tried + 1, right + (got == expected))
+    check(f"{condition}: oldstyle {words}", got == expected,
+          f"\n  wanted {expected}\n  got    {got}")
 
 
-def run(folder, words, given="", **streams):
+def run(folder, words, text="", **streams):
     """The status of a run in a folder, with what it wrote on the standard streams that are read. In
     the latter the folder has no name."""
     if "stdin" not in streams:
-        streams["input"] = given
+        streams["input"] = text
     streams = {"stdout": subprocess.PIPE, "stderr": subprocess.PIPE, **streams}
     done = subprocess.run([PROGRAM, *words.split()], cwd=folder, text=True, timeout=60, **streams)
     return done.returncode, done.stdout, done.stderr and done.stderr.replace(folder, "")
@@ -81,11 +82,11 @@ def run(folder, words, given="", **streams):
 def try_output(condition, words, lines, **streams):
     """A command whose output goes nowhere: nothing is saved."""
     with filled() as folder:
-        before = held(folder)
+        before = contents_of(folder)
         status, _, errors = run(folder, words, text_of(lines), **streams)
-        wanted = not_written(condition, words)
-        told = (status, wanted[1] if errors is None else errors, held(folder))
-        compare(condition, words, told, (*wanted, before))
+        expected = not_written(condition, words)
+        result = (status, expected[1] if errors is None else errors, contents_of(folder))
+        compare(condition, words, result, (*expected, before))
 
 
 def try_outputs():
@@ -108,17 +109,17 @@ def try_input():
     """Standard input that fails, or is closed: nothing is saved."""
     for words in ["", SAVING, "serve --follow a.journal"]:
         with filled() as folder:
-            before = held(folder)
+            before = contents_of(folder)
             input_folder = os.open(folder, os.O_RDONLY)
-            told = run(folder, words, stdin=input_folder)
-            compare("input a folder", words, (told, held(folder)), (READ_FAULT, before))
+            result = run(folder, words, stdin=input_folder)
+            compare("input a folder", words, (result, contents_of(folder)), (READ_FAULT, before))
             os.close(input_folder)
     with filled() as folder:
-        before = held(folder)
-        told = run(folder, "", stdin=None, preexec_fn=lambda: os.close(0))
-        compare("input closed", "", (told, held(folder)), (READ_FAULT, before))
-        told = run(folder, SAVING, stdin=None, preexec_fn=lambda: os.close(0))
-        compare("input closed", SAVING, (told, held(folder)), (READ_FAULT, before))
+        before = contents_of(folder)
+        result = run(folder, "", stdin=None, preexec_fn=lambda: os.close(0))
+        compare("input closed", "", (result, contents_of(folder)), (READ_FAULT, before))
+        result = run(folder, SAVING, stdin=None, preexec_fn=lambda: os.close(0))
+        compare("input closed", SAVING, (result, contents_of(folder)), (READ_FAULT, before))
 
 
 # ---- files
@@ -142,18 +143,19 @@ def try_folders():
         for name in [word for word in words.split() if word.startswith("a.")]:
             for condition, place in [("a folder as a file", "a.folder"), ("no file", "a.gone")]:
                 with filled() as folder:
-                    before = held(folder)
+                    before = contents_of(folder)
                     changed = words.replace(name, place)
-                    told = run(folder, changed, GIVEN)
-                    compare(condition, changed, (told, held(folder)), (not_read(changed), before))
+                    result = run(folder, changed, INPUT)
+                    compare(condition, changed, (result, contents_of(folder)),
+                            (not_read(changed), before))
     for condition, place, cause in [("a folder to save in", "a.folder", "write fault"),
                                     ("no folder", "none/saved", "no such folder")]:
         with filled() as folder:
-            before, words = held(folder), f"serve --save {place}"
-            status, told, errors = run(folder, words, GIVEN)
-            got = (status, errors, told, held(folder))
+            before, words = contents_of(folder), f"serve --save {place}"
+            status, stdout, errors = run(folder, words, INPUT)
+            got = (status, errors, stdout, contents_of(folder))
             noted = f"{WRITE_FAULT[1]}note: {place}: {cause}\n"
-            compare(condition, words, got, (3, noted, run(folder, "", GIVEN)[1], before))
+            compare(condition, words, got, (3, noted, run(folder, "", INPUT)[1], before))
 
 
 def padded(line):
@@ -224,15 +226,15 @@ def shorten(folder, words, name, size_of):
         if is_within:
             os.truncate(path, size)
         process.send_signal(signal.SIGCONT)
-        told, errors = process.communicate(ASKED + "\n", timeout=60)
-    return ((process.returncode, told, errors), size, max(place, size)) if is_within else None
+        stdout, errors = process.communicate(ASKED + "\n", timeout=60)
+    return ((process.returncode, stdout, errors), size, max(place, size)) if is_within else None
 
 
 def others(folder, name):
     """What a folder holds besides a file, and the length of that file."""
     length = os.path.getsize(os.path.join(folder, name))
     os.truncate(os.path.join(folder, name), 0)
-    return held(folder), length
+    return contents_of(folder), length
 
 
 def try_shortened(words, name, size_of):
@@ -241,13 +243,13 @@ def try_shortened(words, name, size_of):
         with filled(LONG_FILES) as folder:
             if (found := shorten(folder, words, name, size_of)) is None:
                 continue
-            told, size, read = found
+            result, size, read = found
             left, length = others(folder, name)
         with filled(LONG_FILES) as folder:
             os.truncate(os.path.join(folder, name), read)
-            wanted = run(folder, words, ASKED + "\n")
-            compare("a file that grows shorter", words, (told, left, length),
-                    (wanted, others(folder, name)[0], size))
+            expected = run(folder, words, ASKED + "\n")
+            compare("a file that grows shorter", words, (result, left, length),
+                    (expected, others(folder, name)[0], size))
         return
     untried.append(f"a file that grows shorter: oldstyle {words}")
 
@@ -265,30 +267,30 @@ def try_full_disk():
         with open(os.path.join(disk, "saved.journal"), "w", encoding="utf-8") as file:
             file.write(old)
         fill(os.path.join(disk, "other"))
-        told = run(folder, "serve --journal a.journal", GIVEN)[1]
-        status, replies, errors = run(folder, words, GIVEN)
-        texts = {name: text for name, (_, text) in held(disk).items() if name != "other"}
+        stdout = run(folder, "serve --journal a.journal", INPUT)[1]
+        status, replies, errors = run(folder, words, INPUT)
+        texts = {name: text for name, (_, text) in contents_of(disk).items() if name != "other"}
         noted = f"{WRITE_FAULT[1]}note: a.folder/saved.journal: no space left on the device\n"
-        wanted = (3, noted, told, {"saved.journal": old})
-        compare("a full disk", words, (status, errors, replies, texts), wanted)
+        expected = (3, noted, stdout, {"saved.journal": old})
+        compare("a full disk", words, (status, errors, replies, texts), expected)
         os.remove(os.path.join(disk, "other"))
         path = "a.folder/saved.journal"
         note = f"note: {path} held another journal, which is now {path}.~1~\n"
-        compare("a full disk", words, run(folder, words, GIVEN), (0, told, note))
+        compare("a full disk", words, run(folder, words, INPUT), (0, stdout, note))
 
 
 def try_long_files():
     """A journal that a limit on the length of files cuts off, anywhere."""
     with filled() as folder:
-        told = run(folder, SAVING, GIVEN)[1]
+        stdout = run(folder, SAVING, INPUT)[1]
         whole = os.path.getsize(os.path.join(folder, "saved.journal"))
     for length in range(0, whole, 50):
         with filled() as folder:
-            before = held(folder)
-            status, replies, errors = run(folder, SAVING, GIVEN, preexec_fn=lambda: limited(length))
-            got = (status, errors, replies, held(folder))
+            before = contents_of(folder)
+            status, replies, errors = run(folder, SAVING, INPUT, preexec_fn=lambda: limited(length))
+            got = (status, errors, replies, contents_of(folder))
             noted = f"{WRITE_FAULT[1]}note: saved.journal: write fault\n"
-            compare("a limit on the length of files", SAVING, got, (3, noted, told, before))
+            compare("a limit on the length of files", SAVING, got, (3, noted, stdout, before))
 
 
 # ---- memory
@@ -302,27 +304,27 @@ LARGE = [
 ]
 
 
-def is_front(told, lines):
+def is_front(stdout, lines):
     """Returns whether whole lines are a prefix of those that are expected."""
-    told = told.splitlines(True)
-    return told == lines.splitlines(True)[: len(told)]
+    stdout = stdout.splitlines(True)
+    return stdout == lines.splitlines(True)[: len(stdout)]
 
 
-def try_addresses(words, given, files):
+def try_addresses(words, text, files):
     """Runs a command with too few addresses: it does what it does with ample memory, or reports
     that it lacks memory, a desk that it finds no thread; then nothing is saved, and it is run
     again."""
     with filled(files) as folder:
-        before = held(folder)
-        ample, after = run(folder, words, given), held(folder)
+        before = contents_of(folder)
+        ample, after = run(folder, words, text), contents_of(folder)
     is_desk = words.startswith("desk")
     with filled(files) as folder:
-        got = run(folder, words, given, preexec_fn=short_of_addresses)
-        left = held(folder)
-        status, told, errors = got
+        got = run(folder, words, text, preexec_fn=short_of_addresses)
+        left = contents_of(folder)
+        status, stdout, errors = got
         is_short = is_refused(words, status, errors)
-        if is_short and left == before and is_front(told, ample[1] if given else ""):
-            got, left = run(folder, words, given), held(folder)
+        if is_short and left == before and is_front(stdout, ample[1] if text else ""):
+            got, left = run(folder, words, text), contents_of(folder)
     if is_desk and got[0] == 0 and is_transcript(PROGRAM, got[1]):
         ample = got
     condition = "6 MB of addresses, which are too few" if is_short else "6 MB of addresses"

@@ -15,7 +15,7 @@ import subprocess
 import tempfile
 import time
 
-from lib.checks import hold, verdict
+from lib.checks import check, verdict
 from lib.common import JULIAN, CommandLine, compact, end, mounted, run
 from lib.conditions import WRITE_FAULT, closed_pipe, fill, full, limited, short_of_addresses
 from lib.keeper import HEAD, HEAD_4, PUBLISH, land
@@ -42,11 +42,12 @@ class Trial:
     def __init__(self, program, folder, size, source=""):
         self.program, self.journal = program, os.path.join(folder, "a.journal")
         self.text, self.is_anew = os.path.join(folder, "a.toml"), bool(source)
-        said = text_of(*size, source)
+        register_text = text_of(*size, source)
         with open(self.text, "w", encoding="utf-8") as file:
-            file.write(said)
+            file.write(register_text)
         lines = "".join(line + "\n" for line in [compact(land(1)), PUBLISH])
-        edition = "".join(compact(line) + "\n" for line in list(journal_lines(lands_of(said)))[1:])
+        _, *lines = journal_lines(lands_of(register_text))
+        edition = "".join(compact(line) + "\n" for line in lines)
         self.before = f"{HEAD}\n{lines}"
         self.after = f"{HEAD_4 if source else HEAD}\n{lines}{edition}"
         self.begin()
@@ -55,7 +56,7 @@ class Trial:
         with open(self.journal, "w", encoding="utf-8") as file:
             file.write(self.before)
 
-    def held(self):
+    def contents(self):
         with open(self.journal, encoding="utf-8") as file:
             return file.read()
 
@@ -72,40 +73,40 @@ class Trial:
         note = f"note: {self.journal}: {cause}\n" if self.is_anew else ""
         return WRITE_FAULT[0], WRITE_FAULT[1] + note
 
-    def hold_whole(self, what, told, wanted, is_published):
+    def check_whole(self, what, result, expected, is_published):
         """Checks how the run ended, and whether the journal has the edition."""
-        hold(f"{what} prints {told}", told == wanted)
-        hold(f"{what}: the journal has other lines",
-             self.held() == (self.after if is_published else self.before))
-        hold(f"{what}: a file is left beside it", not self.unfinished())
+        check(f"{what} prints {result}", result == expected)
+        check(f"{what}: the journal has other lines",
+              self.contents() == (self.after if is_published else self.before))
+        check(f"{what}: a file is left beside it", not self.unfinished())
 
     def unfinished(self):
         """The files beside the journal that a save has left."""
         folder = os.path.dirname(self.journal)
         return [os.path.join(folder, name) for name in os.listdir(folder) if "unfinished" in name]
 
-    def hold_next(self, what):
+    def check_next(self, what):
         """Publishes the text when nothing is in its way."""
         self.begin()
-        self.hold_whole(f"after {what}", self.publish(), (0, ""), True)
+        self.check_whole(f"after {what}", self.publish(), (0, ""), True)
 
 
 def try_outputs(trial):
     for what, opened in (("output full", full), ("output a closed pipe", closed_pipe)):
         trial.begin()
         output = opened()
-        trial.hold_whole(what, trial.publish(stdout=output), NOT_PRINTED, True)
+        trial.check_whole(what, trial.publish(stdout=output), NOT_PRINTED, True)
         os.close(output)
     trial.begin()
-    told = trial.publish(stdout=None, preexec_fn=lambda: os.close(1))
-    trial.hold_whole("output closed", told, NOT_PRINTED, True)
+    result = trial.publish(stdout=None, preexec_fn=lambda: os.close(1))
+    trial.check_whole("output closed", result, NOT_PRINTED, True)
 
 
 def try_files(trial, folder):
     """Folders, and nothing, in the place of the text and of the journal."""
     none = os.path.join(folder, "none")
     inside = os.path.join(none, "journal")
-    for what, given, wanted in (
+    for what, streams, expected in (
             ("a folder as a text", {"text": folder}, f"oldstyle: {folder}: is a directory\n"),
             ("no text", {"text": none}, f"oldstyle: {none}: no such file\n"),
             ("a folder as a journal", {"journal": folder},
@@ -113,8 +114,8 @@ def try_files(trial, folder):
             ("a journal in no folder", {"journal": inside},
              f"oldstyle: {inside}: there is no folder {none}: make it first\n")):
         trial.begin()
-        trial.hold_whole(what, trial.publish(**given), (3, wanted), False)
-    hold("a folder was made", not os.path.exists(none))
+        trial.check_whole(what, trial.publish(**streams), (3, expected), False)
+    check("a folder was made", not os.path.exists(none))
 
 
 def try_lengths(trial):
@@ -122,10 +123,10 @@ def try_lengths(trial):
     first, last = len(trial.before.encode()), len(trial.after.encode())
     for length in range(first, last, max(1, (last - first) // 40)):
         trial.begin()
-        told = trial.publish(preexec_fn=lambda: limited(length))
-        wanted = trial.not_written("write fault")
-        trial.hold_whole(f"a limit of {length} bytes", told, wanted, False)
-    trial.hold_next("limits")
+        result = trial.publish(preexec_fn=lambda: limited(length))
+        expected = trial.not_written("write fault")
+        trial.check_whole(f"a limit of {length} bytes", result, expected, False)
+    trial.check_next("limits")
 
 
 def try_full_disk(program, folder, source):
@@ -135,19 +136,20 @@ def try_full_disk(program, folder, source):
             return
         trial, other = Trial(program, disk, (40, 10), source), os.path.join(disk, "other")
         fill(other)
-        trial.hold_whole("a full disk", trial.publish(),
-                         trial.not_written("no space left on the device"), False)
+        trial.check_whole("a full disk", trial.publish(),
+                          trial.not_written("no space left on the device"), False)
         os.remove(other)
-        trial.hold_next("a full disk")
+        trial.check_next("a full disk")
 
 
 def try_addresses(trial):
     """Few addresses: it is published, or memory is refused and nothing changes."""
     trial.begin()
-    told = trial.publish(preexec_fn=short_of_addresses)
-    is_refused = told == (4, "oldstyle: no memory\n")
-    trial.hold_whole("6 MB of addresses", told, told if is_refused else (0, ""), not is_refused)
-    trial.hold_next("few addresses")
+    result = trial.publish(preexec_fn=short_of_addresses)
+    is_refused = result == (4, "oldstyle: no memory\n")
+    trial.check_whole("6 MB of addresses", result, result if is_refused else (0, ""),
+                      not is_refused)
+    trial.check_next("few addresses")
     return is_refused
 
 
@@ -158,27 +160,27 @@ def try_kill(trial, chance, longest):
     with subprocess.Popen(words, stdout=subprocess.DEVNULL) as running:
         time.sleep(chance.uniform(0, longest))
         running.kill()
-    found = trial.held()
+    found = trial.contents()
     is_whole, is_old = found == trial.after, found == trial.before
     is_front = found.startswith(trial.before) and trial.after.startswith(found)
-    hold("a kill leaves other lines", is_whole or is_old or is_front and not trial.is_anew)
+    check("a kill leaves other lines", is_whole or is_old or is_front and not trial.is_anew)
     for path in trial.unfinished():
-        hold("a kill leaves a file beside the journal", trial.is_anew)
+        check("a kill leaves a file beside the journal", trial.is_anew)
         os.remove(path)
     done = run(trial.program, ["serve", "--follow", trial.journal],
                [compact({"op": "lands", "reader": 1})])
-    hold(f"after a kill {done.stdout[:200]!r}",
-         f'"edition":{1 + is_whole},' in done.stdout and not done.stderr)
+    check(f"after a kill {done.stdout[:200]!r}",
+          f'"edition":{1 + is_whole},' in done.stdout and not done.stderr)
     return is_whole, not is_whole and not is_old
 
 
 def try_kills(trial, options):
     chance = random.Random(options.seed)
     begun = time.monotonic()
-    trial.hold_next("nothing")
+    trial.check_next("nothing")
     longest = 1.2 * (time.monotonic() - begun)
     found = [try_kill(trial, chance, longest) for _ in range(options.count)]
-    trial.hold_next("kills")
+    trial.check_next("kills")
     return [sum(column) for column in zip(*found)]
 
 

@@ -137,8 +137,8 @@ def lines():
 def replies(program, asked):
     """The replies to lines, one after the other; None for each that has none."""
     text = b"\n".join(asked) + b"\n"
-    told = subprocess.run([program], input=text, capture_output=True, check=True).stdout
-    return [*told.splitlines(), *[None] * len(asked)][:len(asked)]
+    stdout = subprocess.run([program], input=text, capture_output=True, check=True).stdout
+    return [*stdout.splitlines(), *[None] * len(asked)][:len(asked)]
 
 
 def main():
@@ -147,10 +147,10 @@ def main():
         pairs = [lines() for _ in range(LINES_A_FILE)]
         ones = [one for one, _ in pairs]
         others = [one if other is None else other for one, other in pairs]
-        told, again = replies(OPTIONS.program, ones), replies(OPTIONS.program, others)
-        before = replies(OPTIONS.older, ones) if OPTIONS.older else told
+        first, again = replies(OPTIONS.program, ones), replies(OPTIONS.program, others)
+        before = replies(OPTIONS.older, ones) if OPTIONS.older else first
         files += 1
-        for line, reply, other, old in zip(ones, told, again, before):
+        for line, reply, other, old in zip(ones, first, again, before):
             if reply is None or reply != other or reply != old:
                 differ += 1
                 print(line, reply, other, old, sep="\n    ")

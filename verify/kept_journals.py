@@ -25,10 +25,10 @@ import tempfile
 import threading
 from contextlib import contextmanager
 
-from lib.checks import hold, verdict
+from lib.checks import check, verdict
 from lib.common import CommandLine, compact, end, mounted, run
 from lib.conditions import limited
-from lib.keeper import HEAD, HELD, PUBLISH, Editor, Run, editor_after, journal_lines, land
+from lib.keeper import HEAD, LOCKED, PUBLISH, Editor, Run, editor_after, journal_lines, land
 
 
 def lines_of(text):
@@ -60,30 +60,31 @@ def try_stop(program, path, chance, number, before):
     running.process.kill()
     replies, errors = running.stopped()
     accepted = [compact(request) for request, is_taken in sent if is_taken]
-    told = sum(is_taken for (_, is_taken) in sent[:len(replies)])
+    reported = sum(is_taken for (_, is_taken) in sent[:len(replies)])
     for (request, is_taken), reply in zip(sent, replies):
-        hold(f"stop {number}: {compact(request)} is answered {reply}", is_taken == ("ok" in reply))
-    hold(f"stop {number}: {errors!r} is shown", errors == "" or rest and errors == cut_line(known))
-    hold(f"stop {number}: {rest!r} is not reported", errors != "" or not rest or not replies)
-    lines = held_after(program, path, number, before, accepted, told)
+        check(f"stop {number}: {compact(request)} is answered {reply}", is_taken == ("ok" in reply))
+    check(f"stop {number}: {errors!r} is shown", errors == "" or rest and errors == cut_line(known))
+    check(f"stop {number}: {rest!r} is not reported", errors != "" or not rest or not replies)
+    lines = check_after(program, path, number, before, accepted, reported)
     return cut_anywhere(path, chance, lines), len(replies)
 
 
-def held_after(program, path, number, before, accepted, told):
+def check_after(program, path, number, before, accepted, reported):
     """The lines that the file holds after a stop, compared with what it held before and what was
     reported. A run that is stopped early has not cut off what was not finished before it."""
     known = before[0]
     if not os.path.exists(path):
-        hold(f"stop {number}: {told} were reported, and there is no file", told == 0)
+        check(f"stop {number}: {reported} were reported, and there is no file", reported == 0)
         return known
     lines, rest = journal_lines(path)
     more = len(lines) - max(len(known), min(len(lines), 1))
-    hold(f"stop {number}: {told} reported, {more} held", told <= more <= len(accepted) or not lines)
-    wanted = (known or [HEAD]) + accepted
-    hold(f"stop {number}: other lines", lines == wanted[:len(lines)])
-    hold(f"stop {number}: {rest!r} is not a prefix of the next line",
-         is_front(rest, wanted, lines) or (lines, rest) == before)
-    hold(f"stop {number}: its lines are not loaded", not lines or is_loaded(program, path, lines))
+    check(f"stop {number}: {reported} reported, {more} held",
+          reported <= more <= len(accepted) or not lines)
+    expected = (known or [HEAD]) + accepted
+    check(f"stop {number}: other lines", lines == expected[:len(lines)])
+    check(f"stop {number}: {rest!r} is not a prefix of the next line",
+          is_front(rest, expected, lines) or (lines, rest) == before)
+    check(f"stop {number}: its lines are not loaded", not lines or is_loaded(program, path, lines))
     return lines
 
 
@@ -98,8 +99,8 @@ def cut_anywhere(path, chance, lines):
     return journal_lines(path) if os.path.exists(path) else (lines, "")
 
 
-def is_front(rest, wanted, lines):
-    return not rest or len(lines) < len(wanted) and wanted[len(lines)].startswith(rest)
+def is_front(rest, expected, lines):
+    return not rest or len(lines) < len(expected) and expected[len(lines)].startswith(rest)
 
 
 def cut_line(known):
@@ -115,10 +116,10 @@ def is_loaded(program, path, lines):
     done = run(program, ["serve", "--journal", copy], asked)
     answer, staged = lines_of(done.stdout)
     towns = [json.loads(line) for line in published(lines)]
-    wanted = [{"code": town["code"], "name": town["name"]} for town in towns
-              if town["op"] == "add_land"]
+    expected = [{"code": town["code"], "name": town["name"]} for town in towns
+                if town["op"] == "add_land"]
     pending = next((n for n, line in enumerate(reversed(lines)) if line in (PUBLISH, HEAD)), 0)
-    return (answer["edition"] == lines.count(PUBLISH) and answer["answer"]["lands"] == wanted
+    return (answer["edition"] == lines.count(PUBLISH) and answer["answer"]["lands"] == expected
             and staged == {"ok": "staged", "pending": pending + 1})
 
 
@@ -130,16 +131,16 @@ def published(lines):
 
 def try_stops(options, path):
     """Makes stops, one after the other, over one file; a new one once it holds many editions."""
-    before, told, cut, files = ([], ""), 0, 0, 1
+    before, reported, cut, files = ([], ""), 0, 0, 1
     for number in range(options.count):
         if before[0].count(PUBLISH) > 4_000 or len(before[0]) > 16_000:
             os.remove(path)
             before, files = ([], ""), files + 1
         chance = random.Random(options.seed * 1_000_003 + number)
         before, replies = try_stop(options.program, path, chance, number, before)
-        told, cut = told + replies, cut + (before[1] != "")
-    print(f"{options.count} stops over {files} files: {told} replies given; {cut} times a line was "
-          "not finished", flush=True)
+        reported, cut = reported + replies, cut + (before[1] != "")
+    print(f"{options.count} stops over {files} files: {reported} replies given; {cut} times a line "
+          "was not finished", flush=True)
 
 
 # ---- others at the same time
@@ -153,10 +154,11 @@ def read_beside(program, path, running, counts):
         found = re.match(r"Territories, edition (\d+)\n", done.stdout)
         if found:
             counts["read"] += 1
-            hold(f"edition {found[1]} is read after {before} was reported", int(found[1]) >= before)
+            check(f"edition {found[1]} is read after {before} was reported",
+                  int(found[1]) >= before)
         else:
             counts["refused"] += 1
-            hold(f"a reader prints {done.stderr!r}", re.fullmatch(
+            check(f"a reader prints {done.stderr!r}", re.fullmatch(
                 r"oldstyle: journal line \d+: 32 NotJson\nhelp: .*\n", done.stderr))
 
 
@@ -166,8 +168,8 @@ def try_others(program, path, seed):
     running.send([land(0), {"op": "publish"}])
     running.wait_for(2)
     second = run(program, ["serve", "--keep", path], ["{}"])
-    hold(f"a second editor prints {second}",
-         (second.returncode, second.stdout, second.stderr) == HELD)
+    check(f"a second editor prints {second}",
+          (second.returncode, second.stdout, second.stderr) == LOCKED)
     editor.towns = 1
     beside = (program, path, running, counts)
     readers = [threading.Thread(target=read_beside, args=beside) for _ in range(3)]
@@ -211,12 +213,13 @@ def is_stopped_by(program, what, path, limit=None):
                           text=True, timeout=60, check=False, preexec_fn=limit)
     replies = lines_of(done.stdout)
     lines, rest = journal_lines(path)
-    wanted = [HEAD] + [compact(request) for request in edits_of(400)]
-    hold(f"{what}: {done.returncode} {done.stderr!r}",
-         done.returncode == 3 and done.stderr.startswith("oldstyle: write fault\nnote: "))
-    hold(f"{what}: {len(replies)} reported, {len(lines) - 1} held",
-         len(replies) <= len(lines) - 1 <= len(replies) + 1)
-    hold(f"{what}: other lines", lines == wanted[:len(lines)] and is_front(rest, wanted, lines))
+    expected = [HEAD] + [compact(request) for request in edits_of(400)]
+    check(f"{what}: {done.returncode} {done.stderr!r}",
+          done.returncode == 3 and done.stderr.startswith("oldstyle: write fault\nnote: "))
+    check(f"{what}: {len(replies)} reported, {len(lines) - 1} held",
+          len(replies) <= len(lines) - 1 <= len(replies) + 1)
+    check(f"{what}: other lines",
+          lines == expected[:len(lines)] and is_front(rest, expected, lines))
     return lines
 
 
@@ -224,11 +227,12 @@ def goes_on(program, what, path, lines):
     """Checks that the next run continues from these lines."""
     editions = lines.count(PUBLISH)
     done = run(program, ["serve", "--keep", path], ['{"op":"lands","reader":1}'])
-    hold(f"{what}: the next run prints {done.stderr!r}",
-         done.returncode == 0 and json.loads(done.stdout)["edition"] == editions)
+    check(f"{what}: the next run prints {done.stderr!r}",
+          done.returncode == 0 and json.loads(done.stdout)["edition"] == editions)
     with open(path, encoding="utf-8") as file:
-        held = file.read()
-    hold(f"{what}: the next run holds other lines", held == "".join(line + "\n" for line in lines))
+        content = file.read()
+    check(f"{what}: the next run holds other lines",
+          content == "".join(line + "\n" for line in lines))
 
 
 def try_full_disk(program, folder):
@@ -258,15 +262,15 @@ def try_no_folder(program, folder):
         if disk is None:
             print("not tried: a disk that is read alone, which only root may mount")
             return
-        held = HEAD + "\n" + compact(land(0)) + "\n"
+        content = HEAD + "\n" + compact(land(0)) + "\n"
         with open(os.path.join(disk, "a.journal"), "w", encoding="utf-8") as file:
-            file.write(held)
+            file.write(content)
         subprocess.run(["mount", "-o", "remount,ro", disk], check=True)
         for name in ("a.journal", "b.journal"):
             done = run(program, ["serve", "--keep", os.path.join(disk, name)], [PUBLISH])
-            hold(f"read alone: {done}", (done.returncode, done.stdout, done.stderr)
-                 == (3, "", f"oldstyle: read fault\nnote: {disk}/{name}: read fault\n"))
-        hold("read alone: other files", os.listdir(disk) == ["a.journal"])
+            check(f"read alone: {done}", (done.returncode, done.stdout, done.stderr)
+                  == (3, "", f"oldstyle: read fault\nnote: {disk}/{name}: read fault\n"))
+        check("read alone: other files", os.listdir(disk) == ["a.journal"])
     print("a disk that is read alone: refused, and nothing changed", flush=True)
 
 

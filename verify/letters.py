@@ -99,7 +99,7 @@ class Table:
     def add(self, record, last=False):
         self.text += record + ("" if last else self.form.line_end)
 
-    def told(self, why):
+    def fault_line(self, why):
         """The line of a fault in the record that begins where the text ends."""
         return f"oldstyle: letters line {1 + line_ends(self.text)}: {why}\n"
 
@@ -152,7 +152,7 @@ def table_of(chance, form, territories, edition, middle):
     rows, bad = chance.randint(0, 60), chance.choice([None, None, -1, 1])
     if bad == -1:
         columns, why = bad_header(chance, form)
-        table.fault = table.told(why)
+        table.fault = table.fault_line(why)
         table.add(form.record(columns))
         return table
     table.add(form.record(form.columns), last=rows == 0)
@@ -162,7 +162,7 @@ def table_of(chance, form, territories, edition, middle):
         fields, read = row_of(chance, form, territories["XX"], middle)
         if bad and chance.random() < 0.05:
             record, why = bad_record(chance, form, fields)
-            table.fault = table.told(why)
+            table.fault = table.fault_line(why)
             table.add(record)
             return table
         table.add(form.record(fields), last=place == rows - 1 and chance.random() < 0.5)
@@ -179,17 +179,18 @@ def differs(program, journal, form, table):
     done = subprocess.run(words, input=(mark + table.text).encode(), capture_output=True,
                           check=False)
     found = done.returncode, done.stdout.decode(), done.stderr.decode()
-    wanted = 1 if table.fault else 0, table.out, table.fault
-    if found == wanted:
+    expected = 1 if table.fault else 0, table.out, table.fault
+    if found == expected:
         return []
-    kept = f"/tmp/letters-{os.getpid()}.csv"
-    with open(kept, "w", encoding="utf-8", newline="") as file:
+    table_path = f"/tmp/letters-{os.getpid()}.csv"
+    with open(table_path, "w", encoding="utf-8", newline="") as file:
         file.write(mark + table.text)
-    places = [place for place, (one, other) in enumerate(zip(found[1], wanted[1])) if one != other]
-    at = places[0] if places else min(len(found[1]), len(wanted[1]))
-    return [f"{words}, the table in {kept}: status and fault {found[0]} {found[2]!r}, wanted "
-            f"{wanted[0]} {wanted[2]!r}; at {at} {found[1][at - 60:at + 90]!r}, wanted "
-            f"{wanted[1][at - 60:at + 90]!r}"]
+    pairs = enumerate(zip(found[1], expected[1]))
+    places = [place for place, (one, other) in pairs if one != other]
+    at = places[0] if places else min(len(found[1]), len(expected[1]))
+    return [f"{words}, the table in {table_path}: status and fault {found[0]} {found[2]!r}, wanted "
+            f"{expected[0]} {expected[2]!r}; at {at} {found[1][at - 60:at + 90]!r}, wanted "
+            f"{expected[1][at - 60:at + 90]!r}"]
 
 
 def main():

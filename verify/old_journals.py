@@ -127,10 +127,10 @@ class Lands:
         """An edit that is refused, if there is a territory."""
         chance, code = self.chance, self.chance.choice(list(self.changes))
         changes, exceptions = self.changes[code], self.exceptions[code]
-        taken = chance.choice([1, *sorted(changes)])
+        start = chance.choice([1, *sorted(changes)])
         edits = [
             {"op": "add_land", "code": code, "name": "Again", **self.regime()},
-            {"op": "add_change", "code": code, "day": taken, **self.regime()},
+            {"op": "add_change", "code": code, "day": start, **self.regime()},
             {"op": "alter_change", "code": code, "day": OFF_DAY, **self.regime()},
             {"op": "drop_change", "code": code, "day": 1},
             {"op": "drop_change", "code": "ZZ", "day": 2},
@@ -147,7 +147,7 @@ def ignored(chance, value):
     return {**value, "source": chance.choice(SOURCES)} if chance.random() < 0.3 else value
 
 
-def spelt(chance, value):
+def json_text(chance, value):
     """A line of the value: as a program writes it, or with its members in another order, spaces,
     another member, and letters as numbers."""
     if chance.random() < 0.5:
@@ -165,13 +165,13 @@ def random_journal(chance, version):
     for _ in range(chance.choice([0, 1, 3, 10, 30, 60])):
         is_publish = pending and chance.random() < 0.25
         line = {"op": "publish"} if is_publish else lands.edit()
-        lines.append(spelt(chance, ignored(chance, line)))
+        lines.append(json_text(chance, ignored(chance, line)))
         pending = not is_publish
     spoiling = chance.random()
     if spoiling < 0.1:
         lines.insert(chance.randint(1, len(lines)), chance.choice(BAD_LINES))
     elif spoiling < 0.2 and lands.changes:
-        lines.append(spelt(chance, ignored(chance, lands.refused_edit())))
+        lines.append(json_text(chance, ignored(chance, lands.refused_edit())))
     elif spoiling < 0.23:
         lines[0] = chance.choice(BAD_HEADS)
     elif spoiling < 0.26 and not pending:
@@ -208,7 +208,7 @@ def random_requests(chance, lands):
         requests += queries
     if chance.random() < 0.3:
         requests.append(lands.edit())
-    return [spelt(chance, request) for request in requests]
+    return [json_text(chance, request) for request in requests]
 
 
 def made(program, journal, requests, saved):
@@ -228,10 +228,10 @@ def made(program, journal, requests, saved):
 def on_shorter_line(request, reply):
     """A reply as the shorter line requires it: the last day of a last period is that line's, a
     reading has the days that are on it, and is without skipped dates if they may differ."""
-    told = json.loads(reply)
-    if "answer" not in told or compact(told) != reply:
+    value = json.loads(reply)
+    if "answer" not in value or compact(value) != reply:
         return reply
-    asked, answer = json.loads(request), told["answer"]
+    asked, answer = json.loads(request), value["answer"]
     for period in [answer, *answer.get("periods", [])]:
         if period.get("last") == NEW_HIGH:
             period["last"] = HIGH
@@ -239,7 +239,7 @@ def on_shorter_line(request, reply):
         answer["days"] = [found for found in answer["days"] if found["day"] <= HIGH]
         if asked["year"] > LAST_FULL_YEAR:
             del answer["skipped"]
-    return compact(told)
+    return compact(value)
 
 
 def compared(requests, done):
@@ -292,10 +292,10 @@ def main():
                     for program in (options.older, options.program)]
             old, new = (compared(requests, one) for one in made_by)
             refused += old[0] == 1
-            if told := difference(old, new):
+            if why := difference(old, new):
                 failed += 1
                 if failed <= 10:
-                    print(f"journal {place}, {len(lines)} lines: {told}")
+                    print(f"journal {place}, {len(lines)} lines: {why}")
     print(f"{options.count} journals of versions {versions}, {refused} of them refused by the "
           f"older program: {failed} differ")
     return 1 if failed else 0

@@ -8,7 +8,7 @@ import glob
 import os
 import subprocess
 
-from lib.checks import hold, verdict
+from lib.checks import check, verdict
 from lib.common import TOP, CommandLine, end, need
 from clone import add_program, cloned
 
@@ -22,8 +22,9 @@ def main():
         for source in sources:
             tried = subprocess.run(["rt", "try"], cwd=add_program(clone, source), text=True,
                                    stdin=subprocess.DEVNULL, capture_output=True, check=False)
-            said = tried.stdout + tried.stderr
-            hold(f"{os.path.relpath(source, TOP)} compiles", "run=ended" in said, said[-2_000:])
+            output = tried.stdout + tried.stderr
+            check(f"{os.path.relpath(source, TOP)} compiles", "run=ended" in output,
+                  output[-2_000:])
     return verdict(f"{len(sources)} programs outside of the gate compile")
 
 

@@ -85,30 +85,30 @@ def numbered(chance, day):
     return chance.choice(named + ([str(day)] if day <= OFFSET else []))
 
 
-def differs(program, words, wanted, status=0, fault=None):
+def differs(program, words, expected, status=0, fault=None):
     """What a run was asked and gave, if it gives another page or reports another fault."""
     done = run(program, words)
     found = done.returncode, done.stdout.splitlines(), done.stderr.splitlines()
-    if found != (status, wanted, [fault] if fault else []):
-        yield f"{words}:\n  wanted {wanted} {fault or ''}\n  found  {found}"
+    if found != (status, expected, [fault] if fault else []):
+        yield f"{words}:\n  wanted {expected} {fault or ''}\n  found  {found}"
 
 
 def mistakes(program, journal):
     """Each wrong argument, unknown code and missing file that is not reported as it must be."""
-    said = [(words, words.split()[-1], why) for words, why in MISTAKES] + EARLIER_MISTAKES
-    for text, word, why in said:
+    mistakes = [(words, words.split()[-1], why) for words, why in MISTAKES] + EARLIER_MISTAKES
+    for text, word, why in mistakes:
         words = text.replace("FILE", journal).split()
         yield from differs(program, words, [], 2, f"oldstyle: {word}: {why}")
     unknown = f"oldstyle: no territory has the code ZZ: see oldstyle territory {journal}"
-    gone = journal + ".gone"
+    missing = journal + ".gone"
     for words in (["read", "XX", "1700-01-01"], ["day", "XX", "1"], ["month", "XX", "1700", "1"],
                   ["year", "XX", "1700"], ["territory", "XX"]):
         name, _, *others = words
-        said = f"oldstyle: {gone}: no such file"
+        expected = f"oldstyle: {missing}: no such file"
         yield from differs(program, [name, journal, "ZZ", *others], [], 1, unknown)
         yield from differs(program, [name, journal, "x", *others], [], 1, f"oldstyle: x: {NO_CODE}")
-        yield from differs(program, [name, gone, "XX", *others], [], 3, said)
-    yield from differs(program, ["letters", gone], [], 3, said)
+        yield from differs(program, [name, missing, "XX", *others], [], 3, expected)
+    yield from differs(program, ["letters", missing], [], 3, expected)
 
 
 class Asked:
@@ -140,9 +140,9 @@ class Asked:
     def reading(self, label):
         text = date_text(self.chance, label)
         date = parse(text)
-        given = None if date.weekday else self.chance.choice([None, None, *WEEKDAYS])
-        words = ["--weekday", any_case(self.chance, given)] if given else []
-        yield from self.page(["read", "XX", text, *words], reading_page(self.place, date, given))
+        weekday = None if date.weekday else self.chance.choice([None, None, *WEEKDAYS])
+        words = ["--weekday", any_case(self.chance, weekday)] if weekday else []
+        yield from self.page(["read", "XX", text, *words], reading_page(self.place, date, weekday))
 
     def reckoned(self, label):
         """A date of one day that names a calendar."""
@@ -159,20 +159,20 @@ class Asked:
         other = label_near(self.chance, self.territory, self.middle)
         span = span_near(self.chance, label, other)
         text = text_of(self.chance, span)
-        given = self.chance.choice([None] * 6 + WEEKDAYS[:2])
-        words = ["--weekday", given] if given else []
-        yield from self.page(["read", "XX", text, *words], span_page(self.place, span, given))
-        yield from self.query(text, span, given)
+        weekday = self.chance.choice([None] * 6 + WEEKDAYS[:2])
+        words = ["--weekday", weekday] if weekday else []
+        yield from self.page(["read", "XX", text, *words], span_page(self.place, span, weekday))
+        yield from self.query(text, span, weekday)
 
-    def query(self, text, span, given):
+    def query(self, text, span, weekday):
         """What the service answers to such a date."""
         ask = {"op": "written", "reader": 1, "code": "XX", "date": text}
-        asked = compact({**ask, "weekday": given} if given else ask)
-        answer = span_answer(self.territory.land, span, given)
-        wanted = compact({"answer": answer, "edition": self.service.edition, "reader": 1})
+        asked = compact({**ask, "weekday": weekday} if weekday else ask)
+        answer = span_answer(self.territory.land, span, weekday)
+        expected = compact({"answer": answer, "edition": self.service.edition, "reader": 1})
         found = run(self.program, ["serve", "--journal", self.journal], [asked]).stdout
-        if found != wanted + "\n":
-            yield f"{asked}:\n  wanted {wanted}\n  found  {found}"
+        if found != expected + "\n":
+            yield f"{asked}:\n  wanted {expected}\n  found  {found}"
 
     def day(self):
         day = day_near(self.chance, self.territory, self.middle)

@@ -68,10 +68,10 @@ def main():
         lacking, left = checked(folder, "without the program", {"OLDSTYLE": "no-such-oldstyle"})
     if wrong or lacking:
         sys.exit(wrong or lacking)
-    holds = not any(ran[:3]) and ran[3] > 0 and not any(left[:2]) and left[2] > 0
+    is_true = not any(ran[:3]) and ran[3] > 0 and not any(left[:2]) and left[2] > 0
     print(f"R CMD build and check: OK with the program, of which {ran[3]} expectations hold and "
           f"{ran[2]} tests are skipped; OK without it, {left[2]} tests are skipped")
-    return 0 if holds else 1
+    return 0 if is_true else 1
 
 
 if __name__ == "__main__":

@@ -49,32 +49,32 @@ def random_spring(numbers, year):
 def random_labels(numbers, starts, labels):
     """Labels to read: near the changes under both of their regimes, dates of spring, both near the
     changes and in any years, leap days, and any others."""
-    wanted = {key(1712, 2, 30), key(1700, 2, 29), key(0, 1, 3), key(LAST_LABEL_YEAR, 12, 31)}
-    while len(wanted) < READINGS:
+    chosen = {key(1712, 2, 30), key(1700, 2, 29), key(0, 1, 3), key(LAST_LABEL_YEAR, 12, 31)}
+    while len(chosen) < READINGS:
         place = numbers.randrange(len(starts))
         regime = starts[numbers.choice([place, place - 1]) if place else 0][1]
         day = min(HIGH, max(1, starts[place][0] + numbers.randint(-15, 15)))
         chance, near = numbers.random(), labels[regime[:2]][day]
         if chance < 0.45:
-            wanted.add(near)
+            chosen.add(near)
         elif chance < 0.65:
             year = min(LAST_LABEL_YEAR, max(0, near // 10_000 + numbers.randint(-1, 1)))
-            wanted.add(random_spring(numbers, year))
+            chosen.add(random_spring(numbers, year))
         elif chance < 0.8:
-            wanted.add(random_spring(numbers, numbers.randint(0, LAST_LABEL_YEAR)))
+            chosen.add(random_spring(numbers, numbers.randint(0, LAST_LABEL_YEAR)))
         elif chance < 0.9:
-            wanted.add(key(numbers.randint(0, LAST_LABEL_YEAR), 2, numbers.choice([29, 29, 30])))
+            chosen.add(key(numbers.randint(0, LAST_LABEL_YEAR), 2, numbers.choice([29, 29, 30])))
         else:
             month, day = numbers.randint(1, 12), numbers.randint(1, 31)
-            wanted.add(key(numbers.randint(0, LAST_LABEL_YEAR), month, day))
-    return wanted
+            chosen.add(key(numbers.randint(0, LAST_LABEL_YEAR), month, day))
+    return chosen
 
 
-def days_by_label(line, wanted):
+def days_by_label(line, chosen):
     """All days of the line whose label is sought: a search through every day."""
-    days = {label: [] for label in wanted}
+    days = {label: [] for label in chosen}
     for day, label in enumerate(line):
-        if label in wanted:
+        if label in chosen:
             days[label].append(day)
     return days
 
@@ -132,8 +132,8 @@ def random_lands(numbers, count, labels, beginnings):
     lands = {}
     for number in range(count):
         starts = random_starts(numbers, beginnings)
-        wanted = random_labels(numbers, starts, labels)
-        lands[f"T{number}"] = starts, random_exceptions(numbers), wanted
+        chosen = random_labels(numbers, starts, labels)
+        lands[f"T{number}"] = starts, random_exceptions(numbers), chosen
     return lands
 
 
@@ -145,9 +145,9 @@ def territory_line(starts, labels):
     return line
 
 
-def readings(code, starts, wanted, line, under):
+def readings(code, starts, chosen, line, under):
     """Requests with the days found, their labels and the changes at which the label was skipped."""
-    for label, found in days_by_label(line, wanted).items():
+    for label, found in days_by_label(line, chosen).items():
         year, month, day = label // 10_000, label // 100 % 100, label % 100
         date = {"year": year, "month": month, "day": day}
         request = {"op": "read", "reader": 1, "code": code, **date}
@@ -186,14 +186,14 @@ def compared(cases, answers):
 def run(program, numbers, count, labels, easters, beginnings):
     """One run of `count` territories, and what came of it."""
     lands = random_lands(numbers, count, labels, beginnings)
-    asked = set().union(*(wanted for _, _, wanted in lands.values()))
+    asked = set().union(*(chosen for _, _, chosen in lands.values()))
     under = {names: days_by_label(line, asked) for names, line in labels.items()}
 
     staged, cases = [], []
-    for code, (starts, exceptions, wanted) in lands.items():
+    for code, (starts, exceptions, chosen) in lands.items():
         staged += edits(code, starts, exceptions)
         line = territory_line(starts, labels)
-        cases += readings(code, starts, wanted, line, under)
+        cases += readings(code, starts, chosen, line, under)
         cases += easter_queries(code, starts, exceptions, line, easters)
     staged.append({"op": "publish"})
 
@@ -224,8 +224,8 @@ def main():
     sums = [0, 0, 0, 0]
     for done in range(0, options.count, LANDS):
         count = min(LANDS, options.count - done)
-        told = run(options.program, numbers, count, labels, easters, beginnings)
-        sums = [one + more for one, more in zip(sums, told)]
+        results = run(options.program, numbers, count, labels, easters, beginnings)
+        sums = [one + more for one, more in zip(sums, results)]
     cases, several, lost, apart = sums
     print(f"{cases} cases, {several} of several days, {lost} skipped, {apart} differ")
     return 1 if apart else 0

@@ -129,8 +129,8 @@ class Service:
             if op == "publish":
                 members = self.publish()
             elif "reader" in MEMBERS[op]:
-                told = self.ask(op, value)
-                members = {"edition": self.edition, "reader": value["reader"], **told}
+                outcome = self.ask(op, value)
+                members = {"edition": self.edition, "reader": value["reader"], **outcome}
             else:
                 is_given = "source" in MEMBERS[op] and "source" in value
                 refuse((lambda: is_given and not self.takes_sources, 46))
@@ -236,24 +236,24 @@ def is_weekday(name):
     return name.isascii() and name.capitalize() in WEEKDAYS
 
 
-def written_answer(land, text, given):
+def written_answer(land, text, weekday):
     """What a text in one of the usual forms means."""
     if why := why_none(text):
         return none_answer(why)
     try:
         date = parse(text)
     except Malformed:
-        return span_answer(land, span_of(text), given and given.capitalize())
-    territory, given = Territory(land), given and given.capitalize()
+        return span_answer(land, span_of(text), weekday and weekday.capitalize())
+    territory, weekday = Territory(land), weekday and weekday.capitalize()
     days = territory.days_meant(date)
-    is_on = any(has_weekday(date, given, day) for day in days)
+    is_on = any(has_weekday(date, weekday, day) for day in days)
     runs = [[land.found(day) for day in run] for run in runs_of(sorted(days))]
     return {
         "approximate": False, "kind": "day", "other_calendar": False,
         "reason": None if days else territory.absence(date),
         "runs": [{"first": first, "last": last} for first, last in runs],
         "supplied": False, "uncertain": False,
-        "weekday": is_on if date.weekday or given else None,
+        "weekday": is_on if date.weekday or weekday else None,
     }
 
 

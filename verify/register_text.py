@@ -19,7 +19,7 @@ import re
 import tempfile
 import tomllib
 
-from lib.checks import hold, verdict
+from lib.checks import check, verdict
 from lib.common import CommandLine, compact, end
 from lib.keeper import HEAD_4, PUBLISH
 from reference import NEWEST, cited
@@ -37,16 +37,16 @@ EDITION = re.compile(r"^edition = \d+\n\n?")
 # ---- texts there and back
 
 
-def hold_text(what, text, lands):
+def check_text(what, text, lands):
     """Checks that the text has its edition and the lines of these territories, however names and
     sources are quoted."""
     begin = [f"edition = {int(bool(lands))}"] + [""] * bool(lands)
-    lines, wanted = text.split("\n")[:-1], begin + list(register_lines(lands))
+    lines, expected = text.split("\n")[:-1], begin + list(register_lines(lands))
     texts = [line for line in lines if line.startswith(("name = ", "source = "))]
-    found = [said for line in texts for said in tomllib.loads(line).values()]
+    found = [table for line in texts for table in tomllib.loads(line).values()]
     lines = [re.sub("^(name|source) = .*", r"\1 = ", line) for line in lines]
-    hold(f"{what}: the text is {lines}\n  and not {wanted}",
-         lines == wanted and found == list(texts_of(lands)))
+    check(f"{what}: the text is {lines}\n  and not {expected}",
+          lines == expected and found == list(texts_of(lands)))
 
 
 def answers_of(files, path, lands):
@@ -60,17 +60,17 @@ def answers_of(files, path, lands):
     return [json.loads(line)["answer"] for line in done.stdout.split("\n")[:-1]]
 
 
-def hold_answers(what, answers, lands):
+def check_answers(what, answers, lands):
     """Checks what was returned for periods and listed Easters, with the sources."""
     found = [answer["periods"] for answer in answers if "periods" in answer]
-    wanted = [[{**dict(zip(WORDS, regime)), "first": first, "last": last,
-                **cited(land.sources, first)} for first, last, regime in land.periods()]
-              for _, land in sorted(lands.items())]
-    hold(f"{what}: the periods are {found}", found == wanted)
+    expected = [[{**dict(zip(WORDS, regime)), "first": first, "last": last,
+                  **cited(land.sources, first)} for first, last, regime in land.periods()]
+                for _, land in sorted(lands.items())]
+    check(f"{what}: the periods are {found}", found == expected)
     found = [answer.get("source") for answer in answers if answer.get("listed")]
-    wanted = [land.easter_sources.get(year) for _, land in sorted(lands.items())
-              for year in (*sorted(land.exceptions), 1_582, 1_999) if year in land.exceptions]
-    hold(f"{what}: the sources of Easters are {found}", found == wanted)
+    expected = [land.easter_sources.get(year) for _, land in sorted(lands.items())
+                for year in (*sorted(land.exceptions), 1_582, 1_999) if year in land.exceptions]
+    check(f"{what}: the sources of Easters are {found}", found == expected)
 
 
 def there_and_back(files, draws, number):
@@ -78,19 +78,19 @@ def there_and_back(files, draws, number):
     lands, what = draws.register(), f"register {number}"
     first, second = files.journal("first", lands), files.journal("second", {})
     text = files.printed(what, "text", first)
-    hold_text(what, text, lands)
+    check_text(what, text, lands)
     for code, land in lands.items():
-        hold_text(f"{what}, {code}", files.printed(what, "text", first, code), {code: land})
-    said = files.write("text", text)
-    hold(f"{what}: its text plans an edit",
-         files.printed(what, "plan", first, said) == "nothing to change\n")
+        check_text(f"{what}, {code}", files.printed(what, "text", first, code), {code: land})
+    path = files.write("text", text)
+    check(f"{what}: its text plans an edit",
+          files.printed(what, "plan", first, path) == "nothing to change\n")
     files.printed(what, "publish", second, files.write("bare", EDITION.sub("", text)))
     again = files.printed(what, "text", second)
-    hold(f"{what}: another text", again == text or list(lands) != sorted(lands))
-    hold_text(what, again, dict(sorted(lands.items())))
-    told = answers_of(files, first, lands)
-    hold_answers(what, told, lands)
-    hold(f"{what}: other answers", told == answers_of(files, second, lands))
+    check(f"{what}: another text", again == text or list(lands) != sorted(lands))
+    check_text(what, again, dict(sorted(lands.items())))
+    found = answers_of(files, first, lands)
+    check_answers(what, found, lands)
+    check(f"{what}: other answers", found == answers_of(files, second, lands))
     try_saved(files, what, first, lands)
 
 
@@ -98,8 +98,8 @@ def try_saved(files, what, path, lands):
     """A journal that is saved again is the same, and of version 4 only if a source is given."""
     saved = files.path("saved")
     files.run("serve", "--journal", path, "--save", saved)
-    wanted = "".join(compact(line) + "\n" for line in journal_lines(lands)).encode()
-    hold(f"{what}: saved as {bytes_of(saved)[:200]!r}", bytes_of(saved) == wanted)
+    expected = "".join(compact(line) + "\n" for line in journal_lines(lands)).encode()
+    check(f"{what}: saved as {bytes_of(saved)[:200]!r}", bytes_of(saved) == expected)
 
 
 # ---- plans and publishes
@@ -108,43 +108,43 @@ def try_saved(files, what, path, lands):
 def change(files, draws, number):
     """A journal and a text: planned, published, and published again."""
     lands, what = draws.register(), f"pair {number}"
-    wanted = draws.wanted_after(lands)
+    expected = draws.expected_after(lands)
     version = max(version_for(lands), draws.chance.choice([2, NEWEST]))
     journal = files.journal("journal", lands, version)
-    text = files.write("text", draws.text(wanted))
+    text = files.write("text", draws.text(expected))
     before, node = bytes_of(journal), os.stat(journal).st_ino
-    wanted = lands_of(bytes_of(text).decode())
-    editions, absent = int(bool(lands)), absent_lines(lands, wanted)
-    needed = list(differences(lands, wanted))
+    expected = lands_of(bytes_of(text).decode())
+    editions, absent = int(bool(lands)), absent_lines(lands, expected)
+    needed = list(differences(lands, expected))
     is_upgraded = version < NEWEST and any("source" in edit for edit in needed)
     note = ANEW.format(version) * is_upgraded
-    planned = files.printed(what, "plan", journal, text, told=note).split("\n")[:-1]
-    hold(f"{what}: plan changes the journal", bytes_of(journal) == before)
-    told = files.printed(what, "publish", journal, text).split("\n")[:-1]
+    planned = files.printed(what, "plan", journal, text, stderr=note).split("\n")[:-1]
+    check(f"{what}: plan changes the journal", bytes_of(journal) == before)
+    printed_lines = files.printed(what, "publish", journal, text).split("\n")[:-1]
     grown = bytes_of(journal)
     service, all_lines = published(journal)
     new = all_lines[len(lines_of(before)) - 1:]
     edits = [json.loads(line) for line in new[:-1]]
-    hold(f"{what}: another file", (os.stat(journal).st_ino != node) == is_upgraded
-         and grown.startswith(upgraded(before) if is_upgraded else before))
+    check(f"{what}: another file", (os.stat(journal).st_ino != node) == is_upgraded
+          and grown.startswith(upgraded(before) if is_upgraded else before))
     fewest = sorted(map(compact, needed))
-    hold(f"{what}: the edits are {new}\n  and not {fewest}",
-         sorted(new[:-1]) == fewest and new[-1:] == [PUBLISH] * bool(fewest))
-    lines = [line for edit in edits for line in edit_lines(lands, wanted, edit)] + absent
-    hold(f"{what}: plan prints {planned}", planned == lines + [plan_end(len(edits), editions)])
-    hold(f"{what}: publish prints {told}",
-         told == publish_begin(len(edits), editions, journal) + lines
-         + [publish_end(len(edits), editions)])
-    hold(f"{what}: another register", shown(service.published) == shown(after(lands, wanted)))
+    check(f"{what}: the edits are {new}\n  and not {fewest}",
+          sorted(new[:-1]) == fewest and new[-1:] == [PUBLISH] * bool(fewest))
+    lines = [line for edit in edits for line in edit_lines(lands, expected, edit)] + absent
+    check(f"{what}: plan prints {planned}", planned == lines + [plan_end(len(edits), editions)])
+    check(f"{what}: publish prints {printed_lines}",
+          printed_lines == publish_begin(len(edits), editions, journal) + lines
+          + [publish_end(len(edits), editions)])
+    check(f"{what}: another register", shown(service.published) == shown(after(lands, expected)))
     again = files.printed(what, "publish", journal, text).split("\n")[:-1]
-    hold(f"{what}: again {again}", again == absent + [publish_end(0, service.edition)])
-    hold(f"{what}: publishing again changes the journal", bytes_of(journal) == grown)
+    check(f"{what}: again {again}", again == absent + [publish_end(0, service.edition)])
+    check(f"{what}: publishing again changes the journal", bytes_of(journal) == grown)
     return len(edits)
 
 
-def upgraded(held):
+def upgraded(content):
     """The bytes of a journal with a head of version 4."""
-    return f"{HEAD_4}\n".encode() + held.partition(b"\n")[2]
+    return f"{HEAD_4}\n".encode() + content.partition(b"\n")[2]
 
 
 # ---- faults
@@ -161,9 +161,9 @@ def try_fault(files, draws, number):
         lands_of(bytes_of(text).decode())
     except TextFault as fault:
         refused(files, what, text, text, fault_words(fault), journal)
-        return fault.reason, fault.said if fault.reason == "Refused" else None
+        return fault.reason, fault.detail if fault.reason == "Refused" else None
     done = files.run("plan", journal, text)
-    hold(f"{what}: no fault, and plan prints {done.stderr!r}", done.returncode == 0)
+    check(f"{what}: no fault, and plan prints {done.stderr!r}", done.returncode == 0)
     return None
 
 
@@ -196,9 +196,9 @@ SELDOM = [
 def try_seldom(files):
     """Faults that are seldom met, bytes that are not UTF-8, and texts that are not TOML."""
     journal = files.journal("journal", {})
-    for text, wanted in SELDOM:
+    for text, expected in SELDOM:
         path = files.write("text", text)
-        refused(files, wanted, path, path, wanted, journal)
+        refused(files, expected, path, path, expected, journal)
     with open(files.path("text"), "wb") as file:
         file.write(b"\xff")
     refused(files, "no UTF-8", files.path("text"), files.path("text"),
@@ -206,8 +206,8 @@ def try_seldom(files):
     for text, line in (("[GB", 1), ("[GB]\nname = 'x\n", 2), ("x\n", 1), ("[GB]\n[GB]\n", 2)):
         done = files.run("publish", journal, files.write("text", text))
         place = rf"oldstyle: {re.escape(files.path('text'))}: line {line}, column [1-9]\d*: .+\n"
-        hold(f"{text!r} is answered {done.stderr!r}",
-             done.returncode == 1 and re.fullmatch(place, done.stderr))
+        check(f"{text!r} is answered {done.stderr!r}",
+              done.returncode == 1 and re.fullmatch(place, done.stderr))
 
 
 def main():
@@ -225,10 +225,11 @@ def main():
             edits += change(files, draws, number)
             met.add(try_fault(files, draws, number))
         try_seldom(files)
-        done, held = try_all_journals(files)
+        done, refused_count = try_all_journals(files)
     return verdict(f"{options.count} registers are the same there and back, the {edits} edits of "
                    f"as many plans are the fewest, {len(met - {None})} kinds of faults have their "
-                   f"paths, {done} concurrent publishes are editions and {held} were refused")
+                   f"paths, {done} concurrent publishes are editions and {refused_count} were "
+                   "refused")
 
 
 if __name__ == "__main__":

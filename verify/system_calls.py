@@ -24,10 +24,10 @@ import tempfile
 import time
 
 from lib.call_rules import RULES, Trace, Way, backup_of, is_backed_up, is_unfinished, kind_of
-from lib.checks import hold, verdict
+from lib.checks import check, verdict
 from lib.common import CommandLine, end, need, run
-from lib.keeper import HEAD, HELD, PUBLISH, REPLACED
-from lib.session_draws import LANDS, Session, bytes_at, journal, session, told_lines
+from lib.keeper import HEAD, LOCKED, PUBLISH, REPLACED
+from lib.session_draws import LANDS, Session, bytes_at, journal, session, reported_changes
 from lib.strace_lines import traced
 
 MODE = 0o640
@@ -37,8 +37,8 @@ CHANGED = "oldstyle: the file has changed meanwhile and is left as it is: the jo
 NOTED = " held another journal, which is now "
 NOT_SYNCED = "oldstyle: the journal is saved, and the disk may not have it yet\n"
 FAULTS = ["oldstyle: read fault\n", "oldstyle: write fault\n"]
-# What is reported after one of them is not checked: the cause, which is that of the refused call, or
-# what to do.
+# What is reported after one of them is not checked: the cause, which is that of the refused call,
+# or what to do.
 FAULT_NOTE = re.compile(r"(oldstyle: (?:read|write) fault\n)(?:note|help): .*\n")
 # The errors that a call may meet.
 ERRORS = {
@@ -57,9 +57,9 @@ counts = {}
 
 def ways(chance):
     """Each way, with random sessions."""
-    begun = session(chance, chance.randint(3, 30)).taken
+    begun = session(chance, chance.randint(3, 30)).accepted
     more, anew = session(chance, chance.randint(1, 30), begun), session(chance, 20)
-    old, other = journal(begun), journal(session(chance, 5).taken)
+    old, other = journal(begun), journal(session(chance, 5).accepted)
     place = "a.journal"
     yield Way("save over what was loaded", f"serve --journal {place} --save {place}", place, old,
               more, begun)
@@ -87,11 +87,11 @@ def fill(folder, way):
     """A folder with the files of a way."""
     os.mkdir(os.path.join(folder, "far"))
     os.symlink("far/away.journal", os.path.join(folder, "a.link"))
-    for name, held in {"b.journal": journal(way.begun), way.place: way.old}.items():
-        if held is not None:
+    for name, content in {"b.journal": journal(way.begun), way.place: way.old}.items():
+        if content is not None:
             path = os.path.join(folder, name)
             with open(path, "wb") as file:
-                file.write(held)
+                file.write(content)
             os.chmod(path, MODE)
 
 
@@ -113,7 +113,7 @@ def try_way(program, way, inject=None):
     try:
         fill(folder, way)
         before = files_in(folder)
-        done = traced([program, *way.words.split()], folder, way.session.given(), inject)
+        done = traced([program, *way.words.split()], folder, way.session.stdin(), inject)
         done = done._replace(err=FAULT_NOTE.sub(r"\1", done.err))
         after = files_in(folder)
         goes_on = run_again(program, way, folder) if way.name.startswith("keep") else None
@@ -136,10 +136,10 @@ def cut_line(way):
     return f"oldstyle: journal line {number} was not finished, and is cut off\n"
 
 
-def is_noted(told):
+def is_noted(stderr):
     """Returns whether it is reported that a journal stays beside the new one, by the first number
     or, if that name was refused, the next one."""
-    return told.startswith("note: ") and NOTED in told and told.endswith((".~1~\n", ".~2~\n"))
+    return stderr.startswith("note: ") and NOTED in stderr and stderr.endswith((".~1~\n", ".~2~\n"))
 
 
 def new_mode():
@@ -149,94 +149,95 @@ def new_mode():
     return 0o666 & ~mask
 
 
-def hold_rules(program, way):
+def check_rules(program, way):
     """Compares a run of a way with its rules. Returns its steps."""
     done, before, after, _ = try_way(program, way)
-    hold(f"{way.name}: {done.status} {done.err!r}", done.status == 0 and (
+    check(f"{way.name}: {done.status} {done.err!r}", done.status == 0 and (
         is_noted(done.err) if is_backed_up(way) else done.err == cut_line(way)))
     broken = []
     for rule, is_kept in RULES[kind_of(way)](Trace(done.steps), way):
-        kept, all_runs = counts.get(rule, (0, 0))
-        counts[rule] = (kept + bool(is_kept), all_runs + 1)
+        passed, all_runs = counts.get(rule, (0, 0))
+        counts[rule] = (passed + bool(is_kept), all_runs + 1)
         broken += [] if is_kept else [rule]
-        hold(f"{way.name}: {rule}", is_kept)
+        check(f"{way.name}: {rule}", is_kept)
     if broken:
         print("\n".join(f"    {step}" for step in done.steps), flush=True)
-    wanted = journal([*way.begun, *way.session.taken])
+    expected = journal([*way.begun, *way.session.accepted])
     if kind_of(way) in ("save", "keep"):
         mode = MODE if way.old is not None else new_mode()
         backup = {backup_of(way): (MODE, way.old)} if is_backed_up(way) else {}
-        hold(f"{way.name}: other files", after == {**before, **backup, way.place: (mode, wanted)})
+        check(f"{way.name}: other files",
+              after == {**before, **backup, way.place: (mode, expected)})
     else:
-        hold(f"{way.name}: other files", after == before)
+        check(f"{way.name}: other files", after == before)
     return done.steps
 
 
 # ---- refused calls
 
 
-def hold_save(what, way, found, refused):
+def check_save(what, way, found, refused):
     """The journal is the old one or the new one, as is reported, and nothing is beside it."""
     done, before, after, _ = found
-    new = journal([*way.begun, *way.session.taken])
+    new = journal([*way.begun, *way.session.accepted])
     beside = {name: file for name, file in after.items() if name not in before
               and name != way.place}
-    held = after.get(way.place, (0, None))[1]
-    saved = held == new
+    content = after.get(way.place, (0, None))[1]
+    saved = content == new
     if saved and is_backed_up(way):
         backups = [name for name in beside if name.endswith("~")]
-        hold(f"{what}: the old journal is lost",
-             [beside.pop(name) for name in backups] == [(MODE, way.old)])
+        check(f"{what}: the old journal is lost",
+              [beside.pop(name) for name in backups] == [(MODE, way.old)])
         after = {name: file for name, file in after.items() if name not in backups}
     if done.err.startswith(CHANGED):
         path = done.err.removeprefix(CHANGED).rstrip("\n")
-        told = not saved and [file[1] for file in beside.values()] == [new] and (
+        is_right = not saved and [file[1] for file in beside.values()] == [new] and (
             list(beside) == [way.place + path.removeprefix(path[:path.rfind(".unfinished")])])
     else:
         err = "" if is_backed_up(way) and is_noted(done.err) else done.err
-        told = (not beside or refused.kind == "remove") and saved == (
-            err in ("", NOT_SYNCED)) and (err in ("", NOT_SYNCED, HELD[2], *FAULTS)
+        is_right = (not beside or refused.kind == "remove") and saved == (
+            err in ("", NOT_SYNCED)) and (err in ("", NOT_SYNCED, LOCKED[2], *FAULTS)
                                           or is_backed_up(way) and err.startswith(FAULTS[1]))
-    hold(f"{what}: {done.status} {done.err!r}, and beside it {sorted(beside)}", told
-         and done.status == (0 if not done.err or is_noted(done.err) else 3))
-    hold(f"{what}: it is reported as done", done.status or refused.kind not in MUST_BE_REPORTED)
-    hold(f"{what}: the journal is neither the old one nor the new one", held in (way.old, new))
-    hold(f"{what}: its permissions", way.old is None or after[way.place][0] == MODE)
-    hold(f"{what}: other files", {**after, way.place: 0, **beside} == {**before, way.place: 0,
+    check(f"{what}: {done.status} {done.err!r}, and beside it {sorted(beside)}", is_right
+          and done.status == (0 if not done.err or is_noted(done.err) else 3))
+    check(f"{what}: it is reported as done", done.status or refused.kind not in MUST_BE_REPORTED)
+    check(f"{what}: the journal is neither the old one nor the new one", content in (way.old, new))
+    check(f"{what}: its permissions", way.old is None or after[way.place][0] == MODE)
+    check(f"{what}: other files", {**after, way.place: 0, **beside} == {**before, way.place: 0,
                                                                         **beside})
 
 
-def hold_keep(what, way, found, refused):
+def check_keep(what, way, found, refused):
     """What was reported is in the file, which is a prefix of what was sent; the next run
     continues."""
     done, before, after, (again, later) = found
-    changes, edition = told_lines(done.out)
-    held, new = after.get(way.place, (0, None))[1], journal([*way.begun, *way.session.taken])
-    known = [HELD[2], REPLACED, *FAULTS]
-    told = done.err.split("was not finished, and is cut off\n")[-1]
-    hold(f"{what}: {done.status} {done.err!r}", told in ("", *known)
-         and done.status == (3 if told else 0))
-    hold(f"{what}: other files", {**after, way.place: 0} == {**before, way.place: 0})
-    hold(f"{what}: it is reported as done", done.status == 3 and not reported_after(done.steps)
-         or refused.kind not in MUST_BE_REPORTED and not is_look_at_change(done.steps))
+    changes, edition = reported_changes(done.out)
+    content, new = after.get(way.place, (0, None))[1], journal([*way.begun, *way.session.accepted])
+    known = [LOCKED[2], REPLACED, *FAULTS]
+    message = done.err.split("was not finished, and is cut off\n")[-1]
+    check(f"{what}: {done.status} {done.err!r}", message in ("", *known)
+          and done.status == (3 if message else 0))
+    check(f"{what}: other files", {**after, way.place: 0} == {**before, way.place: 0})
+    check(f"{what}: it is reported as done", done.status == 3 and not reported_after(done.steps)
+          or refused.kind not in MUST_BE_REPORTED and not is_look_at_change(done.steps))
     if changes:
-        least = journal([*way.begun, *way.session.taken[:changes]])
-        hold(f"{what}: {changes} changes were reported, and not all are held",
-             held is not None and held.startswith(least) and new.startswith(held))
-    elif held != way.old:
-        hold(f"{what}: it holds something else", held is None or new.startswith(held)
-             or held + b"\n" == new[:len(held) + 1])
-        hold(f"{what}: what it held is lost", way.old is None or is_unfinished(way.old)
-             or held.startswith(way.old))
+        least = journal([*way.begun, *way.session.accepted[:changes]])
+        check(f"{what}: {changes} changes were reported, and not all are held",
+              content is not None and content.startswith(least) and new.startswith(content))
+    elif content != way.old:
+        check(f"{what}: it holds something else", content is None or new.startswith(content)
+              or content + b"\n" == new[:len(content) + 1])
+        check(f"{what}: what it held is lost", way.old is None or is_unfinished(way.old)
+              or content.startswith(way.old))
     # (An empty one may stay: if its lock or its look fails, it may be another run's.)
-    hold(f"{what}: a new file is left that was not kept", way.old is not None or not held
-         or told != FAULTS[0] or refused.kind in ("remove", "read"))
-    hold(f"{what}: a file is taken away that another run keeps",
-         told != HELD[2] or held is not None)
+    check(f"{what}: a new file is left that was not kept", way.old is not None or not content
+          or message != FAULTS[0] or refused.kind in ("remove", "read"))
+    check(f"{what}: a file is taken away that another run keeps",
+          message != LOCKED[2] or content is not None)
     editions = (later or b"").count(PUBLISH.encode() + b"\n")
-    hold(f"{what}: the next run prints {again.stderr!r} {again.stdout!r}",
-         again.returncode == 0 and f'"edition":{editions},' in again.stdout
-         and editions >= edition)
+    check(f"{what}: the next run prints {again.stderr!r} {again.stdout!r}",
+          again.returncode == 0 and f'"edition":{editions},' in again.stdout
+          and editions >= edition)
 
 
 def refused_at(steps):
@@ -245,8 +246,8 @@ def refused_at(steps):
 
 def reported_after(steps):
     """How many changes are reported after the refused call."""
-    told = steps[refused_at(steps):]
-    return told_lines(b"".join(step.data for step in told if step.name == "out"))[0]
+    later = steps[refused_at(steps):]
+    return reported_changes(b"".join(step.data for step in later if step.name == "out"))[0]
 
 
 def is_look_at_change(steps):
@@ -256,15 +257,15 @@ def is_look_at_change(steps):
     return asked and steps[place].kind == "look"
 
 
-def hold_look(what, _, found, __):
+def check_look(what, _, found, __):
     """Nothing is changed, and what is reported is known."""
     done, before, after, _ = found
     known = done.err in ("", *FAULTS) or done.err.startswith("oldstyle: a.journal: ")
-    hold(f"{what}: {done.status} {done.err!r}", known and done.status == (3 if done.err else 0))
-    hold(f"{what}: other files", after == before)
+    check(f"{what}: {done.status} {done.err!r}", known and done.status == (3 if done.err else 0))
+    check(f"{what}: other files", after == before)
 
 
-HOLDS = {"save": hold_save, "keep": hold_keep, "follow": hold_look, "read": hold_look}
+CHECKS = {"save": check_save, "keep": check_keep, "follow": check_look, "read": check_look}
 
 
 def refuse_calls(program, way, steps):
@@ -278,8 +279,8 @@ def refuse_calls(program, way, steps):
             found = try_way(program, way, inject)
             what = f"{way.name}, with {step.kind} {step.name} refused ({inject})"
             met = [other for other in found[0].steps if other.was_refused]
-            hold(f"{what}: {len(met)} calls were refused", len(met) == 1)
-            HOLDS[kind_of(way)](what, way, found, step)
+            check(f"{what}: {len(met)} calls were refused", len(met) == 1)
+            CHECKS[kind_of(way)](what, way, found, step)
             tried += 1
     return tried
 
@@ -299,12 +300,12 @@ def try_put_meanwhile(program, inject):
             saver.stdout.readline()
             with open(path, "wb") as file:
                 file.write(other)
-            told = saver.communicate()[1].decode()
+            stderr = saver.communicate()[1].decode()
         beside = bytes_at(path + ".unfinished")
-        hold(f"a file put where nothing was, {inject}: {saver.returncode} {told!r}",
-             saver.returncode == 3 and told.startswith(CHANGED))
-        hold(f"a file put where nothing was, {inject}: it is lost, or the journal is",
-             (bytes_at(path), beside) == (other, journal([])))
+        check(f"a file put where nothing was, {inject}: {saver.returncode} {stderr!r}",
+              saver.returncode == 3 and stderr.startswith(CHANGED))
+        check(f"a file put where nothing was, {inject}: it is lost, or the journal is",
+              (bytes_at(path), beside) == (other, journal([])))
 
 
 def slowed(program, path, *inject):
@@ -316,9 +317,9 @@ def slowed(program, path, *inject):
                             stdout=subprocess.PIPE, stderr=subprocess.PIPE)
 
 
-def wait_until(holds):
+def wait_until(is_true):
     last = time.monotonic() + WAIT
-    while not holds() and time.monotonic() < last:
+    while not is_true() and time.monotonic() < last:
         time.sleep(0.01)
 
 
@@ -332,7 +333,7 @@ def try_moved_there(program):
             wait_until(lambda: os.path.exists(path))
             os.replace(path + ".other", path)
             keeper.communicate()
-        hold("a keeper takes a file away that was moved to its path", bytes_at(path) == other)
+        check("a keeper takes a file away that was moved to its path", bytes_at(path) == other)
 
 
 def try_kept_meanwhile(program):
@@ -345,10 +346,10 @@ def try_kept_meanwhile(program):
             # (it has looked twice that nothing is there)
             wait_until(lambda: (bytes_at(path + ".trace") or b"").count(b"\n") >= 2)
             other = run(program, ["serve", "--keep", path], session(random.Random(1), 3).sent)
-            held = bytes_at(path)
+            content = bytes_at(path)
             keeper.communicate()
-        hold(f"the other keeper prints {other.stderr!r}", other.returncode == 0)
-        hold("a keeper takes a journal away that another run kept", bytes_at(path) == held)
+        check(f"the other keeper prints {other.stderr!r}", other.returncode == 0)
+        check("a keeper takes a journal away that another run kept", bytes_at(path) == content)
 
 
 def main():
@@ -362,7 +363,7 @@ def main():
     for number in range(options.count):
         chance = random.Random(options.seed * 1_000_003 + number)
         for way in ways(chance):
-            steps = hold_rules(options.program, way)
+            steps = check_rules(options.program, way)
             traced_runs += 1
             if number == 0:
                 refused += refuse_calls(options.program, way, steps)
@@ -371,8 +372,8 @@ def main():
     try_moved_there(options.program)
     try_kept_meanwhile(options.program)
     print("| Rule | Runs that kept it |\n|---|---|")
-    for rule, (kept, runs) in counts.items():
-        print(f"| {rule} | {kept} of {runs} |")
+    for rule, (passed, runs) in counts.items():
+        print(f"| {rule} | {passed} of {runs} |")
     print(f"{traced_runs} runs were traced, and {refused} with a call refused")
     return verdict(f"each run kept its rules, of which there are {len(counts)}; with each call "
                    "refused the journal was the old one or the new one, whole")

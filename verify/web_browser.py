@@ -16,11 +16,11 @@ import tempfile
 import time
 from urllib.parse import parse_qs, urlencode, urlsplit
 
-from lib.checks import hold, verdict
+from lib.checks import check, verdict
 from lib.common import TOP, CommandLine, end
-from web_answers import differences
-from web_browsing import SIZES, Browser, By, Keys, Select
-from web_runs import SAMPLES, Page
+from lib.web_answers import differences
+from lib.web_browsing import SIZES, Browser, By, Keys, Select
+from lib.web_runs import SAMPLES, Page
 
 TYPED = [("GB", "11 February 1731", "Friday"), ("GB", "5 September 1752", ""),
          ("GB", "11 Feb. 1731/32", ""), ("SE", "30 February 1712", "Friday"),
@@ -59,7 +59,7 @@ def inner(browser, selector="#answer"):
     return browser.one(selector).get_attribute("innerHTML")
 
 
-def hold_typed(browser, page, program):
+def check_typed(browser, page, program):
     """Types dates, and compares each answer with `read`. Returns how long the slowest one took
     after its command."""
     slowest = 0.0
@@ -73,36 +73,36 @@ def hold_typed(browser, page, program):
         began = time.monotonic()
         browser.wait(f"the answer to {date}", lambda: browser.driver.title.startswith(
             f"{date} in ") and f"({code})" in inner(browser))
-        wanted = {"code": [code], "date": [date]} | ({"weekday": [weekday]} if weekday else {})
+        expected = {"code": [code], "date": [date]} | ({"weekday": [weekday]} if weekday else {})
         browser.wait("its address", lambda: parse_qs(urlsplit(
-            browser.driver.current_url).query) == wanted)
+            browser.driver.current_url).query) == expected)
         took, began = time.monotonic() - began, time.monotonic()
         wrong = differences(inner(browser), program, SAMPLES, code, date, weekday)
         slowest = max(slowest, took - (time.monotonic() - began))
-        hold(f"the typed {date}", not wrong, *wrong)
-        said = browser.one("#said[role=status]").get_attribute("textContent")
-        hold(f"{date} is read aloud in one sentence", said.startswith(f"“{date}” in ") and
-             not browser.all("#answer [aria-live], #answer [role=status]"), said)
-        hold(f"the citation of {date}", browser.one("#citation").text.endswith(
+        check(f"the typed {date}", not wrong, *wrong)
+        announcement = browser.one("#announcement[role=status]").get_attribute("textContent")
+        check(f"{date} is read aloud in one sentence", announcement.startswith(f"“{date}” in ") and
+              not browser.all("#answer [aria-live], #answer [role=status]"), announcement)
+        check(f"the citation of {date}", browser.one("#citation").text.endswith(
             "by the calendar change register, edition 5 of samples.journal."))
-    hold("the page answers within a second of its command", slowest < 1, slowest)
+    check("the page answers within a second of its command", slowest < 1, slowest)
     return slowest
 
 
-def hold_links(browser, page):
+def check_links(browser, page):
     """The address is the question: again, by its link, and by the button that goes back."""
     address = page.address + "/?" + urlencode({"code": "GB", "date": "5 September 1752"})
     browser.driver.get(address)
     answer = browser.one("#answer").text
     browser.driver.refresh()
-    hold("the same address again", browser.one("#answer").text == answer)
+    check("the same address again", browser.one("#answer").text == answer)
     link = browser.one("#link").get_attribute("href")
-    hold("the link names the edition", "edition=5" in link, link)
+    check("the link names the edition", "edition=5" in link, link)
     browser.driver.get(link)
-    hold("the link answers the same", browser.one("#answer").text == answer)
+    check("the link answers the same", browser.one("#answer").text == answer)
     browser.driver.get(link.replace("edition=5", "edition=4"))
-    hold("a link of another edition says so",
-         "created from edition 4" in browser.one("#answer").text)
+    check("a link of another edition says so",
+          "created from edition 4" in browser.one("#answer").text)
     browser.driver.get(page.address + "/?code=GB&date=11+February+1731")
     field = browser.one("#date")
     field.clear()
@@ -112,22 +112,22 @@ def hold_links(browser, page):
     browser.wait("the page of a day", lambda: "/day?" in browser.driver.current_url)
     browser.driver.back()
     browser.wait("the answer again", lambda: "25 March 1731" in browser.one("#answer").text)
-    hold("the field after going back", browser.one("#date").get_attribute("value") == "March 1731")
+    check("the field after going back", browser.one("#date").get_attribute("value") == "March 1731")
 
 
-def hold_order(browser, page, program):
+def check_order(browser, page, program):
     """A date that is open between day and month, by the link that says the order."""
     browser.driver.get(page.address + "/?code=GB&date=11%2F2%2F1731")
     for order, place in (("dmy", 0), ("mdy", 1)):
         browser.all(".choices a")[place].click()
         browser.wait("the answer", lambda: browser.all(".found"))
         wrong = differences(inner(browser), program, SAMPLES, "GB", "11/2/1731", order=order)
-        hold(f"11/2/1731 by {order}", not wrong, *wrong)
+        check(f"11/2/1731 by {order}", not wrong, *wrong)
         browser.driver.back()
         browser.wait("the choices again", lambda: browser.all(".choices a"))
 
 
-def hold_copies(browser, page):
+def check_copies(browser, page):
     """The button that copies."""
     browser.driver.execute_cdp_cmd("Browser.grantPermissions", {
         "origin": page.address, "permissions": ["clipboardReadWrite",
@@ -135,12 +135,12 @@ def hold_copies(browser, page):
     browser.driver.get(page.address + "/?code=GB&date=11+February+1731")
     browser.one(".link button").click()
     browser.wait("it is copied", lambda: browser.one(".link button").text == "Copied")
-    held = browser.driver.execute_async_script(
+    clipboard = browser.driver.execute_async_script(
         "navigator.clipboard.readText().then(arguments[0], (why) => arguments[0](String(why)))")
-    hold("the copied citation", held == browser.one("#citation").text, held)
+    check("the copied citation", clipboard == browser.one("#citation").text, clipboard)
 
 
-def hold_keyboard(browser, page, program):
+def check_keyboard(browser, page, program):
     """One question by keyboard alone, with a focus that is seen at each step."""
     browser.driver.get(page.address)
     browser.run("document.activeElement.blur(); window.getSelection().removeAllRanges();")
@@ -150,62 +150,63 @@ def hold_keyboard(browser, page, program):
         at = browser.focused()
         order.append(at.get_attribute("id") or at.text)
         outline = at.value_of_css_property("outline-style")
-        hold(f"the focus on {order[-1]} is seen", outline != "none", outline)
+        check(f"the focus on {order[-1]} is seen", outline != "none", outline)
         if order[-1] == "code":
             at.send_keys("Great")
         elif order[-1] == "date":
             at.send_keys("11 February 1731", Keys.ENTER)
             break
-    hold("the date is reached by Tab", order[-1] == "date", order)
+    check("the date is reached by Tab", order[-1] == "date", order)
     browser.wait("the answer", lambda: browser.all(".found"))
     wrong = differences(inner(browser), program, SAMPLES, "GB", "11 February 1731")
-    hold("the answer by keyboard", not wrong, *wrong)
+    check("the answer by keyboard", not wrong, *wrong)
 
 
-def hold_month(browser, page):
+def check_month(browser, page):
     """September 1752 with its gap, by the arrows."""
     browser.driver.get(page.address + "/month?code=GB&year=1752&month=September")
     marked = [cell.text for cell in browser.all(".month .changed")]
-    hold("the day after the gap is marked", marked == ["14"], marked)
-    hold("the gap is told", "by Thursday 14 September 1752. 11 dates left out."
-         in browser.one(".gap-note").text)
+    check("the day after the gap is marked", marked == ["14"], marked)
+    check("the gap is shown", "by Thursday 14 September 1752. 11 dates left out."
+          in browser.one(".gap-note").text)
     browser.run("document.querySelector('.month td a').focus()")
-    for wanted in ("2", "14", "15"):
+    for expected in ("2", "14", "15"):
         browser.press(Keys.TAB)
-        hold(f"Tab reaches {wanted}", browser.focused().text == wanted, browser.focused().text)
+        check(f"Tab reaches {expected}", browser.focused().text == expected, browser.focused().text)
     browser.run("document.querySelector('.month td a').focus()")
-    for key, wanted in ((Keys.ARROW_RIGHT, "2"), (Keys.ARROW_RIGHT, "14"), (Keys.ARROW_DOWN, "21"),
-                        (Keys.HOME, "17"), (Keys.END, "23"), (Keys.ARROW_UP, "16")):
+    for key, expected in ((Keys.ARROW_RIGHT, "2"), (Keys.ARROW_RIGHT, "14"),
+                          (Keys.ARROW_DOWN, "21"), (Keys.HOME, "17"), (Keys.END, "23"),
+                          (Keys.ARROW_UP, "16")):
         browser.press(key)
-        hold(f"the key to {wanted}", browser.focused().text == wanted, browser.focused().text)
+        check(f"the key to {expected}", browser.focused().text == expected, browser.focused().text)
     browser.press(Keys.ENTER)
     browser.wait("the page of the day", lambda: "/day?" in browser.driver.current_url)
-    hold("the day", "Saturday 16 September 1752" in browser.one("h1").text, browser.one("h1").text)
+    check("the day", "Saturday 16 September 1752" in browser.one("h1").text, browser.one("h1").text)
 
 
-def hold_place_and_year(browser, page, program):
+def check_place_and_year(browser, page, program):
     """The line of time compared with `territory`, and the year with `year`."""
     for code in ("GB", "SE", "RU", "RM"):
         browser.driver.get(f"{page.address}/place?code={code}")
         lines = subprocess.run([program, "territory", SAMPLES, code], check=True, text=True,
                                capture_output=True).stdout.splitlines()[1:]
         rows = browser.all("main tbody tr")
-        hold(f"the periods of {code}", len(rows) == len(lines), len(rows), lines)
+        check(f"the periods of {code}", len(rows) == len(lines), len(rows), lines)
         for row, line in zip(rows, lines):
             cells = [cell.text for cell in row.find_elements(By.CSS_SELECTOR, "th, td")]
             spans = [cell for cell in cells[1:3] if cell.split()[0].endswith("day")]
             words = [*spans, f"{cells[3].lower()} calendar", f"(years from {cells[4]})",
                      f"{cells[5].lower()} rule"]
-            hold(f"a period of {code}", all(word in line for word in words), words, line)
-        hold(f"the drawing of {code}", len(browser.all("svg .period")) == len(lines))
+            check(f"a period of {code}", all(word in line for word in words), words, line)
+        check(f"the drawing of {code}", len(browser.all("svg .period")) == len(lines))
     browser.driver.get(f"{page.address}/year?code=GB&year=1752")
     text = " ".join(browser.one("main").text.split())
     lines = subprocess.run([program, "year", SAMPLES, "GB", "1752"], check=True, text=True,
                            capture_output=True).stdout.splitlines()
     feasts = [FEAST.match(line) for line in lines if FEAST.match(line)]
-    hold("the feasts of 1752", len(feasts) == 6 and all(" ".join(feast.groups()) in text
+    check("the feasts of 1752", len(feasts) == 6 and all(" ".join(feast.groups()) in text
                                                          for feast in feasts), text)
-    hold("the figures of 1752", "Golden number 5 5" in text and "Sunday letter ED BA" in text)
+    check("the figures of 1752", "Golden number 5 5" in text and "Sunday letter ED BA" in text)
 
 
 def letters_written(program, table, *options):
@@ -213,46 +214,46 @@ def letters_written(program, table, *options):
                           capture_output=True).stdout
 
 
-def mended_table(browser):
+def corrected_table(browser):
     """Corrects the rows that can be corrected, and returns the table that letters is asked of."""
-    browser.one("[aria-label='Mend row 11']").click()
+    browser.one("[aria-label='Correct row 11']").click()
     inputs = browser.all("[data-row='10'] input")
     inputs[0].clear()
     inputs[0].send_keys("SE")
     inputs[2].clear()
     inputs[2].send_keys("Friday", Keys.ENTER)
-    browser.wait("row 11 is mended", lambda: browser.one("#told").text.startswith("Row 11: "))
+    browser.wait("row 11 is corrected", lambda: browser.one("#status").text.startswith("Row 11: "))
 
 
-def hold_letters(browser, page, program):
+def check_letters(browser, page, program):
     """A table that is dropped, corrected in a row, and saved."""
     with open(os.path.join(TOP, "examples", "letters.csv"), encoding="utf-8") as file:
         table = file.read()
     browser.driver.get(page.address + "/letters")
     browser.run(DROP, table, "letters.csv")
-    browser.wait("the rows", lambda: "18 rows" in browser.one("#told").text)
+    browser.wait("the rows", lambda: "18 rows" in browser.one("#status").text)
     shown = [row.text for row in browser.all("#rows tr[data-row]")]
-    hold("each row is shown", len(shown) == 18, len(shown))
+    check("each row is shown", len(shown) == 18, len(shown))
     browser.one("#save").click()
-    name, held = browser.saved()
-    hold("the saved table", (name, held) == ("letters-found.csv",
-                                             letters_written(program, table.encode())), name)
+    name, content = browser.saved()
+    check("the saved table", (name, content) == ("letters-found.csv",
+                                                 letters_written(program, table.encode())), name)
     Select(browser.one("#remark")).select_by_value("*")
     remarks = [row for row in letters_written(program, table.encode()).decode().splitlines()[1:]
                if not row.endswith(",")]
     browser.wait("the rows with a remark", lambda: len(browser.all("#rows tr[data-row]"))
                  == len(remarks))
-    mended_table(browser)
+    corrected_table(browser)
     browser.one("#save").click()
-    wanted = letters_written(program, table.replace("11,XX,1 May 1700,Fryday",
-                                                    "11,SE,1 May 1700,Friday").encode())
-    held = browser.saved()[1]
-    hold("the mended table", held == wanted, held[-900:], wanted[-900:])
+    expected = letters_written(program, table.replace("11,XX,1 May 1700,Fryday",
+                                                      "11,SE,1 May 1700,Friday").encode())
+    content = browser.saved()[1]
+    check("the corrected table", content == expected, content[-900:], expected[-900:])
     browser.run(DROP, "a,b\n1,2\n", "wrong.csv")
     browser.wait("the fault", lambda: "no column place" in browser.one("#fault").text)
 
 
-def hold_many_rows(browser, page, program):
+def check_many_rows(browser, page, program):
     """100,000 rows: how long the page was blocked, and how long all took."""
     rows = "".join(f"{row},GB,{1 + row % 28} March {1600 + row % 150},\n"
                    for row in range(100_000))
@@ -265,21 +266,21 @@ def hold_many_rows(browser, page, program):
     browser.run(GAPS)
     began = time.monotonic()
     browser.one("#letters button[type=submit]").click()
-    browser.wait("100,000 rows", lambda: "100,000 rows," in browser.one("#told").text, 60)
+    browser.wait("100,000 rows", lambda: "100,000 rows," in browser.one("#status").text, 60)
     took = time.monotonic() - began
     browser.run("const view = document.getElementById('view'); view.scrollTop = view.scrollHeight;")
     browser.wait("the last row", lambda: browser.all("[data-row='99999']"))
     drawn = len(browser.all("#rows tr"))
-    hold("only the rows that are seen stand in the page", drawn < 80, drawn)
+    check("only the rows that are seen are in the page", drawn < 80, drawn)
     longest = browser.run("return window.longest") / 1000
-    hold("the page doesn't stand still for half a second", longest < 0.5, longest)
+    check("the page never stops responding for half a second", longest < 0.5, longest)
     browser.one("#save").click()
-    held = browser.saved(30)[1]
-    hold("100,000 rows that are saved", held == letters_written(program, table.encode()))
+    content = browser.saved(30)[1]
+    check("100,000 rows that are saved", content == letters_written(program, table.encode()))
     return took, longest
 
 
-def hold_without_scripts(page, program):
+def check_without_scripts(page, program):
     """The main question and a table without JavaScript."""
     browser = Browser(scripts=False)
     try:
@@ -290,20 +291,20 @@ def hold_without_scripts(page, program):
             browser.one("#date").send_keys(date, Keys.ENTER)
             browser.wait("the answer", lambda: browser.all("#citation"))
             wrong = differences(inner(browser), program, SAMPLES, code, date, weekday)
-            hold(f"{date} without JavaScript", not wrong, *wrong)
-        hold("no script ran", not browser.all(".link button"))
+            check(f"{date} without JavaScript", not wrong, *wrong)
+        check("no script ran", not browser.all(".link button"))
         path = os.path.join(TOP, "examples", "transcribed.csv")
         browser.driver.get(page.address + "/letters")
         browser.one("#table").send_keys(path)
         browser.one("#letters button[type=submit]").click()
         with open(path, "rb") as file:
-            hold("a table without JavaScript",
-                 browser.saved()[1] == letters_written(program, file.read()))
+            check("a table without JavaScript",
+                  browser.saved()[1] == letters_written(program, file.read()))
     finally:
         browser.close()
 
 
-def hold_looks(page, folder):
+def check_looks(page, folder):
     """Looks at each page at three sizes, in light and in dark. Returns how many it looked at."""
     looked = 0
     host = page.address.removeprefix("http://")
@@ -315,7 +316,7 @@ def hold_looks(page, folder):
                 for order, path in enumerate(PAGES):
                     browser.driver.get(page.address + path)
                     wrong = browser.looks(host)
-                    hold(f"{path} at {size}{' in dark' if dark else ''}", not wrong, *wrong)
+                    check(f"{path} at {size}{' in dark' if dark else ''}", not wrong, *wrong)
                     name = f"{order:02}-{size}{'-dark' if dark else ''}.png"
                     browser.picture(os.path.join(folder, name))
                     looked += 1
@@ -327,7 +328,7 @@ def hold_looks(page, folder):
 def main():
     line = CommandLine(__doc__)
     line.add_program()
-    line.add_argument("--pictures", metavar="FOLDER", help="where the pictures are kept")
+    line.add_argument("--pictures", metavar="FOLDER", help="the folder of the pictures")
     options = line.read()
     if options.pictures:
         os.makedirs(options.pictures, exist_ok=True)
@@ -335,21 +336,21 @@ def main():
     page = Page(program, SAMPLES)
     page.address = f"http://{page.host}:{page.port}"
     try:
-        slowest = hold_typed(browser, page, program)
-        hold_links(browser, page)
-        hold_order(browser, page, program)
-        hold_copies(browser, page)
-        hold_keyboard(browser, page, program)
-        hold_month(browser, page)
-        hold_place_and_year(browser, page, program)
-        hold_letters(browser, page, program)
-        took, longest = hold_many_rows(browser, page, program)
+        slowest = check_typed(browser, page, program)
+        check_links(browser, page)
+        check_order(browser, page, program)
+        check_copies(browser, page)
+        check_keyboard(browser, page, program)
+        check_month(browser, page)
+        check_place_and_year(browser, page, program)
+        check_letters(browser, page, program)
+        took, longest = check_many_rows(browser, page, program)
     finally:
         browser.close()
-    hold_without_scripts(page, program)
+    check_without_scripts(page, program)
     with tempfile.TemporaryDirectory() as folder:
-        looked = hold_looks(page, options.pictures or folder)
-    hold("no process is left", not page.stop()[0])
+        looked = check_looks(page, options.pictures or folder)
+    check("no process is left", not page.stop()[0])
     return verdict(
         f"{len(TYPED)} typed dates, {looked} pictures, tables corrected and saved: all as the "
         f"program's; the slowest answer {slowest:.2f} s after its command, 100,000 rows in "

@@ -13,12 +13,12 @@ import subprocess
 import tempfile
 import time
 
-from lib.checks import hold, verdict
+from lib.checks import check, verdict
 from lib.common import TOP, CommandLine, compact, end
 from lib.date_draws import (MALFORMED, date_text, journal_lines, label_near, middle_day,
                             write_journal)
-from web_answers import differences
-from web_runs import SAMPLES, Page, form_of, written
+from lib.web_answers import differences
+from lib.web_runs import SAMPLES, Page, form_of, written
 from lib.date_meaning import Territory
 
 FORMS = ["11 Feb. 1731/32", "le 1er avril 1640", "1731 February 11", "11. 2. 1731", "25/12/1640",
@@ -33,18 +33,18 @@ FORMS = ["11 Feb. 1731/32", "le 1er avril 1640", "1731 February 11", "11. 2. 173
          "[1543-04-11,1544-04-11]", "[1731-04-05..1731-04-11,1732-04-12?]"]
 
 
-def hold_dates(page, program, journal, dates):
+def check_dates(page, program, journal, dates):
     """Compares typed dates with `read` and `written`. Returns how many."""
     for code, date, weekday in dates:
-        status, told = page.answer(code=code, date=date, weekday=weekday)
+        status, answer = page.answer(code=code, date=date, weekday=weekday)
         if status != 200:
-            hold(f"{code} {date!r} is answered", False, status, told)
+            check(f"{code} {date!r} is answered", False, status, answer)
             continue
         reply = written(program, journal, code, date, weekday)
-        hold(f"{code} {date!r}: the query's answer", told["written"] == reply["answer"])
-        hold(f"{code} {date!r}: the edition", told["edition"] == reply["edition"])
-        wrong = differences(told["html"], program, journal, code, date, weekday)
-        hold(f"the answer of {code} {date!r}", not wrong, *wrong)
+        check(f"{code} {date!r}: the query's answer", answer["written"] == reply["answer"])
+        check(f"{code} {date!r}: the edition", answer["edition"] == reply["edition"])
+        wrong = differences(answer["html"], program, journal, code, date, weekday)
+        check(f"the answer of {code} {date!r}", not wrong, *wrong)
     return len(dates)
 
 
@@ -94,7 +94,7 @@ def page_grids(html):
     return runs
 
 
-def hold_months(page, program, journal):
+def check_months(page, program, journal):
     """Compares months of the samples with `month`. Returns how many."""
     asked = [("GB", year, month) for year in (1731, 1751, 1752) for month in range(1, 13)]
     asked += [("SE", 1712, 2), ("SE", 1700, 2), ("SE", 1753, 2), ("RU", 1918, 2), ("RM", 4, 3),
@@ -103,19 +103,19 @@ def hold_months(page, program, journal):
         status, _, body = page.get(f"/month?code={code}&year={year}&month={month}")
         done = subprocess.run([program, "month", journal, code, str(year), str(month)],
                               capture_output=True, text=True, check=False)
-        hold(f"the month {code} {year}-{month}", status == 200 and month_grids(done.stdout)
-             == page_grids(body.decode()), status, page_grids(body.decode()))
+        check(f"the month {code} {year}-{month}", status == 200 and month_grids(done.stdout)
+              == page_grids(body.decode()), status, page_grids(body.decode()))
     return len(asked)
 
 
-def hold_new_style(page):
+def check_new_style(page):
     """A date in New Style is shown as the place itself dated the day, and no other date of it."""
     for date in ("22 February 1732 N.S.", "22 February 1731/2 N.S."):
-        status, told = page.answer(code="GB", date=date)
-        html = told.get("html", "")
-        hold(f"{date}: as dated there", status == 200
-             and "<dt>As dated there</dt><dd>11 February 1731/2</dd>" in html, html)
-        hold(f"{date}: one date of that day", "the place wrote 22 February" not in html, html)
+        status, answer = page.answer(code="GB", date=date)
+        html = answer.get("html", "")
+        check(f"{date}: as dated there", status == 200
+              and "<dt>As dated there</dt><dd>11 February 1731/2</dd>" in html, html)
+        check(f"{date}: one date of that day", "the place wrote 22 February" not in html, html)
 
 
 def journal_of(program, folder, name, lines):
@@ -136,7 +136,7 @@ def paths_of(code):
             f"/year?code={code}&year=1582", f"/place?code={code}"]
 
 
-def hold_sources(program, folder):
+def check_sources(program, folder):
     """Each page has the sources of what it says, in its citation too, and names are one line."""
     name = "A\u2028B\x85C"
     land = {"op": "add_land", "code": "ES", "name": name, "calendar": "julian", "style": "january",
@@ -148,35 +148,35 @@ def hold_sources(program, folder):
          "source": "The source of an Easter"}, {"op": "publish"}])
     page = Page(program, journal)
     for path in paths_of("ES"):
-        wanted = ["The first source"] if "=4+" in path else ["Acts no 24 of 1582"] if \
+        expected = ["The first source"] if "=4+" in path else ["Acts no 24 of 1582"] if \
             "day=" in path or "=10+" in path or "after" in path else \
             ["The first source", "Acts no 24 of 1582"]
-        wanted += ["The source of an Easter"] if "year?" in path else []
+        expected += ["The source of an Easter"] if "year?" in path else []
         status, _, body = page.get(path)
         before, _, cited = body.decode().partition('class="citation"')
         cited = cited.partition("</p>")[0]
-        hold(f"the sources of {path}", status == 200 and all(
-            text in before and text in cited for text in wanted), status, cited)
-        hold(f"the name on {path}", "A\u2028B&lt;U+0085&gt;C" in before and "\x85" not in before)
+        check(f"the sources of {path}", status == 200 and all(
+            text in before and text in cited for text in expected), status, cited)
+        check(f"the name on {path}", "A\u2028B&lt;U+0085&gt;C" in before and "\x85" not in before)
     listed = page.get("/place?code=ES")[2].decode()
-    hold("the source of a listed Easter", "(source: The source of an Easter)" in listed)
+    check("the source of a listed Easter", "(source: The source of an Easter)" in listed)
     wrong = [line for date in ("10 October 1582", "11/2/1731", "March 1582")
              for line in differences(page.answer(code="ES", date=date)[1]["html"], program, journal,
                                      "ES", date)]
-    hold("dates of a name with separators", not wrong, *wrong)
-    status, told = page.answer(code="ES", date="11/2/1731", order="dmy")
-    hold("one that is open", status == 200 and "11 February 1731" in told["html"], told)
+    check("dates of a name with separators", not wrong, *wrong)
+    status, answer = page.answer(code="ES", date="11/2/1731", order="dmy")
+    check("one that is open", status == 200 and "11 February 1731" in answer["html"], answer)
     return page.stop()[0]
 
 
-def hold_editions(page):
+def check_editions(page):
     """A link that names an edition says which one answered, on every page."""
     for path in [*paths_of("GB"), "/place?x=1", "/?x=1", "/month?x=1", "/year?x=1"]:
-        said = "This link was created from edition 3; the answer shown comes from edition 5."
-        hold(f"{path} of edition 3", said in page.get(f"{path}&edition=3")[2].decode())
-        hold(f"{path} of edition 5", "was created from" not in
-             page.get(f"{path}&edition=5")[2].decode())
-        hold(f"{path} of no edition", page.get(f"{path}&edition=abc")[0] == 400)
+        sentence = "This link was created from edition 3; the answer shown comes from edition 5."
+        check(f"{path} of edition 3", sentence in page.get(f"{path}&edition=3")[2].decode())
+        check(f"{path} of edition 5", "was created from" not in
+              page.get(f"{path}&edition=5")[2].decode())
+        check(f"{path} of no edition", page.get(f"{path}&edition=abc")[0] == 400)
 
 
 def letters_run(program, journal, table, *options):
@@ -185,59 +185,60 @@ def letters_run(program, journal, table, *options):
     return done.stdout, done.stderr.decode()
 
 
-def hold_tables(page, program, journal):
+def check_tables(page, program, journal):
     """Compares tables that are sent with `letters`."""
     def read(name):
         with open(os.path.join(TOP, "examples", name), "rb") as file:
             return file.read()
     letters, places, typed = read("letters.csv"), read("places.csv"), read("transcribed.csv")
     status, _, body = page.ask("POST", "/letters", letters)
-    hold("a table as it is", (status, body) == (200, letters_run(program, journal, letters)[0]))
+    check("a table as it is", (status, body) == (200, letters_run(program, journal, letters)[0]))
     status, _, body = page.ask("POST", "/letters", codecs.BOM_UTF8 + letters)
-    hold("a byte order mark is kept", (status, body) == (200, codecs.BOM_UTF8 + letters_run(
+    check("a byte order mark is kept", (status, body) == (200, codecs.BOM_UTF8 + letters_run(
         program, journal, letters)[0]))
     form, headers = form_of({"order": "dmy"}, {"table": ("t.csv", typed),
                                                "places": ("places.csv", places)})
-    status, told, body = page.ask("POST", "/letters", form, headers)
-    wanted = letters_run(program, journal, typed, "--order", "dmy", "--places",
-                         os.path.join(TOP, "examples", "places.csv"))[0]
-    hold("a table with places", (status, body) == (200, wanted), status, body[:200])
-    hold("its name", 'filename="t-found.csv"' in told.get("Content-Disposition", ""), told)
+    status, reply_headers, body = page.ask("POST", "/letters", form, headers)
+    expected = letters_run(program, journal, typed, "--order", "dmy", "--places",
+                           os.path.join(TOP, "examples", "places.csv"))[0]
+    check("a table with places", (status, body) == (200, expected), status, body[:200])
+    check("its name", 'filename="t-found.csv"' in reply_headers.get("Content-Disposition", ""),
+          reply_headers)
     other = letters.replace(b",", b";").replace(b"place;", b"Ort;").replace(b"date;", b"Datum;")
     form, headers = form_of({"column_place": "Ort", "column_date": "Datum"},
                             {"table": ("x.csv", other)})
     status, _, body = page.ask("POST", "/letters", form, headers)
-    wanted = letters_run(program, journal, other, "--place", "Ort", "--date", "Datum")[0]
-    hold("a table with semicolons", (status, body) == (200, wanted), status, body[:200])
+    expected = letters_run(program, journal, other, "--place", "Ort", "--date", "Datum")[0]
+    check("a table with semicolons", (status, body) == (200, expected), status, body[:200])
     many = letters + b"".join(b"%d,GB,11 February 1731,Friday\n" % row for row in range(100_000))
     began = time.monotonic()
     status, _, body = page.ask("POST", "/letters", many, seconds=60)
     took = time.monotonic() - began
-    hold("a table of 100,000 rows", (status, body) == (200, letters_run(program, journal,
-                                                                        many)[0]))
+    check("a table of 100,000 rows", (status, body) == (200, letters_run(program, journal,
+                                                                         many)[0]))
     return took
 
 
-def hold_bad_tables(page, program, journal):
+def check_bad_tables(page, program, journal):
     """Tables that have a fault: the status and the program's own words, except its options."""
     for table in ("letter,place,date\nü,GB,1731\n".encode("cp1252"), b"\x00\x01\x02\xff" * 20,
                   "place,date\nGB,1731\n".encode("utf-16"), b"PK\3\4\0"):
         status, _, body = page.ask("POST", "/letters", table)
-        hold(f"the table {table[:10]!r}", status == 422 and body.decode() ==
-             "The table is not UTF-8: save the table as CSV UTF-8.\n", status, body)
+        check(f"the table {table[:10]!r}", status == 422 and body.decode() ==
+              "The table is not UTF-8: save the table as CSV UTF-8.\n", status, body)
     bad = [(b"a,b\n1,2\n", 422), (b"", 422), (b"place,date\n\"GB,1731\n", 200)]
-    for table, wanted in bad:
+    for table, expected in bad:
         status, _, body = page.ask("POST", "/letters", table)
-        told = letters_run(program, journal, table)[1].removeprefix("oldstyle: ").strip()
-        told = told.replace("by --place", "in the field “Column of places” (column_place)")
-        hold(f"the table {table[:10]!r}", status == wanted and told in
-             body.decode(errors="replace"), status, body[-100:], told)
+        message = letters_run(program, journal, table)[1].removeprefix("oldstyle: ").strip()
+        message = message.replace("by --place", "in the field “Column of places” (column_place)")
+        check(f"the table {table[:10]!r}", status == expected and message in
+              body.decode(errors="replace"), status, body[-100:], message)
     form, headers = form_of({"order": "xyz"}, {"table": ("t.csv", b"place,date\n")})
-    hold("another order", page.ask("POST", "/letters", form, headers)[0] == 400)
+    check("another order", page.ask("POST", "/letters", form, headers)[0] == 400)
     form, headers = form_of({}, {})
-    hold("a form without a table", page.ask("POST", "/letters", form, headers)[0] == 400)
-    hold("a form that ends too early", page.ask("POST", "/letters", b"--x\r\nbroken",
-         {"Content-Type": "multipart/form-data; boundary=x"})[0] == 400)
+    check("a form without a table", page.ask("POST", "/letters", form, headers)[0] == 400)
+    check("a form that ends too early", page.ask("POST", "/letters", b"--x\r\nbroken",
+          {"Content-Type": "multipart/form-data; boundary=x"})[0] == 400)
 
 
 def main():
@@ -248,21 +249,21 @@ def main():
     options = line.read()
     program, chance = options.program, random.Random(options.seed)
     page = Page(program, SAMPLES)
-    dates = hold_dates(page, program, SAMPLES, sample_dates())
-    months = hold_months(page, program, SAMPLES)
-    took = hold_tables(page, program, SAMPLES)
-    hold_bad_tables(page, program, SAMPLES)
-    hold_new_style(page)
-    hold_editions(page)
+    dates = check_dates(page, program, SAMPLES, sample_dates())
+    months = check_months(page, program, SAMPLES)
+    took = check_tables(page, program, SAMPLES)
+    check_bad_tables(page, program, SAMPLES)
+    check_new_style(page)
+    check_editions(page)
     left = page.stop()[0]
     with tempfile.TemporaryDirectory() as folder:
-        left += hold_sources(program, folder)
+        left += check_sources(program, folder)
         for _ in range(3):
             journal, more = random_dates(program, folder, chance, options.count // 3)
             page = Page(program, journal)
-            dates += hold_dates(page, program, journal, more)
+            dates += check_dates(page, program, journal, more)
             left += page.stop()[0]
-    hold("no process is left", not left, left)
+    check("no process is left", not left, left)
     return verdict(f"{dates} dates and {months} months are answered as the program does, and "
                    f"tables too; 100,000 rows in {took:.1f} s")
 

@@ -21,7 +21,7 @@ import time
 from urllib.parse import urlencode
 
 from lib.common import CommandLine, compact, end, need
-from web_runs import SAMPLES, Page, below, left_after, process_table
+from lib.web_runs import SAMPLES, Page, below, left_after, process_table
 
 DATES = ["11 February 1731", "5 September 1752", "3 September 1752", "1731-02-11", "14 March 1731",
          "1 January 1700", "30 February 1712", "24 March 1731/2"]
@@ -73,7 +73,7 @@ class Reader(threading.Thread):
         super().__init__()
         self.page, self.keeper, self.until = page, keeper, until
         self.chance, self.edition = random.Random(seed), 0
-        self.told, self.wrong, self.count, self.slowest = {}, [], 0, 0.0
+        self.seen, self.wrong, self.count, self.slowest = {}, [], 0, 0.0
         self.connection = None
 
     def run(self):
@@ -111,11 +111,11 @@ class Reader(threading.Thread):
             self.wrong.append(f"{path}: edition {edition} after {self.edition}, and {least} out")
         self.edition = max(self.edition, edition)
 
-    def take(self, words, told, least):
+    def take(self, words, answer, least):
         """Notes an answer, by its edition and its question."""
-        self.look(words, told["edition"], least)
-        key = told["edition"], words["code"], words["date"]
-        if self.told.setdefault(key, told["written"]) != told["written"]:
+        self.look(words, answer["edition"], least)
+        key = answer["edition"], words["code"], words["date"]
+        if self.seen.setdefault(key, answer["written"]) != answer["written"]:
             self.wrong.append(f"{key}: two answers")
 
 
@@ -133,12 +133,12 @@ def stay(page):
     return left if status == 200 else [*left, f"status {status}"]
 
 
-def differing(program, journal, told):
+def differing(program, journal, seen):
     """The answers that differ from those of the journal up to their edition."""
     with open(journal, encoding="utf-8") as file:
         lines = file.read().splitlines()[1:]
     edition, asked, requests = 0, {}, []
-    for key in told:
+    for key in seen:
         asked.setdefault(key[0], []).append(key)
     for line in lines:
         requests.append(line)
@@ -151,7 +151,7 @@ def differing(program, journal, told):
     answers = iter([reply["answer"] for reply in map(json.loads, done.stdout.splitlines())
                     if "answer" in reply])
     keys = [key for number in sorted(asked) if number <= edition for key in asked[number]]
-    return [key for key, answer in zip(keys, answers, strict=True) if told[key] != answer]
+    return [key for key, answer in zip(keys, answers, strict=True) if seen[key] != answer]
 
 
 def main():
@@ -188,20 +188,20 @@ def with_readers(options, journal):
     more, errors = page.stop()
     left += more
     wrong = [one for reader in readers for one in reader.wrong]
-    told = {}
+    seen = {}
     for reader in readers:
-        for key, answer in reader.told.items():
-            if told.setdefault(key, answer) != answer:
+        for key, answer in reader.seen.items():
+            if seen.setdefault(key, answer) != answer:
                 wrong.append(f"{key}: two answers")
     wrong += [f"{key}: another answer than the program's"
-              for key in differing(options.program, journal, told)]
+              for key in differing(options.program, journal, seen)]
     for one in [*wrong[:10], *(errors.splitlines()[:10] if wrong else [])]:
         print(one)
     asked, slowest = sum(reader.count for reader in readers), max(one.slowest for one in readers)
     print(f"{options.readers} readers asked {asked} times in {options.seconds} s while editions "
-          f"{FIRST} to {keeper.edition} came: {len(wrong)} refused or wrong, {len(told)} answers "
+          f"{FIRST} to {keeper.edition} came: {len(wrong)} refused or wrong, {len(seen)} answers "
           f"held, the slowest {slowest:.2f} s, {len(left)} processes left")
-    return 1 if wrong or left or not told else 0
+    return 1 if wrong or left or not seen else 0
 
 
 if __name__ == "__main__":

@@ -18,19 +18,19 @@ import tempfile
 import time
 from urllib.parse import urlencode
 
-from lib.checks import hold, verdict
+from lib.checks import check, verdict
 from lib.common import CommandLine, end
-from web_runs import SAMPLES, Page, free_port, python_of_page, variables_of_page
+from lib.web_runs import SAMPLES, Page, free_port, python_of_page, variables_of_page
 
 MEBIBYTE = 1024 * 1024
 
 
-def hold_status(what, told, wanted):
-    wanted = wanted if isinstance(wanted, tuple) else (wanted,)
-    hold(what, any(f" {status} " in f" {told} " for status in wanted), f"it is {told!r}")
+def check_status(what, reply, expected):
+    expected = expected if isinstance(expected, tuple) else (expected,)
+    check(what, any(f" {status} " in f" {reply} " for status in expected), f"it is {reply!r}")
 
 
-def hold_statuses(page):
+def check_statuses(page):
     """Wrong requests, each with its status."""
     wrong = [("/nowhere", 404), ("/static/../settings.py", 404), ("/static/none.css", 404),
              ("/?code=GB&date=" + "x" * 201, 400), ("/?code=gb", 400), ("/?code=ZZ&date=1", 404),
@@ -40,17 +40,18 @@ def hold_statuses(page):
              ("/year?code=GB&year=0", 400), ("/day?code=GB&day=0", 400), ("/day?code=GB", 400),
              ("/day?code=GB&day=3652060", 400), ("/place?code=ZZ", 404), ("/?" + "&a=1" * 40, 400),
              ("/place?edition=abc", 400), ("/?code=GB&date=1+May%E2%80%AE+1700", 400)]
-    for path, wanted in wrong:
+    for path, expected in wrong:
         status = page.get(path)[0]
-        hold(f"{path[:40]} has status {wanted}", status == wanted, status)
+        check(f"{path[:40]} has status {expected}", status == expected, status)
     for path, word in (("/month?code=GB&year=abc&month=9", 'value="abc"'),
                        ("/year?code=GB&year=0", 'value="0"'),
                        ("/?code=ZZ&date=11+May+1700", 'value="11 May 1700"')):
         body = page.get(path, Accept="text/html")[2].decode()
-        hold(f"{path} has its form again", word in body and 'class="question"' in body, body)
-    for method, path, wanted in (("PUT", "/", 405), ("POST", "/", 405), ("DELETE", "/letters", 405),
-                                 ("HEAD", "/", 200), ("BREW", "/", 405)):
-        hold(f"{method} {path} has status {wanted}", page.ask(method, path)[0] == wanted)
+        check(f"{path} has its form again", word in body and 'class="question"' in body, body)
+    for method, path, expected in (("PUT", "/", 405), ("POST", "/", 405),
+                                   ("DELETE", "/letters", 405), ("HEAD", "/", 200),
+                                   ("BREW", "/", 405)):
+        check(f"{method} {path} has status {expected}", page.ask(method, path)[0] == expected)
     raw = [(b"nonsense\r\n\r\n", 404), (b"GET /?" + b"x" * 10_000 + b" HTTP/1.1\r\n\r\n", 414),
            (b"GET / HTTP/1.1\r\n" + b"X: " + b"y" * 40_000 + b"\r\n\r\n", 431),
            (b"GET / HTTP/1.1\r\nHost: example.org\r\n\r\n", 421),
@@ -61,22 +62,22 @@ def hold_statuses(page):
            (b"POST /letters HTTP/1.1\r\nContent-Length: many\r\n\r\n", 400),
            (b"POST /letters HTTP/1.1\r\nContent-Length: 99999999999\r\n\r\n", 413),
            (bytes(random.Random(1).randbytes(3000)) + b"\r\n\r\n", 400)]
-    for text, wanted in raw:
-        hold_status(f"{text[:30]!r}", page.raw(text), wanted)
+    for text, expected in raw:
+        check_status(f"{text[:30]!r}", page.raw(text), expected)
     return len(wrong) + 5 + len(raw)
 
 
-def hold_large(page, most):
+def check_large(page, most):
     """An upload over the limit is refused with a reason, while it is being sent."""
     status = page.ask("POST", "/letters", b"x" * (most + 1))[0]
-    hold("a table over the limit has status 413", status == 413, status)
+    check("a table over the limit has status 413", status == 413, status)
     table = b"place,date\n" + b"GB,1731\n" * ((most - 100) // 8)
     status, _, body = page.ask("POST", "/letters", table, seconds=120)
-    hold("a table of nearly the limit is answered", status == 200 and body.count(b"\n")
-         == table.count(b"\n"), status)
+    check("a table of nearly the limit is answered", status == 200 and body.count(b"\n")
+          == table.count(b"\n"), status)
 
 
-def hold_killed(page):
+def check_killed(page):
     """Processes of the program that are killed are started again, and no reader sees it."""
     statuses = []
     for _ in range(20):
@@ -86,10 +87,10 @@ def hold_killed(page):
             except ProcessLookupError:
                 pass
         statuses.append(page.get("/?code=GB&date=3-10+May+1640")[0])
-    hold("readers while processes are killed", set(statuses) == {200}, statuses)
+    check("readers while processes are killed", set(statuses) == {200}, statuses)
     zombies = [process for process in page.children()
                if state_of(process) == "Z"]
-    hold("no zombie is left", len(zombies) <= 3, zombies)
+    check("no zombie is left", len(zombies) <= 3, zombies)
 
 
 def state_of(process):
@@ -100,7 +101,7 @@ def state_of(process):
         return ""
 
 
-def hold_cut(page):
+def check_cut(page):
     """Readers that go away in the midst of a table leave no process."""
     before = set(page.children())
     table = b"place,date\n" + b"GB,11 February 1731\n" * 20_000
@@ -112,61 +113,62 @@ def hold_cut(page):
     last = time.monotonic() + 60
     while not set(page.children()) <= before and time.monotonic() < last:
         time.sleep(0.2)
-    hold("a table that nobody reads leaves no process", set(page.children()) <= before)
-    hold("the next table", page.ask("POST", "/letters", b"place,date\nGB,1731\n")[0] == 200)
+    check("a table that nobody reads leaves no process", set(page.children()) <= before)
+    check("the next table", page.ask("POST", "/letters", b"place,date\nGB,1731\n")[0] == 200)
 
 
-def hold_headers(page):
+def check_headers(page):
     """What each reply carries, and that a page that is held already is not sent again."""
     _, headers, _ = page.get("/?code=GB&date=1731-02-11")
     policy = headers.get("Content-Security-Policy", "")
-    hold("the policy of content", policy.startswith("default-src 'none'; script-src 'self'")
-         and "unsafe" not in policy and headers["X-Content-Type-Options"] == "nosniff"
-         and headers["Referrer-Policy"] == "no-referrer", headers)
+    check("the policy of content", policy.startswith("default-src 'none'; script-src 'self'")
+          and "unsafe" not in policy and headers["X-Content-Type-Options"] == "nosniff"
+          and headers["Referrer-Policy"] == "no-referrer", headers)
     status, _, body = page.get("/?code=GB&date=1731-02-11", **{"If-None-Match": headers["ETag"]})
-    hold("a page that is held", (status, body) == (304, b""), status)
+    check("a page that is held", (status, body) == (304, b""), status)
     body = page.get("/?" + urlencode({"code": "GB", "date": '"><script>alert(1)</script>'}))[2]
-    hold("what is typed is escaped", b"<script>alert" not in body)
+    check("what is typed is escaped", b"<script>alert" not in body)
 
 
-def hold_words(program, folder):
+def check_words(program, folder):
     """What the command prints for wrong arguments."""
     broken = os.path.join(folder, "broken.journal")
     with open(broken, "w", encoding="utf-8") as file:
         file.write("no journal\n")
     port = free_port()
-    with socket.socket() as taken:
-        taken.bind(("127.0.0.1", port))
-        taken.listen()
+    with socket.socket() as listener:
+        listener.bind(("127.0.0.1", port))
+        listener.listen()
         tried = [(["none.journal"], "none.journal: no such file"), ([], "JOURNAL"),
                  ([broken], "journal line 1"), ([SAMPLES, "--port", str(port)], "is in use"),
-                 ([SAMPLES, "--port", "x"], "--port: x is no whole number from 0 to 65535"),
-                 ([SAMPLES, "--port", "70000"], "--port: 70000 is no whole number"),
-                 ([SAMPLES, "--program", "/none"], "/none is no program"),
-                 ([SAMPLES, "--connections", "1"], "--connections: 1 is no whole number"),
-                 ([SAMPLES, "--max-upload", "0"], "--max-upload: 0 is no whole number"),
+                 ([SAMPLES, "--port", "x"], "--port: x is not a whole number from 0 to 65535"),
+                 ([SAMPLES, "--port", "70000"], "--port: 70000 is not a whole number"),
+                 ([SAMPLES, "--program", "/none"], "/none is not a program"),
+                 ([SAMPLES, "--connections", "1"], "--connections: 1 is not a whole number"),
+                 ([SAMPLES, "--max-upload", "0"], "--max-upload: 0 is not a whole number"),
                  ([SAMPLES, "--address", ""], "--address: name an address"),
                  ([SAMPLES, "--address", "256.1.1.1"], "256.1.1.1")]
-        for words, wanted in tried:
-            given = words if "--program" in words else [*words, "--program", program]
-            done = subprocess.run([python_of_page(), "-m", "oldstyle_web", *given], timeout=30,
+        for words, expected in tried:
+            arguments = words if "--program" in words else [*words, "--program", program]
+            done = subprocess.run([python_of_page(), "-m", "oldstyle_web", *arguments], timeout=30,
                                   capture_output=True, text=True, check=False,
                                   env=variables_of_page())
-            hold(f"{words} is refused", done.returncode != 0 and wanted in done.stderr
-                 and "Traceback" not in done.stderr, done.stderr)
+            check(f"{words} is refused", done.returncode != 0 and expected in done.stderr
+                  and "Traceback" not in done.stderr, done.stderr)
     return len(tried)
 
 
-def hold_ends(program, journal):
+def check_ends(program, journal):
     """The page ends by each signal, and no process of it is left."""
     for number in (signal.SIGTERM, signal.SIGINT, signal.SIGKILL):
         page = Page(program, journal)
         page.get("/?code=GB&date=March+1731")
-        left, told = page.stop(number)
-        hold(f"the page ends by signal {number}", not left and "Traceback" not in told, left, told)
+        left, errors = page.stop(number)
+        check(f"the page ends by signal {number}", not left and "Traceback" not in errors, left,
+              errors)
 
 
-def hold_journal(program, folder):
+def check_journal(program, folder):
     """A journal that is published again is seen at the next request. One that goes away, is cut or
     is broken is reported to those who ask, and ends nothing: once it is right the answers are."""
     journal = os.path.join(folder, "kept.journal")
@@ -177,21 +179,21 @@ def hold_journal(program, folder):
                         "style": "january", "rule": "julian"}) + '\n{"op":"publish"}\n'
     subprocess.run([program, "serve", "--journal", journal, "--save", journal], input=lines,
                    text=True, check=True, capture_output=True)
-    told = page.answer(code="VE", date="1731-02-11")
-    hold("an edition that comes is seen", told[0] == 200 and told[1]["edition"] == 6, told)
+    answer = page.answer(code="VE", date="1731-02-11")
+    check("an edition that comes is seen", answer[0] == 200 and answer[1]["edition"] == 6, answer)
     with open(journal, "a", encoding="utf-8") as file:
         file.write('{"op":"pub')
-    hold("a line that is not finished", page.answer(code="VE", date="1731-02-11")[0] == 200)
+    check("a line that is not finished", page.answer(code="VE", date="1731-02-11")[0] == 200)
     with open(journal, "rb") as file:
         whole = file.read().rpartition(b"\n")[0] + b"\n"
     for what, text in (("goes away", None), ("is cut", whole[:400]), ("is broken", b"broken\n"),
                        ("is empty", b"")):
         replace(journal, text)
-        hold_unanswered(page, f"a journal that {what}")
+        check_unanswered(page, f"a journal that {what}")
         replace(journal, whole)
-        told = page.answer(code="VE", date="1731-02-11")
-        hold(f"a journal that {what} and comes back", told[0] == 200 and told[1]["edition"] == 6,
-             told)
+        answer = page.answer(code="VE", date="1731-02-11")
+        check(f"a journal that {what} and comes back",
+              answer[0] == 200 and answer[1]["edition"] == 6, answer)
     return page.stop()[0]
 
 
@@ -204,14 +206,14 @@ def replace(path, text):
             file.write(text)
 
 
-def hold_unanswered(page, what):
+def check_unanswered(page, what):
     """Dates and tables are answered 503 while there is no register: nobody reads that it lacks a
     place."""
-    status, told = page.answer(code="VE", date="1731-02-11")
-    hold(what, status == 503, status, told)
+    status, answer = page.answer(code="VE", date="1731-02-11")
+    check(what, status == 503, status, answer)
     status, _, body = page.ask("POST", "/letters", b"place,date\nVE,1731-02-11\n")
-    hold(f"{what}, and a table", status == 503 and b"/" not in body or status == 200
-         and b"UnknownLand" in body and "is cut" in what, status, body)
+    check(f"{what}, and a table", status == 503 and b"/" not in body or status == 200
+          and b"UnknownLand" in body and "is cut" in what, status, body)
 
 
 def main():
@@ -219,17 +221,17 @@ def main():
     line.add_program()
     program = line.read().program
     page = Page(program, SAMPLES, ["--max-upload", "8"])
-    wrong = hold_statuses(page)
-    hold_headers(page)
-    hold_large(page, 8 * MEBIBYTE)
-    hold_killed(page)
-    hold_cut(page)
+    wrong = check_statuses(page)
+    check_headers(page)
+    check_large(page, 8 * MEBIBYTE)
+    check_killed(page)
+    check_cut(page)
     left = page.stop()[0]
     with tempfile.TemporaryDirectory() as folder:
-        words = hold_words(program, folder)
-        left += hold_journal(program, folder)
-    hold_ends(program, SAMPLES)
-    hold("no process is left", not left, left)
+        words = check_words(program, folder)
+        left += check_journal(program, folder)
+    check_ends(program, SAMPLES)
+    check("no process is left", not left, left)
     return verdict(f"{wrong} wrong requests and {words} wrong arguments are reported as they must "
                    "be, large ones too; no process is left")
 

@@ -5,13 +5,13 @@ is_at_work() { ! has_proved "$crates"; }
 has_answer() { [ -s "$at/out$1" ]; }
 goes_before() { [ "$(sed -n "/$1/=" "$at/err")" -lt "$(sed -n "/$2/=" "$at/err")" ]; }
 
-gave_way() { [ "$(cat "$FAKE_KEPT/priority")" -gt "$(ps -o ni= -p $$)" ]; }
-gave_no_way() { ! gave_way; }
+had_lower_priority() { [ "$(cat "$FAKE_STORE/priority")" -gt "$(ps -o ni= -p $$)" ]; }
+kept_priority() { ! had_lower_priority; }
 
 # Takes away what is built and kept, so that the next run is a first one.
 forget() {
-    rm -rf "$clone/crates/oldstyle/out" "$FAKE_KEPT"/*
-    touch "$FAKE_KEPT/trace"
+    rm -rf "$clone/crates/oldstyle/out" "$FAKE_STORE"/*
+    touch "$FAKE_STORE/trace"
 }
 
 try_answers() {
@@ -19,32 +19,33 @@ try_answers() {
     mkdir "$at/far"
     echo "file two" > "$at/far/two"
     cp "$at/here/one" "$at/here/with space"
-    words=(read one "with space" ../far/two ./one "$at/far/two" --told=one --told=../far/two)
+    words=(read one "with space" ../far/two ./one "$at/far/two" --unreadable=one
+        --unreadable=../far/two)
     words+=(status=3)
     run FAKE_PAUSE=0.1
-    hold "what only reads is answered before the proof" goes_before "not proved yet" "built in"
-    hold "once, with the files that the words name" gives "" "$(printf '%s\n' "word: read" \
+    check "what only reads is answered before the proof" goes_before "not proved yet" "built in"
+    check "once, with the files that the words name" gives "" "$(printf '%s\n' "word: read" \
         "word: one" "file one" "word: with space" "file one" "word: two" "file two" "word: one" \
-        "file one" "word: two" "file two" "word: --told=one" "word: two" "word: status=3")"
-    hold "with the program's status" ends_with 3
-    hold "and what it told standard error" says_once "^oldstyle: one: permission denied"
-    hold "in the words that were typed" says_once "^oldstyle: ../far/two: permission denied"
-    hold "it is said once that this is not proved yet" says_once "not proved yet"
-    hold "and that the program gives the same" says_once "now proved, gives the same answer"
-    hold "with nothing at work and nothing left" is_clean
-    hold "the proof gave way to it" gave_way
+        "file one" "word: two" "file two" "word: --unreadable=one" "word: two" "word: status=3")"
+    check "with the program's status" ends_with 3
+    check "and what it wrote to standard error" says_once "^oldstyle: one: permission denied"
+    check "in the words that were typed" says_once "^oldstyle: ../far/two: permission denied"
+    check "it is said once that this is not proved yet" says_once "not proved yet"
+    check "and that the program gives the same" says_once "now proved, gives the same answer"
+    check "with nothing at work and nothing left" is_clean
+    check "the proof had a lower priority" had_lower_priority
     run PATH=/usr/bin:/bin
-    hold "the next run gives the same alone" says_once "^oldstyle: ../far/two: permission denied"
+    check "the next run gives the same alone" says_once "^oldstyle: ../far/two: permission denied"
     forget
     start ""
     await has_answer ""
-    hold "the answer is there while the proof is at work" is_at_work
+    check "the answer is there while the proof is at work" is_at_work
     end_started
-    hold "and ends with the program's status" ends_with 3
+    check "and ends with the program's status" ends_with 3
     forget
     words=(desk --help)
     run FAKE_PAUSE=0.1
-    hold "help is answered too" says_once "gives the same answer"
+    check "help is answered too" says_once "gives the same answer"
 }
 
 try_help() {
@@ -59,14 +60,14 @@ try_help() {
         [[ $word != *[vV]* ]] || text="oldstyle 1"
         words=("$word")
         run PATH=/usr/bin:/bin
-        hold "$word ends with 0, without a kit and a proof" ends_with 0
-        hold "and says nothing" says_nothing
-        hold "but the text of its case" gives "" "$text"
+        check "$word ends with 0, without a kit and a proof" ends_with 0
+        check "and says nothing" says_nothing
+        check "but the text of its case" gives "" "$text"
     done
     rm "$clone/crates/osn_cases/data/help.cases"
     words=(--version)
-    run
-    hold "without such a case it is answered by a run" says_once "gives the same answer"
+    run FAKE_PAUSE=0.1
+    check "without such a case it is answered by a run" says_once "gives the same answer"
 }
 
 has_input() { test -s "$TMPDIR"/oldstyle.*/answer/input; }
@@ -78,17 +79,17 @@ try_private() {
     words=(serve)
     start ""
     await has_input
-    hold "what is piped in is its owner's alone" has_mode answer 700
-    hold "and so is the folder, but that root's may be gone through" \
+    check "what is piped in is its owner's alone" has_mode answer 700
+    check "and so is the folder, but that root's may be gone through" \
         has_mode . "$([ "$(id -u)" = 0 ] && echo 711 || echo 700)"
     end_started
     sleep 100 &
     other=$!
-    hold "a number that is another's process has ended" signal_of "has_ended $other"
-    hold "and gets no signal" signal_of "end_process $other"
-    hold "and lives" kill -0 "$other"
-    hold "one of its own is alive" signal_of 'sleep 100 & ! has_ended $!'
-    hold "and gets a signal" signal_of 'sleep 100 & end_process $!; ! wait $!; has_ended $!'
+    check "a number that is another's process has ended" signal_of "has_ended $other"
+    check "and gets no signal" signal_of "end_process $other"
+    check "and lives" kill -0 "$other"
+    check "one of its own is alive" signal_of 'sleep 100 & ! has_ended $!'
+    check "and gets a signal" signal_of 'sleep 100 & end_process $!; ! wait $!; has_ended $!'
     kill "$other"
 }
 
@@ -124,30 +125,30 @@ try_inputs() {
     new_clone inputs
     words=(serve)
     run FAKE_PAUSE=0.1
-    hold "a pipe is answered before the proof" goes_before "not proved yet" "built in"
-    hold "once" gives "" $'word: serve\na line'
+    check "a pipe is answered before the proof" goes_before "not proved yet" "built in"
+    check "once" gives "" $'word: serve\na line'
     forget
     run_on "$at/here/one" FAKE_PAUSE=0.1
-    hold "a file is answered before the proof" goes_before "not proved yet" "built in"
-    hold "which gave way" gave_way
-    hold "once" gives "" $'word: serve\nfile one'
+    check "a file is answered before the proof" goes_before "not proved yet" "built in"
+    check "at a higher priority than the proof" had_lower_priority
+    check "once" gives "" $'word: serve\nfile one'
     forget
     head -c 1048576 /dev/zero > "$at/here/most"
     head -c 1048577 /dev/zero > "$at/here/more"
     run_on "$at/here/most" FAKE_PAUSE=0.1
-    hold "so is one of 1 MiB" says_once "gives the same answer"
+    check "so is one of 1 MiB" says_once "gives the same answer"
     forget
     run_on "$at/here/more"
-    hold "but none of more" says_once "no answer before the proof: the input has more than 1 MiB"
-    hold "which the program reads whole" cmp "$at/out" <(echo "word: serve" && cat "$at/here/more")
+    check "but none of more" says_once "no answer before the proof: the input has more than 1 MiB"
+    check "which the program reads whole" cmp "$at/out" <(echo "word: serve" && cat "$at/here/more")
     forget
     run_on <(cat "$at/here/more" && sleep 2 && echo more) FAKE_PAUSE=0.1
-    hold "nor a pipe with more" says_once "the proof: the input has more than 1 MiB"
-    hold "which the program reads whole" \
+    check "nor a pipe with more" says_once "the proof: the input has more than 1 MiB"
+    check "which the program reads whole" \
         cmp "$at/out" <(echo "word: serve" && cat "$at/here/more" && echo more)
     forget
-    hold "a client that waits for replies is served once the program is built" converse
-    hold "with nothing at work and nothing left" await is_clean
+    check "a client that waits for replies is served once the program is built" converse
+    check "with nothing at work and nothing left" await is_clean
 }
 
 run_closed() {
@@ -160,40 +161,40 @@ try_no_answers() {
     new_clone no_answers
     words=(serve --save kept)
     run
-    hold "what writes waits for the proof" says_once "no answer before the proof: one is given to"
-    hold "and runs then" gives "" $'word: serve\nword: --save\nword: kept\na line'
-    hold "which gave way to nothing" gave_no_way
+    check "what writes waits for the proof" says_once "no answer before the proof: one is given to"
+    check "and runs then" gives "" $'word: serve\nword: --save\nword: kept\na line'
+    check "after a proof of usual priority" kept_priority
     forget
     run_closed
-    hold "so does what has no standard input" says_once "standard input or output is closed"
+    check "so does what has no standard input" says_once "standard input or output is closed"
     forget
     mkfifo "$at/here/pipe"
     words=(read pipe)
     run
-    hold "so does what names a pipe" says_once "is no plain file"
+    check "so does what names a pipe" says_once "is not a regular file"
     forget
     words=(read one)
     run FAKE_FAULT="the program wrote too much" FAKE_PAUSE=0.1
-    hold "and what the kit can't run" says_once "the proof: the program wrote too much"
-    hold "and runs then" gives "" $'word: read\nword: one\nfile one'
+    check "and what the kit can't run" says_once "the proof: the program wrote too much"
+    check "and runs then" gives "" $'word: read\nword: one\nfile one'
     forget
     run FAKE_OTHER=" but not the same" FAKE_PAUSE=0.1
-    hold "two answers that differ end it with 125" ends_with 125
-    hold "and are told" says_once "ANOTHER ANSWER"
-    hold "and kept" grep -q "but not" "$clone/crates/oldstyle/out/answers/proved_output"
-    hold "both" grep -q "file one" "$clone/crates/oldstyle/out/answers/output"
+    check "two answers that differ end it with 125" ends_with 125
+    check "and are reported" says_once "ANOTHER ANSWER"
+    check "and kept" grep -q "but not" "$clone/crates/oldstyle/out/answers/proved_output"
+    check "both" grep -q "file one" "$clone/crates/oldstyle/out/answers/output"
     forget
     start ""
     await has_answer ""
     echo more >> "$at/here/one"
     end_started
-    hold "where a file was changed they are not compared" says_once "changed since the answer"
-    hold "and the status is the first one's" ends_with 0
+    check "where a file was changed they are not compared" says_once "changed since the answer"
+    check "and the status is the first one's" ends_with 0
     forget
     run FAKE_TRY=60
-    hold "an answer that comes after the program is not awaited" gives "" \
+    check "an answer that comes after the program is not awaited" gives "" \
         $'word: read\nword: one\nfile one\nmore'
-    hold "with nothing at work and nothing left" is_clean
+    check "with nothing at work and nothing left" is_clean
 }
 
 try_interrupted_answers() {
@@ -203,27 +204,27 @@ try_interrupted_answers() {
     await has_answer ""
     kill -INT -- "-$started"
     end_started
-    hold "Ctrl-C after the answer ends it with 130" ends_with 130
-    hold "with nothing at work and nothing left" is_clean
+    check "Ctrl-C after the answer ends it with 130" ends_with 130
+    check "with nothing at work and nothing left" is_clean
     FAKE_TRY=60 start ""
     await has_proved $((crates * 2 / 3))
     kill -INT -- "-$started"
     end_started
-    hold "Ctrl-C before the answer ends both" is_clean
+    check "Ctrl-C before the answer ends both" is_clean
     run
-    hold "the next run gives the answer" gives "" $'word: read\nword: one\nfile one'
-    hold "and what was proved is not proved again" is_proved_once
+    check "the next run gives the answer" gives "" $'word: read\nword: one\nfile one'
+    check "and what was proved is not proved again" is_proved_once
     forget
     start 1
     local first=$started
     await test -d "$clone/crates/oldstyle/out"
     start 2
     await has_answer 2
-    hold "a run that waits for another has its answer too" is_at_work
+    check "a run that waits for another has its answer too" is_at_work
     end_started
-    hold "and compares it" grep -q "gives the same answer" "$at/err2"
+    check "and compares it" grep -q "gives the same answer" "$at/err2"
     started=$first
     end_started
-    hold "as the other" grep -q "gives the same answer" "$at/err1"
-    hold "and each crate is proved once" is_proved_once
+    check "as the other" grep -q "gives the same answer" "$at/err1"
+    check "and each crate is proved once" is_proved_once
 }

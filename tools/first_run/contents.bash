@@ -8,7 +8,7 @@ stale() {
     shift
     (cd "$clone" && "$@")
     run PATH=/usr/bin:/bin
-    hold "noticed: $what" ends_with 125
+    check "noticed: $what" ends_with 125
     (cd "$clone" && git checkout -q -- . && git clean -qdf)
 }
 
@@ -18,7 +18,7 @@ fresh() {
     shift
     (cd "$clone" && "$@")
     run PATH=/usr/bin:/bin
-    hold "no difference: $what" is_run ""
+    check "no difference: $what" is_run ""
 }
 
 append() { echo >> "$1"; }
@@ -52,7 +52,7 @@ try_contents() {
     fresh "tests and mutants" append crates/osn_service_tests/src/lib.rt
     fresh "a remark in the list of crates" sed -i '1s/$/ And more./' crates.txt
     run
-    hold "and nothing is proved again" is_proved_once
+    check "and nothing is proved again" is_proved_once
 }
 
 # A commit that changes a source, from which the clone goes back to the one before.
@@ -108,13 +108,13 @@ try_read_only() {
         chmod -R a-w "$clone"
     fi
     run_as_other /usr/bin:/bin
-    hold "no difference: a tree that may only be read" is_run ""
+    check "no difference: a tree that may only be read" is_run ""
     chmod u+w "$clone/crates/oldstyle" "$clone/crates/oldstyle/out"
     mv "$clone/crates/oldstyle/out" "$at/out_of_copy"
     chmod u-w "$clone/crates/oldstyle"
     run_as_other "$tools:$PATH"
-    hold "where that isn't built it ends with 125" ends_with 125
-    hold "and says so" says_once "the program is not built, and this folder can't be written"
+    check "where that isn't built it ends with 125" ends_with 125
+    check "and says so" says_once "the program is not built, and this folder can't be written"
     chmod -R u+w "$clone"
 }
 
@@ -125,10 +125,10 @@ completed() { printf '%s\n' "word: completions" "word: $1"; }
 refused() {
     words=(install "${@:3}" "$1")
     run
-    hold "install $1 is refused" ends_with 125
-    hold "with the form" says_once "$2"
-    hold "and nothing is proved or made" bash -c \
-        "[ ! -s '$FAKE_KEPT/trace' ] && [ \$(ls '$at/here') = one ]"
+    check "install $1 is refused" ends_with 125
+    check "with the form" says_once "$2"
+    check "and nothing is proved or made" bash -c \
+        "[ ! -s '$FAKE_STORE/trace' ] && [ \$(ls '$at/here') = one ]"
 }
 
 try_install_words() {
@@ -137,9 +137,9 @@ try_install_words() {
     refused two "takes one folder or none" one
     words=(install --help)
     run
-    hold "install --help ends with 0" ends_with 0
-    hold "and says its form" grep -q "^usage: ./oldstyle install .FOLDER." "$at/out"
-    hold "and nothing is made" test "$(ls "$at/here")" = one
+    check "install --help ends with 0" ends_with 0
+    check "and says its form" grep -q "^usage: ./oldstyle install .FOLDER." "$at/out"
+    check "and nothing is made" test "$(ls "$at/here")" = one
 }
 
 # A file of an older version, and one of the user's beside it.
@@ -150,22 +150,22 @@ try_uninstall() {
     printf '%s\n' share/oldstyle/older/file ../here/one >> "$at/under/$list"
     words=(install "$at/under")
     run PATH=/usr/bin:/bin
-    hold "what an older version had more is removed" test ! -e "$at/under/share/oldstyle/older"
-    hold "each listed file is there" bash -c "cd '$at/under' && xargs ls < $list"
-    hold "and each file but the user's is listed" diff <(sort "$at/under/$list") <(cd "$at/under" &&
-        find . ! -type d ! -path ./share/oldstyle/own -printf '%P\n' | sort)
+    check "what an older version had more is removed" test ! -e "$at/under/share/oldstyle/older"
+    check "each listed file is there" bash -c "cd '$at/under' && xargs ls < $list"
+    check "and each file but the user's is listed" diff <(sort "$at/under/$list") <(
+        cd "$at/under" && find . ! -type d ! -path ./share/oldstyle/own -printf '%P\n' | sort)
     cp -a "$at/under" "$at/removed"
     words=(uninstall "$at/removed")
     run PATH=/usr/bin:/bin
-    hold "uninstall ends with 0" ends_with 0
-    hold "and leaves the user's file alone" test \
+    check "uninstall ends with 0" ends_with 0
+    check "and leaves the user's file alone" test \
         "$(cd "$at/removed" && find . ! -type d)" = ./share/oldstyle/own
-    hold "nothing out of the folder is removed" test -e "$at/here/one"
+    check "nothing out of the folder is removed" test -e "$at/here/one"
     run PATH=/usr/bin:/bin
-    hold "once more it is refused" says_once "nothing is installed under $at/removed"
+    check "once more it is refused" says_once "nothing is installed under $at/removed"
     words=(uninstall --prefix=/usr)
     run PATH=/usr/bin:/bin
-    hold "and so is an option" says_once "write ./oldstyle uninstall /usr"
+    check "and so is an option" says_once "write ./oldstyle uninstall /usr"
 }
 
 try_install() {
@@ -173,32 +173,33 @@ try_install() {
     try_install_words
     words=(install "$at/under")
     run
-    hold "install proves and builds first" is_proved_once
-    hold "and ends with 0" ends_with 0
-    hold "and says what it did" says_once "installed under $at/under: bin/oldstyle"
-    hold "with the manual" cmp "$clone/docs/oldstyle.1" "$at/under/share/man/man1/oldstyle.1"
-    hold "and what completes its words in bash" \
+    check "install proves and builds first" is_proved_once
+    check "and ends with 0" ends_with 0
+    check "and says what it did" says_once "installed under $at/under: bin/oldstyle"
+    check "with the manual" cmp "$clone/docs/oldstyle.1" "$at/under/share/man/man1/oldstyle.1"
+    check "and what completes its words in bash" \
         cmp "$at/under/share/bash-completion/completions/oldstyle" <(completed bash)
-    hold "in zsh" cmp "$at/under/share/zsh/site-functions/_oldstyle" <(completed zsh)
-    hold "in fish" cmp "$at/under/share/fish/vendor_completions.d/oldstyle.fish" <(completed fish)
-    hold "and the samples" diff -r "$clone/examples" "$at/under/share/oldstyle/examples"
-    hold "which find the program" test -x "$at/under/share/oldstyle/examples/../oldstyle"
-    hold "and the package of R with them" cmp "$clone/examples/samples.journal" \
+    check "in zsh" cmp "$at/under/share/zsh/site-functions/_oldstyle" <(completed zsh)
+    check "in fish" cmp "$at/under/share/fish/vendor_completions.d/oldstyle.fish" <(completed fish)
+    check "and the samples" diff -r "$clone/examples" "$at/under/share/oldstyle/examples"
+    check "which find the program" test -x "$at/under/share/oldstyle/examples/../oldstyle"
+    check "and the units of systemd" diff -r "$clone/deploy" "$at/under/share/oldstyle/deploy"
+    check "and the package of R with the samples" cmp "$clone/examples/samples.journal" \
         "$at/under/share/oldstyle/r/inst/extdata/samples.journal"
     words=(install)
     run PATH=/usr/bin:/bin "HOME=$at/home"
-    hold "with no folder it goes to ~/.local" test -x "$at/home/.local/bin/oldstyle"
-    hold "and says that this is not on the PATH" says "$at/home/.local/bin is not on the PATH"
+    check "with no folder it goes to ~/.local" test -x "$at/home/.local/bin/oldstyle"
+    check "and says that this is not on the PATH" says "$at/home/.local/bin is not on the PATH"
     words=(install below)
     run PATH=/usr/bin:/bin
-    hold "a folder goes from where it was typed" test -x "$at/here/below/bin/oldstyle"
+    check "a folder goes from where it was typed" test -x "$at/here/below/bin/oldstyle"
     words=(install /dev/null)
     run PATH=/usr/bin:/bin
-    hold "a folder that can't be written is refused" ends_with 125
-    hold "with the next step" says "name a folder that you may write to"
+    check "a folder that can't be written is refused" ends_with 125
+    check "with the next step" says "name a folder that you may write to"
     try_uninstall
     rm -rf "$clone"
     status=0
     (cd "$at/here" && "$at/under/bin/oldstyle" one two <<< "a line") > "$at/out" || status=$?
-    hold "the program needs nothing of the clone" is_run ""
+    check "the program needs nothing of the clone" is_run ""
 }

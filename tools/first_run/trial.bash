@@ -11,7 +11,7 @@ trap 'exit 130' INT TERM
 unset FAKE_KIT FAKE_BROKEN FAKE_DIES FAKE_SIZE FAKE_PAUSE FAKE_TRY FAKE_FAULT FAKE_OTHER NO_COLOR
 # shellcheck source=tools/launcher/stamp.bash
 crates=$(cd "$top" && . tools/launcher/stamp.bash && needed_lines | wc -l)
-held=0
+passed=0
 failed=0
 
 end_trial() {
@@ -19,48 +19,48 @@ end_trial() {
     rm -rf "$work"
 }
 
-# hold WHAT COMMAND..: the command must succeed.
-hold() {
+# check WHAT COMMAND..: the command must succeed.
+check() {
     local what=$1
     shift
     if "$@" > /dev/null 2>&1; then
-        held=$((held + 1))
-        echo "holds: $what"
+        passed=$((passed + 1))
+        echo "passed: $what"
     else
         failed=$((failed + 1))
-        echo "FAILS: $what"
+        echo "FAILED: $what"
         sed 's/^/    /' "$at"/err*
     fi
 }
 
 # Prints the first lines of the script.
-tell_help() {
+print_help() {
     sed -n '2,/^set -/p' "$0" | sed -n 's/^#$//p; s/^# //p'
     exit
 }
 
-tell_count() {
-    echo "tried: $held hold, $failed fail"
+print_count() {
+    echo "tried: $passed passed, $failed failed"
     [ "$failed" = 0 ]
 }
 
-# Makes a clone below the folder $at, with what is kept, temporary and said beside it, and the
-# folder here that the script is run in, with a file.
+# Makes a clone below the folder $at, beside the folders of the store, of temporary files and of
+# output, and the folder here that the script is run in, with a file.
 new_clone() {
     at=$work/$1
     clone=$at/clone
     words=(one two)
-    export FAKE_KEPT=$at/kept TMPDIR=$at/temporary
+    export FAKE_STORE=$at/store TMPDIR=$at/temporary
     FAKE_PINNED=$(head -n 1 "$top/KIT")
     export FAKE_PINNED
-    mkdir -p "$FAKE_KEPT" "$TMPDIR" "$at/here"
+    mkdir -p "$FAKE_STORE" "$TMPDIR" "$at/here"
     echo "file one" > "$at/here/one"
     git clone -q --depth 1 "file://$top" "$clone"
     rm -rf "$clone/tools"
     cp -Rp "$top/tools" "$top/oldstyle" "$top/KIT" "$clone/"
     git -C "$clone" add -A
     commit "The current script"
-    : > "$FAKE_KEPT/trace"
+    : > "$FAKE_STORE/trace"
 }
 
 commit() {
@@ -99,7 +99,7 @@ end_started() {
     wait "$started" 2> /dev/null || status=$?
 }
 
-has_proved() { [ "$(wc -l < "$FAKE_KEPT/trace")" -ge "$1" ]; }
+has_proved() { [ "$(wc -l < "$FAKE_STORE/trace")" -ge "$1" ]; }
 ends_with() { [ "$status" = "$1" ]; }
 gives() { [ "$(cat "$at/out$1")" = "$2" ]; }
 is_run() { [ "$status" = 0 ] && gives "$1" $'word: one\nfile one\nword: two\na line'; }
@@ -108,12 +108,13 @@ says_once() { [ "$(cat "$at"/err* | grep -c -- "$1")" = 1 ]; }
 says_nothing() { [ ! -s "$at/err" ]; }
 has_no_control() { ! grep -q $'[\e\r]' "$at/err"; }
 is_proved_once() {
-    [ "$(wc -l < "$FAKE_KEPT/trace")" = "$crates" ] && [ -z "$(sort "$FAKE_KEPT/trace" | uniq -d)" ]
+    [ "$(wc -l < "$FAKE_STORE/trace")" = "$crates" ] \
+        && [ -z "$(sort "$FAKE_STORE/trace" | uniq -d)" ]
 }
 is_clean() {
     local process
     while read -r process; do
         ! kill -0 "$process" || return 1
-    done < "$FAKE_KEPT/processes"
+    done < "$FAKE_STORE/processes"
     [ -z "$(ls "$TMPDIR")" ] && [ -z "$(git -C "$clone" status --short)" ]
 }

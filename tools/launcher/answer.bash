@@ -29,7 +29,7 @@ why_no_answer() {
     else
         while read -r -d '' file; do
             if [ ! -f "$file" ]; then
-                echo "${file@Q} is no plain file"
+                echo "${file@Q} is not a regular file"
                 return
             fi
         done < <(named_files "$@")
@@ -109,7 +109,7 @@ place_files() {
 start_answer() {
     (cd "$room/copy/crates/oldstyle" && TMPDIR=$room/temporary \
         exec rt try "${data[@]}" -- "${words[@]}") \
-        < "$answer/input" > "$answer/output" 2> "$answer/said" &
+        < "$answer/input" > "$answer/output" 2> "$answer/stderr" &
     tried=$!
 }
 
@@ -134,13 +134,13 @@ take_answer() {
     wait "$tried" || status=$?
     tried=""
     share_evenly
-    if ! grep -q '^run=ended ' "$answer/said"; then
-        say "no answer before the proof: $(sed -n 's/^checked: no-answer: //p' "$answer/said" |
+    if ! grep -q '^run=ended ' "$answer/stderr"; then
+        say "no answer before the proof: $(sed -n 's/^checked: no-answer: //p' "$answer/stderr" |
             grep . || echo "rt try ended with status $status")"
         return
     fi
     answered=$status
-    said_by_program > "$answer/errors"
+    program_errors > "$answer/errors"
     clear_line
     cat "$answer/output" 2> /dev/null || true
     cat "$answer/errors" >&2
@@ -149,13 +149,13 @@ take_answer() {
 }
 
 # Prints what the program wrote on standard error, with the words as they were typed.
-said_by_program() {
-    local said file
-    said=$(sed -e '/^checked: ended/,$d' -e '/^rt: /d' "$answer/said")
+program_errors() {
+    local text file
+    text=$(sed -e '/^checked: ended/,$d' -e '/^rt: /d' "$answer/stderr")
     for file in "${typed[@]}"; do
-        said=${said//"$from/$file"/"$file"}
+        text=${text//"$from/$file"/"$file"}
     done
-    [ -z "$said" ] || echo "$said"
+    [ -z "$text" ] || echo "$text"
 }
 
 # answer_again WORD..: lets the program answer the same, and ends with its status if both agree.

@@ -1,7 +1,7 @@
 # shellcheck shell=bash disable=SC2154  # part of `oldstyle`
-# Puts the program, its manual, the texts that complete its words, the clients in Python and R, and
-# the samples under a folder, in which they need neither the kit nor this repository, and takes them
-# away again.
+# Puts the program, its manual, the completions of shells, the clients in Python and R, the samples
+# and the units of systemd under a folder, in which they need neither the kit nor this repository,
+# and removes them again.
 to=""
 # Below the folder: names each file that was put there, this one too.
 list=share/oldstyle/files.txt
@@ -28,7 +28,7 @@ install_program() {
             "name a folder that you may write to, as ./oldstyle install FOLDER"
     say "installed under $to: bin/oldstyle, bin/oldstyle-web, bin/oldstyle-tei," \
         "bin/oldstyle-gedcom, share/man/man1/oldstyle.1, share/oldstyle/examples," \
-        "share/oldstyle/r and completions of bash, zsh and fish"
+        "share/oldstyle/deploy, share/oldstyle/r and completions of bash, zsh and fish"
     [[ :$PATH: == *":$to/bin:"* ]] ||
         say "$to/bin is not on the PATH: add it, or start $to/bin/oldstyle"
 }
@@ -61,7 +61,7 @@ put_clients() {
 
 # The samples' own scripts find the program beside their folder.
 put_all() {
-    local sample mode
+    local file mode
     mkdir -p "$to/${list%/*}" && echo "$list" > "$to/$list.new" &&
         put 755 "$program" bin/oldstyle &&
         put 644 docs/oldstyle.1 share/man/man1/oldstyle.1 &&
@@ -69,11 +69,11 @@ put_all() {
         put_completions zsh share/zsh/site-functions/_oldstyle &&
         put_completions fish share/fish/vendor_completions.d/oldstyle.fish &&
         put_clients || return
-    while read -r -d '' sample; do
+    while read -r -d '' file; do
         mode=644
-        [ ! -x "$sample" ] || mode=755
-        put $mode "$sample" "share/oldstyle/$sample" || return
-    done < <(find examples -name __pycache__ -prune -o -type f -print0)
+        [ ! -x "$file" ] || mode=755
+        put $mode "$file" "share/oldstyle/$file" || return
+    done < <(find examples deploy -name __pycache__ -prune -o -type f -print0)
     ln -sfn ../../bin/oldstyle "$to/share/oldstyle/oldstyle" &&
         echo share/oldstyle/oldstyle >> "$to/$list.new"
 }

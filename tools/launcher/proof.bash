@@ -107,7 +107,7 @@ prove() {
     wait "$prover" || status=$?
     prover=""
     show_progress
-    [ "$status" = 0 ] || give_up "$(what_failed); all that was said is in $log"
+    [ "$status" = 0 ] || give_up "$(what_failed); all output is in $log"
     take_program || give_up "it can't be put in its place, $program"
     say "built in $(clock "$began") minutes by ${built_by:-an unknown kit};" \
         "the next run starts at once"

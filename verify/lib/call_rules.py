@@ -5,7 +5,7 @@ import os
 from typing import NamedTuple
 
 from lib.keeper import PUBLISH
-from lib.session_draws import Session, journal, told_lines
+from lib.session_draws import Session, journal, reported_changes
 from lib.strace_lines import CHANGES
 
 # The kinds of calls that the rules name.
@@ -100,7 +100,7 @@ def save_rules(trace, way):
         trace.replies(), trace.changes())
     yield "the text goes to a new file beside the place", len(made) == 1 and precede(made, written)
     yield "the new file gets the whole journal", trace.written(beside) == journal(
-        [*way.begun, *way.session.taken])
+        [*way.begun, *way.session.accepted])
     yield "all of the text is written before the new file is synced", precede(written, synced)
     yield "the new file is synced before it takes the place", precede(synced, moved)
     yield "it takes the place in one step", len(moved) == 1
@@ -117,15 +117,15 @@ def replace_rules(trace, way, moved):
     """The rules of a save over a file that is there."""
     place, beside = way.place, way.place + ".unfinished"
     locks = trace.at("lock", name=place, where=lambda step: "LOCK_EX" in step.flags)
-    held = {trace.steps[at].file for at in locks}
+    locked_files = {trace.steps[at].file for at in locks}
     reads = trace.at("read", name="in")
     if way.is_loaded():
-        reads += trace.at("read", name=place, where=lambda step: step.file not in held)
+        reads += trace.at("read", name=place, where=lambda step: step.file not in locked_files)
     looks = trace.at("look", name=place, where=lambda step: step.file == 0)
     yield "the file is locked before the journal and the input are read", precede(locks, reads)
     yield "once it is locked, its path is looked at again", bool(between(locks, looks, reads))
     yield "it stays locked until another file has its place", not between(
-        [], trace.at("close", "unlock", where=lambda step: step.file in held), moved)
+        [], trace.at("close", "unlock", where=lambda step: step.file in locked_files), moved)
     yield "a file is replaced by a move", [trace.steps[at].kind for at in moved] == ["move"]
     yield "its permissions are given before the text is written", precede(
         trace.at("rights", name=beside), trace.at("write", name=beside))
@@ -184,23 +184,24 @@ def keep_rules(trace, way):
         == [False, False, True] for at in between(read, synced, [LATE]))
 
 
-def is_unfinished(held):
+def is_unfinished(content):
     """Returns whether a file's last line must be cut off, for the files that are tried here."""
-    return not held.endswith((b"\n", b"}"))
+    return not content.endswith((b"\n", b"}"))
 
 
 def change_rules(trace, way, writes):
     """The rules of each change that is kept, whose line is written at one of these places."""
     lines = [trace.steps[at].data for at in writes]
     yield "each change is one write of a whole line, and what is refused writes nothing", lines == [
-        line.encode() + b"\n" for line in way.session.taken]
-    told = [at for at in trace.replies() for _ in range(told_lines(trace.steps[at].data)[0])]
-    yield "each line is written before its reply", len(told) == len(writes) and all(
-        write < reply for write, reply in zip(writes, told))
+        line.encode() + b"\n" for line in way.session.accepted]
+    change_replies = [at for at in trace.replies()
+                      for _ in range(reported_changes(trace.steps[at].data)[0])]
+    yield "each line is written before its reply", len(change_replies) == len(writes) and all(
+        write < reply for write, reply in zip(writes, change_replies))
     synced = trace.at("sync", name=way.place)
-    yield "a publish is on the disk before its reply", len(told) == len(writes) and all(
+    yield "a publish is on the disk before its reply", len(change_replies) == len(writes) and all(
         any(write < sync < reply for sync in synced) for write, reply, line
-        in zip(writes, told, lines) if line == PUBLISH.encode() + b"\n")
+        in zip(writes, change_replies, lines) if line == PUBLISH.encode() + b"\n")
 
 
 def follow_rules(trace, way):

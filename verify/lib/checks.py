@@ -2,9 +2,9 @@
 failed = []
 
 
-def hold(what, holds, *why):
+def check(what, is_true, *why):
     """Prints a check that fails, with what was found instead."""
-    if not holds:
+    if not is_true:
         what = " ".join([what, *map(str, why)])
         failed.append(what)
         print(f"failed: {what}", flush=True)

@@ -162,7 +162,7 @@ def filled(files=None):
         os.close(pipe)
 
 
-def held(folder):
+def contents_of(folder):
     """What a folder holds: of each name the kind and the permissions, and of a file its text."""
     found = {}
     for entry in os.scandir(folder):
@@ -179,15 +179,15 @@ def is_refused(words, status, errors):
     return (status, errors) in ([NO_MEMORY, NO_PLACE] if words.startswith("desk") else [NO_MEMORY])
 
 
-def is_transcript(program, told):
+def is_transcript(program, output):
     """Returns whether a desk gave each question its reply, at an edition of the script."""
     asked = sorted(map(json.loads, QUESTIONS), key=lambda ask: ask["reader"])
     try:
-        if [json.loads(line)["ask"] for line in told.splitlines()] != asked:
+        if [json.loads(line)["ask"] for line in output.splitlines()] != asked:
             return False
     except ValueError:
         return False
-    with filled({"a.transcript": told.splitlines()}) as folder:
+    with filled({"a.transcript": output.splitlines()}) as folder:
         command = [program, "audit", "a.script", "a.transcript"]
         audit = subprocess.run(command, cwd=folder, capture_output=True, text=True, timeout=60)
     return audit.stdout == f"audit: {len(asked)} replies agree\n"

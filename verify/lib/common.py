@@ -31,11 +31,11 @@ def replies(program, lines):
     """The replies of the service to these lines, each of which must have one."""
     lines = list(lines)
     done = run(program, lines=lines)
-    told = done.stdout.splitlines()
-    if len(told) != len(lines):
-        sys.exit(f"{SCRIPT}: {program}: {len(told)} replies to {len(lines)} lines, status "
+    output = done.stdout.splitlines()
+    if len(output) != len(lines):
+        sys.exit(f"{SCRIPT}: {program}: {len(output)} replies to {len(lines)} lines, status "
                  f"{done.returncode}: {done.stderr}")
-    return told
+    return output
 
 
 @contextmanager

@@ -220,13 +220,13 @@ class Territory:
         return [day for day in self.days_of(date.label(1))
                 if self.date(day)[0] == date.year + 1]
 
-    def days_meant(self, date, given=None):
+    def days_meant(self, date, weekday=None):
         """The days that a date means: those first that are of the weekday."""
         if date.is_double:
             days = self.counted_double(date) + self.not_counted_double(date)
         else:
             days = self.days_of(date.label())
-        return sorted(days, key=lambda day: not has_weekday(date, given, day))
+        return sorted(days, key=lambda day: not has_weekday(date, weekday, day))
 
     def has_month_and_day(self, label):
         return any(label[1:] in days_by_month_and_day(regime[0]) for _, _, regime in self.periods)
@@ -255,8 +255,8 @@ def weekday_of(day):
     return WEEKDAYS[day % 7]
 
 
-def has_weekday(date, given, day):
-    return all(name in (None, weekday_of(day)) for name in (date.weekday, given))
+def has_weekday(date, weekday, day):
+    return all(name in (None, weekday_of(day)) for name in (date.weekday, weekday))
 
 
 def is_not_counted_double(territory, date, day):

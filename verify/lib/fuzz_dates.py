@@ -71,11 +71,11 @@ class Asked:
 def why_no_answer(reply):
     """What is wrong with the form of a reply."""
     try:
-        told = json.loads(reply)
-        answer = told["answer"]
+        value = json.loads(reply)
+        answer = value["answer"]
     except (ValueError, KeyError, TypeError):
         return f"no answer: {reply!r}"
-    if compact(told).encode() != reply or set(answer) != MEMBERS:
+    if compact(value).encode() != reply or set(answer) != MEMBERS:
         return f"not an answer in the form of FORMATS.md: {reply!r}"
     runs = answer["runs"]
     days = [run[end]["day"] for run in runs for end in ("first", "last")]
@@ -118,12 +118,12 @@ class Dates:
 
     def round(self, chance):
         asked = [Asked(chance) for _ in range(AT_ONCE)]
-        given = "".join(one.line() + "\n" for one in asked).encode()
-        done = Run([self.program, "serve", "--journal", JOURNAL], given)
+        stdin = "".join(one.line() + "\n" for one in asked).encode()
+        done = Run([self.program, "serve", "--journal", JOURNAL], stdin)
         replies = done.out.splitlines()
         if done.why_wrong() or done.status or len(replies) != len(asked):
-            return len(asked), [(f"{len(replies)} replies, status {done.status}, {done.told!r}",
-                                 "serve", given)]
+            return len(asked), [(f"{len(replies)} replies, status {done.status}, {done.stderr!r}",
+                                 "serve", stdin)]
         found = [(why, one.code, one.text.encode()) for one, reply in zip(asked, replies)
                  if (why := self.why_wrong(one, reply))]
         found += self.by_letters(asked, replies)
@@ -135,9 +135,9 @@ class Dates:
         """What is wrong with the answer to a date."""
         if why := why_no_answer(reply):
             return why
-        wanted = one.known()
-        if wanted is not None and wanted != json.loads(reply)["answer"]:
-            return f"{reply!r}, wanted {compact(wanted)}"
+        expected = one.known()
+        if expected is not None and expected != json.loads(reply)["answer"]:
+            return f"{reply!r}, wanted {compact(expected)}"
         return ""
 
     def by_letters(self, asked, replies):
@@ -151,7 +151,7 @@ class Dates:
         done = Run([self.program, "letters", JOURNAL], table.getvalue().encode())
         found = list(csv.DictReader(io.StringIO(done.out.decode(), newline="")))
         if done.status or len(found) != len(pairs):
-            return [(f"{len(found)} rows, {done.told!r}", "letters", table.getvalue().encode())]
+            return [(f"{len(found)} rows, {done.stderr!r}", "letters", table.getvalue().encode())]
         return [(f"{why}: the row {row}, the answer {answer}", one.code, one.text.encode())
                 for (one, answer), row in zip(pairs, found) if (why := why_other_row(answer, row))]
 
@@ -162,7 +162,7 @@ class Dates:
         words = ["--weekday", one.weekday] if one.weekday else []
         done = Run([self.program, "read", JOURNAL, one.code, *words, "--", one.text])
         why, kind = done.why_wrong(), json.loads(reply)["answer"]["kind"]
-        is_refused = kind == "none" or TWO_WEEKDAYS in done.told
-        if not why and (done.status, done.told.count(b"\n")) != (2 * is_refused, int(is_refused)):
-            why = f"status {done.status}, {done.told!r}, but {reply!r}"
+        is_refused = kind == "none" or TWO_WEEKDAYS in done.stderr
+        if not why and (done.status, done.stderr.count(b"\n")) != (2 * is_refused, int(is_refused)):
+            why = f"status {done.status}, {done.stderr!r}, but {reply!r}"
         return [(why, ["read", one.code, *words], one.text.encode())] if why else []

@@ -141,7 +141,7 @@ def bad_header(columns):
     return None
 
 
-def lines_wanted(table, named):
+def expected_lines(table, named):
     """The rows that must be written, each with its twelve fields or None, and what is reported."""
     rows, columns = [], None
     for line, separator, fields, why in records(table, named):
@@ -201,8 +201,8 @@ class Letters:
         word = chance.choice([None] * 8 + list(SEPARATORS))
         words = ["--separator", word] if word else []
         done = Run([self.program, "letters", JOURNAL, *words], table)
-        rows, fault = lines_wanted(table, SEPARATORS[word].encode() if word else None)
+        rows, fault = expected_lines(table, SEPARATORS[word].encode() if word else None)
         why = done.why_wrong() or why_other(done.out, rows)
-        if not why and (done.status, done.told) != (1 if fault else 0, fault):
-            why = f"status {done.status} and {done.told!r}, wanted {fault!r}"
+        if not why and (done.status, done.stderr) != (1 if fault else 0, fault):
+            why = f"status {done.status} and {done.stderr!r}, wanted {fault!r}"
         return 1, [(why, words, table)] if why else []

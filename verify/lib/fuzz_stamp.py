@@ -92,11 +92,11 @@ def is_other(tree, other):
     return tree._replace(links=None) != other._replace(links=None)
 
 
-def write(folder, path, held):
+def write(folder, path, content):
     path = os.path.join(folder, path)
     os.makedirs(os.path.dirname(path), exist_ok=True)
     with open(path, "wb") as file:
-        file.write(held)
+        file.write(content)
 
 
 def build(chance, folder, tree, links):
@@ -104,16 +104,16 @@ def build(chance, folder, tree, links):
     paths, by_text = list(tree.files), {}
     chance.shuffle(paths)
     for number, path in enumerate(paths):
-        held, full = tree.files[path], os.path.join(folder, path)
+        content, full = tree.files[path], os.path.join(folder, path)
         os.makedirs(os.path.dirname(full), exist_ok=True)
         if path in links:
-            write(folder, b"elsewhere/%d" % number, held)
+            write(folder, b"elsewhere/%d" % number, content)
             os.symlink(os.path.join(folder, b"elsewhere/%d" % number), full)
-        elif held in by_text and chance.random() < 0.3:
-            os.link(by_text[held], full)
+        elif content in by_text and chance.random() < 0.3:
+            os.link(by_text[content], full)
         else:
-            write(folder, path, held)
-            by_text[held] = full
+            write(folder, path, content)
+            by_text[content] = full
             os.chmod(full, chance.choice([0o644, 0o600, 0o755, 0o444]))
         if chance.random() < 0.5:
             os.utime(full, (chance.randrange(2**31),) * 2)
@@ -155,7 +155,7 @@ class Stamps:
             for folder in folders:
                 shutil.rmtree(folder, ignore_errors=True)
         why = ""
-        if not all(len(told) > 100 for told in sums):
+        if not all(len(line) > 100 for line in sums):
             why = f"a tree has no sum: {sums}"
         elif sums[0] != sums[1]:
             why = "the twin has another sum"

@@ -129,11 +129,11 @@ def known(text):
     if DEEP_KEY.match(text):
         return None, None
     try:
-        said = text.decode()
-        tables = tomllib.loads(said)
-        if depth_of(tables) > DEPTH or has_long_number(tables) or said.startswith("\ufeff"):
+        document = text.decode()
+        tables = tomllib.loads(document)
+        if depth_of(tables) > DEPTH or has_long_number(tables) or document.startswith("\ufeff"):
             return None, None
-        return lands_of(said), None
+        return lands_of(document), None
     except TextFault as fault:
         return None, fault_words(fault)
     except (ValueError, RecursionError):
@@ -149,9 +149,9 @@ class Program:
     def path(self, name):
         return os.path.join(self.folder, name)
 
-    def put(self, name, held):
+    def put(self, name, content):
         with open(self.path(name), "wb") as file:
-            file.write(held)
+            file.write(content)
 
     def is_right(self, what, is_right):
         self.why = self.why or ("" if is_right else what)
@@ -177,32 +177,33 @@ class Registers(Program):
         lands, fault = known(text)
         planned = self.run("plan", "empty", "a.toml")
         if planned and planned.status:
-            self.hold_fault(planned, lands, fault)
+            self.check_fault(planned, lands, fault)
         elif planned:
             self.is_right(f"it is taken, wanted {fault}", fault is None)
-            self.hold_taken(planned, lands)
+            self.check_taken(planned, lands)
         return 1, [(self.why, "plan", text)] if self.why else []
 
-    def hold_fault(self, planned, lands, fault):
+    def check_fault(self, planned, lands, fault):
         """Checks that a text that is refused has its first fault printed, and is not published."""
-        told = planned.told
-        self.is_right(f"{told!r}, and the text is right", lands is None)
+        stderr = planned.stderr
+        self.is_right(f"{stderr!r}, and the text is right", lands is None)
         self.is_right(f"it printed {planned.out!r}", planned.out == b"")
         if fault is not None:
-            wanted = f"oldstyle: {self.path('a.toml')}: {fault}\n".encode()
-            self.is_right(f"printed {told!r}, wanted {wanted!r}", told == wanted)
-        self.is_right(f"printed {told!r}, with control characters", not CONTROL.search(told[:-1]))
+            expected = f"oldstyle: {self.path('a.toml')}: {fault}\n".encode()
+            self.is_right(f"printed {stderr!r}, wanted {expected!r}", stderr == expected)
+        self.is_right(f"printed {stderr!r}, with control characters",
+                      not CONTROL.search(stderr[:-1]))
         done = self.run("publish", "empty", "a.toml")
-        self.is_right(f"publish prints {done and done.told!r}, plan {told!r}",
-                      done and done.told == told)
+        self.is_right(f"publish prints {done and done.stderr!r}, plan {stderr!r}",
+                      done and done.stderr == stderr)
         with open(self.path("empty"), "rb") as file:
             self.is_right("a publish that is refused changes the journal", file.read() == HEAD)
 
-    def hold_taken(self, planned, lands):
+    def check_taken(self, planned, lands):
         """A text that is taken is published, and is read back as the same."""
         for name in ("first", "second"):
             self.put(name, HEAD)
-        self.is_right(f"plan prints {planned.told!r}", planned.told == b"")
+        self.is_right(f"plan prints {planned.stderr!r}", planned.stderr == b"")
         self.run("publish", "first", "a.toml")
         first = self.run("text", "first")
         if first is None:

@@ -14,7 +14,7 @@ from lib.common import compact
 from lib.fuzz_dates import CODES, SAMPLES as DATES, WEEKDAYS, WORDS as DATE_WORDS
 from lib.fuzz_letters import JOURNAL, SAMPLES as TABLES
 from lib.mutations import Run, mutated
-from web_runs import Page
+from lib.web_runs import Page
 
 AT_ONCE = 40
 SECONDS = 40
@@ -60,48 +60,48 @@ WORDS = [b"GET ", b"POST ", b"HEAD ", b" HTTP/1.1", b" HTTP/9.9", b" HTTP/1.1\r\
          b"boundary=", b"--b", b'name="table"', b"Host: ", b"X: y\r\n", b" folded\r\n", b"//", b"?"]
 
 
-def sent(page, given):
+def sent(page, request):
     """The first reply to bytes. If they are not a whole request, none comes while it waits."""
-    held = b""
+    response = b""
     with socket.create_connection((page.host, page.port), SECONDS) as connection:
         try:
-            connection.sendall(given)
-            connection.settimeout(SECONDS if is_whole(given) else QUIET)
-            while (size := reply_size(given, held)) is None or len(held) < size:
+            connection.sendall(request)
+            connection.settimeout(SECONDS if is_whole(request) else QUIET)
+            while (size := reply_size(request, response)) is None or len(response) < size:
                 if not (block := connection.recv(65_536)):
                     break
-                held += block
+                response += block
         except (ConnectionError, TimeoutError):
             pass
-    return held[:reply_size(given, held)]
+    return response[:reply_size(request, response)]
 
 
-def is_whole(given):
+def is_whole(request):
     """Returns whether bytes are a request that is complete, as far as can be seen from them."""
-    head, ends, body = given.partition(b"\r\n\r\n")
+    head, ends, body = request.partition(b"\r\n\r\n")
     return bool(ends) and head.startswith(b"GET ") and not body and b"ontent-" not in head
 
 
-def reply_size(given, held):
+def reply_size(request, response):
     """How many bytes a reply has, or None if its head doesn't say so yet."""
-    if not (head := HEAD.match(held)):
+    if not (head := HEAD.match(response)):
         return None
-    if given.startswith(b"HEAD ") or head[1] == b"304":
+    if request.startswith(b"HEAD ") or head[1] == b"304":
         return head.end()
     length = LENGTH.search(head[2])
     return head.end() + int(length[1]) if length else None
 
 
-def why_wrong(given, held):
+def why_wrong(request, response):
     """What is wrong with a reply."""
-    words = given.partition(b"\n")[0].decode("latin-1").split()
-    if not held and not is_whole(given) or len(words) < 3:
+    words = request.partition(b"\n")[0].decode("latin-1").split()
+    if not response and not is_whole(request) or len(words) < 3:
         # (no request; or one of the first version of HTTP)
         return ""
-    head = HEAD.match(held)
+    head = HEAD.match(response)
     if not head or int(head[1]) not in STATUSES:
-        return f"the reply {held[:200]!r}"
-    length, body = LENGTH.search(head[2]), held[head.end():]
+        return f"the reply {response[:200]!r}"
+    length, body = LENGTH.search(head[2]), response[head.end():]
     has_body = words[0] != "HEAD" and head[1] != b"304"
     if length and has_body and int(length[1]) != len(body):
         return f"{len(body)} bytes of a body of {int(length[1])}"
@@ -122,12 +122,12 @@ class Web:
     def round(self, chance):
         found, dates = [], []
         for _ in range(AT_ONCE):
-            given, date = self.request(chance)
-            held = sent(self.page, given)
-            why = why_wrong(given, held)
+            request, date = self.request(chance)
+            response = sent(self.page, request)
+            why = why_wrong(request, response)
             if not why and date:
-                dates.append((given, date, held))
-            found += [(why, "as bytes", given)] if why else []
+                dates.append((request, date, response))
+            found += [(why, "as bytes", request)] if why else []
         found += self.why_other_dates(dates)
         if why := self.why_broken():
             found.append((why, "after these requests", b""))
@@ -149,8 +149,8 @@ class Web:
 
     def why_other_dates(self, dates):
         """Each date that the page answers otherwise than the query."""
-        asked = [(given, date, json.loads(held[HEAD.match(held).end():])) for given, date, held
-                 in dates if HEAD.match(held)[1] == b"200"]
+        asked = [(request, date, json.loads(response[HEAD.match(response).end():]))
+                 for request, date, response in dates if HEAD.match(response)[1] == b"200"]
         asked = [one for one in asked if "written" in one[2]]
         lines = [compact({"op": "written", "reader": 1, "code": date["code"],
                           "date": date["date"].strip(),
@@ -160,14 +160,15 @@ class Web:
                    "".join(line + "\n" for line in lines).encode())
         replies = done.out.splitlines()
         if len(replies) != len(lines):
-            return [(f"{len(replies)} replies: {done.told!r}", "serve", "\n".join(lines).encode())]
-        return [(f"{told['written']}, but the query {reply!r}", "a date", given)
-                for (given, _, told), reply in zip(asked, replies)
-                if told["written"] != json.loads(reply).get("answer")]
+            return [(f"{len(replies)} replies: {done.stderr!r}", "serve",
+                     "\n".join(lines).encode())]
+        return [(f"{answer['written']}, but the query {reply!r}", "a date", request)
+                for (request, _, answer), reply in zip(asked, replies)
+                if answer["written"] != json.loads(reply).get("answer")]
 
     def why_broken(self):
         """What the page reported of itself, or that it answers no more."""
-        if (told := self.page.told()) or self.page.process.poll() is not None:
-            return f"it printed {told!r}, status {self.page.process.poll()}"
+        if (errors := self.page.errors_text()) or self.page.process.poll() is not None:
+            return f"it printed {errors!r}, status {self.page.process.poll()}"
         status = self.page.get("/")[0]
         return "" if status == 200 else f"a good request is answered by {status}"

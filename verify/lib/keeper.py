@@ -9,7 +9,7 @@ from lib.common import JULIAN, compact
 
 HEAD, PUBLISH = compact({"journal": 2}), compact({"op": "publish"})
 HEAD_4 = compact({"journal": 4})
-HELD = (3, "", "oldstyle: another run of the program keeps that journal\n")
+LOCKED = (3, "", "oldstyle: another run of the program keeps that journal\n")
 REPLACED = ("oldstyle: another program moved, replaced or changed the journal: "
             "no more is kept in it\n")
 # The same of a journal that is followed.
@@ -59,8 +59,8 @@ def journal_lines(path):
     """The lines of a file, and what is after them and not a line: its last line may lack the
     line feed alone."""
     with open(path, encoding="utf-8") as file:
-        held = file.read()
-    lines, rest = held.split("\n")[:-1], held.split("\n")[-1]
+        content = file.read()
+    lines, rest = content.split("\n")[:-1], content.split("\n")[-1]
     return (lines + [rest], "") if rest.endswith("}") else (lines, rest)
 
 

@@ -4,7 +4,7 @@ import random
 import threading
 import time
 
-from lib.checks import hold
+from lib.checks import check
 from lib.common import GREGORIAN, JULIAN, compact
 from lib.keeper import PUBLISH, Run, journal_lines, land
 
@@ -34,13 +34,14 @@ def keep_until_killed(running, chance, journal, editions, count):
         running.send(edits + [json.loads(PUBLISH)])
         running.wait_for(known + len(edits) + 1)
         time.sleep(chance.uniform(0, 0.003))
-        told = running.replies[known:]
-        hold(f"{edits} are answered {told}", all("ok" in reply for reply in told))
-        if len(told) <= len(edits):
+        new_replies = running.replies[known:]
+        check(f"{edits} are answered {new_replies}", all("ok" in reply for reply in new_replies))
+        if len(new_replies) <= len(edits):
             break
         editions, towns = editions + 1, min(towns + 1, TOWNS)
-        hold(f"edition {editions} is answered {told[-1]}", told[-1].get("edition") == editions)
-        journal.tell(editions)
+        check(f"edition {editions} is answered {new_replies[-1]}",
+              new_replies[-1].get("edition") == editions)
+        journal.report(editions)
     timer.cancel()
     return editions
 
@@ -76,7 +77,7 @@ def keep_all(options, journal, copies):
         else:
             running.process.kill()
         _, errors = running.stopped()
-        hold(f"a keeper says {errors!r}", ("is cut off" in errors) == is_cut)
+        check(f"a keeper says {errors!r}", ("is cut off" in errors) == is_cut)
         if editions == options.count:
             return stops
         stops += 1

@@ -15,25 +15,25 @@ FAULTS = {"form": "malformed date", "short year": "year of one or two digits",
 SPACES = " \t\n\r\f"
 
 
-def number_remark(date, given, days):
+def number_remark(date, weekday, days):
     """The remark on several days."""
     if len(days) < 2:
         return []
-    is_given = given is not None or date.weekday is not None
-    have_it = [day for day in days if has_weekday(date, given, day)]
+    is_given = weekday is not None or date.weekday is not None
+    have_it = [day for day in days if has_weekday(date, weekday, day)]
     return ["by its weekday" if is_given and len(have_it) == 1 else "several days"]
 
 
-def remarks_of_days(territory, date, given, days):
+def remarks_of_days(territory, date, weekday, days):
     if not days:
         return [territory.absence(date)]
-    differs = not any(has_weekday(date, given, day) for day in days)
+    differs = not any(has_weekday(date, weekday, day) for day in days)
     alone = any(is_not_counted_double(territory, date, day) for day in days)
-    return [*number_remark(date, given, days), *(["weekday differs"] if differs else []),
+    return [*number_remark(date, weekday, days), *(["weekday differs"] if differs else []),
             *(["not counted double there"] if alone else [])]
 
 
-def meant_in_place(territories, code, text, given):
+def meant_in_place(territories, code, text, weekday):
     """The days of a row with their territory, the kind of its date, and the remarks on them."""
     territory = territories.get(code)
     unknown = [] if territory else ["unknown place"]
@@ -44,16 +44,16 @@ def meant_in_place(territories, code, text, given):
     beside = ["year of three digits"] if date.has_three_digits else []
     if territory is None:
         return None, [], "day", [*unknown, *beside]
-    days = territory.days_meant(date, given)
-    return territory, days, "day", [*remarks_of_days(territory, date, given, days), *beside]
+    days = territory.days_meant(date, weekday)
+    return territory, days, "day", [*remarks_of_days(territory, date, weekday, days), *beside]
 
 
 def letter_fields(territories, edition, code, text, weekday=""):
     """The twelve fields, of a row whose place, date and weekday are these."""
     code, text, weekday = (field.strip(SPACES) for field in (code, text, weekday))
-    given = weekday_named(weekday)
-    territory, days, kind, remarks = meant_in_place(territories, code, text, given)
-    if weekday and given is None:
+    named = weekday_named(weekday)
+    territory, days, kind, remarks = meant_in_place(territories, code, text, named)
+    if weekday and named is None:
         remarks.append("malformed weekday")
     gregorian, julian = ([written(dates(name)[day]) for day in days]
                          for name in ("gregorian", "julian"))

@@ -48,13 +48,13 @@ def change(chance, text, samples, words):
 class Run:
     """How a run ended: with the status None if it didn't."""
 
-    def __init__(self, command, given=b"", folder=None):
+    def __init__(self, command, stdin=b"", folder=None):
         try:
-            done = subprocess.run(command, input=given, capture_output=True, timeout=SECONDS,
+            done = subprocess.run(command, input=stdin, capture_output=True, timeout=SECONDS,
                                   check=False, cwd=folder)
-            self.status, self.out, self.told = done.returncode, done.stdout, done.stderr
+            self.status, self.out, self.stderr = done.returncode, done.stdout, done.stderr
         except subprocess.TimeoutExpired:
-            self.status, self.out, self.told = None, b"", b""
+            self.status, self.out, self.stderr = None, b"", b""
 
     def why_wrong(self):
         """What no run may do: never end, end by a signal, with another status than 0 to 4, or with
@@ -62,9 +62,9 @@ class Run:
         if self.status is None:
             return f"no end within {SECONDS} seconds"
         if not 0 <= self.status <= 4:
-            return f"it ended with {self.status}: {self.told!r}"
+            return f"it ended with {self.status}: {self.stderr!r}"
         if self.status == 0:
-            return f"it reported {self.told!r}" if self.told else ""
-        if not self.told.startswith((b"oldstyle: ", b"error: ")) or self.told[-1:] != b"\n":
-            return f"with status {self.status} it reported {self.told!r}"
+            return f"it reported {self.stderr!r}" if self.stderr else ""
+        if not self.stderr.startswith((b"oldstyle: ", b"error: ")) or self.stderr[-1:] != b"\n":
+            return f"with status {self.status} it reported {self.stderr!r}"
         return ""

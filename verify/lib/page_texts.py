@@ -53,23 +53,23 @@ def numbered(territory, day):
     return f"{named(territory, day)} (day {day})"
 
 
-def verdict(day, *given):
+def verdict(day, *weekdays):
     """The remark on the weekdays that were given, of which there may be none."""
-    names = [name for name in given if name is not None]
+    names = [name for name in weekdays if name is not None]
     others = [name for name in names if name != weekday_of(day)]
     return f" not {others[0]}" if others else " ok" if names else ""
 
 
-def day_line(territory, day, said=""):
+def day_line(territory, day, remark=""):
     return (f"{named(territory, day)}    {in_words('gregorian', day)} Gregorian    "
-            f"{in_words('julian', day)} Julian    day {day}    JDN {day + 1_721_425}{said}")
+            f"{in_words('julian', day)} Julian    day {day}    JDN {day + 1_721_425}{remark}")
 
 
 # The page of a date.
 
 
-def meant_lines(territory, date, given, day):
-    yield day_line(territory, day, verdict(day, date.weekday, given))
+def meant_lines(territory, date, weekday, day):
+    yield day_line(territory, day, verdict(day, date.weekday, weekday))
     if is_not_counted_double(territory, date, day):
         yield f"not counted double there: the place wrote {territory.dual(day)}"
 
@@ -129,9 +129,9 @@ def three_digits_lines(date):
     return ["year of three digits"] if date.has_three_digits else []
 
 
-def reading_page(place, date, given):
-    days = place.territory.days_meant(date, given)
-    lines = [line for day in days for line in meant_lines(place.territory, date, given, day)]
+def reading_page(place, date, weekday):
+    days = place.territory.days_meant(date, weekday)
+    lines = [line for day in days for line in meant_lines(place.territory, date, weekday, day)]
     return [f"{date_written(date)} in {place.heading()}",
             *(lines or why_lines(place.territory, date)), *three_digits_lines(date)]
 

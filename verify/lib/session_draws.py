@@ -13,24 +13,24 @@ PERIODS = '{"op":"periods","reader":1,"code":"T0"}'
 class Session(NamedTuple):
     """Lines that are sent, and those of them that change the register, in order."""
     sent: list
-    taken: list
+    accepted: list
 
-    def given(self):
+    def stdin(self):
         return "".join(line + "\n" for line in self.sent).encode()
 
 
 def session(chance, count, begun=()):
     """A session of an editor who continues after these lines of a journal, without its head. One
     line in ten is refused or is not a request, and one in ten asks."""
-    editor, sent, taken = editor_after(chance.random(), begun), [], []
-    while len(taken) < count:
+    editor, sent, accepted = editor_after(chance.random(), begun), [], []
+    while len(accepted) < count:
         if chance.random() < 0.1:
             sent.append(chance.choice([LANDS, PERIODS, "no request", "[]"]))
-        request, is_taken = editor.next()
+        request, is_accepted = editor.next()
         sent.append(compact(request))
-        if is_taken:
-            taken.append(sent[-1])
-    return Session(sent, taken)
+        if is_accepted:
+            accepted.append(sent[-1])
+    return Session(sent, accepted)
 
 
 def journal(lines, head=HEAD):
@@ -38,7 +38,7 @@ def journal(lines, head=HEAD):
     return "".join(line + "\n" for line in [head, *lines]).encode()
 
 
-def told_lines(out):
+def reported_changes(out):
     """How many of the replies in an output report a change, and the last edition in them. A last
     line that is not whole counts for nothing."""
     replies = [json.loads(line) for line in out.split(b"\n")[:-1]]

@@ -201,8 +201,8 @@ def none_lines(territory, span, why):
 def sureness(span):
     words = [(span.approximate, "approximate"), (span.uncertain, "in doubt"),
              (span.supplied, "supplied by an editor")]
-    said = "; ".join(word for is_said, word in words if is_said)
-    return [said] if said else []
+    text = "; ".join(word for applies, word in words if applies)
+    return [text] if text else []
 
 
 def own_dates(place, runs):
@@ -222,11 +222,11 @@ def calendar_lines(place, reckoning, runs, own):
     return [f"read as {style} Style, as the date says; {own_dates(place, runs)}"]
 
 
-def reckoned_page(place, date, given, reckoning):
+def reckoned_page(place, date, weekday, reckoning):
     """The page of a date of one day that names a calendar."""
     by_name = Reckoned(place.territory, reckoning)
-    days = by_name.days_meant(date, given)
-    lines = [line for day in days for line in meant_lines(place.territory, date, given, day)]
+    days = by_name.days_meant(date, weekday)
+    lines = [line for day in days for line in meant_lines(place.territory, date, weekday, day)]
     named = f"{date.weekday} " if date.weekday else ""
     sign = {"old": "O.S.", "new": "N.S."}[reckoning]
     runs, own = (runs_of(sorted(found)) or "first"

@@ -163,7 +163,7 @@ def steps_of(text, folder_reader):
     return [step for line in text.splitlines() if (step := folder_reader.step(line))]
 
 
-def traced(command, folder, given=b"", inject: Optional[str] = None):
+def traced(command, folder, stdin=b"", inject: Optional[str] = None):
     """Runs a command under strace in a folder, with this input, a call of it refused or not."""
     reader = Reader(folder)
     with tempfile.TemporaryDirectory() as room:
@@ -171,8 +171,8 @@ def traced(command, folder, given=b"", inject: Optional[str] = None):
         words = ["strace", "-f", "-qq", "-xx", "-s", "100000000", "-o", path,
                  "-e", "trace=%file,%desc"]
         words += ["-e", f"inject={inject}"] if inject else []
-        with open(os.path.join(room, "given"), "w+b") as file:
-            file.write(given)
+        with open(os.path.join(room, "stdin"), "w+b") as file:
+            file.write(stdin)
             file.seek(0)
             done = subprocess.run([*words, *command], cwd=folder, stdin=file, capture_output=True,
                                   timeout=SECONDS, check=False)

@@ -24,9 +24,9 @@ DATE = re.compile(r"([0-9]{3,9})-([0-9]{1,2})-([0-9]{1,2})")
 class TextFault(Exception):
     """What is wrong with a text, and the keys that lead there."""
 
-    def __init__(self, path, reason, said=None):
-        super().__init__(path, reason, said)
-        self.path, self.reason, self.said = path, reason, said
+    def __init__(self, path, reason, detail=None):
+        super().__init__(path, reason, detail)
+        self.path, self.reason, self.detail = path, reason, detail
 
 
 chain = functools.cache(chain)
@@ -128,15 +128,15 @@ def source_of(members, path):
 
 def day_at(members, path, name):
     """The day at a key: a date in a calendar, or a day number."""
-    given, path = needed(members, path, name), f"{path}.{name}"
-    if not isinstance(given, dict) or len(given) != 1:
+    table, path = needed(members, path, name), f"{path}.{name}"
+    if not isinstance(table, dict) or len(table) != 1:
         raise TextFault(path, "NotDay")
-    (calendar, said), = given.items()
-    if calendar == "day" and type(said) is int:
-        return said
-    if calendar in CALENDARS and isinstance(said, (datetime.date, datetime.time)):
+    (calendar, value), = table.items()
+    if calendar == "day" and type(value) is int:
+        return value
+    if calendar in CALENDARS and isinstance(value, (datetime.date, datetime.time)):
         raise TextFault(path, "Unquoted")
-    is_date = calendar in CALENDARS and isinstance(said, str) and DATE.fullmatch(said)
+    is_date = calendar in CALENDARS and isinstance(value, str) and DATE.fullmatch(value)
     if not is_date:
         raise TextFault(path, "NotDay")
     day = day_of(calendar, *map(int, is_date.groups()))
@@ -177,18 +177,18 @@ def list_of(members, path, name):
 # ---- the edits between two registers
 
 
-def differences(lands, wanted):
+def differences(lands, expected):
     """The edits that change lands into the expected ones, whose order doesn't matter: an Easter on
     another day, or with another source, is dropped and added."""
-    for code, land in wanted.items():
+    for code, land in expected.items():
         yield from territory_differences(code, lands.get(code), land)
 
 
-def territory_differences(code, land, wanted):
+def territory_differences(code, land, expected):
     if land is None:
-        regime, source = dict(zip(WORDS, wanted.starts[1])), cited(wanted.sources, 1)
-        yield {"op": "add_land", "code": code, "name": wanted.name, **regime, **source}
-    there, starts = periods_of(land), periods_of(wanted)
+        regime, source = dict(zip(WORDS, expected.starts[1])), cited(expected.sources, 1)
+        yield {"op": "add_land", "code": code, "name": expected.name, **regime, **source}
+    there, starts = periods_of(land), periods_of(expected)
     there = {1: starts[1]} if land is None else there
     for day in sorted(there.keys() - starts.keys()):
         yield {"op": "drop_change", "code": code, "day": day}
@@ -196,7 +196,7 @@ def territory_differences(code, land, wanted):
         if there.get(day) != (regime, source):
             op = "alter_change" if day in there else "add_change"
             yield {"op": op, "code": code, "day": day, **dict(zip(WORDS, regime)), **source}
-    there, easters = easters_of(land), easters_of(wanted)
+    there, easters = easters_of(land), easters_of(expected)
     for year in sorted(year for year in there if easters.get(year) != there[year]):
         yield {"op": "drop_exception", "code": code, "year": year}
     for year, (day, source) in sorted(easters.items()):
@@ -216,9 +216,9 @@ def easters_of(land):
     return {year: (day, cited(land.easter_sources, year)) for year, day in exceptions.items()}
 
 
-def after(lands, wanted):
+def after(lands, expected):
     """The register after a publish: each territory of the text as it says, the others as before."""
-    return {**lands, **wanted}
+    return {**lands, **expected}
 
 
 def shown(lands):

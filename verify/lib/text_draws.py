@@ -60,17 +60,18 @@ class Draws:
         codes = sorted(codes) if self.chance.random() < 0.7 else list(codes)
         return {code: self.land() for code in codes}
 
-    def wanted_after(self, lands):
+    def expected_after(self, lands):
         """Some of the territories as they are, others changed, and new ones."""
-        wanted = {}
+        expected = {}
         for code, land in lands.items():
             kind = self.chance.random()
             if kind < 0.2:
                 continue
-            wanted[code] = (land.copy() if kind < 0.4 else self.changed(land) if kind < 0.8
-                            else self.land(land.name))
+            expected[code] = (land.copy() if kind < 0.4 else self.changed(land) if kind < 0.8
+                              else self.land(land.name))
         further = self.register(2)
-        return {**wanted, **{code: further[code] for code in sorted(further.keys() - lands.keys())}}
+        added = sorted(further.keys() - lands.keys())
+        return {**expected, **{code: further[code] for code in added}}
 
     def changed(self, land):
         """A territory with a few other changes, listed Easters and sources."""
@@ -114,9 +115,9 @@ class Draws:
                 members[name] = f"[\n{rows}]"
             else:
                 parts += [self.table(f"[[{code}.{name}]]", table) for table in tables]
-        given = [f"{name} = {value}" for name, value in members.items()]
-        given += self.cited(land.sources, 1)
-        return self.table(f"[{code}]", given + self.note()) + "".join(parts)
+        lines = [f"{name} = {value}" for name, value in members.items()]
+        lines += self.cited(land.sources, 1)
+        return self.table(f"[{code}]", lines + self.note()) + "".join(parts)
 
     def table(self, head, members):
         """A table with its members in any order, with comments and empty lines or without."""
@@ -128,17 +129,17 @@ class Draws:
         before = land.starts[1]
         for day in sorted(land.starts)[1:]:
             regime = land.starts[day]
-            said = [f"{word} = {self.string(new)}" for word, old, new in zip(WORDS, before, regime)
-                    if old != new or self.chance.random() < 0.2]
-            yield [self.day("from", day)] + said + self.cited(land.sources, day) + self.note()
+            lines = [f"{word} = {self.string(new)}" for word, old, new in zip(WORDS, before, regime)
+                     if old != new or self.chance.random() < 0.2]
+            yield [self.day("from", day)] + lines + self.cited(land.sources, day) + self.note()
             before = regime
 
     def easters(self, land):
         years = list(land.exceptions)
         self.chance.shuffle(years)
         for year in years:
-            given = [f"year = {year}", self.day("date", land.exceptions[year])]
-            yield given + self.cited(land.easter_sources, year) + self.note()
+            lines = [f"year = {year}", self.day("date", land.exceptions[year])]
+            yield lines + self.cited(land.easter_sources, year) + self.note()
 
     def cited(self, sources, of):
         return [f"source = {self.string(sources[of])}"] if of in sources else []
@@ -150,14 +151,14 @@ class Draws:
         """A day at a key, as a date in one of the calendars or by its number."""
         name = self.chance.choice(CALENDARS + ["day"])
         if name == "day":
-            said = f"{day:_}" if self.chance.random() < 0.2 else day
+            value = f"{day:_}" if self.chance.random() < 0.2 else day
         else:
             year, month, of_month = date_on(name, day)
             width = self.chance.randint(1, 2)
-            said = self.string(f"{year:0{self.chance.randint(3, 5)}}-{month:0{width}}"
-                               f"-{of_month:0{self.chance.randint(1, 2)}}")
+            value = self.string(f"{year:0{self.chance.randint(3, 5)}}-{month:0{width}}"
+                                f"-{of_month:0{self.chance.randint(1, 2)}}")
         form = self.chance.choice(["{} = {{ {} = {} }}", "{} = {{{}={}}}", "{}.{} = {}"])
-        return form.format(key, name, said)
+        return form.format(key, name, value)
 
     def string(self, text):
         """A text of TOML, in one of its forms."""

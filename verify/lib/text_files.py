@@ -1,7 +1,7 @@
 """A folder with journals and texts of registers, and runs over them, for register_text.py."""
 import os
 
-from lib.checks import hold
+from lib.checks import check
 from lib.common import compact, run
 from reference import Service, version_of
 from lib.text_draws import journal_lines
@@ -32,11 +32,11 @@ class Files:
         self.runs += 1
         return run(self.program, words, lines)
 
-    def printed(self, what, *words, told=""):
+    def printed(self, what, *words, stderr=""):
         """What a run prints on standard output, if its standard error is as given."""
         done = self.run(*words)
-        hold(f"{what}: {words[0]} ends {done.returncode} {done.stderr!r}",
-             (done.returncode, done.stderr) == (0, told))
+        check(f"{what}: {words[0]} ends {done.returncode} {done.stderr!r}",
+              (done.returncode, done.stderr) == (0, stderr))
         return done.stdout
 
 
@@ -45,9 +45,9 @@ def bytes_of(path):
         return file.read()
 
 
-def lines_of(held):
+def lines_of(content):
     """The lines of these bytes; names may hold other ends of lines than the line feed."""
-    return held.decode().split("\n")[:-1]
+    return content.decode().split("\n")[:-1]
 
 
 def published(path):
@@ -55,16 +55,16 @@ def published(path):
     head, *lines = lines_of(bytes_of(path))
     service = Service(version=version_of(head))
     faults = [line for line in lines if '"fault"' in service.reply(line.encode())]
-    hold(f"{path}: these lines are refused: {faults}", not faults)
+    check(f"{path}: these lines are refused: {faults}", not faults)
     return service, lines
 
 
-def refused(files, what, path, text, wanted, journal):
+def refused(files, what, path, text, expected, journal):
     """A text is refused by `plan` and by `publish`, and nothing changes."""
     before = bytes_of(journal)
     for command in ("plan", "publish"):
         done = files.run(command, journal, text)
-        told = done.returncode, done.stdout, done.stderr
-        hold(f"{what}: {command} gives {told}\n  and not {wanted!r}",
-             told == (1, "", f"oldstyle: {path}: {wanted}\n"))
-    hold(f"{what}: the journal has changed", bytes_of(journal) == before)
+        result = done.returncode, done.stdout, done.stderr
+        check(f"{what}: {command} gives {result}\n  and not {expected!r}",
+              result == (1, "", f"oldstyle: {path}: {expected}\n"))
+    check(f"{what}: the journal has changed", bytes_of(journal) == before)

@@ -5,9 +5,9 @@ import json
 import os
 import subprocess
 
-from lib.checks import hold
+from lib.checks import check
 from lib.common import JULIAN, compact
-from lib.keeper import FOLLOWED_REPLACED, HEAD, HELD, PUBLISH, Run
+from lib.keeper import FOLLOWED_REPLACED, HEAD, LOCKED, PUBLISH, Run
 from reference import NEWEST
 from lib.territory_texts import lands_of
 from lib.text_files import LAND, bytes_of, published, refused
@@ -18,9 +18,9 @@ EDIT = {"op": "add_change", "code": "GB", "day": 5, "calendar": "gregorian", "st
         "rule": "julian"}
 
 
-def held_at(journal):
+def locked_at(journal):
     """What a publish prints for a journal that another run keeps."""
-    status, out, errors = HELD
+    status, out, errors = LOCKED
     return status, out, errors.replace("oldstyle: ", f"oldstyle: {journal}: ")
 
 
@@ -48,23 +48,23 @@ def try_journals(files):
     """Journals and texts that are not there, and journals that can't be published into."""
     text, new = files.write("text", LAND.format("GB")), files.path("new")
     none = "note: J is a new journal\n"
-    hold("a plan of a new journal", result_of(files, "plan", new, text) == (0, none, True))
+    check("a plan of a new journal", result_of(files, "plan", new, text) == (0, none, True))
     for command in ("plan", "publish"):
-        told = result_of(files, command, new, files.path("none"))
-        hold(f"no text: {told}", told == (3, "oldstyle: T: no such file\n", True))
+        result = result_of(files, command, new, files.path("none"))
+        check(f"no text: {result}", result == (3, "oldstyle: T: no such file\n", True))
     files.printed("a new journal", "publish", new, text)
-    hold("a new journal", published(new)[0].edition == 1)
-    kept, edit = bytes_of(new).decode(), compact(EDIT)
-    older = kept.replace(HEAD, HEAD.replace("2", "1"))
-    for command, held, wanted in (
-            ("publish", kept + edit + "\n", (1, PENDING, True)),
-            ("plan", kept + edit + "\n", (0, PENDING, True)),
+    check("a new journal", published(new)[0].edition == 1)
+    current, edit = bytes_of(new).decode(), compact(EDIT)
+    older = current.replace(HEAD, HEAD.replace("2", "1"))
+    for command, content, expected in (
+            ("publish", current + edit + "\n", (1, PENDING, True)),
+            ("plan", current + edit + "\n", (0, PENDING, True)),
             ("publish", older, (1, NOT_KEPT, True)),
             ("plan", older, (0, NOT_KEPT, True)),
             ("publish", "x\n", (1, "oldstyle: journal line 1: 32 NotJson\n", True)),
-            ("publish", kept + edit[:9], (0, "", True))):
-        told = result_of(files, command, files.write("journal", held), text)
-        hold(f"{command} with {held!r} gives {told}", told == wanted)
+            ("publish", current + edit[:9], (0, "", True))):
+        result = result_of(files, command, files.write("journal", content), text)
+        check(f"{command} with {content!r} gives {result}", result == expected)
 
 
 CITED = '[GB]\nname = "n"\ncalendar = "julian"\nstyle = "january"\nrule = "julian"\n' \
@@ -84,80 +84,81 @@ def try_versions(files):
     edit, publish = {**OPENING, "code": "FR"}, {"op": "publish"}
     for version in (1, 2, NEWEST):
         lines = [plain if version < NEWEST else OPENING, publish]
-        said = journal_of(version, OPENING, publish)
-        path = files.write("journal", said)
+        content = journal_of(version, OPENING, publish)
+        path = files.write("journal", content)
         node = os.stat(path).st_ino
         if version == 2:
             done = files.run("serve", "--keep", path, lines=[compact(edit)])
-            hold(f"a source in version 2 gives {done}", done.stdout == NEEDS_4 + "\n"
-                 and bytes_of(path).decode() == said)
+            check(f"a source in version 2 gives {done}", done.stdout == NEEDS_4 + "\n"
+                  and bytes_of(path).decode() == content)
             done = files.run("serve", "--keep", path, "--stop-at-refusal", lines=[compact(edit)])
-            hold(f"a batch with a source in version 2 gives {done.stderr!r}",
-                 (done.returncode, done.stderr) == (1, REFUSED))
+            check(f"a batch with a source in version 2 gives {done.stderr!r}",
+                  (done.returncode, done.stderr) == (1, REFUSED))
         done = files.run("serve", "--keep", path, "--upgrade", lines=[compact(edit)])
-        hold(f"version {version}, upgraded, gives {done}",
-             (done.returncode, done.stdout, done.stderr)
-             == (0, compact({"ok": "staged", "pending": 1}) + "\n", ""))
-        held = bytes_of(path).decode()
-        hold(f"version {version}, upgraded, is {held!r}",
-             held == journal_of(NEWEST, *lines, edit))
-        hold(f"version {version}: another file",
-             (os.stat(path).st_ino == node) == (version == NEWEST))
+        check(f"version {version}, upgraded, gives {done}",
+              (done.returncode, done.stdout, done.stderr)
+              == (0, compact({"ok": "staged", "pending": 1}) + "\n", ""))
+        content = bytes_of(path).decode()
+        check(f"version {version}, upgraded, is {content!r}",
+              content == journal_of(NEWEST, *lines, edit))
+        check(f"version {version}: another file",
+              (os.stat(path).st_ino == node) == (version == NEWEST))
 
 
 def try_new(files):
     """Files that are not there yet: the version of a new journal."""
     text, path = files.write("cited text", CITED), files.path("cited")
     files.printed("a new journal with a source", "publish", path, text)
-    hold("a new journal with a source",
-         bytes_of(path).decode() == journal_of(NEWEST, OPENING, {"op": "publish"}))
+    check("a new journal with a source",
+          bytes_of(path).decode() == journal_of(NEWEST, OPENING, {"op": "publish"}))
     for words, version in ((["--upgrade"], NEWEST), ([], 2)):
         path = files.path(f"kept{version}")
         files.run("serve", "--keep", path, *words)
-        hold(f"a new kept file of {words}", bytes_of(path).decode() == journal_of(version))
+        check(f"a new kept file of {words}", bytes_of(path).decode() == journal_of(version))
     older = files.write("journal", journal_of(1))
-    told = result_of(files, "plan", older, text)
-    hold(f"a plan of sources in version 1 gives {told}", told == (0, ANEW.format(1), True))
-    told = result_of(files, "publish", older, text)
-    hold(f"a source in version 1 gives {told}", told == (0, "", False))
-    hold("version 1, saved anew", bytes_of(older) == bytes_of(files.path("cited")))
+    result = result_of(files, "plan", older, text)
+    check(f"a plan of sources in version 1 gives {result}", result == (0, ANEW.format(1), True))
+    result = result_of(files, "publish", older, text)
+    check(f"a source in version 1 gives {result}", result == (0, "", False))
+    check("version 1, saved again", bytes_of(older) == bytes_of(files.path("cited")))
     try_nothing(files)
 
 
 def try_nothing(files):
     """A text that says nothing makes an empty file, which a publish takes."""
     text, path = files.write("text", ""), files.path("nothing")
-    told = result_of(files, "plan", path, text)
-    hold(f"a plan of nothing gives {told}",
-         told == (0, "note: J is a new journal\n", True))
-    told = result_of(files, "publish", path, text)
-    hold(f"a publish of nothing gives {told}", told == (0, "", False) and bytes_of(path) == b"")
+    result = result_of(files, "plan", path, text)
+    check(f"a plan of nothing gives {result}",
+          result == (0, "note: J is a new journal\n", True))
+    result = result_of(files, "publish", path, text)
+    check(f"a publish of nothing gives {result}",
+          result == (0, "", False) and bytes_of(path) == b"")
     files.printed("an empty file", "publish", path, files.path("cited text"))
-    hold("an empty file", bytes_of(path) == bytes_of(files.path("cited")))
+    check("an empty file", bytes_of(path) == bytes_of(files.path("cited")))
 
 
 def try_cut(files):
     """A line that was not finished is cut off by a publish that has edits."""
     journal = files.write("journal", HEAD + "\n" + PUBLISH[:9])
-    told = result_of(files, "publish", journal, files.write("text", LAND.format("GB")))
-    hold(f"a prefix of a line gives {told}",
-         told == (0, "oldstyle: journal line 2 was not finished, and is cut off\n", False))
-    hold("a front of a line is left", published(journal)[0].edition == 1)
+    result = result_of(files, "publish", journal, files.write("text", LAND.format("GB")))
+    check(f"a prefix of a line gives {result}",
+          result == (0, "oldstyle: journal line 2 was not finished, and is cut off\n", False))
+    check("the beginning of a line is left", published(journal)[0].edition == 1)
 
 
 def try_full(files):
     """A journal that has no room for another territory."""
     lands = lands_of("".join(LAND.format(f"T{number:03}") for number in range(500)))
     journal, text = files.journal("journal", lands), files.write("text", LAND.format("GB"))
-    told = result_of(files, "publish", journal, text)
-    hold(f"a full journal gives {told}",
-         told == (1, "oldstyle: T: GB: 12 TooManyLands (--limits lands=N allows more)\n", True))
+    result = result_of(files, "publish", journal, text)
+    check(f"a full journal gives {result}",
+          result == (1, "oldstyle: T: GB: 12 TooManyLands (--limits lands=N allows more)\n", True))
     few = "--limits", "lands=501,editions=1"
     done = files.run("publish", journal, text, *few)
-    hold(f"an edition too many gives {done}",
-         (done.returncode, done.stdout, done.stderr) == (1, "", FULL.format("")))
+    check(f"an edition too many gives {done}",
+          (done.returncode, done.stdout, done.stderr) == (1, "", FULL.format("")))
     files.printed("a plan of no edition more", "plan", journal, text, *few,
-                  told=FULL.format("publish refuses the edits: "))
+                  stderr=FULL.format("publish refuses the edits: "))
     files.printed("a larger journal", "publish", journal, text, "--limits", "lands=501")
 
 
@@ -168,23 +169,24 @@ def try_renamed(files):
             "help: write n again, or give m a code of its own", journal)
 
 
-def try_held(files):
+def try_locked(files):
     """A publish waits for nobody: neither for a lock nor for a keeper."""
     journal, text = files.path("new"), files.write("text", LAND.format("HELD"))
     before = bytes_of(journal)
     with open(journal, "rb") as file:
         fcntl.flock(file, fcntl.LOCK_EX)
         done = files.run("publish", journal, text)
-    hold(f"beside a lock {done}", (done.returncode, done.stdout, done.stderr) == held_at(journal))
+    check(f"beside a lock {done}",
+          (done.returncode, done.stdout, done.stderr) == locked_at(journal))
     keeper = Run(files.program, journal)
     keeper.send([{"op": "lands", "reader": 1}])
     keeper.wait_for(1)
     done = files.run("publish", journal, text)
-    hold(f"beside a keeper {done}",
-         (done.returncode, done.stdout, done.stderr) == held_at(journal))
+    check(f"beside a keeper {done}",
+          (done.returncode, done.stdout, done.stderr) == locked_at(journal))
     keeper.process.stdin.close()
     keeper.stopped()
-    hold("a publish that was refused changes the journal", bytes_of(journal) == before)
+    check("a publish that was refused changes the journal", bytes_of(journal) == before)
 
 
 def publish_at_once(files, journal, codes, text):
@@ -193,23 +195,23 @@ def publish_at_once(files, journal, codes, text):
     texts = [files.write(code, text.replace("CODE", code)) for code in codes]
     runs = [subprocess.Popen([files.program, "publish", journal, text], text=True,
                              stdout=subprocess.PIPE, stderr=subprocess.PIPE) for text in texts]
-    told = [(*running.communicate(), running.returncode) for running in runs]
-    return ([code for code, (_, _, status) in zip(codes, told) if status == 0],
-            [(status, out, errors) for out, errors, status in told if status])
+    ends = [(*running.communicate(), running.returncode) for running in runs]
+    return ([code for code, (_, _, status) in zip(codes, ends) if status == 0],
+            [(status, out, errors) for out, errors, status in ends if status])
 
 
 def try_at_once(files, rounds):
     """Concurrent publishes: each is an edition, or reports that another run keeps the journal."""
-    journal, done, held = files.journal("journal", {}), [], []
+    journal, done, refused_runs = files.journal("journal", {}), [], []
     for turn in range(rounds):
         codes = [f"R{turn}P{number}" for number in range(AT_ONCE)]
         more, others = publish_at_once(files, journal, codes, LAND.format("CODE"))
-        done, held = done + more, held + others
+        done, refused_runs = done + more, refused_runs + others
     service, _ = published(journal)
-    hold(f"they print {set(held)}", set(held) == {held_at(journal)})
-    hold("the journal has other territories than were published",
-         sorted(service.published) == sorted(done) and service.edition == len(done))
-    return len(done), len(held)
+    check(f"they print {set(refused_runs)}", set(refused_runs) == {locked_at(journal)})
+    check("the journal has other territories than were published",
+          sorted(service.published) == sorted(done) and service.edition == len(done))
+    return len(done), len(refused_runs)
 
 
 def try_upgrades_at_once(files, rounds):
@@ -222,12 +224,12 @@ def try_upgrades_at_once(files, rounds):
             os.remove(journal)
         done, others = publish_at_once(files, journal, codes, CITED.replace("GB", "CODE"))
         service, _ = published(journal)
-        hold("the journal has other territories than were saved anew",
-             sorted(service.published) == done and service.edition == len(done) > 0)
+        check("the journal has other territories than were saved again",
+              sorted(service.published) == done and service.edition == len(done) > 0)
         for status, out, errors in others:
             is_changed = errors.startswith(CHANGED) and (status, out) == (3, "")
-            hold(f"a concurrent publish prints {errors!r}",
-                 (status, out, errors) in (HELD, held_at(journal)) or is_changed)
+            check(f"a concurrent publish prints {errors!r}",
+                  (status, out, errors) in (LOCKED, locked_at(journal)) or is_changed)
             if is_changed:
                 os.remove(errors.removeprefix(CHANGED).rstrip("\n"))
 
@@ -245,13 +247,13 @@ def try_follower(files):
             files.printed(code, "publish", journal, files.write("text", LAND.format(code)))
             follower.stdin.write((compact(lands) + "\n").encode())
             follower.stdin.flush()
-            told = json.loads(follower.stdout.readline())
-            codes = [land["code"] for land in told["answer"]["lands"]]
-            hold(f"a follower gives {told}", told["edition"] == number and code in codes)
+            reply = json.loads(follower.stdout.readline())
+            codes = [land["code"] for land in reply["answer"]["lands"]]
+            check(f"a follower gives {reply}", reply["edition"] == number and code in codes)
         files.printed("sources", "publish", journal, files.write("text", CITED))
-        _, told = follower.communicate((compact(lands) + "\n").encode())
-        hold(f"a follower of a file that is saved again gives {told}",
-             (follower.returncode, told.decode()) == (1, FOLLOWED_REPLACED))
+        _, stderr = follower.communicate((compact(lands) + "\n").encode())
+        check(f"a follower of a file that is saved again gives {stderr}",
+              (follower.returncode, stderr.decode()) == (1, FOLLOWED_REPLACED))
 
 
 def try_all_journals(files):
@@ -262,7 +264,7 @@ def try_all_journals(files):
     try_cut(files)
     try_full(files)
     try_renamed(files)
-    try_held(files)
+    try_locked(files)
     try_follower(files)
     try_upgrades_at_once(files, 20)
     return try_at_once(files, 40)

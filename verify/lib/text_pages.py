@@ -106,17 +106,17 @@ def other_parts(before, regime):
     return ", ".join(other) or "no other regime"
 
 
-def edit_lines(lands, wanted, edit):
+def edit_lines(lands, expected, edit):
     """The line of an edit, from the territories that there are to those of the text, and what an
     editor is shown of it."""
-    yield edit_line(lands, wanted, edit)
+    yield edit_line(lands, expected, edit)
     code, op = edit["code"], edit["op"]
     if op == "add_exception":
         yield from easter_notes(code, edit["year"], edit["day"])
     elif op in ("add_change", "alter_change", "drop_change") and edit["day"] > 1:
-        yield followed_line(code, wanted[code], edit["day"])
+        yield followed_line(code, expected[code], edit["day"])
         regime = tuple(edit.get(word) for word in WORDS)
-        if op != "drop_change" and regime == wanted[code].period(edit["day"] - 1)[2]:
+        if op != "drop_change" and regime == expected[code].period(edit["day"] - 1)[2]:
             yield (f"note: {code}: nothing changes on that day: write the new calendar, style or "
                    "rule")
 
@@ -153,16 +153,16 @@ def easter_notes(code, year, day):
                "Gregorian")
 
 
-def edit_line(lands, wanted, edit):
+def edit_line(lands, expected, edit):
     """The line of an edit itself."""
-    line = edit_words(lands, wanted, edit)
+    line = edit_words(lands, expected, edit)
     if "source" in edit:
         return f"{line}; source: {edit['source']}"
     is_lost = edit["op"] == "alter_change" and edit["day"] in lands[edit["code"]].sources
     return line + "; no source any more" * is_lost
 
 
-def edit_words(lands, wanted, edit):
+def edit_words(lands, expected, edit):
     """The line of an edit up to its source."""
     code, op = edit["code"], edit["op"]
     regime = tuple(edit.get(word) for word in WORDS)
@@ -171,19 +171,19 @@ def edit_words(lands, wanted, edit):
     if op == "alter_change" and edit["day"] == 1:
         return f"{code}: opening: {other_parts(lands[code].starts[1], regime)}"
     if op in ("add_change", "alter_change"):
-        before = wanted[code].period(edit["day"] - 1)[2]
-        day = numbered(Territory(wanted[code]), edit["day"])
+        before = expected[code].period(edit["day"] - 1)[2]
+        day = numbered(Territory(expected[code]), edit["day"])
         return f"{code}: from {day}: {other_parts(before, regime)}"
     if op == "drop_change":
         return f"{code}: no change any more on {numbered(Territory(lands[code]), edit['day'])}"
     if op == "add_exception":
-        day = numbered(Territory(wanted[code]), edit["day"])
+        day = numbered(Territory(expected[code]), edit["day"])
         return f"{code}: Easter of {edit['year']} on {day}"
     return f"{code}: no listed Easter of {edit['year']} any more"
 
 
-def absent_lines(lands, wanted):
-    return [f"{code}: not in the text, stays as it is" for code in lands if code not in wanted]
+def absent_lines(lands, expected):
+    return [f"{code}: not in the text, stays as it is" for code in lands if code not in expected]
 
 
 def plan_end(count, editions):
@@ -215,18 +215,18 @@ def fault_words(fault):
     """The message of a fault, with the path to it."""
     key = fault.path.rsplit(".", 1)[-1]
     words = {
-        "UnknownKey": lambda: f"unknown key: {KEYS[part_of(fault.path, fault.said)]}",
+        "UnknownKey": lambda: f"unknown key: {KEYS[part_of(fault.path, fault.detail)]}",
         "NotTable": lambda: "write a table",
         "NotLater": lambda: "not later than the change before it",
         "Missing": lambda: f"missing: {ALLOWED[key]}",
         "Unquoted": lambda: 'put the date in quotes, as { gregorian = "1752-09-14" }',
-        "NoSuchDate": lambda: f"no such day in the {fault.said} calendar",
-        "Refused": lambda: "{1} {0}: {2}".format(fault.said, *REFUSED[fault.said]),
+        "NoSuchDate": lambda: f"no such day in the {fault.detail} calendar",
+        "Refused": lambda: "{1} {0}: {2}".format(fault.detail, *REFUSED[fault.detail]),
     }
-    words |= {f"No{word.capitalize()}": lambda: f'"{fault.said}" is no {key}: {ALLOWED[key]}'
+    words |= {f"No{word.capitalize()}": lambda: f'"{fault.detail}" is no {key}: {ALLOWED[key]}'
               for word in WORDS}
-    said = words.get(fault.reason, lambda: ALLOWED[key])()
-    return escaped(f"{fault.path}: {said}")
+    reason_text = words.get(fault.reason, lambda: ALLOWED[key])()
+    return escaped(f"{fault.path}: {reason_text}")
 
 
 def part_of(path, name):

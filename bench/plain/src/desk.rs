@@ -32,15 +32,15 @@ pub struct Load {
 
 /// What readers were answered.
 #[derive(Clone, Copy, Default)]
-pub struct Told {
+pub struct Outcome {
     pub took: Duration,
     pub edition: usize,
     pub sum: u64,
 }
 
-impl Told {
-    fn and(self, other: Told) -> Told {
-        Told {
+impl Outcome {
+    fn and(self, other: Outcome) -> Outcome {
+        Outcome {
             took: self.took.max(other.took),
             edition: self.edition.max(other.edition),
             sum: self.sum.wrapping_add(other.sum),
@@ -134,15 +134,15 @@ struct Desk<'a, S: Shared> {
 
 impl<S: Shared> Desk<'_, S> {
     /// The readings of one reader. The first one, 0, says how far it is.
-    fn work(&self, who: usize) -> Told {
-        let mut told = Told::default();
+    fn work(&self, who: usize) -> Outcome {
+        let mut outcome = Outcome::default();
         let begin = who * APART % self.queries.len();
         let queries = self.queries.iter().cycle().skip(begin);
         for (count, query) in (0..self.load.readings).zip(queries) {
             let reply = self.register.read(|editor| reply(editor, query));
             let reply = reply.expect("a lawful reading");
-            told.edition = reply.edition;
-            told.sum = told.sum.wrapping_add(reply.sum());
+            outcome.edition = reply.edition;
+            outcome.sum = outcome.sum.wrapping_add(reply.sum());
             if who == 0 && count % STRIDE == 0 {
                 self.progress.store(count, Ordering::SeqCst);
             }
@@ -150,8 +150,8 @@ impl<S: Shared> Desk<'_, S> {
         if who == 0 {
             self.progress.store(u64::MAX, Ordering::SeqCst);
         }
-        told.took = self.start.elapsed();
-        told
+        outcome.took = self.start.elapsed();
+        outcome
     }
 
     /// Publishes the editions, spread over the readings of the first reader.
@@ -171,14 +171,15 @@ impl<S: Shared> Desk<'_, S> {
     }
 
     /// Runs the readers and the editor.
-    fn run(&self) -> Told {
+    fn run(&self) -> Outcome {
         thread::scope(|scope| {
             let start = |who| scope.spawn(move || self.work(who));
             let readers: Vec<_> = (0..self.load.readers).map(start).collect();
             self.publish_all();
-            let told = readers.into_iter().map(|reader| reader.join());
-            told.map(|told| told.expect("no thread panics"))
-                .fold(Told::default(), Told::and)
+            let outcome = readers.into_iter().map(|reader| reader.join());
+            outcome
+                .map(|outcome| outcome.expect("no thread panics"))
+                .fold(Outcome::default(), Outcome::and)
         })
     }
 }
@@ -198,7 +199,7 @@ fn edit(place: u64) -> Edit {
     }
 }
 
-fn run(load: Load, register: impl Shared, queries: &[Query]) -> Told {
+fn run(load: Load, register: impl Shared, queries: &[Query]) -> Outcome {
     let desk = Desk {
         load,
         register: &register,
@@ -210,7 +211,7 @@ fn run(load: Load, register: impl Shared, queries: &[Query]) -> Told {
 }
 
 /// The answers of the register behind the lock of that name to these queries.
-pub fn told(lock: &str, load: Load, editor: Editor, queries: &[Query]) -> Option<Told> {
+pub fn measure(lock: &str, load: Load, editor: Editor, queries: &[Query]) -> Option<Outcome> {
     match lock {
         "mutex" => Some(run(load, Mutex::new(editor), queries)),
         "rwlock" => Some(run(load, RwLock::new(editor), queries)),

@@ -79,8 +79,13 @@ fn run_desk(words: &[String]) -> io::Result<()> {
         readings: number(2),
         editions: number(3),
     };
-    let told = desk::told(&words[0], load, editor, &queries).expect("mutex or rwlock");
-    println!("{} {} {}", told.took.as_nanos(), told.edition, told.sum);
+    let outcome = desk::measure(&words[0], load, editor, &queries).expect("mutex or rwlock");
+    println!(
+        "{} {} {}",
+        outcome.took.as_nanos(),
+        outcome.edition,
+        outcome.sum
+    );
     Ok(())
 }
 

@@ -1,4 +1,4 @@
-"""Some runs that are lent: which answer comes of which run, and what happens if one fails."""
+"""A pool of runs: which run gives which answer, and what happens if one fails."""
 from __future__ import annotations
 
 import os
@@ -19,9 +19,9 @@ NAMED = ["sh", "-c", "while read line; do echo \"$$ $line\"; done"]
 
 @pytest.fixture
 def pools() -> Iterator[List[Pool]]:
-    made: List[Pool] = []
-    yield made
-    for pool in made:
+    construct: List[Pool] = []
+    yield construct
+    for pool in construct:
         pool.close()
 
 
@@ -58,11 +58,11 @@ def test_the_opening_is_asked_of_each_new_run(pools: List[Pool]) -> None:
     assert pool.ask([b"x\n"]) == [b"opened"]
 
 
-def test_a_run_that_only_ends_is_told_with_what_it_told(pools: List[Pool]) -> None:
+def test_a_run_that_ends_is_reported_with_its_standard_error(pools: List[Pool]) -> None:
     pools.append(pool := Pool(["sh", "-c", "echo a reason >&2; exit 1"], 1, seconds=5))
     with pytest.raises(ProgramEnded) as why:
         pool.ask([b"x\n"])
-    assert why.value.told == "a reason"
+    assert why.value.stderr == "a reason"
 
 
 def test_a_slow_run_is_asked_no_more(pools: List[Pool]) -> None:
@@ -73,7 +73,7 @@ def test_a_slow_run_is_asked_no_more(pools: List[Pool]) -> None:
     assert time.monotonic() - began < 5
 
 
-def test_runs_that_are_all_lent_are_told(pools: List[Pool]) -> None:
+def test_a_pool_without_an_idle_run_is_busy(pools: List[Pool]) -> None:
     pools.append(pool := Pool(["sleep", "60"], 1, seconds=0.5))
     other = threading.Thread(target=lambda: pytest.raises(ProgramSlow, pool.ask, [b"x\n"]))
     other.start()
@@ -94,14 +94,14 @@ def test_a_program_that_is_missing_gives_its_place_back(pools: List[Pool]) -> No
 def test_an_exception_leaves_no_reply_for_the_next_question(
         pools: List[Pool], monkeypatch: pytest.MonkeyPatch) -> None:
     pools.append(pool := Pool(ECHO, 1, seconds=5))
-    real = service.Connection._take
+    real = service.Connection._read_block
 
     def interrupted(connection: service.Connection) -> None:
         raise KeyboardInterrupt
-    monkeypatch.setattr(service.Connection, "_take", interrupted)
+    monkeypatch.setattr(service.Connection, "_read_block", interrupted)
     with pytest.raises(KeyboardInterrupt):
         pool.ask([b"a reply that nobody read\n"])
-    monkeypatch.setattr(service.Connection, "_take", real)
+    monkeypatch.setattr(service.Connection, "_read_block", real)
     assert pool.ask([b"another\n"]) == [b"another"]
 
 

@@ -30,7 +30,7 @@ oldstyle_lands <- function(journal, program = NULL) {
 # The replies to requests, a row each, as lists. The journal is only read.
 .oldstyle_ask <- function(journal, requests, program = NULL) {
   program <- .oldstyle_program(program)
-  files <- tempfile(c("asked", "told", "errors"))
+  files <- tempfile(c("requests", "replies", "errors"))
   on.exit(unlink(files))
   sent <- file(files[1], "wb")
   jsonlite::stream_out(requests, sent, verbose = FALSE)
@@ -39,12 +39,12 @@ oldstyle_lands <- function(journal, program = NULL) {
   path <- if (startsWith(path, "-")) file.path(".", path) else path
   words <- c("serve", "--read-only", "--journal", shQuote(path))
   status <- system2(program, words, stdin = files[1], stdout = files[2], stderr = files[3])
-  told <- readLines(files[2], encoding = "UTF-8", warn = FALSE)
-  if (status != 0 || length(told) != nrow(requests)) {
-    stop(program, " ended with status ", status, " after ", length(told), " of ", nrow(requests),
+  replies <- readLines(files[2], encoding = "UTF-8", warn = FALSE)
+  if (status != 0 || length(replies) != nrow(requests)) {
+    stop(program, " ended with status ", status, " after ", length(replies), " of ", nrow(requests),
          " replies: ", .oldstyle_why(journal, readLines(files[3], warn = FALSE)), call. = FALSE)
   }
-  lapply(told, jsonlite::fromJSON, simplifyVector = FALSE)
+  lapply(replies, jsonlite::fromJSON, simplifyVector = FALSE)
 }
 
 # The program: the one that is named, otherwise that of the environment variable OLDSTYLE, otherwise
@@ -60,11 +60,11 @@ oldstyle_lands <- function(journal, program = NULL) {
 }
 
 # Why the program ended over which journal, and the next step.
-.oldstyle_why <- function(journal, told) {
-  is_refused <- any(grepl("journal line|read fault", told))
+.oldstyle_why <- function(journal, errors) {
+  is_refused <- any(grepl("journal line|read fault", errors))
   step <- if (!file.exists(journal)) "no such file: name a journal" else
-    if (is_refused) "mend this journal, or name another"
-  paste(c(told, if (!is.null(step)) c(journal, step)), collapse = ": ")
+    if (is_refused) "correct this journal, or name another"
+  paste(c(errors, if (!is.null(step)) c(journal, step)), collapse = ": ")
 }
 
 # The columns that replies make.
@@ -74,7 +74,7 @@ oldstyle_lands <- function(journal, program = NULL) {
   truth <- function(value) if (is.null(value)) NA else value
   answers <- lapply(replies, `[[`, "answer")
   ends <- lapply(answers, .oldstyle_ends)
-  of_end <- function(end, name) vapply(ends, function(held) text(held[[end]][[name]]), "")
+  of_end <- function(end, name) vapply(ends, function(day) text(day[[end]][[name]]), "")
   only <- lapply(ends, `[[`, "only")
   columns <- data.frame(
     kind = vapply(answers, function(answer) text(answer$kind), ""),

@@ -33,15 +33,15 @@ class Served:
             [*COMMAND, SAMPLES, "--program", program, "--port", "0", *words], env=VARIABLES,
             text=True, stdout=subprocess.PIPE, stderr=subprocess.PIPE)
         assert self.process.stdout
-        self.said = self.process.stdout.readline()
-        found = re.search(r"http://(.*):(\d+)/", self.said)
+        self.first_line = self.process.stdout.readline()
+        found = re.search(r"http://(.*):(\d+)/", self.first_line)
         assert found, self.process.communicate()
         self.host, self.port = found[1].strip("[]"), int(found[2])
 
-    def connect(self, given: bytes = b"") -> socket.socket:
+    def connect(self, data: bytes = b"") -> socket.socket:
         connection = socket.create_connection((self.host, self.port), 30)
         connection.setsockopt(socket.SOL_SOCKET, socket.SO_RCVBUF, 4096)
-        connection.sendall(given)
+        connection.sendall(data)
         return connection
 
     def ask(self, path: str = "/", body: bytes | None = None, **headers: str) -> int:

@@ -38,19 +38,19 @@ ASKED: list[tuple[str, dict[str, str], int]] = [
     ("figures", {"year": "1731"}, 200), ("figures", {"year": "10000"}, 400)]
 
 
-def followed(held: Any) -> Any:
+def resolve(node: Any) -> Any:
     """A part of the description, or that to which it refers."""
-    if "$ref" in held:
+    if "$ref" in node:
         part: Any = DESCRIBED
-        for name in held["$ref"].removeprefix("#/").split("/"):
+        for name in node["$ref"].removeprefix("#/").split("/"):
             part = part[name]
         return part
-    return held
+    return node
 
 
 def schema_of(name: str, status: int) -> dict[str, Any]:
     """The schema of a reply, with those that it refers to."""
-    reply = followed(DESCRIBED["paths"][f"/{name}"]["get"]["responses"][str(status)])
+    reply = resolve(DESCRIBED["paths"][f"/{name}"]["get"]["responses"][str(status)])
     return {"components": DESCRIBED["components"],
             **reply["content"]["application/json"]["schema"]}
 
@@ -66,19 +66,19 @@ def test_a_reply_is_as_it_is_described(client: Any, name: str, words: dict[str, 
 
 def test_each_address_and_word_is_described() -> None:
     described = {}
-    for path, held in DESCRIBED["paths"].items():
-        words = [followed(word) for word in held["get"]["parameters"]]
+    for path, node in DESCRIBED["paths"].items():
+        words = [resolve(word) for word in node["get"]["parameters"]]
         described[path[1:]] = {word["name"]: word["required"] for word in words}
     assert described == {name: {word: word not in query.optional for word in query.words}
                          for name, query in api.QUERIES.items()}
 
 
 def test_each_described_object_names_all_its_members(client: Any) -> None:
-    def close(held: Any) -> Any:
-        if isinstance(held, dict):
-            closed = {name: close(part) for name, part in held.items()}
-            return closed | {"additionalProperties": False} if "properties" in held else closed
-        return [close(part) for part in held] if isinstance(held, list) else held
+    def close(node: Any) -> Any:
+        if isinstance(node, dict):
+            closed = {name: close(part) for name, part in node.items()}
+            return closed | {"additionalProperties": False} if "properties" in node else closed
+        return [close(part) for part in node] if isinstance(node, list) else node
     for name, words, status in ASKED:
         reply = client.get(f"/api/v1/{name}?{urlencode(words)}")
         jsonschema.Draft202012Validator(close(schema_of(name, status))).validate(reply.json)
@@ -94,9 +94,9 @@ def test_a_reply_is_the_line_of_the_service(client: Any, program: str) -> None:
              '{"op":"written","reader":1,"code":"ZZ","date":"11 Feb. 1731/32"}']
     done = subprocess.run([program, "serve", "--journal", SAMPLES, "--read-only"],
                           input="\n".join(lines) + "\n", text=True, capture_output=True, check=True)
-    told = [client.get(f"/api/v1/written?place={code}&date=11+Feb.+1731/32").text
-            for code in ("GB", "ZZ")]
-    assert "".join(told) == done.stdout
+    replies = [client.get(f"/api/v1/written?place={code}&date=11+Feb.+1731/32").text
+               for code in ("GB", "ZZ")]
+    assert "".join(replies) == done.stdout
 
 
 def test_a_reply_that_is_held_is_not_sent_again(client: Any) -> None:
@@ -107,11 +107,11 @@ def test_a_reply_that_is_held_is_not_sent_again(client: Any) -> None:
     assert (again.status_code, again.data) == (304, b"")
 
 
-def test_what_is_wrong_is_told_with_the_next_step(client: Any) -> None:
-    told = [client.get(f"/api/v1/{path}").json["told"] for path in (
+def test_an_error_says_what_to_do(client: Any) -> None:
+    messages = [client.get(f"/api/v1/{path}").json["message"] for path in (
         "read?place=GB&date=1+May+1700", "day?place=GB", "day?code=GB&day=1", "nothing")]
-    assert "as 1731-02-11" in told[0] and "The day is missing" in told[1]
-    assert "it takes place, day" in told[2] and "territories" in told[3]
+    assert "as 1731-02-11" in messages[0] and "The day is missing" in messages[1]
+    assert "it takes place, day" in messages[2] and "territories" in messages[3]
     assert client.post("/api/v1/day").status_code == 405
     assert client.get("/api/v1/day?place=%ff").status_code == 400
 

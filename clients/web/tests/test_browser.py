@@ -28,7 +28,7 @@ def wait(browser: Any, sentence: str) -> None:
     """Waits for a sentence of the page's own."""
     browser.execute_async_script("""
         const [sentence, done] = arguments;
-        const look = () => document.getElementById("told").textContent.includes(sentence)
+        const look = () => document.getElementById("status").textContent.includes(sentence)
             ? done() : setTimeout(look, 30);
         look();""", sentence)
 
@@ -37,7 +37,7 @@ def run(browser: Any, script: str, *words: str) -> Any:
     return browser.execute_script(script, *words)
 
 
-def test_rows_are_pasted_mended_and_undone(browser: Any, served: Callable[..., Served]) -> None:
+def test_rows_are_pasted_corrected_and_undone(browser: Any, served: Callable[..., Served]) -> None:
     one = served()
     browser.get(f"http://{one.host}:{one.port}/letters")
     run(browser, "pasted.value = arguments[0]; letters.requestSubmit()", PASTED)
@@ -45,7 +45,7 @@ def test_rows_are_pasted_mended_and_undone(browser: Any, served: Callable[..., S
     row = "return document.querySelector(\"[data-row='1']\").textContent"
     before = run(browser, row)
     press = "document.querySelector(`[aria-label='${arguments[0]} row 2']`).click()"
-    run(browser, press, "Mend")
+    run(browser, press, "Correct")
     run(browser, """const field = document.querySelectorAll("[data-row='1'] input")[1];
         field.value = arguments[0]; field.dispatchEvent(new Event("input"));""", "15 May 1752")
     run(browser, press, "Ask again for")
@@ -54,7 +54,8 @@ def test_rows_are_pasted_mended_and_undone(browser: Any, served: Callable[..., S
     run(browser, press, "Undo")
     wait(browser, "Row 2 is as it was sent.")
     assert run(browser, row) == before
-    assert run(browser, "return document.activeElement.getAttribute('aria-label')") == "Mend row 2"
+    label = run(browser, "return document.activeElement.getAttribute('aria-label')")
+    assert label == "Correct row 2"
 
 
 def test_a_citation_is_printed_with_its_address(

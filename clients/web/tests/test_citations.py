@@ -62,8 +62,8 @@ def test_each_citation_has_the_sources_of_its_page(page_of: Callable[..., Page],
         for part in (before, cited.partition("</p>")[0]):
             assert "The &lt;first&gt; source; An act" in part, asked
         assert "\x85" not in text and "A&lt;U+0085&gt;B" in text
-    told = client.get("/edition?edition=1&code=AA").text
-    assert "source: The &lt;first&gt; source" in told and "(source: An act)" in told
+    html = client.get("/edition?edition=1&code=AA").text
+    assert "source: The &lt;first&gt; source" in html and "(source: An act)" in html
 
 
 def test_each_page_has_a_title_of_its_own(client: Any) -> None:

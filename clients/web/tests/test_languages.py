@@ -39,9 +39,9 @@ def test_no_message_is_untranslated(language: str) -> None:
     from babel.messages.pofile import read_po
     path = FOLDER / "src" / "oldstyle_web" / "locale" / language / "LC_MESSAGES" / "messages.po"
     with open(path, "rb") as file:
-        held = {message.id: message for message in read_po(file) if message.id}
-    assert set(held) == messages_in_the_source()
-    for text, message in held.items():
+        catalogue = {message.id: message for message in read_po(file) if message.id}
+    assert set(catalogue) == messages_in_the_source()
+    for text, message in catalogue.items():
         assert message.string and not message.fuzzy
         assert sorted(PART.findall(text)) == sorted(PART.findall(message.string)), text
 
@@ -60,11 +60,11 @@ def test_catalogues_are_compiled_when_the_package_is_built(tmp_path: Path) -> No
 
 @pytest.mark.parametrize("path", PATHS)
 def test_each_page_is_in_each_language(client: Any, path: str) -> None:
-    wanted = {"en": "Pages", "de": "Seiten", "fr": "Pages", "sv": "Sidor"}
+    expected = {"en": "Pages", "de": "Seiten", "fr": "Pages", "sv": "Sidor"}
     for language in LANGUAGES:
         text = client.get(path, headers={"Accept": "text/html", "Accept-Language": language}).text
         assert f'<html lang="{language}"' in text
-        assert f'<nav aria-label="{wanted[language]}">' in text
+        assert f'<nav aria-label="{expected[language]}">' in text
 
 
 def test_how_a_language_is_chosen(client: Any) -> None:
@@ -109,8 +109,8 @@ def test_scripts_have_their_messages(client: Any) -> None:
     for language in OTHERS:
         reply = client.get(f"/messages.js?lang={language}")
         assert reply.mimetype == "text/javascript"
-        held = json.loads(reply.text.removeprefix("export default ").rstrip(";\n"))
-        assert held["Undo"] and held["Undo"] != "Undo"
+        catalogue = json.loads(reply.text.removeprefix("export default ").rstrip(";\n"))
+        assert catalogue["Undo"] and catalogue["Undo"] != "Undo"
     assert client.get("/messages.js?lang=en").text == "export default {};\n"
 
 

@@ -16,16 +16,16 @@ def text_of(client: Any, path: str) -> str:
     return " ".join(unescape(re.sub(r"<[^>]*>", " ", main)).split())
 
 
-@pytest.mark.parametrize("asked, wanted", [
+@pytest.mark.parametrize("asked, expected", [
     ("GB&year=1731&month=3", ["month 3 of 1730", "month 4 of 1731", "month 2 of 1731",
                               "month 3 of 1732"]),
     ("GB&year=1731&month=12", ["month 11 of 1731", "month 1 of 1731"]),
     ("GB&year=9999&month=12", ["month 11 of 9999"])])
-def test_the_months_before_and_after(client: Any, asked: str, wanted: list[str]) -> None:
+def test_the_months_before_and_after(client: Any, asked: str, expected: list[str]) -> None:
     text = client.get(f"/month?code={asked}").text
     parts = re.findall(r'aria-label="The months before and after">(.*?)</nav>', text, re.S)
     links = re.findall(r"year=(\d+)&amp;month=(\d+)", " ".join(parts))
-    assert [f"month {month} of {year}" for year, month in links] == wanted
+    assert [f"month {month} of {year}" for year, month in links] == expected
 
 
 def test_a_month_has_its_gregorian_days(client: Any) -> None:

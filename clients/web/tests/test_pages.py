@@ -43,8 +43,8 @@ def test_a_page_that_is_held_is_not_sent_again(client: Any) -> None:
     path = "/?code=GB&date=11+February+1731"
     tag = client.get(path).headers["ETag"]
     assert tag.startswith('"5-')
-    for held in (tag, f'"x", W/{tag}'):
-        again = client.get(path, headers={"If-None-Match": held})
+    for tags in (tag, f'"x", W/{tag}'):
+        again = client.get(path, headers={"If-None-Match": tags})
         assert (again.status_code, again.data) == (304, b"")
 
 
@@ -82,7 +82,7 @@ def test_other_methods_are_refused(client: Any) -> None:
     assert client.head("/").status_code == 200
 
 
-def test_a_fault_of_the_page_is_told_and_logged(client: Any, page: Page, caplog: Any,
+def test_a_fault_of_the_page_is_reported_and_logged(client: Any, page: Page, caplog: Any,
                                                 monkeypatch: pytest.MonkeyPatch) -> None:
     monkeypatch.setattr(page.register, "of_one_edition", lambda _work: 1 / 0)
     reply = client.get("/place")
@@ -92,18 +92,19 @@ def test_a_fault_of_the_page_is_told_and_logged(client: Any, page: Page, caplog:
 
 def test_a_year_of_three_digits_is_remarked(client: Any) -> None:
     for date, is_remarked in (("11+July+841", True), ("11+July+0841", False)):
-        told = client.get(f"/answer.json?code=GB&date={date}").json
-        assert told and ("Year of three digits." in told["html"]) is is_remarked
+        answer = client.get(f"/answer.json?code=GB&date={date}").json
+        assert answer and ("Year of three digits." in answer["html"]) is is_remarked
 
 
 def test_the_live_region_reads_one_sentence(client: Any) -> None:
     page = client.get("/?code=GB&date=11+February+1731").text
     assert re.findall(r'<[^>]*(?:aria-live|role="status")[^>]*>', page) == [
-        '<p id="said" role="status" class="heard">']
-    told = client.get("/answer.json?code=GB&date=11+February+1731").json
-    assert told["said"] == ("“11 February 1731” in Great Britain (GB): Friday 11 February 1731/2, "
-                            "22 February 1732 Gregorian, 11 February 1732 Julian, JDN 2353712.")
-    assert "aria-live" not in told["html"]
+        '<p id="announcement" role="status" class="visually-hidden">']
+    answer = client.get("/answer.json?code=GB&date=11+February+1731").json
+    assert answer["announcement"] == (
+        "“11 February 1731” in Great Britain (GB): Friday 11 February 1731/2, "
+        "22 February 1732 Gregorian, 11 February 1732 Julian, JDN 2353712.")
+    assert "aria-live" not in answer["html"]
 
 
 def test_the_keyboard_reaches_each_day(client: Any) -> None:
@@ -133,11 +134,11 @@ def test_a_table_is_sent_by_a_form_or_as_it_is(client: Any) -> None:
     (b"place,date\n\xff", "text/csv", 422), (b"x\n", "text/csv", 422),
     ({"order": "dmy"}, "multipart/form-data", 400),
     (b"x", "multipart/form-data; boundary=b", 400)])
-def test_a_table_that_is_wrong_is_told(client: Any, data: Any, kind: str, status: int) -> None:
+def test_a_wrong_table_is_refused(client: Any, data: Any, kind: str, status: int) -> None:
     assert client.post("/letters", data=data, content_type=kind).status_code == status
 
 
-def test_a_table_over_the_limit_is_told(page_of: Callable[..., Page], program: str) -> None:
+def test_a_table_over_the_limit_is_refused(page_of: Callable[..., Page], program: str) -> None:
     client = page_of(program, max_upload=1024 * 1024).test_client()
     table = b"place,date\n" + b"GB,1731\n" * 140_000
     for data, kind in ((table, "text/csv"), ({"table": (io.BytesIO(table), "t.csv")}, None)):
@@ -145,7 +146,7 @@ def test_a_table_over_the_limit_is_told(page_of: Callable[..., Page], program: s
         assert reply.status_code == 413 and "larger than 1 MB" in reply.text
 
 
-def test_a_table_has_its_length_told(page: Page) -> None:
+def test_a_reply_with_a_table_has_its_length(page: Page) -> None:
     environ = EnvironBuilder("/letters", method="POST").get_environ()
     environ.pop("CONTENT_LENGTH", None)
     assert run_wsgi_app(page, environ, buffered=True)[1].startswith("411 ")

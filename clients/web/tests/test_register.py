@@ -17,7 +17,7 @@ PERIOD = {"calendar": "julian", "rule": "julian", "style": "annunciation", "firs
           "last": 639550, "source": "A book", "new": 1}
 
 
-class Told(Register):
+class Answering(Register):
     """A register whose runs give editions in turn."""
 
     def __init__(self, *editions: int, journal: str = SAMPLES):
@@ -36,40 +36,40 @@ def twice(asking: Asking) -> str:
 
 
 def test_an_answer_is_of_one_edition() -> None:
-    assert Told(1, 2, 2, 2).of_one_edition(twice) == (2, "x")
+    assert Answering(1, 2, 2, 2).of_one_edition(twice) == (2, "x")
 
 
-def test_no_edition_is_told_that_is_earlier_than_one_that_was_told() -> None:
-    register = Told(3, 3, 2, 2, 3, 3)
+def test_editions_of_answers_never_fall() -> None:
+    register = Answering(3, 3, 2, 2, 3, 3)
     assert [register.of_one_edition(twice)[0] for _ in range(2)] == [3, 3]
 
 
-def test_editions_that_change_all_the_time_are_told(monkeypatch: pytest.MonkeyPatch) -> None:
+def test_editions_that_change_all_the_time_are_refused(monkeypatch: pytest.MonkeyPatch) -> None:
     monkeypatch.setattr("time.sleep", lambda _seconds: None)
     with pytest.raises(Problem) as why:
-        Told(*range(1, 100)).of_one_edition(twice)
+        Answering(*range(1, 100)).of_one_edition(twice)
     assert why.value.code == 503 and why.value.headers == {"Retry-After": "2"}
 
 
-def test_what_an_earlier_edition_lacks_is_told_to_nobody() -> None:
+def test_what_an_earlier_edition_lacks_is_not_reported() -> None:
     def work(asking: Asking) -> str:
         asking.lands()
         if asking.editions == {1}:
             raise Problem(404, "there is no such place")
         return "found"
-    register = Told(2, 1, 2)
+    register = Answering(2, 1, 2)
     register.of_one_edition(Asking.lands)
     assert register.of_one_edition(work) == (2, "found")
 
 
-def test_a_journal_that_is_gone_is_told() -> None:
+def test_a_missing_journal_is_reported() -> None:
     with pytest.raises(Problem) as why:
-        Told(0, journal="/none/of/it").of_one_edition(Asking.lands)
+        Answering(0, journal="/none/of/it").of_one_edition(Asking.lands)
     assert why.value.code == 503 and "isn't there" in str(why.value.description)
 
 
 def test_members_that_a_newer_program_adds_are_ignored() -> None:
-    register = Told(*[1] * 9)
+    register = Answering(*[1] * 9)
     asking = Asking(register)
     assert asking.lands()[0].code == "GB"
     register.answer = {"periods": [PERIOD]}
@@ -92,7 +92,7 @@ def failing(request: Any, script: Any) -> Iterator[Register]:
     register.close()
 
 
-def test_a_program_that_fails_is_told_without_a_path(failing: Register) -> None:
+def test_a_failing_program_is_reported_without_a_path(failing: Register) -> None:
     with pytest.raises(Problem) as why:
         failing.of_one_edition(Asking.lands)
     assert why.value.code == 503 and "/" not in str(why.value.description)

@@ -17,14 +17,14 @@ TABLE = b"place,date\n" + b"GB,11 February 1731\n" * 300_000
 POST = b"POST /letters HTTP/1.1\r\nContent-Length: %d\r\n\r\n"
 
 
-def test_a_page_for_this_machine_is_told_to_no_other_host(served: Callable[..., Served]) -> None:
+def test_a_page_for_this_machine_answers_no_other_host(served: Callable[..., Served]) -> None:
     one = served()
-    wanted = {"127.0.0.1:8000": 200, "localhost": 200, "[::1]:80": 200, "127.9.9.9": 200,
-              "example.org": 421, "127.0.0.1.example.org": 421, "[x": 421, "": 421}
-    assert {host: one.ask(Host=host) for host in wanted} == wanted
+    expected = {"127.0.0.1:8000": 200, "localhost": 200, "[::1]:80": 200, "127.9.9.9": 200,
+                "example.org": 421, "127.0.0.1.example.org": 421, "[x": 421, "": 421}
+    assert {host: one.ask(Host=host) for host in expected} == expected
 
 
-def test_a_page_with_a_name_is_told_to_that_name(served: Callable[..., Served]) -> None:
+def test_a_page_with_a_name_answers_to_it(served: Callable[..., Served]) -> None:
     one = served("--host", "register.example")
     assert one.ask(Host="register.example") == 200
     assert one.ask(Host="127.0.0.1") == 421
@@ -32,23 +32,23 @@ def test_a_page_with_a_name_is_told_to_that_name(served: Callable[..., Served]) 
     assert every.ask(Host="example.org") == 200
 
 
-@pytest.mark.parametrize("count, given", [
+@pytest.mark.parametrize("count, data", [
     (300, b""), (300, b"GET / HTTP/1.1\r\nX: "), (100, POST % 4_000_000 + b"place,date\n"),
     (9, POST % len(TABLE) + TABLE)], ids=["idle", "slow heads", "slow bodies", "stalled readers"])
 def test_the_next_client_is_answered_within_a_second(
-        program: str, script: Callable[[str], str], count: int, given: bytes) -> None:
+        program: str, script: Callable[[str], str], count: int, data: bytes) -> None:
     # (a table comes back as it was sent without delay, so that its reader alone is slow)
     one = Served(script(f'[ "$1" = letters ] && exec cat; exec {program} "$@"'))
     one.ask("/letters", b"place,date\nGB,1731\n")
-    held = [one.connect(given) for _ in range(count)]
+    connections = [one.connect(data) for _ in range(count)]
     stop = threading.Event()
 
     def drip() -> None:
         while not stop.wait(0.5):
-            for connection in held[:200]:
+            for connection in connections[:200]:
                 connection.sendall(b"x")
     dripping = threading.Thread(target=drip)
-    if 0 < len(given) < 1_000:
+    if 0 < len(data) < 1_000:
         dripping.start()
     time.sleep(1)
     last = time.monotonic() + 120
@@ -63,7 +63,7 @@ def test_the_next_client_is_answered_within_a_second(
     stop.set()
     if dripping.is_alive():
         dripping.join()
-    for connection in held:
+    for connection in connections:
         connection.close()
     print(f"{count} clients held: {min(took):.3f} to {max(took):.3f} s")
     assert min(took) < 1
@@ -74,9 +74,9 @@ def test_each_request_has_a_line_and_a_fault_its_traceback(served: Callable[...,
     one = served()
     one.ask("/?code=GB")
     one.ask("/nowhere", Host="example.org")
-    told = one.end()
-    assert re.search(r'127\.0\.0\.1 - - \[.*\] "GET /\?code=GB HTTP/1\.1" 200 \d+', told), told
-    assert re.search(r'"GET /nowhere HTTP/1\.1" 421 \d+', told), told
+    errors = one.end()
+    assert re.search(r'127\.0\.0\.1 - - \[.*\] "GET /\?code=GB HTTP/1\.1" 200 \d+', errors), errors
+    assert re.search(r'"GET /nowhere HTTP/1\.1" 421 \d+', errors), errors
 
 
 @pytest.mark.parametrize("number", [signal.SIGTERM, signal.SIGINT])
@@ -85,8 +85,8 @@ def test_it_ends_by_signals_and_leaves_no_run(served: Callable[..., Served], num
     one.ask("/?code=GB&date=11+February+1731")
     children = Path(f"/proc/{one.process.pid}/task/{one.process.pid}/children")
     below = [int(name) for name in children.read_text().split()]
-    told = one.end(number)
-    assert "Traceback" not in told and one.process.returncode == 0
+    errors = one.end(number)
+    assert "Traceback" not in errors and one.process.returncode == 0
     for process in below:
         with pytest.raises(ProcessLookupError):
             os.kill(process, 0)
@@ -100,15 +100,15 @@ def test_ctrl_c_while_the_journal_is_loaded(script: Callable[[str], str]) -> Non
     assert process.communicate(timeout=20)[1] == "" and process.returncode == 130
 
 
-@pytest.mark.parametrize("words, wanted", [
+@pytest.mark.parametrize("words, expected", [
     ([SAMPLES, "--address", ""], "--address: name an address"),
-    ([SAMPLES, "--port", "x"], "--port: x is no whole number from 0 to 65535"),
+    ([SAMPLES, "--port", "x"], "--port: x is not a whole number from 0 to 65535"),
     (["none.journal"], "none.journal: no such file"), ([], "JOURNAL"),
-    ([SAMPLES, "--program", "/none"], "/none is no program")])
-def test_wrong_words_are_told_in_a_line_or_two(words: list[str], wanted: str) -> None:
+    ([SAMPLES, "--program", "/none"], "/none is not a program")])
+def test_wrong_arguments_are_reported_in_a_line_or_two(words: list[str], expected: str) -> None:
     done: Any = subprocess.run([*COMMAND, *words], env={**VARIABLES, "OLDSTYLE": "/bin/true"},
                                capture_output=True, text=True, check=False)
-    assert done.returncode and wanted in done.stderr and "Traceback" not in done.stderr
+    assert done.returncode and expected in done.stderr and "Traceback" not in done.stderr
 
 
 def test_a_large_table_takes_bounded_memory(program: str, script: Callable[[str], str]) -> None:

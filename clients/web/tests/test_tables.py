@@ -19,18 +19,18 @@ from oldstyle_web.tables import Tables
 TEXT = "place,date\nKöln,1 May 1700\n"
 
 
-def table_of(held: bytes) -> IO[bytes]:
+def table_of(content: bytes) -> IO[bytes]:
     table = tempfile.TemporaryFile()
-    table.write(held)
+    table.write(content)
     return table
 
 
-@pytest.mark.parametrize("held", [
+@pytest.mark.parametrize("content", [
     TEXT.encode("cp1252"), TEXT.encode("utf-16"), TEXT.encode("utf-16-le"), b"PK\3\4\0\0",
     b"K\xc3"])
-def test_a_table_that_is_not_utf_8_is_refused(held: bytes) -> None:
+def test_a_table_that_is_not_utf_8_is_refused(content: bytes) -> None:
     with pytest.raises(Problem) as why:
-        tables.byte_order_mark(io.BytesIO(held))
+        tables.byte_order_mark(io.BytesIO(content))
     assert why.value.code == 422
 
 
@@ -39,7 +39,7 @@ def test_a_byte_order_mark_is_kept() -> None:
     assert tables.byte_order_mark(io.BytesIO(TEXT.encode())) == b""
 
 
-def held_in(rows: IO[bytes]) -> bytes:
+def content_of(rows: IO[bytes]) -> bytes:
     rows.seek(0)
     with rows:
         return rows.read()
@@ -47,20 +47,20 @@ def held_in(rows: IO[bytes]) -> bytes:
 
 def test_all_rows_come_and_the_place_is_given_back(script: Callable[[str], str]) -> None:
     work = Tables(Settings(SAMPLES, script("exec cat"), tables=1))
-    held = b"place,date\n" + b"GB,1731\n" * 500_000
-    unread = work.rows({}, table_of(held), None)
-    marked = b"\xef\xbb\xbf" + held
-    assert held_in(work.rows({}, table_of(marked), None)) == b"\xef\xbb\xbf" + marked
-    assert held_in(unread) == held
+    content = b"place,date\n" + b"GB,1731\n" * 500_000
+    unread = work.rows({}, table_of(content), None)
+    marked = b"\xef\xbb\xbf" + content
+    assert content_of(work.rows({}, table_of(marked), None)) == b"\xef\xbb\xbf" + marked
+    assert content_of(unread) == content
 
 
-def test_a_table_that_is_late_is_told(script: Callable[[str], str]) -> None:
+def test_a_table_that_is_late_is_reported(script: Callable[[str], str]) -> None:
     work = Tables(Settings(SAMPLES, script("exec sleep 60"), tables=1, table_seconds=0.2))
     with pytest.raises(Problem) as why:
         work.rows({}, table_of(b"place,date\n"), None)
     assert why.value.code == 503 and "took too long" in str(why.value.description)
     work = Tables(Settings(SAMPLES, script("echo row; exec sleep 60"), tables=1, table_seconds=0.5))
-    rows = held_in(work.rows({}, table_of(b"place,date\n"), None))
+    rows = content_of(work.rows({}, table_of(b"place,date\n"), None))
     assert rows == b"row\nthe table took too long, and was ended\n"
     assert work.places.acquire(blocking=False)
 
@@ -80,10 +80,10 @@ def test_a_line_of_the_journal_that_is_just_written_is_awaited(
     program = script(f"[ -e {once} ] && exec cat; touch {once}\n"
                      "echo 'oldstyle: journal line 9: 32 NotJson' >&2; exit 1")
     rows = Tables(Settings(SAMPLES, program)).rows({}, table_of(b"place,date\n"), None)
-    assert held_in(rows) == b"place,date\n"
+    assert content_of(rows) == b"place,date\n"
 
 
-def test_tables_too_many_are_told(script: Callable[[str], str]) -> None:
+def test_too_many_tables_are_refused(script: Callable[[str], str]) -> None:
     work = Tables(Settings(SAMPLES, script("exec cat"), tables=1, question_seconds=0.1))
     work.places.acquire()
     with pytest.raises(Problem) as why:
@@ -91,7 +91,7 @@ def test_tables_too_many_are_told(script: Callable[[str], str]) -> None:
     assert why.value.code == 503
 
 
-def test_a_program_that_is_gone_is_told_without_its_path() -> None:
+def test_a_missing_program_is_reported_without_its_path() -> None:
     work = Tables(Settings(SAMPLES, "/none/of/it", tables=1))
     with pytest.raises(Problem) as why:
         work.rows({}, table_of(b"place,date\n"), None)
@@ -99,7 +99,7 @@ def test_a_program_that_is_gone_is_told_without_its_path() -> None:
     assert work.places.acquire(blocking=False)
 
 
-def test_a_fault_of_the_table_is_told_in_the_words_of_the_page(
+def test_a_fault_of_the_table_is_reported_in_terms_of_the_page(
         script: Callable[[str], str]) -> None:
     program = script("echo 'oldstyle: line 1: no column date: name yours by --date' >&2; exit 1")
     with pytest.raises(Problem) as why:
@@ -108,12 +108,12 @@ def test_a_fault_of_the_table_is_told_in_the_words_of_the_page(
     assert "name yours in the field “Column of dates” (column_date)" in str(why.value.description)
 
 
-@pytest.mark.parametrize("told, last", [("1", b'\x1e{"status": 1, "told": "a fault"}'),
-                                        ("", b"a fault\n")])
-def test_a_fault_after_the_first_rows_is_the_last_line(script: Callable[[str], str], told: str,
+@pytest.mark.parametrize("report, last", [("1", b'\x1e{"status": 1, "message": "a fault"}'),
+                                          ("", b"a fault\n")])
+def test_a_fault_after_the_first_rows_is_the_last_line(script: Callable[[str], str], report: str,
                                                        last: bytes) -> None:
     work = Tables(Settings(SAMPLES, script("echo row; echo 'oldstyle: a fault' >&2; exit 1")))
-    assert held_in(work.rows({"told": told}, table_of(b"x\n"), None)) == b"row\n" + last
+    assert content_of(work.rows({"report": report}, table_of(b"x\n"), None)) == b"row\n" + last
 
 
 @pytest.mark.parametrize("fields", [{"separator": "x"}, {"order": "x"},

@@ -62,13 +62,13 @@ def test_the_first_sheet_is_a_table(book_of: Any) -> None:
 def test_a_workbook_is_answered_as_its_table(client: Any, book_of: Any) -> None:
     rows = [row[:3] for row in ROWS if row]
     table = TABLE.replace(",more", "").encode()
-    wanted = client.post("/letters", data=table, content_type="text/csv", buffered=True)
+    expected = client.post("/letters", data=table, content_type="text/csv", buffered=True)
     asked = {"table": (io.BytesIO(book_of(rows)), "my.xlsx"), "separator": "semicolon"}
     found = client.post("/letters", data=asked, content_type="multipart/form-data", buffered=True)
-    assert (found.status_code, found.data) == (200, wanted.data)
+    assert (found.status_code, found.data) == (200, expected.data)
     assert 'filename="my-found.csv"' in found.headers["Content-Disposition"]
     bare = client.post("/letters", data=book_of(rows), content_type="text/csv", buffered=True)
-    assert bare.data == wanted.data
+    assert bare.data == expected.data
 
 
 def packed(**files: str) -> bytes:
@@ -79,10 +79,10 @@ def packed(**files: str) -> bytes:
     return file.getvalue()
 
 
-@pytest.mark.parametrize("held", [packed(**{name: "<"}) for name in (
+@pytest.mark.parametrize("content", [packed(**{name: "<"}) for name in (
     "xl_workbook|xml", "content|xml")] + [packed(**{"content|xml": "<a/>"})])
-def test_a_broken_workbook_is_told(client: Any, held: bytes) -> None:
-    reply = client.post("/letters", data=held, content_type="text/csv")
+def test_a_broken_workbook_is_refused(client: Any, content: bytes) -> None:
+    reply = client.post("/letters", data=content, content_type="text/csv")
     assert reply.status_code == 422 and reply.text == (
         "The workbook can't be read: save the table as CSV UTF-8.\n")
 
@@ -92,7 +92,7 @@ def test_another_archive_is_no_table(client: Any) -> None:
     assert reply.status_code == 422 and "not UTF-8" in reply.text
 
 
-def test_a_workbook_that_is_too_large_is_told() -> None:
+def test_a_workbook_that_is_too_large_is_refused() -> None:
     with pytest.raises(Problem) as why:
         workbooks.as_csv(io.BytesIO(packed(**{"content|xml": " " * 17_000_000})), 1_000_000)
     assert why.value.code == 413
@@ -101,10 +101,10 @@ def test_a_workbook_that_is_too_large_is_told() -> None:
     assert why.value.code == 413
 
 
-def test_a_cell_that_is_repeated_too_often_is_told() -> None:
+def test_a_cell_that_is_repeated_too_often_is_refused() -> None:
     book = ods_of([["place"]])
-    with zipfile.ZipFile(io.BytesIO(book)) as held:
-        files = {name: held.read(name) for name in held.namelist()}
+    with zipfile.ZipFile(io.BytesIO(book)) as archive:
+        files = {name: archive.read(name) for name in archive.namelist()}
     files["content.xml"] = files["content.xml"].replace(
         b"<table:table-cell ", b'<table:table-cell table:number-columns-repeated="999999999" ', 1)
     made = io.BytesIO()
@@ -118,10 +118,10 @@ def test_a_cell_that_is_repeated_too_often_is_told() -> None:
 
 def test_rows_are_pasted(client: Any) -> None:
     rows = "letter\tplace\tdate\r\n1\tGB\t11 February 1731\r\n"
-    wanted = client.post("/letters", data=rows.encode(), content_type="text/csv", buffered=True)
+    expected = client.post("/letters", data=rows.encode(), content_type="text/csv", buffered=True)
     asked = {"table": (io.BytesIO(b""), ""), "pasted": rows}
     found = client.post("/letters", data=asked, content_type="multipart/form-data", buffered=True)
-    assert found.status_code == 200 and found.data == wanted.data and b"\tFriday\t" in found.data
+    assert found.status_code == 200 and found.data == expected.data and b"\tFriday\t" in found.data
     asked = {"table": (io.BytesIO(b""), ""), "pasted": " \r\n"}
     reply = client.post("/letters", data=asked, content_type="multipart/form-data")
     assert reply.status_code == 400 and "paste its rows" in reply.text

@@ -121,7 +121,7 @@ class Period:
 def reading_of(code: str, date: str, reply: Mapping[str, Any]) -> Reading:
     """The reading in a reply to `written`."""
     answer = reply["answer"]
-    return made(Reading, {
+    return construct(Reading, {
         "code": code, "date": date, "edition": reply["edition"], "kind": answer["kind"],
         "runs": tuple(map(run_of, answer["runs"])), "reason": answer["reason"],
         "approximate": answer["approximate"], "supplied": answer["supplied"],
@@ -133,21 +133,21 @@ def run_of(run: Mapping[str, Any]) -> Run:
     """A run of days. One of a single day has that day once."""
     first = day_of(run["first"])
     last = first if run["first"] == run["last"] else day_of(run["last"])
-    return made(Run, {"first": first, "last": last})
+    return construct(Run, {"first": first, "last": last})
 
 
 def day_of(day: Mapping[str, Any]) -> Day:
     """A day by its members. A newer program may have more of them."""
-    return made(Day, {name: day[name] for name in DAY})
+    return construct(Day, {name: day[name] for name in DAY})
 
 
-def known(kind: Type[Value], members: Mapping[str, Any]) -> Value:
+def from_members(kind: Type[Value], members: Mapping[str, Any]) -> Value:
     """A value of those members that it has here. A newer program may have more of them."""
     names = [field.name for field in fields(kind)]
     return kind(**{name: members[name] for name in names if name in members})
 
 
-def made(kind: Type[Value], members: Dict[str, Any]) -> Value:
+def construct(kind: Type[Value], members: Dict[str, Any]) -> Value:
     """A value with these members, which nobody else holds.
 
     The call of a frozen dataclass sets each member separately, and takes four times as long.

@@ -14,10 +14,10 @@ from .faults import OldstyleError
 from .places import Places, read_places
 from .register import Register
 
-REFUSED, WRONG_WORD, STREAM_FAULT, INTERRUPTED = 1, 2, 3, 130
+REFUSED, WRONG_ARGUMENT, STREAM_FAULT, INTERRUPTED = 1, 2, 3, 130
 
 
-class Unfit(OldstyleError):
+class FileRefused(OldstyleError):
     """A file that can't be changed as the command promises. Nothing of it is written."""
 
 
@@ -25,24 +25,25 @@ class CommandLine(argparse.ArgumentParser):
     """The arguments of a command. A wrong one is reported in a line."""
 
     def error(self, message: str) -> NoReturn:
-        self.exit(WRONG_WORD, f"{self.prog}: {message}: {self.prog} --help lists the arguments\n")
+        self.exit(WRONG_ARGUMENT,
+                  f"{self.prog}: {message}: {self.prog} --help lists the arguments\n")
 
 
 @dataclass
-class Desk:
+class Context:
     """What a command works with: the register, the places, and the remarks on lines."""
 
     register: Register
     places: Places
     default: Optional[str]
     has_table: bool
-    said: List[Tuple[int, str]] = field(default_factory=list)
+    remarks: List[Tuple[int, str]] = field(default_factory=list)
     _unknown: Dict[str, List[int]] = field(default_factory=dict)
     _lacking: Dict[str, str] = field(default_factory=dict)
     _periods: Dict[str, List[Period]] = field(default_factory=dict)
 
-    def say(self, line: int, what: str) -> None:
-        self.said.append((line, what))
+    def report(self, line: int, what: str) -> None:
+        self.remarks.append((line, what))
 
     def default_for(self, place: str, names: Iterable[str], line: int) -> Optional[str]:
         """The territory of --place, for a place that is unknown or empty, which is noted.
@@ -54,7 +55,7 @@ class Desk:
             self._lacking[place] = code or "(empty)"
         return None if place and self.has_table else self.default
 
-    def say_unknown(self) -> None:
+    def report_unknown(self) -> None:
         """Reports each unknown place once."""
         for place, lines in self._unknown.items():
             dates = f"{len(lines)} dates" if len(lines) > 1 else "1 date"
@@ -67,7 +68,7 @@ class Desk:
                         "name another in --places FILE")
             elif place:
                 step = "list it in --places FILE"
-            self.say(lines[0], f"{what}: {step}")
+            self.report(lines[0], f"{what}: {step}")
 
     def calendar(self, code: str, day: int) -> str:
         """The calendar of a territory on a day."""
@@ -92,47 +93,49 @@ def command_line(name: str, document: str, kind: str) -> CommandLine:
     return line
 
 
-def run(line: CommandLine, fill: Callable[[bytes, Desk, argparse.Namespace], bytes],
+def run(line: CommandLine, fill: Callable[[bytes, Context, argparse.Namespace], bytes],
         words: Optional[Sequence[str]]) -> int:
     """Runs a command over standard input, and returns its status."""
     options = line.parse_args(words)
     try:
-        said = filled(options, fill)
+        remarks = fill_input(options, fill)
     except OldstyleError as why:
-        return ended(line, REFUSED, why)
+        return end_with(line, REFUSED, why)
     except KeyboardInterrupt:
         return INTERRUPTED
     except BrokenPipeError:
         os.dup2(os.open(os.devnull, os.O_WRONLY), 1)
-        return ended(line, STREAM_FAULT, "standard output was closed")
+        return end_with(line, STREAM_FAULT, "standard output was closed")
     except OSError as why:
-        return ended(line, STREAM_FAULT, f"{why.filename or 'a stream'}: {why.strerror}")
-    for what in said:
+        return end_with(line, STREAM_FAULT, f"{why.filename or 'a stream'}: {why.strerror}")
+    for what in remarks:
         print(f"{line.prog}: {what}", file=sys.stderr)
-    return REFUSED if said and options.strict else 0
+    return REFUSED if remarks and options.strict else 0
 
 
-def ended(line: CommandLine, status: int, why: object) -> int:
+def end_with(line: CommandLine, status: int, why: object) -> int:
     print(f"{line.prog}: {why}", file=sys.stderr)
     return status
 
 
-def filled(options: argparse.Namespace,
-           fill: Callable[[bytes, Desk, argparse.Namespace], bytes]) -> List[str]:
+def fill_input(options: argparse.Namespace,
+               fill: Callable[[bytes, Context, argparse.Namespace], bytes]) -> List[str]:
     """Writes the changed standard input, and returns the lines for standard error."""
     table = read_places(options.places) if options.places else {}
     with Register(options.journal, program=options.program) as register:
         places = Places(register.lands(), table)
         if options.place is not None and places.code(options.place) is None:
             codes = ", ".join(land.code for land in register.lands())
-            raise Unfit(f"--place {options.place}: no such territory: the register has {codes}")
+            raise FileRefused(f"--place {options.place}: no such territory: "
+                              f"the register has {codes}")
         default = places.code(options.place) if options.place else None
-        desk = Desk(register, places, default, options.places is not None)
-        written = fill(buffer_of(sys.stdin).read(), desk, options)
-        desk.say_unknown()
+        context = Context(register, places, default, options.places is not None)
+        written = fill(buffer_of(sys.stdin).read(), context, options)
+        context.report_unknown()
     buffer_of(sys.stdout).write(written)
     buffer_of(sys.stdout).flush()
-    return [f"line {line}: {what}" for line, what in sorted(desk.said, key=lambda said: said[0])]
+    in_order = sorted(context.remarks, key=lambda remark: remark[0])
+    return [f"line {line}: {what}" for line, what in in_order]
 
 
 def buffer_of(stream: Optional[TextIO]) -> BinaryIO:

@@ -3,15 +3,15 @@ from __future__ import annotations
 
 from typing import Any, Mapping
 
-WAY_OUT = "see docs/FORMATS.md of the program for what a request takes"
+ADVICE = "see docs/FORMATS.md of the program for what a request takes"
 
 
 LONGEST_SHOWN = 200
 
 
-def shown(asked: str) -> str:
+def printable(question: str) -> str:
     """What was asked, for a message: not too long, and of letters that can be printed."""
-    text = asked if len(asked) <= LONGEST_SHOWN else f"{asked[:LONGEST_SHOWN]}.."
+    text = question if len(question) <= LONGEST_SHOWN else f"{question[:LONGEST_SHOWN]}.."
     return text.encode("utf-8", "backslashreplace").decode("utf-8")
 
 
@@ -27,16 +27,17 @@ class Fault(OldstyleError):
     """
 
     number = 0
-    advice = WAY_OUT
+    advice = ADVICE
 
-    def __init__(self, reply: Mapping[str, Any], asked: str):
+    def __init__(self, reply: Mapping[str, Any], question: str):
         self.number = reply["fault"]
         self.name: str = reply["name"]
         self.field: str | None = reply.get("field")
         self.edition: int | None = reply.get("edition")
-        self.asked = asked
+        self.question = question
         field = f" {self.field}" if self.field else ""
-        super().__init__(f"{self.name} ({self.number}){field}: {shown(asked)}: {self.advice}")
+        super().__init__(f"{self.name} ({self.number}){field}: {printable(question)}: "
+                         f"{self.advice}")
 
 
 class BadCode(Fault):
@@ -81,10 +82,10 @@ class NotObject(Fault):
 class BadField(Fault):
     number = 34
 
-    def __init__(self, reply: Mapping[str, Any], asked: str):
+    def __init__(self, reply: Mapping[str, Any], question: str):
         if reply.get("field") == "weekday":
             self.advice = "a weekday is its English name, as Friday"
-        super().__init__(reply, asked)
+        super().__init__(reply, question)
 
 
 class UnknownOp(Fault):
@@ -105,9 +106,9 @@ class ReadOnly(Fault):
 KINDS = {kind.number: kind for kind in Fault.__subclasses__()}
 
 
-def fault_of(reply: Mapping[str, Any], asked: str) -> Fault:
+def fault_of(reply: Mapping[str, Any], question: str) -> Fault:
     """The fault in a reply, of the class that has its number."""
-    return KINDS.get(reply["fault"], Fault)(reply, asked)
+    return KINDS.get(reply["fault"], Fault)(reply, question)
 
 
 class ProgramFailed(OldstyleError):
@@ -119,13 +120,13 @@ class ProgramMissing(ProgramFailed):
 
 
 class ProgramEnded(ProgramFailed):
-    """The program ended before it had answered. `status` is its status, and `told` what it printed
-    on standard error."""
+    """The program ended before it had answered. `status` is its status, and `stderr` what it
+    printed on standard error."""
 
-    def __init__(self, message: str, status: int, told: str):
+    def __init__(self, message: str, status: int, stderr: str):
         super().__init__(message)
         self.status = status
-        self.told = told
+        self.stderr = stderr
 
 
 class ProgramSlow(ProgramFailed):

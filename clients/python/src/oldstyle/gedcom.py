@@ -16,10 +16,10 @@ from itertools import islice
 from typing import Iterator, List, Optional, Sequence, Tuple, Union
 
 from .answers import Reading
-from .commands import Desk, Unfit, command_line, run
+from .commands import Context, FileRefused, command_line, run
 from .faults import Fault
-from .gedcom_dates import (INTERPRETED, Form, Unwritten, Writer, is_asked, normal, pieces_of,
-                           plain, rewritten)
+from .gedcom_dates import (INTERPRETED, Form, NotConverted, Writer, convert_pieces, is_asked,
+                           pieces_of, plain, standard_form)
 
 LINE = re.compile(r"(?P<front>\s*(?P<level>\d{1,2}) +(?:@[^@]+@ +)?(?P<tag>\w+))"
                   r"(?: (?P<payload>.*))?")
@@ -58,17 +58,17 @@ class Event:
 
 
 @dataclass
-class Dated:
+class EventDate:
     """A date: the text that was written, and its interpretation if it has one."""
 
     line: Line
     raw: str
-    given: str = ""
+    interpretation: str = ""
     has_phrase: bool = False
     text: str = ""
     code: str = ""
 
-    def asked(self) -> List[str]:
+    def questions(self) -> List[str]:
         """The texts that the program is asked."""
         pieces = pieces_of(self.text)
         return [self.text] if pieces is None else list(filter(is_asked, pieces))
@@ -79,7 +79,7 @@ class Tree:
 
     def __init__(self, data: bytes):
         if data.startswith((b"\xff\xfe", b"\xfe\xff", b"0\0", b"\0" b"0")):
-            raise Unfit("the file is in UTF-16: save it as UTF-8")
+            raise FileRefused("the file is in UTF-16: save it as UTF-8")
         text = data.decode("latin-1")
         self.front = BOM if text.startswith(BOM) else ""
         found = re.findall(r"([^\r\n]*)(\r\n|\n|\r|$)", text[len(self.front):])
@@ -89,15 +89,15 @@ class Tree:
                       for place, (line, end) in enumerate(found)
                       if (match := LINE.fullmatch(line))]
         if not self.lines or (self.lines[0].level, self.lines[0].tag) != (0, "HEAD"):
-            raise Unfit("the file doesn't begin with 0 HEAD: it is not GEDCOM")
+            raise FileRefused("the file doesn't begin with 0 HEAD: it is not GEDCOM")
         version = self._of_head("GEDC", "VERS")
         if not version.startswith(("5.5", "7.")):
-            raise Unfit(f"the version of GEDCOM is {version or 'missing'}: 5.5, 5.5.1 and 7 are "
-                        "read")
+            raise FileRefused(f"the version of GEDCOM is {version or 'missing'}: 5.5, 5.5.1 and 7 "
+                              "are read")
         self.version = int(version[0])
         named = "UTF-8" if self.version == 7 else self._of_head("CHAR").upper() or "UTF-8"
         if named not in CHARSETS:
-            raise Unfit(f"CHAR {named} is not read: save the file as UTF-8")
+            raise FileRefused(f"CHAR {named} is not read: save the file as UTF-8")
         self._charset = CHARSETS[named]
 
     def _of_head(self, *tags: str) -> str:
@@ -111,7 +111,7 @@ class Tree:
                 return line.payload.strip()
         return ""
 
-    def decoded(self, raw: str) -> Optional[str]:
+    def decode(self, raw: str) -> Optional[str]:
         """A text by the letters of the file, or None if its bytes are not a text."""
         try:
             return raw.encode("latin-1").decode(self._charset)
@@ -150,73 +150,77 @@ def main(words: Optional[Sequence[str]] = None) -> int:
     return run(line, fill, words)
 
 
-def fill(data: bytes, desk: Desk, options: argparse.Namespace) -> bytes:
+def fill(data: bytes, context: Context, options: argparse.Namespace) -> bytes:
     """The file with the calendars of its dates."""
     tree = Tree(data)
-    found = list(dates_of(tree, desk))
-    asked = [(date.code, text) for date in found for text in date.asked()]
-    readings = desk.register.read_many(asked, refused=True)
+    found = list(dates_of(tree, context))
+    questions = [(date.code, text) for date in found for text in date.questions()]
+    readings = context.register.read_many(questions, refused=True)
     for date in found:
-        answers = list(islice(readings, len(date.asked())))
+        answers = list(islice(readings, len(date.questions())))
         try:
-            write(tree, date, answers, desk, options.gregorian)
-        except Unwritten as why:
-            typed = (tree.decoded(date.raw) or "").strip()
-            desk.say(date.line.place + 1, f"{typed} ({date.code}): {why}")
+            write(tree, date, answers, context, options.gregorian)
+        except NotConverted as why:
+            typed = (tree.decode(date.raw) or "").strip()
+            context.report(date.line.place + 1, f"{typed} ({date.code}): {why}")
     return (tree.front + "".join(tree.pieces)).encode("latin-1")
 
 
-def dates_of(tree: Tree, desk: Desk) -> Iterator[Dated]:
+def dates_of(tree: Tree, context: Context) -> Iterator[EventDate]:
     """The dates that are asked, each with its territory. For the others the reason is reported."""
     for event in tree.events():
         for line in event.continued:
-            desk.say(line.place + 1, "a date that continues on another line is left: join both")
+            context.report(line.place + 1,
+                           "a date that continues on another line is left: join both")
         for line, phrase in event.dates:
-            date = dated(tree.version, line, phrase)
-            text = tree.decoded(date.raw)
+            date = date_of_line(tree.version, line, phrase)
+            text = tree.decode(date.raw)
             if text is None:
-                desk.say(line.place + 1, f"{date.raw!r}: these bytes are not of the file's CHAR")
+                context.report(line.place + 1,
+                               f"{date.raw!r}: these bytes are not of the file's CHAR")
                 continue
-            date.text = normal(text.strip())
-            if not date.text or not date.asked():
+            date.text = standard_form(text.strip())
+            if not date.text or not date.questions():
                 continue
-            place = tree.decoded(event.place)
+            place = tree.decode(event.place)
             place = "of bytes that are not of the file's CHAR" if place is None else place.strip()
-            names = list(wider(place))
-            codes = desk.places.codes(names)
-            if code := codes[0] if codes else desk.default_for(place, names, line.place + 1):
+            names = list(enclosing_places(place))
+            codes = context.places.codes(names)
+            if code := codes[0] if codes else context.default_for(place, names, line.place + 1):
                 date.code = code
                 yield date
 
 
-def dated(version: int, line: Line, phrase: Optional[Line]) -> Dated:
+def date_of_line(version: int, line: Line, phrase: Optional[Line]) -> EventDate:
     """What was written, and its interpretation: an INT of 5.5.1, a date with PHRASE of 7."""
     payload = line.payload.strip()
     if version == 7:
-        return Dated(line, phrase.payload, payload, True) if phrase else Dated(line, payload)
+        if phrase:
+            return EventDate(line, phrase.payload, payload, True)
+        return EventDate(line, payload)
     if found := INTERPRETED.fullmatch(payload):
-        return Dated(line, found["phrase"], found["date"], True)
+        return EventDate(line, found["phrase"], found["date"], True)
     if payload.startswith("(") and payload.endswith(")"):
-        return Dated(line, payload[1:-1], "", True)
-    return Dated(line, payload)
+        return EventDate(line, payload[1:-1], "", True)
+    return EventDate(line, payload)
 
 
-def wider(place: str) -> Iterator[str]:
+def enclosing_places(place: str) -> Iterator[str]:
     """A place, and each larger one that it names after a comma."""
     while place:
         yield place
         place = place.partition(",")[2].strip()
 
 
-def write(tree: Tree, date: Dated, answers: Sequence[Answer], desk: Desk,
+def write(tree: Tree, date: EventDate, answers: Sequence[Answer], context: Context,
           is_gregorian: bool) -> None:
     """Writes a date into its line, and the original text into its phrase."""
-    form = form_of(date, answers, desk, tree.version, is_gregorian)
+    form = form_of(date, answers, context, tree.version, is_gregorian)
     line = date.line
-    if date.given:
-        forms = forms_of(date, answers, desk)
-        if plain(date.given) not in forms:
-            raise Unwritten(f"{date.given} is left, the program has {form.text}")
+    if date.interpretation:
+        forms = forms_of(date, answers, context)
+        if plain(date.interpretation) not in forms:
+            raise NotConverted(f"{date.interpretation} is left, the program has {form.text}")
         return
     if form.text.upper() == " ".join(date.raw.upper().split()):
         return
@@ -227,33 +231,33 @@ def write(tree: Tree, date: Dated, answers: Sequence[Answer], desk: Desk,
         return
     if date.has_phrase or not form.keeps:
         if len(pieces_of(form.text) or []) != 1:
-            raise Unwritten(f"INT takes one date, and this is {form.text}")
+            raise NotConverted(f"INT takes one date, and this is {form.text}")
         form = Form(f"INT {form.text} ({date.raw})", True)
     tree.pieces[line.place] = f"{line.front} {form.text}{line.end}"
 
 
-def form_of(date: Dated, answers: Sequence[Answer], desk: Desk, version: int,
+def form_of(date: EventDate, answers: Sequence[Answer], context: Context, version: int,
             is_gregorian: bool) -> Form:
     """The form of a date by the answers of the program."""
     for answer in answers:
         if isinstance(answer, Fault):
-            raise Unwritten(answer.name)
+            raise NotConverted(answer.name)
     readings = [answer for answer in answers if isinstance(answer, Reading)]
-    writer = Writer(version, lambda day: desk.calendar(date.code, day.day), is_gregorian)
+    writer = Writer(version, lambda day: context.calendar(date.code, day.day), is_gregorian)
     pieces = pieces_of(date.text)
     if pieces is None:
         return Form(writer.phrase(readings[0]), False)
-    return rewritten(pieces, iter(readings), writer)
+    return convert_pieces(pieces, iter(readings), writer)
 
 
-def forms_of(date: Dated, answers: Sequence[Answer], desk: Desk) -> List[str]:
+def forms_of(date: EventDate, answers: Sequence[Answer], context: Context) -> List[str]:
     """All forms of what a date means, by both calendars and in both versions."""
     forms = []
     for version in (5, 7):
         for is_gregorian in (False, True):
             try:
-                forms.append(plain(form_of(date, answers, desk, version, is_gregorian).text))
-            except Unwritten:
+                forms.append(plain(form_of(date, answers, context, version, is_gregorian).text))
+            except NotConverted:
                 pass
     return forms
 

@@ -23,7 +23,7 @@ INTERPRETED = re.compile(r"INT (?P<date>[^()]+) \((?P<phrase>.*)\)", re.IGNORECA
 JULIAN_MARKS = {5: "@#DJULIAN@ ", 7: "JULIAN "}
 
 
-class Unwritten(Exception):
+class NotConverted(Exception):
     """Why a date is left as it is."""
 
 
@@ -35,7 +35,7 @@ class Form:
     keeps: bool
 
 
-def normal(payload: str) -> str:
+def standard_form(payload: str) -> str:
     """A payload in the form of the standard, if it has one: blanks, words and double years.
 
     Other programs write `Abt.  1731`, `Bet. 1731 - 1735`, `11 FEB 1731/2` and `1731-02-11`. What is
@@ -109,34 +109,34 @@ class Writer:
             return self.day(day)
         run = reading.runs[0]
         if reading.kind != "month":
-            raise Unwritten(f"several days: {run}")
+            raise NotConverted(f"several days: {run}")
         if self.calendar_on(run.first) != self.calendar_on(run.last):
-            raise Unwritten("the calendar changed in it")
+            raise NotConverted("the calendar changed in it")
         if self.is_gregorian and run.first.label != run.first.gregorian:
-            raise Unwritten("a month of another calendar falls in two of the Gregorian one")
+            raise NotConverted("a month of another calendar falls in two of the Gregorian one")
         return self.day(run.first, False)
 
     def only_day(self, reading: Reading) -> Optional[Day]:
         """The day that a date means, or None for one run of several days. Others are refused."""
         if not reading.runs:
-            raise Unwritten(str(reading.reason))
+            raise NotConverted(str(reading.reason))
         if len(reading.runs) > 1:
-            raise Unwritten("several days: " + "; or ".join(map(str, reading.runs)))
+            raise NotConverted("several days: " + "; or ".join(map(str, reading.runs)))
         if reading.weekday_fits is False:
-            raise Unwritten(f"the weekday differs: {reading.runs[0]}")
+            raise NotConverted(f"the weekday differs: {reading.runs[0]}")
         return reading.day
 
     def phrase(self, reading: Reading) -> str:
         """The date that a text means, with the text kept. INT of 5.5.1 takes one date."""
         day = self.only_day(reading)
         if reading.uncertain:
-            raise Unwritten("in doubt: GEDCOM has no word for that")
+            raise NotConverted("in doubt: GEDCOM has no word for that")
         if day and not reading.approximate:
             return self.day(day).text
         if reading.kind == "month" and not reading.approximate:
             return self.piece(reading).text
         if self.version == 5:
-            raise Unwritten(f"INT takes one date, and this is {reading}")
+            raise NotConverted(f"INT takes one date, and this is {reading}")
         return self.span(reading)
 
     def span(self, reading: Reading) -> str:
@@ -145,13 +145,13 @@ class Writer:
         if reading.approximate and first == last:
             return f"ABT {first}"
         if reading.approximate:
-            raise Unwritten("approximate, and longer than a day: GEDCOM has no word for that")
+            raise NotConverted("approximate, and longer than a day: GEDCOM has no word for that")
         if reading.is_open:
             return f"AFT {first}" if first else f"BEF {last}"
         return f"BET {first} AND {last}"
 
 
-def rewritten(pieces: List[str], readings: Iterator[Reading], writer: Writer) -> Form:
+def convert_pieces(pieces: List[str], readings: Iterator[Reading], writer: Writer) -> Form:
     """A date of GEDCOM with its calendars; its other words are as they were."""
     written: List[str] = []
     keeps = True

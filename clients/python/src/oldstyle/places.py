@@ -44,11 +44,11 @@ class Places:
 def read_places(path: str) -> Dict[str, str]:
     """A table of places: CSV with the columns `place` and `code`, as docs/PAGES.md describes it."""
     with open(path, "rb") as file:
-        held = file.read()
+        content = file.read()
     try:
-        text = held.decode("utf-8-sig")
+        text = content.decode("utf-8-sig")
     except UnicodeDecodeError as why:
-        line = held[: why.start].count(b"\n") + 1
+        line = content[: why.start].count(b"\n") + 1
         raise wrong(path, line, "a place or a code is not UTF-8: save the table as UTF-8") from None
     table: Dict[str, str] = {}
     for line, place, code in records(path, text):

@@ -1,4 +1,4 @@
-"""Some runs of the program that answer lines, each lent to one caller at a time."""
+"""Runs of the program that answer lines, each used by one caller at a time."""
 from __future__ import annotations
 
 import os
@@ -7,7 +7,7 @@ import time
 from typing import Dict, List, Optional, Sequence
 
 from .faults import ProgramBusy, ProgramEnded, ProgramSlow
-from .service import PATIENCE, Connection, closed
+from .service import EXIT_SECONDS, Connection, closed_error
 
 
 class Pool:
@@ -23,7 +23,7 @@ class Pool:
         self._command, self._size, self._seconds = command, size, seconds
         self._opening = opening
         self._is_closed = False
-        # By the process that may lend them: those of other processes are left alone.
+        # By the process that may use them: those of other processes are left alone.
         self._idle: Dict[int, "queue.LifoQueue[Optional[Connection]]"] = {}
 
     def ask(self, lines: Sequence[bytes]) -> List[bytes]:
@@ -32,7 +32,7 @@ class Pool:
         Waiting for a run and its replies may take `seconds`, and a run that is started has that
         time again. After that `ProgramBusy` or `ProgramSlow` is raised.
         """
-        idle = self._lent()
+        idle = self._connections()
         last = time.monotonic() + self._seconds
         try:
             connection = idle.get(timeout=self._seconds)
@@ -48,7 +48,7 @@ class Pool:
                     return replies
                 except (ProgramEnded, ProgramSlow):
                     connection.close()
-            connection = self._started()
+            connection = self._start()
             replies = connection.ask(lines, time.monotonic() + self._seconds)
             fit = connection
             return replies
@@ -59,11 +59,11 @@ class Pool:
             idle.put(fit)
 
     def close(self) -> None:
-        """Ends the runs of this process, those that are lent as soon as they come back."""
+        """Ends the runs of this process, those in use as soon as their callers are answered."""
         self._is_closed = True
         if (idle := self._idle.get(os.getpid())) is None:
             return
-        last = time.monotonic() + PATIENCE
+        last = time.monotonic() + EXIT_SECONDS
         for _ in range(self._size):
             try:
                 connection = idle.get(timeout=max(0, last - time.monotonic()))
@@ -72,10 +72,10 @@ class Pool:
             if connection is not None:
                 connection.close()
 
-    def _lent(self) -> "queue.LifoQueue[Optional[Connection]]":
-        """What this process may lend: runs, and places for some that are not started yet."""
+    def _connections(self) -> "queue.LifoQueue[Optional[Connection]]":
+        """The idle runs of this process, and a None for each that is not started yet."""
         if self._is_closed:
-            raise closed()
+            raise closed_error()
         process = os.getpid()
         if process not in self._idle:
             places: "queue.LifoQueue[Optional[Connection]]" = queue.LifoQueue()
@@ -84,7 +84,7 @@ class Pool:
             self._idle.setdefault(process, places)
         return self._idle[process]
 
-    def _started(self) -> Connection:
+    def _start(self) -> Connection:
         connection = Connection(self._command)
         try:
             connection.ask(self._opening, time.monotonic() + self._seconds)

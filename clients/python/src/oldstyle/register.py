@@ -6,9 +6,9 @@ import os
 from typing import (Any, Dict, Iterable, Iterator, List, Literal, NoReturn, Optional, Sequence,
                     Type, TypeVar, Union, overload)
 
-from .answers import Land, Period, Reading, known, reading_of
+from .answers import Land, Period, Reading, from_members, reading_of
 from .faults import Fault, JournalRefused, ProgramDiffers, fault_of
-from .service import Service, program_at, rooted, unreadable
+from .service import Service, program_at, absolute, unreadable
 
 Row = Sequence[Optional[str]]
 Value = TypeVar("Value")
@@ -30,7 +30,7 @@ class Register:
 
     def __init__(self, journal: Union[str, "os.PathLike[str]"], *, program: Optional[str] = None,
                  follow: bool = False, timeout: Optional[float] = None):
-        path = rooted(os.fspath(journal))
+        path = absolute(os.fspath(journal))
         words = ["--follow"] if follow else ["--read-only", "--journal"]
         if follow and not os.path.exists(path):
             raise JournalRefused(f"{path}: {unreadable(path)}", 0, "")
@@ -98,17 +98,17 @@ class Register:
         `ask("easter", code="GB", year=1753)`."""
         request = {"op": op, "reader": 1, **members}
         line = json.dumps(request, ensure_ascii=False) + "\n"
-        asked = f"{op} {' '.join(map(str, members.values()))}".strip()
-        reply = self._reply(self._service.ask(line.encode("utf-8", "surrogatepass")), asked)
+        question = f"{op} {' '.join(map(str, members.values()))}".strip()
+        reply = self._reply(self._service.ask(line.encode("utf-8", "surrogatepass")), question)
         answer = reply["answer"]
         if not isinstance(answer, dict):
-            self._differs(asked)
+            self._differs(question)
         return answer
 
     def _all_of(self, kind: Type[Value], op: str, **members: str) -> List[Value]:
         """The list in the answer to a query, which has the query's name."""
         try:
-            return [known(kind, item) for item in self.ask(op, **members)[op]]
+            return [from_members(kind, item) for item in self.ask(op, **members)[op]]
         except (KeyError, TypeError):
             self._differs(op)
 
@@ -118,24 +118,24 @@ class Register:
         except (KeyError, TypeError, ValueError):
             pass
         weekday = f" ({row[2]})" if len(row) > 2 and row[2] else ""
-        asked = f"{row[1]}{weekday} in {row[0]}"
-        self._reply(line, asked)
-        self._differs(asked)
+        question = f"{row[1]}{weekday} in {row[0]}"
+        self._reply(line, question)
+        self._differs(question)
 
-    def _reply(self, line: bytes, asked: str) -> Dict[str, Any]:
+    def _reply(self, line: bytes, question: str) -> Dict[str, Any]:
         """The reply of a line, or the fault that it has."""
         try:
             reply = json.loads(line)
         except ValueError:
             reply = None
         if not isinstance(reply, dict) or not ("answer" in reply or "fault" in reply):
-            self._differs(asked)
+            self._differs(question)
         if "fault" in reply:
-            raise fault_of(reply, asked)
+            raise fault_of(reply, question)
         return reply
 
-    def _differs(self, asked: str) -> NoReturn:
-        raise ProgramDiffers(f"{self._program} answered {asked} in a form that this package "
+    def _differs(self, question: str) -> NoReturn:
+        raise ProgramDiffers(f"{self._program} answered {question} in a form that this package "
                              f"doesn't know: does `{self._program} --version` print this package's "
                              "version?")
 
@@ -151,8 +151,8 @@ def written_line(code: Optional[str], date: Optional[str], weekday: Optional[str
     """The request line that asks for a date. An empty weekday is left out."""
     for text in (code, date, weekday or ""):
         if not isinstance(text, str):
-            raise TypeError(f"{text!r} is no text: a code, a date and a weekday are texts")
-    given = f',"weekday":{quoted(weekday)}' if weekday else ""
+            raise TypeError(f"{text!r} is not a text: a code, a date and a weekday are texts")
+    member = f',"weekday":{quoted(weekday)}' if weekday else ""
     line = (f'{{"op":"written","reader":1,"code":{quoted(code)},'
-            f'"date":{quoted(date)}{given}}}\n')
+            f'"date":{quoted(date)}{member}}}\n')
     return line.encode("utf-8", "surrogatepass")

@@ -17,13 +17,13 @@ from .faults import (JournalRefused, ProgramDiffers, ProgramEnded, ProgramFailed
                      ProgramMissing, ProgramSlow)
 
 Row = TypeVar("Row")
-PIECE = 1 << 16
-PATIENCE = 2
+BLOCK = 1 << 16
+EXIT_SECONDS = 2
 # Milliseconds for which a thread keeps the others from the program while it waits for a reply.
 LONGEST_POLL = 100
-WAYS = ("install oldstyle, or name the program: program= in Python, --program of a command, or "
-        "the environment variable OLDSTYLE")
-STATUS_OF_WORDS = 2
+HOW_TO_FIND = ("install oldstyle, or name the program: program= in Python, --program of a command, "
+               "or the environment variable OLDSTYLE")
+STATUS_OF_ARGUMENTS = 2
 
 
 class Ticket:
@@ -39,12 +39,12 @@ def program_at(named: Optional[str]) -> str:
     """The program that is named, otherwise that of the variable OLDSTYLE, otherwise of the PATH."""
     path = named or os.environ.get("OLDSTYLE") or "oldstyle"
     if found := shutil.which(path):
-        return rooted(found)
-    where = "is not on the PATH" if os.path.basename(path) == path else "is no program"
-    raise ProgramMissing(f"{path} {where}: {WAYS}")
+        return absolute(found)
+    where = "is not on the PATH" if os.path.basename(path) == path else "is not a program"
+    raise ProgramMissing(f"{path} {where}: {HOW_TO_FIND}")
 
 
-def rooted(path: str) -> str:
+def absolute(path: str) -> str:
     """The absolute path, since a program may be started again after the folder has changed."""
     return path if os.path.isabs(path) else os.path.join(os.getcwd(), path)
 
@@ -112,7 +112,7 @@ class Service:
             connection = self._connection = Connection(self._command)
         if self._is_closed:
             connection.close()
-            raise closed()
+            raise closed_error()
         return connection
 
 
@@ -142,7 +142,8 @@ class Connection:
                                              start_new_session=True)
         except OSError as why:
             self._errors.close()
-            raise ProgramMissing(f"{command[0]} can't be started: {why.strerror}: {WAYS}") from why
+            raise ProgramMissing(f"{command[0]} can't be started: {why.strerror}: "
+                                 f"{HOW_TO_FIND}") from why
         assert self._process.stdin and self._process.stdout
         self._in, self._out = self._process.stdin.fileno(), self._process.stdout.fileno()
         os.set_blocking(self._in, False)
@@ -213,29 +214,29 @@ class Connection:
         if self._refusal is not None:
             raise self._refusal.with_traceback(None)
         if self._is_closing:
-            raise closed()
+            raise closed_error()
         self._refusal = self._lost
 
     def _exchange(self) -> None:
         """Writes what can be written and reads what came. Waits a while if neither is possible."""
         for file, _ in (self._both if self._unsent else self._reading).poll(LONGEST_POLL):
             if file == self._out:
-                self._take()
+                self._read_block()
             elif self._unsent:
-                self._give()
+                self._write_block()
 
-    def _give(self) -> None:
+    def _write_block(self) -> None:
         try:
-            del self._unsent[: os.write(self._in, bytes(self._unsent[:PIECE]))]
+            del self._unsent[: os.write(self._in, bytes(self._unsent[:BLOCK]))]
         except BlockingIOError:
             pass
         except BrokenPipeError:
             self._unsent.clear()  # the program has ended, which its output says
 
-    def _take(self) -> None:
-        piece = os.read(self._out, PIECE)
+    def _read_block(self) -> None:
+        piece = os.read(self._out, BLOCK)
         if not piece:
-            raise self._ended()
+            raise self._end_error()
         *lines, self._rest = (self._rest + piece).split(b"\n")
         for line in lines:
             if not self._tickets:
@@ -243,41 +244,42 @@ class Connection:
                                      "oldstyle?")
             self._tickets.popleft().reply = line
 
-    def _ended(self) -> ProgramEnded:
+    def _end_error(self) -> ProgramEnded:
         """Why the program ended, with its standard error. One that only closed its output is
         ended."""
         try:
-            status = self._process.wait(timeout=PATIENCE)
+            status = self._process.wait(timeout=EXIT_SECONDS)
         except subprocess.TimeoutExpired:
             self._process.kill()
             status = self._process.wait()
         self._errors.seek(0)
         errors = self._errors.read().decode(errors="replace").strip()
-        return explained(self._command, status, errors)
+        return end_error(self._command, status, errors)
 
 
-def closed() -> ProgramEnded:
+def closed_error() -> ProgramEnded:
     return ProgramEnded("this register was closed: open another one", 0, "")
 
 
-def explained(command: Sequence[str], status: int, told: str) -> ProgramEnded:
+def end_error(command: Sequence[str], status: int, stderr: str) -> ProgramEnded:
     """The exception of a program that ended, with the next step."""
     kind, advice = ProgramEnded, "open the register again"
     journal = command[-1]
     if status < 0:
         name = signal.Signals(-status).name
-        return kind(f"{command[0]} was ended by {name} before it answered: {advice}", status, told)
-    if status == STATUS_OF_WORDS:
+        return kind(f"{command[0]} was ended by {name} before it answered: {advice}", status,
+                    stderr)
+    if status == STATUS_OF_ARGUMENTS:
         advice = (f"this program doesn't know {' '.join(command[1:-1])}: use a newer one; "
-                  f"{command[0]} --version tells which it is")
-    elif "journal that is followed" in told:
+                  f"{command[0]} --version prints its version")
+    elif "journal that is followed" in stderr:
         advice = f"{journal}: {advice}"
-    elif "journal line" in told:
+    elif "journal line" in stderr:
         kind, advice = JournalRefused, f"{journal}: correct that line, or name another journal"
-    elif "read fault" in told or "no such file" in told:
+    elif "read fault" in stderr or "no such file" in stderr:
         kind, advice = JournalRefused, f"{journal}: {unreadable(journal)}"
     return kind(f"{command[0]} ended with status {status} before it answered: "
-                f"{told or 'it printed nothing'}: {advice}", status, told)
+                f"{stderr or 'it printed nothing'}: {advice}", status, stderr)
 
 
 def unreadable(path: str) -> str:
@@ -301,7 +303,7 @@ def end(process: "subprocess.Popen[bytes]", errors: IO[bytes], owner: int) -> No
         process.returncode = 0  # the program is not a child of this process
         return
     try:
-        process.wait(timeout=PATIENCE)
+        process.wait(timeout=EXIT_SECONDS)
     except subprocess.TimeoutExpired:
         process.kill()
         process.wait()

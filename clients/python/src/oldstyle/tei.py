@@ -13,7 +13,7 @@ from typing import Dict, List, Optional, Sequence, Tuple, Union
 from xml.sax.saxutils import escape
 
 from .answers import Day, Reading
-from .commands import Desk, command_line, run
+from .commands import Context, command_line, run
 from .faults import Fault
 from .tei_dates import Date, Finder, Place, tag_end
 
@@ -30,28 +30,29 @@ def main(words: Optional[Sequence[str]] = None) -> int:
     return run(command_line("oldstyle-tei", __doc__, "file"), fill, words)
 
 
-def fill(data: bytes, desk: Desk, _: argparse.Namespace) -> bytes:
+def fill(data: bytes, context: Context, _: argparse.Namespace) -> bytes:
     """The file with its dates filled in."""
     finder = Finder(data)
     if not finder.is_tei:
-        desk.say(1, "no element of TEI's namespace http://www.tei-c.org/ns/1.0 is here")
-    asked = [(date, code) for date in finder.dates if (code := code_of(date, desk))]
-    readings = desk.register.read_many(((code, date.text) for date, code in asked), refused=True)
+        context.report(1, "no element of TEI's namespace http://www.tei-c.org/ns/1.0 is here")
+    asked = [(date, code) for date in finder.dates if (code := code_of(date, context))]
+    readings = context.register.read_many(((code, date.text) for date, code in asked), refused=True)
     pointers = Pointers(finder.calendars)
     pieces, done = [], 0
     for (date, code), reading in zip(asked, readings):
-        if added := attributes_of(date, code, reading, desk, pointers):
+        if added := attributes_of(date, code, reading, context, pointers):
             if (at := tag_end(data, date.at)) is None:
-                desk.say(date.line, f"{date.text}: its start tag is in an entity: write it out")
+                context.report(date.line,
+                               f"{date.text}: its start tag is in an entity: write it out")
                 continue
-            pieces += [data[done:at], *spelled(added, data[at - 1 : at], finder.encoding)]
+            pieces += [data[done:at], *attribute_bytes(added, data[at - 1 : at], finder.encoding)]
             done = at
-    for line, what in pointers.said.values():
-        desk.say(line, what)
+    for line, what in pointers.remarks.values():
+        context.report(line, what)
     return b"".join([*pieces, data[done:]])
 
 
-def spelled(added: Attributes, last: bytes, encoding: str) -> List[bytes]:
+def attribute_bytes(added: Attributes, last: bytes, encoding: str) -> List[bytes]:
     """Attributes as bytes of the file's encoding, in the quotes of the one before them."""
     quote = last.decode() if last in (b'"', b"'") else '"'
     marks = {quote: f"&#{ord(quote)};"}
@@ -65,7 +66,7 @@ class Pointers:
 
     def __init__(self, declared: Sequence[str]):
         self._declared = declared
-        self.said: Dict[str, Tuple[int, str]] = {}
+        self.remarks: Dict[str, Tuple[int, str]] = {}
 
     def to(self, calendar: str, line: int) -> Optional[str]:
         """The pointer, or None if several declarations have the calendar's name in theirs."""
@@ -73,65 +74,66 @@ class Pointers:
         if calendar in found:
             found = [calendar]
         if len(found) > 1:
-            self.said.setdefault(calendar, (line, f"no calendar is given: {calendar} is in "
-                                            f"{' and in '.join(found)}: name one {calendar}"))
+            self.remarks.setdefault(calendar, (line, f"no calendar is given: {calendar} is in "
+                                               f"{' and in '.join(found)}: name one {calendar}"))
             return None
         if not found:
-            self.said.setdefault(calendar, (line, f'no <calendar xml:id="{calendar}"> in the '
-                                            "header: declare it there"))
+            self.remarks.setdefault(calendar, (line, f'no <calendar xml:id="{calendar}"> in the '
+                                               "header: declare it there"))
         return f"#{found[0] if found else calendar}"
 
 
-def code_of(date: Date, desk: Desk) -> Optional[str]:
+def code_of(date: Date, context: Context) -> Optional[str]:
     """The territory of a date. Reports a date that has none, or nothing to read."""
     if not date.text:
         if not date.attributes:
-            desk.say(date.line, "a date has neither a text nor an attribute")
+            context.report(date.line, "a date has neither a text nor an attribute")
         return None
     if date.problem:
-        desk.say(date.line, f"{date.text}: {date.problem}")
+        context.report(date.line, f"{date.text}: {date.problem}")
         return None
     beside = [scope.places for scope in date.scopes if scope.places]
     places = beside[0] if beside else []
-    codes = list(dict.fromkeys(code for place in places for code in codes_of(place, desk)))
+    codes = list(dict.fromkeys(code for place in places for code in codes_of(place, context)))
     if len(codes) == 1:
         return codes[0]
     named = "; ".join(place.names[-1] or place.names[0] for place in places)
     if codes:
-        desk.say(date.line, f"{date.text}: {named}: more than one territory: {', '.join(codes)}")
+        context.report(date.line,
+                       f"{date.text}: {named}: more than one territory: {', '.join(codes)}")
         return None
     names = [name for place in places for name in (*place.names, *place.parts)]
-    return desk.default_for(named, names, date.line)
+    return context.default_for(named, names, date.line)
 
 
-def codes_of(place: Place, desk: Desk) -> List[str]:
+def codes_of(place: Place, context: Context) -> List[str]:
     """The territories of a place: of the first known one of its names, otherwise of its parts."""
-    return desk.places.codes(place.names)[:1] or desk.places.codes(place.parts)
+    return context.places.codes(place.names)[:1] or context.places.codes(place.parts)
 
 
-def attributes_of(date: Date, code: str, reading: Union[Reading, Fault], desk: Desk,
+def attributes_of(date: Date, code: str, reading: Union[Reading, Fault], context: Context,
                   pointers: Pointers) -> Attributes:
     """The attributes that a date lacks. What is open or differs is reported."""
     where = f"{date.text} ({code})"
     if isinstance(reading, Fault) or not reading.runs:
         why = reading.name if isinstance(reading, Fault) else reading.reason
-        desk.say(date.line, f"{where}: {why}")
+        context.report(date.line, f"{where}: {why}")
         return {}
     if len(reading.runs) > 1:
         runs = "; or ".join(map(str, reading.runs))
-        desk.say(date.line, f"{where}: several days that don't follow one another: {runs}")
+        context.report(date.line, f"{where}: several days that don't follow one another: {runs}")
     if reading.weekday_fits is False:
-        desk.say(date.line, f"{where}: the weekday differs: {reading.runs[0]}")
+        context.report(date.line, f"{where}: the weekday differs: {reading.runs[0]}")
     bounds = bounds_of(reading)
-    if not agrees(date, bounds, where, desk):
+    if not agrees(date, bounds, where, context):
         return {}
     is_plain = not any(name in date.attributes for name in ALIKE if name not in BOUNDS)
-    wanted = {**(bounds if is_plain else {}),
-              **written_by(date, code, reading, desk, pointers), **certainty(reading, date)}
-    other = [name for name, value in wanted.items() if date.attributes.get(name, value) != value]
+    expected = {**(bounds if is_plain else {}),
+                **written_by(date, code, reading, context, pointers), **certainty(reading, date)}
+    other = [name for name, value in expected.items() if date.attributes.get(name, value) != value]
     for name in other:
-        differs(date, name, f'{name}="{wanted[name]}"', where, desk)
-    return {} if other else {name: value for name, value in wanted.items()
+        report_difference(date, name, f'{name}="{expected[name]}"', where, context)
+    return {} if other else {name: value for name, value in expected.items()
                              if name not in date.attributes}
 
 
@@ -143,29 +145,29 @@ def bounds_of(reading: Reading) -> Attributes:
     return {name: day.gregorian for name, day in ends.items() if day}
 
 
-def agrees(date: Date, bounds: Attributes, where: str, desk: Desk) -> bool:
+def agrees(date: Date, bounds: Attributes, where: str, context: Context) -> bool:
     """Returns whether the times that a date has already are those of the program."""
     there = {name: date.attributes[name] for name in ALIKE if name in date.attributes}
     other = [name for name, value in there.items() if bounds.get(ALIKE[name]) != value]
-    told = " ".join(f'{name}="{value}"' for name, value in bounds.items())
+    expected = " ".join(f'{name}="{value}"' for name, value in bounds.items())
     for name in other:
-        differs(date, name, told, where, desk)
+        report_difference(date, name, expected, where, context)
     return not other
 
 
-def differs(date: Date, name: str, told: str, where: str, desk: Desk) -> None:
-    desk.say(date.line, f'{where}: {name}="{date.attributes[name]}" is left, the program has '
-                        f"{told}")
+def report_difference(date: Date, name: str, expected: str, where: str, context: Context) -> None:
+    context.report(date.line, f'{where}: {name}="{date.attributes[name]}" is left, the program has '
+                        f"{expected}")
 
 
-def written_by(date: Date, code: str, reading: Reading, desk: Desk,
+def written_by(date: Date, code: str, reading: Reading, context: Context,
                pointers: Pointers) -> Attributes:
     """The date as the place wrote it, if that is another one, and the calendar of the text."""
     day = reading.day
     found: Attributes = {}
     if day and day.label != day.gregorian and not reading.other_calendar:
         found["when-custom"] = day.label
-    calendars = calendars_of(code, reading, desk)
+    calendars = calendars_of(code, reading, context)
     there = date.attributes.get("calendar", "").lower()
     if calendars and not (there and all(name in there for name in calendars)):
         named = [pointers.to(name, date.line) for name in calendars]
@@ -174,14 +176,14 @@ def written_by(date: Date, code: str, reading: Reading, desk: Desk,
     return found
 
 
-def calendars_of(code: str, reading: Reading, desk: Desk) -> List[str]:
+def calendars_of(code: str, reading: Reading, context: Context) -> List[str]:
     """The calendars of a text: those of the place on the first and the last day.
 
     A text that names a calendar by which it means other days is by the other one of the two. If
     the place kept the Swedish one, that is not known.
     """
     ends: List[Optional[Day]] = [reading.earliest, reading.latest]
-    calendars = list(dict.fromkeys(desk.calendar(code, day.day) for day in ends if day))
+    calendars = list(dict.fromkeys(context.calendar(code, day.day) for day in ends if day))
     if reading.other_calendar:
         return OTHER[calendars[0]] if len(calendars) == 1 else []
     return calendars

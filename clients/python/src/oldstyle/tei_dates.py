@@ -7,7 +7,7 @@ from dataclasses import dataclass, field
 from typing import Dict, Iterator, List, Optional
 from xml.parsers import expat
 
-from .commands import Unfit
+from .commands import FileRefused
 
 TEI = "http://www.tei-c.org/ns/1.0 "
 ID = "http://www.w3.org/XML/1998/namespace id"
@@ -87,18 +87,19 @@ class Finder:
 
     def _parse(self) -> None:
         if self._data.startswith(WIDE):
-            raise Unfit("the file is in UTF-16, which can't be changed byte by byte: save it as "
-                        "UTF-8")
+            raise FileRefused("the file is in UTF-16, which can't be changed byte by byte: save it "
+                              "as UTF-8")
         try:
             self._parser.Parse(self._data, True)
         except expat.ExpatError as why:
             what = expat.ErrorString(why.code)
-            raise Unfit(f"line {why.lineno}, column {why.offset + 1}: {what}: the file is not "
-                        "well-formed XML, and nothing is written") from None
+            raise FileRefused(f"line {why.lineno}, column {why.offset + 1}: {what}: the file is "
+                              "not well-formed XML, and nothing is written") from None
         except (LookupError, ValueError) as why:
             if self._has_begun:  # a fault of this program: an encoding is refused before
                 raise
-            raise Unfit(f"the encoding of the file is not read: {why}: save it as UTF-8") from None
+            raise FileRefused(f"the encoding of the file is not read: {why}: save it as "
+                              "UTF-8") from None
 
     def _declare(self, _version: str, encoding: Optional[str], _standalone: int) -> None:
         self.encoding = encoding or self.encoding

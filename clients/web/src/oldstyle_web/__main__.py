@@ -93,9 +93,10 @@ def try_journal(settings: Settings) -> None:
     try:
         pool.ask([HELLO])
     except ProgramEnded as why:
-        said = why.told.partition("\n")[0].removeprefix("oldstyle: ") or "it ended without a word"
-        step = ": correct it, or name another journal" if REFUSED_LINE.fullmatch(said) else ""
-        raise Misuse(f"{settings.journal}: the program doesn't load it: {said}{step}") from None
+        first = why.stderr.partition("\n")[0].removeprefix("oldstyle: ")
+        reason = first or "it printed no reason"
+        step = ": correct it, or name another journal" if REFUSED_LINE.fullmatch(reason) else ""
+        raise Misuse(f"{settings.journal}: the program doesn't load it: {reason}{step}") from None
     except ProgramFailed as why:
         raise Misuse(str(why)) from None
     finally:
@@ -116,8 +117,8 @@ def server_of(options: argparse.Namespace, app: Page) -> Any:
         at = f"the port {options.port} of {options.address}"
         if isinstance(why, OSError) and why.errno == errno.EADDRINUSE:
             raise Misuse(f"{at} is in use: name another by --port") from None
-        said = (getattr(why, "strerror", None) or str(why)).lower().rstrip(".")
-        raise Misuse(f"{at}: {said}: name another by --address and --port") from None
+        reason = (getattr(why, "strerror", None) or str(why)).lower().rstrip(".")
+        raise Misuse(f"{at}: {reason}: name another by --address and --port") from None
 
 
 def addresses_of(server: Any) -> list[str]:
@@ -132,9 +133,9 @@ def allow_files(connections: int) -> None:
     """Makes the system allow the files that these connections need: each one, and two more for what
     is received and what waits to be sent."""
     soft, hard = resource.getrlimit(resource.RLIMIT_NOFILE)
-    wanted = 3 * connections + 256
-    if soft != resource.RLIM_INFINITY and soft < wanted:
-        most = wanted if hard == resource.RLIM_INFINITY else min(wanted, hard)
+    expected = 3 * connections + 256
+    if soft != resource.RLIM_INFINITY and soft < expected:
+        most = expected if hard == resource.RLIM_INFINITY else min(expected, hard)
         resource.setrlimit(resource.RLIMIT_NOFILE, (most, hard))
 
 

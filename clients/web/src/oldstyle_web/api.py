@@ -27,20 +27,20 @@ PREFLIGHT = {"Access-Control-Allow-Methods": "GET, HEAD, OPTIONS",
 
 def text(member: str) -> Callable[[str, str], dict[str, Any]]:
     """Reads a word that is a member of the query as it is."""
-    return lambda _name, given: {member: given}
+    return lambda _name, value: {member: value}
 
 
-def number(name: str, given: str) -> dict[str, Any]:
+def number(name: str, value: str) -> dict[str, Any]:
     """Reads a whole number."""
-    if not (given.isascii() and given.isdigit() and len(given) <= 15):
-        raise Problem(400, f"{shown(given)} is no {name}: write a whole number.")
-    return {name: int(given)}
+    if not (value.isascii() and value.isdigit() and len(value) <= 15):
+        raise Problem(400, f"{shown(value)} is not a {name}: write a whole number.")
+    return {name: int(value)}
 
 
-def label(_name: str, given: str) -> dict[str, Any]:
+def label(_name: str, value: str) -> dict[str, Any]:
     """Reads a date as the place counted it."""
-    if not (parts := DATE.fullmatch(given)):
-        raise Problem(400, f"{shown(given)} is not a date of this form: write year, month and day "
+    if not (parts := DATE.fullmatch(value)):
+        raise Problem(400, f"{shown(value)} is not a date of this form: write year, month and day "
                       "as 1731-02-11, or ask /api/v1/written, which reads dates as people write "
                       "them.")
     return dict(zip(("year", "month", "day"), map(int, parts.groups())))
@@ -93,12 +93,12 @@ def members_of(query: Query) -> dict[str, Any]:
             raise Problem(400, f"{shown(name)} is not a word of this address: it takes {known}.")
     members: dict[str, Any] = {}
     for name, read in query.words.items():
-        given = word(name)
-        if len(given) > LONGEST_WORD:
-            raise Problem(400, f"The {name} has {len(given)} characters: write {LONGEST_WORD} at "
+        value = word(name)
+        if len(value) > LONGEST_WORD:
+            raise Problem(400, f"The {name} has {len(value)} characters: write {LONGEST_WORD} at "
                           "most.")
-        if given or name not in query.optional and name in request.args:
-            members |= read(name, given)
+        if value or name not in query.optional and name in request.args:
+            members |= read(name, value)
         elif name not in query.optional:
             raise Problem(400, f"The {name} is missing: this address takes "
                           f"{', '.join(query.words)}.")

@@ -23,7 +23,7 @@ HEADERS = {"Content-Security-Policy": POLICY, "X-Content-Type-Options": "nosniff
            "Cross-Origin-Resource-Policy": "same-origin"}
 SENTENCES = {404: "There is no such page here. Begin with one date.",
              405: "That method is not taken here.",
-             500: "Something is wrong in this page. It was written down for those who run it."}
+             500: "Something is wrong in this page. The error has been logged."}
 access = logging.getLogger("oldstyle_web.access")
 
 
@@ -34,10 +34,10 @@ def create_app(settings: Settings) -> Page:
     app.register_blueprint(pages.blueprint)
     app.register_blueprint(letters.blueprint)
     app.register_blueprint(api.blueprint)
-    app.register_error_handler(HTTPException, told)
+    app.register_error_handler(HTTPException, error_response)
     app.before_request(refuse_other_hosts)
     app.before_request(refuse_broken_queries)
-    app.after_request(finished)
+    app.after_request(finish)
     app.url_defaults(add_version)
     app.context_processor(lambda: {"journal": settings.journal_name})
     app.jinja_env.globals.update(
@@ -98,18 +98,18 @@ def broken_query() -> Problem:
                    "by the form.")
 
 
-def told(why: HTTPException) -> Response:
+def error_response(why: HTTPException) -> Response:
     """The reply to a request that can't be answered, in the form that it asks for."""
     status = why.code or 500
     sentence = why.description or "" if isinstance(why, Problem) else \
         SENTENCES.get(status, f"{why.name}.")
     if status == 413 and not isinstance(why, Problem):
         sentence = too_large(page().settings.max_upload)
-    wanted = request.accept_mimetypes
+    expected = request.accept_mimetypes
     is_for_programs = request.path == "/answer.json" or request.path.startswith("/api/")
-    if is_for_programs or "application/json" in wanted.values():
-        response = jsonify(status=status, told=sentence)
-    elif "text/html" in wanted.values():
+    if is_for_programs or "application/json" in expected.values():
+        response = jsonify(status=status, message=sentence)
+    elif "text/html" in expected.values():
         response = Response(pages.problem(status, sentence))
     else:
         response = Response(f"{sentence}\n", mimetype="text/plain")
@@ -127,7 +127,7 @@ def too_large(most: int) -> str:
             "here. Send it in parts, or use oldstyle letters.")
 
 
-def finished(response: Response) -> Response:
+def finish(response: Response) -> Response:
     """Adds what all replies carry, and writes the line of the request."""
     for name, value in HEADERS.items():
         response.headers.setdefault(name, value)
@@ -135,13 +135,13 @@ def finished(response: Response) -> Response:
     response.vary.add("Accept-Language")
     access.info('%s - - [%s] "%s %s %s" %s %s', request.remote_addr or "-",
                 datetime.now(timezone.utc).strftime("%d/%b/%Y:%H:%M:%S %z"), request.method,
-                words.visible(request.environ.get("RAW_URI") or asked()),
+                words.visible(request.environ.get("RAW_URI") or request_target()),
                 request.environ.get("SERVER_PROTOCOL", ""), response.status_code,
                 response.content_length if response.content_length is not None else "-")
     return response
 
 
-def asked() -> str:
+def request_target() -> str:
     """The path and the words of a request."""
     query = request.query_string.decode("latin-1")
     return request.path + (f"?{query}" if query else "")

@@ -7,7 +7,7 @@ import os
 from flask import Flask, current_app, request
 
 from . import words
-from .printed import Printer
+from .printed_pages import Printer
 from .register import Register
 from .settings import Settings
 from .tables import Tables

@@ -11,7 +11,7 @@ from oldstyle.answers import run_of
 
 from .languages import gettext as _
 from .months import sources_of
-from .printed import PrintedDate, Printer, printed_date
+from .printed_pages import PrintedDate, Printer, printed_date
 from .register import Asking, DatedDay
 from .texts import full, in_words
 from .words import N_
@@ -83,10 +83,10 @@ class DateFound:
 
     def agreement(self, day: Day) -> str:
         """A day's weekday, and in a few words whether it is the one that was given."""
-        told = self.printed.agreeing.get(day.day, "")
-        if told.startswith("not "):
-            return _("%(day)s, not %(other)s", day=_(day.weekday), other=_(told[4:]))
-        if told == "ok" or (self.written["weekday"] is True and not self.printed.agreeing):
+        verdict = self.printed.agreeing.get(day.day, "")
+        if verdict.startswith("not "):
+            return _("%(day)s, not %(other)s", day=_(day.weekday), other=_(verdict[4:]))
+        if verdict == "ok" or (self.written["weekday"] is True and not self.printed.agreeing):
             return _("%(day)s, as it is said", day=_(day.weekday))
         return _(day.weekday)
 
@@ -161,5 +161,5 @@ def needs_page(written: dict[str, Any], date: str) -> bool:
     """Returns whether the page of the date says more than its answer, such as that its year has
     three digits."""
     return bool(written["kind"] != "day" or written["reason"] is not None or "/" in date
-                or not re.search(r"\d{4}", date) or len(written["runs"]) > 1 or written["weekday"] is False
-                or written["other_calendar"])
+                or not re.search(r"\d{4}", date) or len(written["runs"]) > 1
+                or written["weekday"] is False or written["other_calendar"])

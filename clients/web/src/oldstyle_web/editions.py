@@ -6,7 +6,7 @@ import os
 import tempfile
 from dataclasses import dataclass
 
-from .printed import Printer
+from .printed_pages import Printer
 from .problems import Problem, no_place, unavailable
 from .settings import reason_of
 
@@ -51,9 +51,9 @@ def copy_editions(journal: str, count: int, path: str) -> None:
 
 def printed(printer: Printer, journal: str, *words: str) -> list[str]:
     """The lines that a command prints over a part of the journal."""
-    status, out, told = printer.run(words, journal)
+    status, out, errors = printer.run(words, journal)
     if not status:
         return out.split("\n")[:-1]
-    if "no territory has the code" in told:
+    if "no territory has the code" in errors:
         raise no_place(words[1])
     raise unavailable("it can't read the journal up to that edition")

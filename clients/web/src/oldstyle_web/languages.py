@@ -80,5 +80,5 @@ def date_text(text: str) -> str:
 
 def messages() -> dict[str, str]:
     """All messages of the request's language that differ from the English ones."""
-    held = getattr(catalogue(language()), "_catalog", {})
-    return {message: text for message, text in held.items() if message and message != text}
+    catalog = getattr(catalogue(language()), "_catalog", {})
+    return {message: text for message, text in catalog.items() if message and message != text}

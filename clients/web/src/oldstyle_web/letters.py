@@ -20,7 +20,7 @@ blueprint = Blueprint("letters", __name__)
 
 
 @dataclass(frozen=True)
-class Sent:
+class SentTable:
     """What a request sent: the fields of a form, a table and its name, and a table of places."""
 
     fields: dict[str, str]
@@ -40,7 +40,7 @@ def form() -> Response:
 @blueprint.post("/letters")
 def rows() -> Response:
     """The rows of a table, as the program writes them."""
-    sent = received()
+    sent = receive()
     rows = page().tables.rows(sent.fields, sent.table, sent.places)
     size = rows.tell()
     rows.seek(0)
@@ -51,7 +51,7 @@ def rows() -> Response:
     return response
 
 
-def received() -> Sent:
+def receive() -> SentTable:
     """What a request sends: a form with files, or one table as it is. The words of the address
     count before those of the form."""
     if request.content_length is None:
@@ -61,14 +61,14 @@ def received() -> Sent:
     fields = request.args.to_dict()
     if request.mimetype == "multipart/form-data":
         table, places = request.files.get("table"), request.files.get("places")
-        return without_workbooks(Sent(
+        return without_workbooks(SentTable(
             request.form.to_dict() | fields,
             table.stream if table and table.filename else pasted_table(),
             table.filename or "" if table else "",
             places.stream if places and places.filename else None))
     table_file = tempfile.TemporaryFile()
     shutil.copyfileobj(request.stream, table_file)
-    return without_workbooks(Sent(fields, table_file, "", None))
+    return without_workbooks(SentTable(fields, table_file, "", None))
 
 
 def pasted_table() -> IO[bytes]:
@@ -81,7 +81,7 @@ def pasted_table() -> IO[bytes]:
     return table
 
 
-def without_workbooks(sent: Sent) -> Sent:
+def without_workbooks(sent: SentTable) -> SentTable:
     """What was sent, with the first sheets of workbooks as CSV."""
     most = page().settings.max_upload
     if sent.places and (places := as_csv(sent.places, most)):
@@ -94,5 +94,6 @@ def without_workbooks(sent: Sent) -> Sent:
 def found_name(name: str) -> str:
     """The name of the table that is saved, of characters that are allowed in headers."""
     stem = os.path.splitext(name.replace("\\", "/").rpartition("/")[2])[0]
-    kept = "".join(sign for sign in stem if sign.isascii() and (sign.isalnum() or sign in "-_ "))
-    return f"{kept.strip() or 'letters'}-found.csv"
+    safe_stem = "".join(sign for sign in stem
+                        if sign.isascii() and (sign.isalnum() or sign in "-_ "))
+    return f"{safe_stem.strip() or 'letters'}-found.csv"

@@ -6,7 +6,7 @@ from dataclasses import dataclass, replace
 from oldstyle import Day, Period, Run
 
 from .languages import date_text, gettext as _
-from .printed import Printer, gaps_of_year, printed_date
+from .printed_pages import Printer, gaps_of_year, printed_date
 from .register import Asking
 from .texts import full, regime_text, sources_text
 from .words import BEGINNINGS, LAST_DAY, MONTHS, WEEKDAYS
@@ -128,12 +128,12 @@ def month_found(printer: Printer, asking: Asking, code: str, name: str, year: in
     written, = asking.runs(code, [date])
     runs = [run_found(asking, code, run) for run in written]
     periods = asking.periods(code)
-    held = {found.day for run in runs for found in run.days}
+    numbers = {found.day for run in runs for found in run.days}
     met = [change for change in changes_of(asking, code, periods)
-           if held & {change.before.day, change.found.day}]
+           if numbers & {change.before.day, change.found.day}]
     reasons = [] if runs else printed_date(printer, asking, code, name, date, "", "").notes
     return MonthFound(year, month, runs, with_gaps(printer, asking, code, year, met), reasons,
-                      styles_of(periods, held), sources_of(periods, written))
+                      styles_of(periods, numbers), sources_of(periods, written))
 
 
 def run_found(asking: Asking, code: str, run: Run) -> MonthRun:

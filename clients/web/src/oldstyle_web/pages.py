@@ -27,7 +27,7 @@ blueprint = Blueprint("pages", __name__)
 
 
 @dataclass(frozen=True)
-class Asked:
+class Question:
     """The words of a question for one date."""
 
     code: str
@@ -36,29 +36,29 @@ class Asked:
     order: str
 
 
-def asked_date() -> tuple[Asked, int, list[Land], DateFound | None]:
+def date_of_question() -> tuple[Question, int, list[Land], DateFound | None]:
     """The question, the edition, the territories, and what was asked, if it is enough for an
     answer."""
-    asked = asked_words()
-    edition, lands, found = dates_found(asked, [asked.code])
-    return asked, edition, lands, found[0] if found else None
+    question = question_of_words()
+    edition, lands, found = dates_found(question, [question.code])
+    return question, edition, lands, found[0] if found else None
 
 
-def asked_words() -> Asked:
-    return Asked(code_of(word("code")), date_of(word("date")), weekday_of(word("weekday")),
-                 order_of(word("order")))
+def question_of_words() -> Question:
+    return Question(code_of(word("code")), date_of(word("date")), weekday_of(word("weekday")),
+                    order_of(word("order")))
 
 
-def dates_found(asked: Asked, codes: list[str]) -> tuple[int, list[Land], list[DateFound]]:
+def dates_found(question: Question, codes: list[str]) -> tuple[int, list[Land], list[DateFound]]:
     """The edition, the territories, and what a date means in some of them, unless a word is
     missing."""
     def work(asking: Asking) -> tuple[list[Land], list[DateFound]]:
         lands = asking.lands()
         names = {code: name_in(lands, code) for code in codes if code}
-        if not asked.date or not all(codes):
+        if not question.date or not all(codes):
             return lands, []
-        return lands, [date_found(page().printer, asking, code, names[code], asked.date,
-                                  asked.weekday, asked.order) for code in codes]
+        return lands, [date_found(page().printer, asking, code, names[code], question.date,
+                                  question.weekday, question.order) for code in codes]
     edition, (lands, found) = page().register.of_one_edition(work)
     return edition, lands, found
 
@@ -67,22 +67,22 @@ def dates_found(asked: Asked, codes: list[str]) -> tuple[int, list[Land], list[D
 def date() -> Response:
     """One date: the question and its answer."""
     named = named_edition()
-    asked, edition, lands, found = asked_date()
-    title = _("%(date)s in %(name)s", date=asked.date, name=found.name) if found else \
+    question, edition, lands, found = date_of_question()
+    title = _("%(date)s in %(name)s", date=question.date, name=found.name) if found else \
         _("One date")
-    return written("date.html", edition, title=title, here="date", code=asked.code,
-                   named_edition=named, asked=asked, lands=lands, found=found)
+    return written("date.html", edition, title=title, here="date", code=question.code,
+                   named_edition=named, question=question, lands=lands, found=found)
 
 
 @blueprint.get("/compare")
 def compare() -> Response:
     """One date in two places."""
-    named, asked, other = named_edition(), asked_words(), code_of(word("other"))
-    edition, lands, both = dates_found(asked, [asked.code, other])
-    title = _("%(date)s in %(name)s", date=asked.date, name=" / ".join(
+    named, question, other = named_edition(), question_of_words(), code_of(word("other"))
+    edition, lands, both = dates_found(question, [question.code, other])
+    title = _("%(date)s in %(name)s", date=question.date, name=" / ".join(
         found.name for found in both)) if both else _("Two places")
-    return written("compare.html", edition, title=title, here="compare", code=asked.code,
-                   other=other, named_edition=named, asked=asked, lands=lands, both=both)
+    return written("compare.html", edition, title=title, here="compare", code=question.code,
+                   other=other, named_edition=named, question=question, lands=lands, both=both)
 
 
 @blueprint.get("/answer.json")
@@ -90,17 +90,17 @@ def answer_json() -> Response:
     """The answer as it is typed: its fragment of the page, its title, its address, and the text
     for screen readers."""
     named_edition()
-    asked, edition, lands, found = asked_date()
-    title = visible(_("%(date)s in %(name)s", date=asked.date, name=found.name)
+    question, edition, lands, found = date_of_question()
+    title = visible(_("%(date)s in %(name)s", date=question.date, name=found.name)
                     + f" – {_(NAME)}") if found else _(NAME)
-    told = {"edition": edition, "title": title,
-            "html": render_template("answer.html", asked=asked, edition=edition, lands=lands,
-                                    found=found),
-            "address": url_for("pages.date", **{
-                name: text for name, text in vars(asked).items() if text})}
+    answer = {"edition": edition, "title": title,
+              "html": render_template("answer.html", question=question, edition=edition,
+                                      lands=lands, found=found),
+              "address": url_for("pages.date", **{
+                  name: text for name, text in vars(question).items() if text})}
     if found:
-        told |= {"written": found.written, "said": visible(f"{found.cited}.")}
-    return tagged(jsonify(told), edition)
+        answer |= {"written": found.written, "announcement": visible(f"{found.cited}.")}
+    return tagged(jsonify(answer), edition)
 
 
 @blueprint.get("/day")
@@ -198,10 +198,10 @@ def forms() -> Response:
 
 
 @blueprint.get("/messages.js")
-def spoken() -> Response:
+def messages_script() -> Response:
     """The messages of a language, as a script of the page."""
-    held = json.dumps(messages(), ensure_ascii=False)
-    return tagged(Response(f"export default {held};\n", mimetype="text/javascript"), 0)
+    catalogue = json.dumps(messages(), ensure_ascii=False)
+    return tagged(Response(f"export default {catalogue};\n", mimetype="text/javascript"), 0)
 
 
 def problem(status: int, sentence: str) -> str:
@@ -211,8 +211,8 @@ def problem(status: int, sentence: str) -> str:
     if request.path[1:] in ("", "month", "place", "year", "day") and status in (400, 404):
         try:
             shown["lands"] = page().register.of_one_edition(Asking.lands)[1]
-            shown["asked"] = {name: word(name) for name in ("code", "date", "weekday", "order",
-                                                            "year", "month")}
+            names = ("code", "date", "weekday", "order", "year", "month")
+            shown["question"] = {name: word(name) for name in names}
         except Problem:
             pass
     return render_template("problem.html", **shown)

@@ -7,7 +7,7 @@ from oldstyle import Day, Period, Run
 
 from .languages import date_text, gettext as _
 from .months import Change, changes_of
-from .printed import Printer, listed_easters
+from .printed_pages import Printer, listed_easters
 from .register import Asking
 from .texts import full
 from .words import BEGINNINGS, LAST_DAY, year_in

@@ -26,8 +26,8 @@ def busy(what: str) -> Problem:
     return Problem(503, f"{what} Try again in a moment.", Retry_After="2")
 
 
-def unavailable(told: str) -> Problem:
+def unavailable(reason: str) -> Problem:
     """The problem of a program that can't be asked."""
-    what = told.removeprefix("oldstyle: ")
+    what = reason.removeprefix("oldstyle: ")
     return Problem(503, "The program doesn't answer" + (f": {what}. " if what else ". ") + AGAIN,
                    Retry_After="2")

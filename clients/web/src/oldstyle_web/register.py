@@ -10,12 +10,12 @@ from typing import Any, Callable, Iterable, Sequence, TypeVar
 
 from oldstyle import (Day, Land, Period, Pool, ProgramBusy, ProgramEnded, ProgramFailed,
                       ProgramSlow, Run)
-from oldstyle.answers import day_of, known, run_of
+from oldstyle.answers import day_of, from_members, run_of
 
 from .problems import AGAIN, Problem, busy, no_place, unavailable
 from .settings import Settings
 
-Found = TypeVar("Found")
+Result = TypeVar("Result")
 TRIES = 20
 UNKNOWN_LAND, BAD_CODE = 3, 1
 # A register of its own, by which a day is named in the Swedish calendar.
@@ -44,7 +44,7 @@ class Register:
         self.swedish = Pool([settings.program, "serve"], 1, seconds=settings.question_seconds,
                             opening=SWEDISH)
 
-    def of_one_edition(self, work: Callable[[Asking], Found]) -> tuple[int, Found]:
+    def of_one_edition(self, work: Callable[[Asking], Result]) -> tuple[int, Result]:
         """The edition, and what the work gives from it alone. The work is done again if an edition
         came between, or if the edition is an earlier one than somebody was given before. What such
         an edition lacks is never reported."""
@@ -54,23 +54,23 @@ class Register:
             try:
                 found = work(asking)
             except Problem:
-                if self.may_tell(asking, least):
+                if self.may_answer(asking, least):
                     raise
             else:
-                if self.may_tell(asking, least):
+                if self.may_answer(asking, least):
                     return next(iter(asking.editions), 0), found
             time.sleep(0.02)
         raise Problem(503, "The register's edition changes just now, or its journal has fewer "
                       f"editions than before. {AGAIN}", Retry_After="2")
 
-    def may_tell(self, asking: Asking, least: int) -> bool:
+    def may_answer(self, asking: Asking, least: int) -> bool:
         """Returns whether one edition alone was given, from the least one on. If the journal is
         gone there is none, whoever asks first."""
         if 0 in asking.editions and not os.path.exists(self.settings.journal):
             raise unavailable("its journal isn't there")
         with self.lock:
             self.highest = max({self.highest, *asking.editions})
-        return len(asking.editions) <= 1 and all(told >= least for told in asking.editions)
+        return len(asking.editions) <= 1 and all(edition >= least for edition in asking.editions)
 
     def replies(self, pool: Pool, lines: Sequence[bytes]) -> list[bytes]:
         """The replies to lines, or the problem of a program that gives none."""
@@ -81,7 +81,7 @@ class Register:
         except ProgramSlow:
             raise unavailable("no answer in time") from None
         except ProgramEnded as why:
-            raise unavailable(self.settings.shown(why.told.partition("\n")[0])) from None
+            raise unavailable(self.settings.shown(why.stderr.partition("\n")[0])) from None
         except ProgramFailed:
             raise unavailable("it can't be started") from None
 
@@ -126,12 +126,12 @@ class Asking:
     def lands(self) -> list[Land]:
         """The territories by their names."""
         answer, = self.answers([{"op": "lands"}])
-        return sorted((known(Land, land) for land in answer["lands"]),
+        return sorted((from_members(Land, land) for land in answer["lands"]),
                       key=lambda land: (land.name.casefold(), land.code))
 
     def periods(self, code: str) -> list[Period]:
         answer, = self.answers([{"op": "periods", "code": code}])
-        return [known(Period, period) for period in answer["periods"]]
+        return [from_members(Period, period) for period in answer["periods"]]
 
     def days(self, code: str, numbers: Iterable[int]) -> list[Day]:
         """The days with these numbers, as the territory dated them."""
@@ -141,7 +141,8 @@ class Asking:
     def dated_days(self, code: str, numbers: Sequence[int]) -> list[DatedDay]:
         """The days with these numbers, each with its period."""
         answers = self.answers({"op": "day", "code": code, "day": number} for number in numbers)
-        return [DatedDay(day_of(answer["found"]), known(Period, answer | answer["regime"]), text)
+        return [DatedDay(day_of(answer["found"]),
+                         from_members(Period, answer | answer["regime"]), text)
                 for answer, text in zip(answers, self.swedish_texts(numbers))]
 
     def swedish_texts(self, numbers: Sequence[int]) -> list[str]:

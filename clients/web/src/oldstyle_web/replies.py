@@ -11,8 +11,8 @@ from .words import number_of
 
 def word(name: str) -> str:
     """A word of the address; of one that is given twice the last counts."""
-    given = request.args.getlist(name)
-    return given[-1] if given else ""
+    values = request.args.getlist(name)
+    return values[-1] if values else ""
 
 
 def named_edition() -> int | None:

@@ -43,9 +43,9 @@ class Settings:
         """Returns whether the page is for this machine alone."""
         return bool(self.hosts) and all(map(is_loopback, self.hosts))
 
-    def shown(self, told: str) -> str:
+    def shown(self, report: str) -> str:
         """What the program printed, without its own name and the folder of the journal."""
-        return told.strip().removeprefix("oldstyle: ").replace(self.journal, self.journal_name)
+        return report.strip().removeprefix("oldstyle: ").replace(self.journal, self.journal_name)
 
     def serving_words(self) -> list[str]:
         """The words of a run that answers lines, by the editions that others publish."""
@@ -98,7 +98,7 @@ def journal_at(path: str) -> str:
 def number_of(text: str, least: int, most: int) -> int:
     """A whole number that a variable or an option gives."""
     if not (text.isascii() and text.isdigit() and len(text) < 9 and least <= int(text) <= most):
-        raise Misuse(f"{text} is no whole number from {least} to {most}")
+        raise Misuse(f"{text} is not a whole number from {least} to {most}")
     return int(text)
 
 

@@ -88,20 +88,20 @@ class Tables:
             raise busy("Other tables are read just now.")
         rows: IO[bytes] = tempfile.TemporaryFile()
         try:
-            end = self.written(options, table, places, rows, mark)
+            end = self.write_rows(options, table, places, rows, mark)
         except BaseException:
             rows.close()
             raise
         finally:
             self.places.release()
-        if fields.get("told") == "1":
-            rows.write(MARK + json.dumps({"status": end.status, "told": end.told}).encode())
-        elif end.told:
-            rows.write(f"{end.told}\n".encode())
+        if fields.get("report") == "1":
+            rows.write(MARK + json.dumps({"status": end.status, "message": end.message}).encode())
+        elif end.message:
+            rows.write(f"{end.message}\n".encode())
         return rows
 
-    def written(self, options: list[str], table: IO[bytes], places: IO[bytes] | None,
-                rows: IO[bytes], mark: bytes) -> End:
+    def write_rows(self, options: list[str], table: IO[bytes], places: IO[bytes] | None,
+                   rows: IO[bytes], mark: bytes) -> End:
         """Makes the program write the rows after a mark, or raises why there is none. Waits for a
         line of the journal that is just being written."""
         words, passed = [self.settings.program, "letters", self.settings.journal, *options,
@@ -115,18 +115,18 @@ class Tables:
             for file in (table, places):
                 if file:
                     file.seek(0)
-            end = self.ended(words, passed, table, rows)
+            end = self.run_once(words, passed, table, rows)
             if rows.seek(0, os.SEEK_END) > len(mark):
                 return end
-            if not end.told.startswith(OF_JOURNAL) or time.monotonic() > last:
+            if not end.message.startswith(OF_JOURNAL) or time.monotonic() > last:
                 break
             time.sleep(0.03)
-        if end.status in (1, 2) and not end.told.startswith(OF_JOURNAL):
-            raise Problem(422, NAME_YOURS.sub(YOUR_NAME, end.told))
-        raise unavailable(end.told)
+        if end.status in (1, 2) and not end.message.startswith(OF_JOURNAL):
+            raise Problem(422, NAME_YOURS.sub(YOUR_NAME, end.message))
+        raise unavailable(end.message)
 
-    def ended(self, words: list[str], passed: list[int], table: IO[bytes],
-              rows: IO[bytes]) -> End:
+    def run_once(self, words: list[str], passed: list[int], table: IO[bytes],
+                 rows: IO[bytes]) -> End:
         """How a run of the program over a table ended."""
         rows.flush()
         try:
@@ -144,11 +144,11 @@ class Tables:
             return End(-1, "the table took too long, and was ended")
         except OSError as why:
             return End(-1, reason_of(why))
-        told = self.settings.shown(errors.decode(errors="replace"))
-        told = PLACES_FILE.sub("the table of places", told)
-        if process.returncode < 0 and not told:
-            told = "the program was ended before the table did"
-        return End(process.returncode, told)
+        message = self.settings.shown(errors.decode(errors="replace"))
+        message = PLACES_FILE.sub("the table of places", message)
+        if process.returncode < 0 and not message:
+            message = "the program was ended before the table did"
+        return End(process.returncode, message)
 
 
 @dataclass(frozen=True)
@@ -156,4 +156,4 @@ class End:
     """How a run ended: its status, and what it printed on standard error."""
 
     status: int
-    told: str
+    message: str

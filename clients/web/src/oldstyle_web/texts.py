@@ -32,8 +32,8 @@ def regime_text(regime: Period) -> str:
 
 def sources_text(sources: list[str]) -> str:
     """Sources in a sentence of their own, or nothing."""
-    kept = list(dict.fromkeys(sources))
-    text = "; ".join(kept).removesuffix(".")
-    if len(kept) == 1:
+    distinct = list(dict.fromkeys(sources))
+    text = "; ".join(distinct).removesuffix(".")
+    if len(distinct) == 1:
         return _("Source: %(text)s.", text=text)
-    return _("Sources: %(text)s.", text=text) if kept else ""
+    return _("Sources: %(text)s.", text=text) if distinct else ""

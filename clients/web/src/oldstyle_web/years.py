@@ -7,7 +7,7 @@ from typing import Any
 from oldstyle import Day, Run
 
 from .months import Change, changes_of, sources_of, with_gaps
-from .printed import Printer, feasts_of_year
+from .printed_pages import Printer, feasts_of_year
 from .register import Asking
 from .words import year_in
 

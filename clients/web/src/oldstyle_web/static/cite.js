@@ -42,11 +42,11 @@ function copyButton(name, text) {
 
 // What is read aloud. A page without a line for that gets one.
 function status() {
-    let line = document.getElementById("said");
+    let line = document.getElementById("announcement");
     if (line) return line;
     line = document.createElement("p");
-    line.id = "said";
-    line.className = "heard";
+    line.id = "announcement";
+    line.className = "visually-hidden";
     line.setAttribute("role", "status");
     document.querySelector("main").append(line);
     return line;

@@ -5,7 +5,7 @@ import {_} from "./messages.js";
 const form = document.getElementById("question");
 const answer = document.getElementById("answer");
 // What is read aloud: one sentence of an answer, and not all of it at each pause in typing.
-const said = document.getElementById("said");
+const announcement = document.getElementById("announcement");
 const WAIT = 180;
 let timer = 0;
 let asking = null;
@@ -40,33 +40,33 @@ async function ask() {
     try {
         const reply = await fetch(`${form.dataset.answer}?${question}`,
             {signal: asking.signal, headers: {Accept: "application/json"}});
-        const told = await reply.json();
+        const body = await reply.json();
         if (reply.ok) {
-            show(told, question);
+            show(body, question);
         } else {
-            tell(told.told, question);
+            showProblem(body.message, question);
         }
     } catch (why) {
         if (why.name === "AbortError") return;
-        tell(_("The page’s server doesn’t answer. Try again."), question);
+        showProblem(_("The page’s server doesn’t answer. Try again."), question);
     }
 }
 
-function show(told, question) {
+function show(found, question) {
     shown = question;
-    answer.innerHTML = told.html;
-    said.textContent = told.said ?? "";
-    document.title = told.title;
-    history.replaceState(null, "", told.address);
+    answer.innerHTML = found.html;
+    announcement.textContent = found.announcement ?? "";
+    document.title = found.title;
+    history.replaceState(null, "", found.address);
     for (const link of document.querySelectorAll("[hreflang]")) {
-        const address = new URL(told.address, location.href);
+        const address = new URL(found.address, location.href);
         address.searchParams.set("lang", link.hreflang);
         link.href = address;
     }
     offerCopy();
 }
 
-function tell(sentence, question) {
+function showProblem(sentence, question) {
     shown = null;
     document.title = form.dataset.title;
     history.replaceState(null, "", `${form.action}?${question}`);
@@ -74,7 +74,7 @@ function tell(sentence, question) {
     line.className = "reason";
     line.textContent = sentence;
     answer.replaceChildren(line);
-    said.textContent = sentence;
+    announcement.textContent = sentence;
 }
 
 form.addEventListener("input", later);

@@ -1,7 +1,7 @@
 // A table of letters: sends it, shows its rows as they come, has them corrected, and saves them.
 import {Records, fieldsOf, lastField, separatorOf} from "./csv.js";
 import {_} from "./messages.js";
-import {Mending} from "./mending.js";
+import {Corrections} from "./corrections.js";
 import {Sheet} from "./sheet.js";
 
 const MARK = "\u001e";
@@ -10,14 +10,15 @@ const WORK = 12;
 const WORKBOOK = /\.(xlsx|ods)$/i;
 const named = (id) => document.getElementById(id);
 const form = named("letters");
-const sheet = new Sheet(named("view"), named("head"), named("rows"), (row) => mending.begin(row),
-    (row) => mending.undo(row));
-const mending = new Mending(sheet, form, tell, counted);
+const sheet = new Sheet(named("view"), named("head"), named("rows"),
+    (row) => corrections.begin(row),
+    (row) => corrections.undo(row));
+const corrections = new Corrections(sheet, form, announce, countRemarks);
 // The run of the table that is read, or of the one whose rows are shown.
 let run = null;
 let isSaved = true;
 
-function tell(sentence) { named("told").textContent = sentence; }
+function announce(sentence) { named("status").textContent = sentence; }
 
 function fault(sentence) { named("fault").textContent = sentence; }
 
@@ -55,14 +56,14 @@ async function send(event) {
         {size: number(file.size), most: number(most)}));
     }
     if (!isKept() && !window.confirm(
-        _("Rows that you mended are not saved. Throw them away?"))) {
+        _("Rows that you corrected are not saved. Discard them?"))) {
         return null;
     }
     const mine = begin(file);
-    const told = await read(file, mine);
+    const report = await read(file, mine);
     if (mine !== run) return null;
     finish();
-    fault(told);
+    fault(report);
     return null;
 }
 
@@ -74,7 +75,7 @@ async function read(file, {stopping, words}) {
         const lines = await linesOf(file);
         const reply = await fetch(form.action, {method: "POST", body: words, signal,
             headers: {Accept: "application/json"}});
-        if (!reply.ok) return explained((await reply.json()).told);
+        if (!reply.ok) return sentenceOf((await reply.json()).message);
         return await take(reply.body.getReader(), Math.max(1, lines - 1), signal);
     } catch (why) {
         if (why.name === "NotReadableError") return _("The file can’t be read: choose it again.");
@@ -86,15 +87,15 @@ async function read(file, {stopping, words}) {
 function begin(file) {
     run?.stopping.abort();
     const words = new FormData(form);
-    words.set("told", "1");
+    words.set("report", "1");
     words.set("table", file);
     words.delete("pasted");
     if (WORKBOOK.test(file.name)) words.set("separator", "comma");
     run = {name: file.name, words, stopping: new AbortController(), mark: ""};
     fault("");
-    tell(_("The table is being sent."));
+    announce(_("The table is being sent."));
     sheet.clear();
-    mending.keep(words);
+    corrections.keep(words);
     isSaved = true;
     named("running").hidden = false;
     named("result").hidden = true;
@@ -118,7 +119,7 @@ async function take(reader, total, signal) {
     const at = records.rest.lastIndexOf(MARK);
     if (at < 0) throw new Error("the end is missing");
     const end = JSON.parse(records.rest.slice(at + 1));
-    return end.status === 0 ? "" : explained(end.told);
+    return end.status === 0 ? "" : sentenceOf(end.message);
 }
 
 function add(records) {
@@ -143,7 +144,7 @@ function progress(total) {
     bar.value = Math.min(1, sheet.records.length / total);
     const tenth = Math.floor(bar.value * 10);
     if (tenth !== progress.last) {
-        tell(_("%(count)s rows are answered.", {count: number(sheet.records.length)}));
+        announce(_("%(count)s rows are answered.", {count: number(sheet.records.length)}));
     }
     progress.last = tenth;
     if (!sheet.shown.length) setColumns();
@@ -151,20 +152,20 @@ function progress(total) {
 }
 
 // The report of a table, as a sentence of this page.
-function explained(told) {
-    const sentence = told.replace(/\.$/, "");
+function sentenceOf(report) {
+    const sentence = report.replace(/\.$/, "");
     return `${sentence.replace(/ or rename it$/, " or rename it, and send the table again")}.`;
 }
 
 function finish() {
     named("running").hidden = true;
     if (!sheet.columns.length) {
-        tell("");
+        announce("");
         return;
     }
     setColumns();
-    counted();
-    tell(summary());
+    countRemarks();
+    announce(summary());
 }
 
 function summary() {
@@ -176,7 +177,7 @@ function summary() {
 }
 
 // Counts the remarks again and offers each of them.
-function counted(row = null) {
+function countRemarks(row = null) {
     if (row !== null) isSaved = false;
     const counts = new Map();
     for (const remark of sheet.remarks) {
@@ -185,14 +186,14 @@ function counted(row = null) {
         }
     }
     const list = named("remark");
-    const held = list.value;
+    const chosen = list.value;
     const remarked = sheet.remarks.filter((remark) => remark).length;
     const choices = [["", _("all rows"), sheet.records.length],
         ["*", _("rows with a remark"), remarked],
         ...[...counts].sort().map(([remark, count]) => [remark, remark, count])];
     list.replaceChildren(...choices.map(([value, text, count]) =>
         new Option(`${text} (${number(count)})`, value)));
-    list.value = choices.some(([value]) => value === held) ? held : "";
+    list.value = choices.some(([value]) => value === chosen) ? chosen : "";
 }
 
 function choose() {
@@ -209,7 +210,7 @@ function choose() {
 
 function setColumns() {
     const all = sheet.columns.map((_, place) => place);
-    const read = mending.places();
+    const read = corrections.places();
     const first = FIRST.map((name) => sheet.columns.lastIndexOf(name));
     const shown = named("wide").checked ? all : [...read, ...first];
     sheet.show(shown);
@@ -218,15 +219,15 @@ function setColumns() {
 function save() {
     const [open] = sheet.editing.keys();
     if (open !== undefined) {
-        tell(_("Row %(row)s is not asked yet: press its “Ask” or “Cancel”, then save.",
+        announce(_("Row %(row)s is not asked yet: press its “Ask” or “Cancel”, then save.",
             {row: number(open + 1)}));
         return;
     }
     if (!named("running").hidden) {
-        tell(_("The table is still being read: wait for its end, or stop it, then save."));
+        announce(_("The table is still being read: wait for its end, or stop it, then save."));
         return;
     }
-    const parts = [`${run.mark}${mending.header()}\n`];
+    const parts = [`${run.mark}${corrections.header()}\n`];
     for (let at = 0; at < sheet.records.length; at += 5000) {
         parts.push(`${sheet.records.slice(at, at + 5000).join("\n")}\n`);
     }

@@ -9,9 +9,9 @@ const NARROWEST = 10;
 const HIGHEST = 12_000_000;
 
 export class Sheet {
-    // Calls `mend` or `undo` with the number of the row whose button is pressed.
-    constructor(view, head, body, mend, undo) {
-        Object.assign(this, {view, head, body, mend, undo});
+    // Calls `correct` or `undo` with the number of the row whose button is pressed.
+    constructor(view, head, body, correct, undo) {
+        Object.assign(this, {view, head, body, correct, undo});
         this.table = body.parentElement;
         this.editing = new Map();
         this.clear();
@@ -24,7 +24,7 @@ export class Sheet {
         this.remarks = [];
         this.chosen = null;
         // The rows that were corrected, each with the record that came.
-        this.mended = new Map();
+        this.corrected = new Map();
         for (const typed of this.editing.values()) typed.asking?.abort();
         this.editing.clear();
         this.columns = [];
@@ -62,7 +62,7 @@ export class Sheet {
             const cell = document.createElement("th");
             cell.scope = "col";
             cell.textContent = name;
-            if (!name) cell.append(heard(_("Mend")));
+            if (!name) cell.append(hidden(_("Correct")));
             return cell;
         });
         this.head.setAttribute("aria-rowindex", 1);
@@ -114,32 +114,32 @@ export class Sheet {
         const drawn = (last - first) * this.height;
         const top = scale === 1 ? first * this.height
             : Math.max(0, Math.min(scrollTop - at + first * this.height, high - drawn));
-        const kept = new Map();
+        const visible = new Map();
         for (let order = first; order < last; order += 1) {
             const row = this.chosen ? this.chosen[order] : order;
-            kept.set(row, this.drawn.get(row) ?? this.rowOf(row, order));
+            visible.set(row, this.drawn.get(row) ?? this.rowOf(row, order));
         }
         const lost = this.body.contains(document.activeElement);
-        this.place(kept, top, high - top - drawn);
+        this.place(visible, top, high - top - drawn);
         if (lost && !this.body.contains(document.activeElement)) this.view.focus();
         return null;
     }
 
     // Puts rows into the page, between rooms of these heights, and moves none that is there.
-    place(kept, above, below) {
-        for (const [row, drawn] of this.drawn) if (kept.get(row) !== drawn) drawn.remove();
+    place(visible, above, below) {
+        for (const [row, drawn] of this.drawn) if (visible.get(row) !== drawn) drawn.remove();
         this.top ??= room();
         this.bottom ??= room();
         if (this.body.firstChild !== this.top) this.body.prepend(this.top);
         let before = this.top;
-        for (const drawn of kept.values()) {
+        for (const drawn of visible.values()) {
             if (before.nextSibling !== drawn) before.after(drawn);
             before = drawn;
         }
         if (before.nextSibling !== this.bottom) before.after(this.bottom);
         this.top.style.height = `${above}px`;
         this.bottom.style.height = `${Math.max(0, below)}px`;
-        this.drawn = kept;
+        this.drawn = visible;
     }
 
     measure() {
@@ -155,7 +155,7 @@ export class Sheet {
         const drawn = document.createElement("tr");
         drawn.setAttribute("aria-rowindex", order + 2);
         drawn.dataset.row = row;
-        if (this.mended.has(row)) drawn.className = "mended";
+        if (this.corrected.has(row)) drawn.className = "corrected";
         const number = document.createElement("th");
         number.scope = "row";
         number.textContent = (row + 1).toLocaleString(document.documentElement.lang);
@@ -175,9 +175,9 @@ export class Sheet {
 
     tools(row) {
         const cell = document.createElement("td");
-        cell.append(button(_("Mend"), _("Mend row %(row)s", {row: row + 1}),
-            () => this.mend(row)));
-        if (this.mended.has(row)) {
+        cell.append(button(_("Correct"), _("Correct row %(row)s", {row: row + 1}),
+            () => this.correct(row)));
+        if (this.corrected.has(row)) {
             cell.append(button(_("Undo"), _("Undo row %(row)s", {row: row + 1}),
                 () => this.undo(row)));
         }
@@ -213,9 +213,9 @@ function room() {
     return row;
 }
 
-function heard(text) {
+function hidden(text) {
     const span = document.createElement("span");
-    span.className = "heard";
+    span.className = "visually-hidden";
     span.textContent = text;
     return span;
 }

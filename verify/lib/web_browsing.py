@@ -39,7 +39,7 @@ const texts = document.createTreeWalker(document.body, NodeFilter.SHOW_TEXT);
 while (texts.nextNode()) {
     const element = texts.currentNode.parentElement;
     if (!texts.currentNode.data.trim() || !element.checkVisibility()) continue;
-    if (element.closest("svg, option, .skip, .heard")) continue;
+    if (element.closest("svg, option, .skip, .visually-hidden")) continue;
     const one = light(numbers(getComputedStyle(element).color));
     const other = light(below(element));
     const ratio = (Math.max(one, other) + 0.05) / (Math.min(one, other) + 0.05);
@@ -96,10 +96,10 @@ class Browser:
     def run(self, script, *words):
         return self.driver.execute_script(script, *words)
 
-    def wait(self, what, holds, seconds=WAIT):
+    def wait(self, what, is_true, seconds=WAIT):
         """Waits until a condition is met. Returns how long that took."""
         began = time.monotonic()
-        while not holds():
+        while not is_true():
             if time.monotonic() - began > seconds:
                 raise TimeoutError(f"{what}: not within {seconds} s")
             time.sleep(0.01)
@@ -130,9 +130,9 @@ class Browser:
             size = os.path.getsize(path)
             time.sleep(0.2)
         with open(path, "rb") as file:
-            held = file.read()
+            content = file.read()
         os.remove(path)
-        return os.path.basename(path), held
+        return os.path.basename(path), content
 
     def looks(self, host):
         """What is wrong with the page as it is: for the eye, the ear, and by its policy."""

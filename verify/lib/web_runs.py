@@ -22,9 +22,9 @@ WAIT = 60
 
 
 def free_port():
-    with socket.socket() as taken:
-        taken.bind(("127.0.0.1", 0))
-        return taken.getsockname()[1]
+    with socket.socket() as free:
+        free.bind(("127.0.0.1", 0))
+        return free.getsockname()[1]
 
 
 def python_of_page():
@@ -105,13 +105,13 @@ class Page:
             except OSError:
                 time.sleep(0.05)
         self.process.kill()
-        sys.exit(f"the page doesn't answer: {self.told()}")
+        sys.exit(f"the page doesn't answer: {self.errors_text()}")
 
     def logged(self):
         """The lines of its log of requests."""
         return [line for line in self.lines() if ACCESS.fullmatch(line)]
 
-    def told(self):
+    def errors_text(self):
         """What it printed on standard error beside that log."""
         return "\n".join(line for line in self.lines() if not ACCESS.fullmatch(line))
 
@@ -155,31 +155,31 @@ class Page:
         except subprocess.TimeoutExpired:
             self.process.kill()
             return left_after(found), "it didn't end in time"
-        return left_after(found), self.told()
+        return left_after(found), self.errors_text()
 
 
 def first_line(connection):
     """The first line of a reply, or an empty one if the connection ended."""
-    held = b""
-    while b"\n" not in held:
+    content = b""
+    while b"\n" not in content:
         try:
             block = connection.recv(4096)
         except ConnectionError:
             break
         if not block:
             break
-        held += block
-    return held.partition(b"\r\n")[0].decode(errors="replace")
+        content += block
+    return content.partition(b"\r\n")[0].decode(errors="replace")
 
 
 def form_of(fields, files, boundary="a-boundary-of-a-form"):
     """The body of a form with files, and its headers."""
     parts = [f'--{boundary}\r\nContent-Disposition: form-data; name="{name}"\r\n\r\n{text}\r\n'
              .encode() for name, text in fields.items()]
-    for name, (file_name, held) in files.items():
+    for name, (file_name, content) in files.items():
         parts.append(f'--{boundary}\r\nContent-Disposition: form-data; name="{name}"; '
                      f'filename="{file_name}"\r\nContent-Type: text/csv\r\n\r\n'.encode())
-        parts += [held, b"\r\n"]
+        parts += [content, b"\r\n"]
     parts.append(f"--{boundary}--\r\n".encode())
     return b"".join(parts), {"Content-Type": f"multipart/form-data; boundary={boundary}"}
 

@@ -3,8 +3,8 @@ import os
 import shutil
 import subprocess
 
-import client_tools
-from client_tools import JOURNAL, SAMPLES, read
+from lib import client_tools
+from lib.client_tools import JOURNAL, SAMPLES, read
 from command_line import need_python
 from lib.common import TOP
 
@@ -14,14 +14,14 @@ HEAD = b'<TEI xmlns="http://www.tei-c.org/ns/1.0"><opener><placeName>London</pla
 TAIL = b"</opener></TEI>"
 MAY = b' when="1640-05-13" when-custom="1640-05-03" calendar="#julian"'
 # The lines of the samples that standard error names: counted in the files by hand.
-TOLD = {"letters.xml": (TEI, {"skipped": 2, "no date": 1, "several days": 1, "is left": 1,
-                              "unknown place": 1}),
-        "cmif.xml": (TEI, {"declare it": 1}),
-        "events.ged": (GEDCOM, {"skipped": 3, "several days": 1, "calendar changed": 1,
-                                "INT takes one date": 2, "a feast": 1, "is left": 1,
-                                "unknown place": 1, "no place": 1, "no date of its calendar": 1,
-                                "weekday differs": 1, "not the year that follows": 1}),
-        "events7.ged": (GEDCOM, {"skipped": 1, "is left": 1})}
+REPORTS = {"letters.xml": (TEI, {"skipped": 2, "no date": 1, "several days": 1, "is left": 1,
+                                 "unknown place": 1}),
+           "cmif.xml": (TEI, {"declare it": 1}),
+           "events.ged": (GEDCOM, {"skipped": 3, "several days": 1, "calendar changed": 1,
+                                   "INT takes one date": 2, "a feast": 1, "is left": 1,
+                                   "unknown place": 1, "no place": 1, "no date of its calendar": 1,
+                                   "weekday differs": 1, "not the year that follows": 1}),
+           "events7.ged": (GEDCOM, {"skipped": 1, "is left": 1})}
 
 
 class Installed:
@@ -55,8 +55,8 @@ def checks(options, folder):
     yield f"pip install: {installed.done.stderr}", installed.done.returncode == 0
     client_tools.tried.append("the package installed without a network")
     yield from documents(installed)
-    for name, (command, told) in TOLD.items():
-        yield from samples(installed, name, command, told)
+    for name, (command, reports) in REPORTS.items():
+        yield from samples(installed, name, command, reports)
     yield from letters(installed)
     yield from calendars(installed)
     yield from in_notes(installed)
@@ -78,21 +78,22 @@ def documents(installed):
     yield f"examples/client.py: {done.stdout}", done.stdout == expected
 
 
-def samples(installed, name, command, told):
+def samples(installed, name, command, reports):
     """A sample: what comes out is the file that was written by hand, and a second run's input."""
-    given = read(os.path.join(SAMPLES, name))
+    original = read(os.path.join(SAMPLES, name))
     expected = read(os.path.join(SAMPLES, name.replace(".", ".filled.")))
-    done = installed.fill(command, given)
+    done = installed.fill(command, original)
     yield f"{name} is filled in", (done.returncode, done.stdout) == (0, expected)
     lines = done.stderr.decode().splitlines()
-    counts = {what: sum(what in line for line in lines) for what in told}
-    yield f"{name}: standard error: {lines}", (counts, len(lines)) == (told, sum(told.values()))
+    counts = {what: sum(what in line for line in lines) for what in reports}
+    yield (f"{name}: standard error: {lines}",
+           (counts, len(lines)) == (reports, sum(reports.values())))
     yield f"{name}: a second run", installed.fill(command, expected).stdout == expected
-    ends = given.replace(b"\n", b"\r\n"), expected.replace(b"\n", b"\r\n")
+    ends = original.replace(b"\n", b"\r\n"), expected.replace(b"\n", b"\r\n")
     yield f"{name}: other line ends", installed.fill(command, ends[0]).stdout == ends[1]
-    marked = b"\xef\xbb\xbf" + given, b"\xef\xbb\xbf" + expected
+    marked = b"\xef\xbb\xbf" + original, b"\xef\xbb\xbf" + expected
     yield f"{name}: a byte order mark", installed.fill(command, marked[0]).stdout == marked[1]
-    strict = installed.fill(command, given, "--strict")
+    strict = installed.fill(command, original, "--strict")
     yield f"{name}: --strict", (strict.returncode, strict.stdout) == (1, expected)
 
 
@@ -127,11 +128,11 @@ def letters(installed):
         yield f"TEI left: {what} {done.stderr}", (done.stdout == left
                                                   and (what in done.stderr.decode()))
     wide = (HEAD + date + TAIL).decode().encode("utf-16")
-    for data, told in ((wide, "UTF-16"), (b"", "no element"), (HEAD, "no element"),
-                       (b"<a></b>", "mismatched"), (b"<a>\xff</a>", "not well-formed")):
+    for data, reason in ((wide, "UTF-16"), (b"", "no element"), (HEAD, "no element"),
+                         (b"<a></b>", "mismatched"), (b"<a>\xff</a>", "not well-formed")):
         done = installed.fill(TEI, data)
         yield f"TEI refused: {done.stderr}", (done.returncode, done.stdout) == (1, b"") \
-            and told in done.stderr.decode()
+            and reason in done.stderr.decode()
     many = HEAD + date * 20_000 + TAIL
     done = installed.fill(TEI, many)
     yield "TEI of 20,000 dates", done.stdout == HEAD + filled[len(HEAD): -len(TAIL)] * 20_000 + TAIL
@@ -154,15 +155,15 @@ def calendars(installed):
         done = installed.fill(TEI, file + date + TAIL)
         yield f"TEI calendar in {encoding}: {done.stdout} {done.stderr}", done.stdout == filled
         yield f"TEI calendar in {encoding} again", installed.fill(TEI, filled).stdout == filled
-    for names, pointer, said in (
+    for names, pointer, report in (
             (["julian", "julian_old"], b"#julian", b""),
             (["julian_new", "julian_old"], None, b"julian_new and in julian_old: name one julian"),
             (["gregorian"], b"#julian", b'no <calendar xml:id="julian">')):
         written = MAY.replace(b"#julian", pointer) if pointer else MAY.partition(b" calendar")[0]
         done = installed.fill(TEI, declared(b"", *names) + date * 2 + TAIL)
         filled = declared(b"", *names) + (b"<date" + written + b">3 May 1640</date>") * 2 + TAIL
-        yield f"TEI calendars {names}: {done}", done.stdout == filled and said in done.stderr
-        yield f"TEI calendars {names}: said once", done.stderr.count(b"\n") == bool(said)
+        yield f"TEI calendars {names}: {done}", done.stdout == filled and report in done.stderr
+        yield f"TEI calendars {names}: said once", done.stderr.count(b"\n") == bool(report)
 
 
 def in_notes(installed):
@@ -170,7 +171,7 @@ def in_notes(installed):
     date, filled = b"<date>3 May 1640</date>", b"<date" + MAY + b">3 May 1640</date>"
     inner = b"<placeName><placeName>London</placeName>, Middlesex</placeName>"
     letter = b"<dateline><placeName>London</placeName> %s</dateline>"
-    for given, expected in (
+    for original, expected in (
             (HEAD + b"<note>or %s</note>" + TAIL, date), (HEAD + b"<del>%s</del>" + TAIL, date),
             (HEAD + b"<date>3 May 1640<note>or %s</note></date>" + TAIL, date),
             (HEAD + b"<choice><sic>%s</sic><corr/></choice>" + TAIL, date),
@@ -178,9 +179,9 @@ def in_notes(installed):
             (HEAD + b"<note>" + letter + b"</note>" + TAIL, filled),
             (HEAD.replace(b"<placeName>London</placeName>", inner) + b"%s" + TAIL, filled),
             (HEAD + b"<note><placeName>Stockholm</placeName></note>%s" + TAIL, filled)):
-        done = installed.fill(TEI, given % date)
-        wanted = given.replace(b"<date>3 May 1640<", b"<date" + MAY + b">3 May 1640<") % expected
-        yield f"TEI {given}: {done}", done.stdout == wanted and done.returncode == 0
+        done = installed.fill(TEI, original % date)
+        text = original.replace(b"<date>3 May 1640<", b"<date" + MAY + b">3 May 1640<") % expected
+        yield f"TEI {original}: {done}", done.stdout == text and done.returncode == 0
 
 
 def by_place(installed):
@@ -192,20 +193,20 @@ def by_place(installed):
     two = lacking + b"<placeName>London</placeName> and <placeName>Stockholm</placeName>"
     parts = lacking + b"<placeName><settlement>Nowhere</settlement>, <country>England</country>" \
         b"</placeName>"
-    for front, words, told in (
+    for front, words, reason in (
             (lacking, ["--place", "GB"], "taken as GB"),
             (unknown, ["--place", "GB"], "taken as GB"),
             (parts, ["--places", PLACES], "")):
         done = installed.run([TEI, JOURNAL, *words], front + date + TAIL)
         yield f"TEI {front} {words}", (done.stdout == front + filled + TAIL
-                                       and told in done.stderr.decode())
-    for front, words, told in (
+                                       and reason in done.stderr.decode())
+    for front, words, reason in (
             (lacking, [], "by --place"), (unknown, ["--places", PLACES], "--places FILE"),
             (unknown, ["--places", PLACES, "--place", "GB"], "unknown place Nowhere (1 date)"),
             (two, ["--places", PLACES, "--place", "GB"], "more than one territory: GB, SE")):
         done = installed.run([TEI, JOURNAL, *words], front + date + TAIL)
         yield f"TEI left: {front} {words}", (done.stdout == front + date + TAIL
-                                             and told in done.stderr.decode())
+                                             and reason in done.stderr.decode())
 
 
 def tree(*lines, version=b"5.5.1", charset=b"UTF-8"):
@@ -246,21 +247,21 @@ def trees(installed):
         ((b"2 DATE 3 MAY 16", b"3 CONC 40", place),) * 2 + ((),),
         ((b"2 SOUR @S1@", b"3 DATA", b"4 DATE 3 MAY 1640", place),) * 2 + ((),),
     ]
-    for given, expected, more in pairs:
-        done = installed.fill(GEDCOM, tree(*given), *more)
-        yield f"GEDCOM {given}: {done.stdout}", done.stdout == tree(*expected)
+    for original, expected, more in pairs:
+        done = installed.fill(GEDCOM, tree(*original), *more)
+        yield f"GEDCOM {original}: {done.stdout}", done.stdout == tree(*expected)
         again = installed.fill(GEDCOM, done.stdout, *more)
-        yield f"GEDCOM {given} again", again.stdout == done.stdout
+        yield f"GEDCOM {original} again", again.stdout == done.stdout
     ansi = installed.fill(GEDCOM, tree(b"2 DATE (3 d\xe9c. 1640)", place, charset=b"ANSI"))
     yield f"GEDCOM in ANSI: {ansi.stdout}", b"INT @#DJULIAN@ 3 DEC 1640 (3 d\xe9c" in ansi.stdout
     wrong = installed.fill(GEDCOM, tree(b"2 DATE (3 d\xe9c. 1640)", place))
     yield "GEDCOM: bytes that are not UTF-8", b"CHAR" in wrong.stderr and b"INT" not in wrong.stdout
-    for data, told in ((b"", "0 HEAD"), (b"1 BIRT\n", "0 HEAD"), (tree(version=b"4.0"), "4.0"),
-                       (tree(charset=b"UNICODE"), "UNICODE"),
-                       (tree().decode().encode("utf-16"), "UTF-16")):
+    for data, reason in ((b"", "0 HEAD"), (b"1 BIRT\n", "0 HEAD"), (tree(version=b"4.0"), "4.0"),
+                         (tree(charset=b"UNICODE"), "UNICODE"),
+                         (tree().decode().encode("utf-16"), "UTF-16")):
         done = installed.fill(GEDCOM, data)
         yield f"GEDCOM refused: {done.stderr}", (done.returncode, done.stdout) == (1, b"") \
-            and told in done.stderr.decode()
+            and reason in done.stderr.decode()
     lines = [line for _ in range(20_000) for line in (b"1 DEAT", b"2 DATE 3 MAY 1640", place)]
     done = installed.fill(GEDCOM, tree(*lines))
     yield "GEDCOM of 20,000 dates", done.stdout.count(b"@#DJULIAN@ 3 MAY 1640\n") == 20_000
@@ -268,7 +269,7 @@ def trees(installed):
 
 def words(installed, folder):
     """Wrong arguments, tables of places with mistakes, and streams that fail."""
-    given = read(os.path.join(SAMPLES, "letters.xml"))
+    original = read(os.path.join(SAMPLES, "letters.xml"))
     table = os.path.join(folder, "table.csv")
     runs = [([TEI], 2, "JOURNAL"), ([TEI, JOURNAL, "--wrong"], 2, "--help"),
             ([TEI, "none.journal"], 1, "No such file"), ([TEI, TOP], 1, "directory"),
@@ -276,35 +277,35 @@ def words(installed, folder):
             ([TEI, JOURNAL, "--places", "none.csv"], 3, "none.csv"),
             ([TEI, JOURNAL, "--program", "no-such-oldstyle"], 1, "--program of a command"),
             ([GEDCOM, JOURNAL], 1, "0 HEAD"), ([TEI, "--help"], 0, "")]
-    for line, status, told in runs:
-        done = installed.run(line, given)
-        is_told = told in done.stderr.decode() and b"Traceback" not in done.stderr
-        yield f"{line}: {done.stderr}", done.returncode == status and is_told
+    for line, status, reason in runs:
+        done = installed.run(line, original)
+        is_reported = reason in done.stderr.decode() and b"Traceback" not in done.stderr
+        yield f"{line}: {done.stderr}", done.returncode == status and is_reported
     tables = [(b"", "no header"), (b"a,b\n", "no column place"),
               (b"place\tcode\nLondon\n", "line 2"),
               (b"place,code\nA,GB\nA,SE\n", "line 3"), (b"place,code\n\xff,GB\n", "line 2"),
               (b'"a;b",place\n', "no column code: the columns are a;b, place"),
               (b'place,code\n"A,GB\n', "quote")]
-    for held, told in tables:
+    for content, reason in tables:
         with open(table, "wb") as file:
-            file.write(held)
-        done = installed.run([TEI, JOURNAL, "--places", table], given)
-        yield f"table {held}: {done.stderr}", (done.returncode, done.stdout) == (1, b"") \
-            and told in done.stderr.decode()
-    for row, told in ((b"London,FR", b"the register has its code FR"),
-                      (b"England,", b"England (1 date): no territory of the register has its code "
-                       b"(empty)")):
+            file.write(content)
+        done = installed.run([TEI, JOURNAL, "--places", table], original)
+        yield f"table {content}: {done.stderr}", (done.returncode, done.stdout) == (1, b"") \
+            and reason in done.stderr.decode()
+    for row, reason in ((b"London,FR", b"the register has its code FR"),
+                        (b"England,", b"England (1 date): no territory of the register has its "
+                         b"code (empty)")):
         with open(table, "wb") as file:
             file.write(b"place,code\n" + row + b"\n")
         done = installed.run([TEI, JOURNAL, "--places", table],
                              HEAD.replace(b"London", row.partition(b",")[0])
                              + b"<date>3 May 1640</date>" + TAIL)
-        yield f"a code that is lacking: {done.stderr}", told in done.stderr
-    done = installed.run(["sh", "-c", f"{installed.path}/{TEI} {JOURNAL} --place GB >&-"], given)
+        yield f"a code that is lacking: {done.stderr}", reason in done.stderr
+    done = installed.run(["sh", "-c", f"{installed.path}/{TEI} {JOURNAL} --place GB >&-"], original)
     yield f"closed output: {done.stderr}", (done.returncode == 3 and b"closed" in done.stderr
                                             and b"Traceback" not in done.stderr)
     with open("/dev/full", "wb") as full:
         done = subprocess.run([os.path.join(installed.path, TEI), JOURNAL, "--place", "GB"],
-                              input=given, stdout=full, stderr=subprocess.PIPE, check=False,
+                              input=original, stdout=full, stderr=subprocess.PIPE, check=False,
                               env=installed.variables)
     yield f"a full disk: {done.stderr}", done.returncode == 3 and b"No space" in done.stderr

@@ -23,7 +23,7 @@ import sys
 import tempfile
 
 from lib.calendars import dates
-from lib.checks import hold, verdict
+from lib.checks import check, verdict
 from lib.common import TOP, CommandLine, end, need, replies, run
 from lib.territory_texts import lands_of
 
@@ -89,10 +89,10 @@ def figures(year):
     }
 
 
-def hold_figures(program):
+def check_figures(program):
     requests = ('{"op":"figures","reader":1,"year":%d}' % year for year in YEARS)
     for year, reply in zip(YEARS, replies(program, requests)):
-        hold(f"{year}: {reply}", json.loads(reply).get("answer") == figures(year))
+        check(f"{year}: {reply}", json.loads(reply).get("answer") == figures(year))
 
 
 # ---- months
@@ -148,7 +148,7 @@ def months_about(year, month):
     return [(count // 12, count % 12 + 1) for count in range(first - 2, first + 4)]
 
 
-def hold_months(program):
+def check_months(program):
     """Returns how many months were compared."""
     count = 0
     with tempfile.TemporaryDirectory() as folder:
@@ -156,8 +156,8 @@ def hold_months(program):
         for code, year, month in countries():
             for at in months_about(year, month) + OTHER_MONTHS:
                 count += 1
-                hold(f"{code}: {at}", is_as_printed(program, journal, code, *at))
-    hold("ncal lists no country", count > 0)
+                check(f"{code}: {at}", is_as_printed(program, journal, code, *at))
+    check("ncal lists no country", count > 0)
     return count
 
 
@@ -171,16 +171,16 @@ def last_julian_days(land):
             if old[0] != "gregorian" and new[0] == "gregorian"]
 
 
-def hold_countries():
+def check_countries():
     """Returns which countries of ncal were compared."""
     with open(os.path.join(TOP, "examples", "europe.toml"), encoding="utf-8") as file:
-        lands, held = lands_of(file.read()), set()
+        lands, names = lands_of(file.read()), set()
     for country, *date in COUNTRY.findall(ncal("-p")):
         for code in IN_EUROPE.get(country, []):
-            found, wanted = last_julian_days(lands[code]), ["-".join(date)]
-            hold(f"{code}: {found}, and ncal has {wanted}", found == wanted)
-            held.add(country)
-    return sorted(held)
+            found, expected = last_julian_days(lands[code]), ["-".join(date)]
+            check(f"{code}: {found}, and ncal has {expected}", found == expected)
+            names.add(country)
+    return sorted(names)
 
 
 def main():
@@ -188,10 +188,10 @@ def main():
     line.add_program()
     program = line.read().program
     need("ncal", "the Debian package ncal")
-    hold_figures(program)
-    months, held = hold_months(program), hold_countries()
-    return verdict(f"{len(YEARS)} years, {months} months, and {len(held)} countries of ncal "
-                   f"({' '.join(held)}) are as computed and as in ncal")
+    check_figures(program)
+    months, names = check_months(program), check_countries()
+    return verdict(f"{len(YEARS)} years, {months} months, and {len(names)} countries of ncal "
+                   f"({' '.join(names)}) are as computed and as in ncal")
 
 
 if __name__ == "__main__":

@@ -22,24 +22,24 @@ class Fragment(HTMLParser):
 
     def __init__(self, text):
         super().__init__()
-        self.facts, self.notes, self.held, self.open = [], [], "", []
+        self.facts, self.notes, self.buffer, self.open = [], [], "", []
         self.feed(text)
         self.close()
 
     def handle_starttag(self, tag, attrs):
         self.open.append((tag, dict(attrs).get("class")))
         if tag in ("dt", "dd", "li"):
-            self.held = ""
+            self.buffer = ""
         elif tag == "dl":
             self.facts.append([])
 
     def handle_data(self, data):
-        self.held += data
+        self.buffer += data
 
     def handle_endtag(self, tag):
         while self.open and self.open.pop()[0] != tag:
             pass
-        text = " ".join(self.held.split())
+        text = " ".join(self.buffer.split())
         if tag == "dt":
             self.facts[-1].append((text, ""))
         elif tag == "dd":
@@ -90,10 +90,10 @@ def runs_printed(lines):
     return found
 
 
-def notes_printed(lines, told):
+def notes_printed(lines, stderr):
     """The lines of `read` that the page has as notes, each with the source that follows it."""
     if not lines:
-        text = told.partition("\n")[0].removeprefix("oldstyle: ").removesuffix(ORDER)
+        text = stderr.partition("\n")[0].removeprefix("oldstyle: ").removesuffix(ORDER)
         return [text]
     notes = [line for line in lines[1:] if line not in OPEN and not (
         DAY.match(line) or COUNT.fullmatch(line) or WAITING.fullmatch(line)
@@ -117,12 +117,13 @@ def days_shown(fragment):
 def differences(html, program, journal, code, date, weekday="", order=""):
     """What a fragment says otherwise than `read` prints."""
     fragment = Fragment(html)
-    lines, told = read_page(program, journal, code, date, weekday, order)
-    found, wanted = days_shown(fragment), days_printed(lines) or runs_printed(lines)
-    wrong = [] if found == wanted or TWO_WEEKDAYS in told else [f"days {found}, wanted {wanted}"]
+    lines, stderr = read_page(program, journal, code, date, weekday, order)
+    found, expected = days_shown(fragment), days_printed(lines) or runs_printed(lines)
+    is_right = found == expected or TWO_WEEKDAYS in stderr
+    wrong = [] if is_right else [f"days {found}, wanted {expected}"]
     notes = [bare(note) for note in fragment.notes if not note.startswith("The date is ")]
-    wanted = [bare(note) for note in notes_printed(lines, told)]
-    holds = notes == wanted if lines else len(notes) == 1 and wanted[0].endswith(notes[0])
-    if not holds:
-        wrong.append(f"notes {notes}, wanted {wanted}")
+    expected = [bare(note) for note in notes_printed(lines, stderr)]
+    is_true = notes == expected if lines else len(notes) == 1 and expected[0].endswith(notes[0])
+    if not is_true:
+        wrong.append(f"notes {notes}, wanted {expected}")
     return [f"{code} {date!r} {weekday} {order}: {what}" for what in wrong]

@@ -18,7 +18,7 @@ from .settings import Settings, in_bytes, reason_of
 from .words import WEEKDAYS
 
 EDITION = re.compile(r", edition (\d+)$")
-KEPT = 2_000
+MOST_PAGES = 2_000
 NO_LAND = "no territory has the code"
 # The fault of a line of the journal that is just being written, and the seconds to wait for it.
 UNFINISHED, AWAITED = "oldstyle: journal line ", 1
@@ -40,7 +40,7 @@ class Page:
     """The lines of a page, and what was reported if there is none."""
 
     lines: list[str]
-    told: str
+    stderr: str
 
 
 class Printer:
@@ -50,46 +50,47 @@ class Printer:
         self.settings = settings
         self.places = threading.BoundedSemaphore(settings.commands)
         self.lock = threading.Lock()
-        self.kept: OrderedDict[tuple[int, tuple[str, ...]], Page] = OrderedDict()
+        self.cache: OrderedDict[tuple[int, tuple[str, ...]], Page] = OrderedDict()
 
     def page(self, asking: Asking, *words: str) -> Page:
         """A page that names its edition in its first line, or one that is kept of the edition that
         was given."""
-        return self.held(asking, words) or self.keep(asking, words, self.printed(asking, words))
+        return self.cached(asking, words) or self.store(asking, words,
+                                                        self.print_page(asking, words))
 
-    def held(self, asking: Asking, words: tuple[str, ...]) -> Page | None:
+    def cached(self, asking: Asking, words: tuple[str, ...]) -> Page | None:
         with self.lock:
             for edition in asking.editions:
-                if (edition, words) in self.kept:
-                    self.kept.move_to_end((edition, words))
-                    return self.kept[edition, words]
+                if (edition, words) in self.cache:
+                    self.cache.move_to_end((edition, words))
+                    return self.cache[edition, words]
         return None
 
-    def keep(self, asking: Asking, words: tuple[str, ...], page: Page) -> Page:
+    def store(self, asking: Asking, words: tuple[str, ...], page: Page) -> Page:
         """Keeps a page if one edition alone was given with it."""
         if len(asking.editions) == 1:
             with self.lock:
-                self.kept[next(iter(asking.editions)), words] = page
-                while len(self.kept) > KEPT:
-                    self.kept.popitem(last=False)
+                self.cache[next(iter(asking.editions)), words] = page
+                while len(self.cache) > MOST_PAGES:
+                    self.cache.popitem(last=False)
         return page
 
-    def printed(self, asking: Asking, words: tuple[str, ...]) -> Page:
+    def print_page(self, asking: Asking, words: tuple[str, ...]) -> Page:
         """The page as the program prints it now."""
         last = time.monotonic() + AWAITED
         while True:
-            status, out, told = self.run(words)
-            if not told.startswith(UNFINISHED) or time.monotonic() > last:
+            status, out, stderr = self.run(words)
+            if not stderr.startswith(UNFINISHED) or time.monotonic() > last:
                 break
             time.sleep(0.03)
         if status in (0, 2):
-            page = Page(out.split("\n")[:-1], told.strip())
+            page = Page(out.split("\n")[:-1], stderr.strip())
             if page.lines and (named := EDITION.search(page.lines[0])):
                 asking.editions.add(int(named[1]))
             return page
-        if NO_LAND in told:
+        if NO_LAND in stderr:
             raise no_place(words[1])
-        raise unavailable(self.settings.shown(told.partition("\n")[0]))
+        raise unavailable(self.settings.shown(stderr.partition("\n")[0]))
 
     def run(self, words: tuple[str, ...], journal: str = "") -> tuple[int, str, str]:
         """The status of a command over the journal or another one, and what it wrote on both
@@ -136,8 +137,8 @@ def date_on(page: Page, name: str, code: str, date: str = "", weekday: str = "")
     """The contents of a page about a date."""
     found = PrintedDate()
     if not page.lines:
-        if page.told:
-            first = page.told.partition("\n")[0].removesuffix(OTHER_ORDER)
+        if page.stderr:
+            first = page.stderr.partition("\n")[0].removesuffix(OTHER_ORDER)
             found.notes.append(without_word(first, date, weekday))
         return found
     found.read_as = page.lines[0].rpartition(", edition ")[0].removesuffix(f" in {name} ({code})")
@@ -156,13 +157,13 @@ def date_on(page: Page, name: str, code: str, date: str = "", weekday: str = "")
     return found
 
 
-def without_word(told: str, date: str, weekday: str) -> str:
+def without_word(stderr: str, date: str, weekday: str) -> str:
     """The report of a wrong argument, without that argument and the program's name."""
-    told = told.removeprefix("oldstyle: ")
+    stderr = stderr.removeprefix("oldstyle: ")
     for word in (date, weekday, *WEEKDAYS):
-        if word and told.startswith(f"{word}: "):
-            return told[len(word) + 2:]
-    return told
+        if word and stderr.startswith(f"{word}: "):
+            return stderr[len(word) + 2:]
+    return stderr
 
 
 def listed_easters(printer: Printer, asking: Asking, code: str) -> list[str]:

@@ -179,7 +179,7 @@ def schedule(chance, machine):
     return lines, outs
 
 
-def given(oldstyle, readers, lines):
+def replay(oldstyle, readers, lines):
     """What the program gives for a schedule."""
     with tempfile.NamedTemporaryFile("w", suffix=".jsonl") as file:
         file.write("".join(line + "\n" for line in lines))
@@ -188,9 +188,9 @@ def given(oldstyle, readers, lines):
         return run(oldstyle, words).stdout.splitlines()
 
 
-def differs(place, readers, lines, wanted, got):
+def differs(place, readers, lines, expected, got):
     print(f"schedule {place}, {readers} readers:")
-    for line, one, other in zip(lines, wanted, got + [""] * len(lines)):
+    for line, one, other in zip(lines, expected, got + [""] * len(lines)):
         print("  ", line, one, "" if one == other else f"and not {other}")
 
 
@@ -210,11 +210,11 @@ def main():
     chance, steps, differ = random.Random(options.seed), 0, 0
     for place in range(options.count):
         readers = chance.randint(1, 4)
-        lines, wanted = schedule(chance, Machine(readers))
-        got = given(options.program, readers, lines)
-        if got != wanted:
+        lines, expected = schedule(chance, Machine(readers))
+        got = replay(options.program, readers, lines)
+        if got != expected:
             differ += 1
-            differs(place, readers, lines, wanted, got)
+            differs(place, readers, lines, expected, got)
         steps += len(lines)
     print(f"{options.count} schedules of {steps} steps, {differ} differ")
     return 1 if differ else 0

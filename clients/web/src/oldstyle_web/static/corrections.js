@@ -7,9 +7,9 @@ const ADDED = 12;
 const MARK = "\u001e";
 const ROLES = ["place", "date", "weekday", "year", "month", "day"];
 
-export class Mending {
-    constructor(sheet, form, tell, counted) {
-        Object.assign(this, {sheet, form, tell, counted});
+export class Corrections {
+    constructor(sheet, form, announce, countRemarks) {
+        Object.assign(this, {sheet, form, announce, countRemarks});
         this.words = new FormData();
     }
 
@@ -106,11 +106,11 @@ export class Mending {
                 signal: asking.signal, headers: {Accept: "application/json"}});
             const text = await reply.text();
             if (isOvertaken()) return;
-            if (!reply.ok) throw new Error(JSON.parse(text).told);
+            if (!reply.ok) throw new Error(JSON.parse(text).message);
             this.take(row, text.slice(0, text.lastIndexOf(MARK)));
         } catch (why) {
             if (!isOvertaken()) {
-                this.tell(_("Row %(row)s was not asked: %(why)s",
+                this.announce(_("Row %(row)s was not asked: %(why)s",
                     {row: row + 1, why: why.message}));
             }
         }
@@ -120,24 +120,24 @@ export class Mending {
         const [, record] = new Records().take(text);
         if (record === undefined) throw new Error(_("the row has a quote or a line end too many"));
         const {sheet} = this;
-        if (!sheet.mended.has(row)) sheet.mended.set(row, sheet.records[row]);
+        if (!sheet.corrected.has(row)) sheet.corrected.set(row, sheet.records[row]);
         this.put(row, record);
         const remark = sheet.remarks[row] || _("no remark now");
-        this.tell(_("Row %(row)s: %(remark)s.", {row: row + 1, remark}));
+        this.announce(_("Row %(row)s: %(remark)s.", {row: row + 1, remark}));
     }
 
     // Puts back the record that came.
     undo(row) {
-        const record = this.sheet.mended.get(row);
-        this.sheet.mended.delete(row);
+        const record = this.sheet.corrected.get(row);
+        this.sheet.corrected.delete(row);
         this.put(row, record);
-        this.tell(_("Row %(row)s is as it was sent.", {row: row + 1}));
+        this.announce(_("Row %(row)s is as it was sent.", {row: row + 1}));
     }
 
     put(row, record) {
         this.sheet.records[row] = record;
         this.sheet.remarks[row] = lastField(record, this.sheet.separator);
         this.leave(row);
-        this.counted(row);
+        this.countRemarks(row);
     }
 }

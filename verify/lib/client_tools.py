@@ -36,14 +36,14 @@ def read(path):
 def checks(installed, options, folder):
     """What R, Gramps and xmllint say, if they are installed."""
     if shutil.which("xmllint"):
-        yield from linted(options.schema)
+        yield from lint(options.schema)
     if shutil.which("Rscript"):
         yield from in_r(installed, folder)
     if shutil.which("gramps"):
         yield from in_gramps(folder)
 
 
-def linted(schema):
+def lint(schema):
     tried.append("xmllint by TEI's schema" if schema else "xmllint without a schema")
     by = ["--relaxng", schema] if schema else []
     for name in ("letters.filled.xml", "cmif.filled.xml"):
@@ -61,8 +61,8 @@ def in_gramps(folder):
     done = subprocess.run(["gramps", "-q", "-y", "-i", path, "-e", exported, "-f", "gramps"],
                           capture_output=True, check=False,
                           env={**os.environ, "HOME": home, "GRAMPSHOME": home})
-    told = (done.stdout + done.stderr).decode()
-    yield f"Gramps: {told}", "No errors detected" in told and os.path.exists(exported)
+    output = (done.stdout + done.stderr).decode()
+    yield f"Gramps: {output}", "No errors detected" in output and os.path.exists(exported)
     with gzip.open(exported, "rt", encoding="utf-8") as file:
         events = re.findall(r"<event .*?</event>", file.read(), re.DOTALL)
     dates = re.findall(r"^2 DATE (.*)$", read(path).decode(), re.MULTILINE)

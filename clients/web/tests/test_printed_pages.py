@@ -10,8 +10,8 @@ from typing import Callable
 import pytest
 from conftest import SAMPLES
 
-from oldstyle_web import printed
-from oldstyle_web.printed import Page, Printer
+from oldstyle_web import printed_pages
+from oldstyle_web.printed_pages import Page, Printer
 from oldstyle_web.problems import Problem
 from oldstyle_web.settings import Settings
 
@@ -28,11 +28,11 @@ def test_a_name_with_line_separators_is_one_line(script: Callable[[str], str]) -
     page = Printer(Settings(SAMPLES, script(printing))).page(one, "read", "AA")
     assert page.lines == [f"11 February 1731 in {NAME} (AA), edition 2", "second line"]
     assert one.editions == {2}
-    assert printed.date_on(page, NAME, "AA").read_as == "11 February 1731"
+    assert printed_pages.date_on(page, NAME, "AA").read_as == "11 February 1731"
 
 
 def test_a_source_belongs_to_the_note_before_it() -> None:
-    found = printed.date_on(Page([
+    found = printed_pages.date_on(Page([
         "3 September 1752 in Great Britain (GB), edition 5",
         "skipped: Wednesday 2 September 1752 was followed by a day", "(source: 24 Geo. II c. 23)",
         "nearest: a day", "2 edits are not published yet", "approximate; in doubt"], ""),
@@ -43,28 +43,29 @@ def test_a_source_belongs_to_the_note_before_it() -> None:
 
 
 def test_days_and_counts_are_no_notes() -> None:
-    found = printed.date_on(Page([
+    found = printed_pages.date_on(Page([
         "x in A (AA), edition 1", "from any earlier day",
         "Friday 11 February 1731/2    22 February 1732 Gregorian    11 February 1732 Julian    "
         "day 632287    JDN 2353712 not Monday", "31 days"], ""), "A", "AA")
     assert (found.agreeing, found.counts, found.notes) == ({632287: "not Monday"}, [31], [])
 
 
-def test_what_is_told_of_a_date_lacks_the_date() -> None:
-    told = "oldstyle: 11/2/1731: open between day and month, or say --order dmy or mdy\nmore"
-    found = printed.date_on(Page([], told), "A", "AA", "11/2/1731")
+def test_a_report_of_a_date_lacks_the_date() -> None:
+    stderr = "oldstyle: 11/2/1731: open between day and month, or say --order dmy or mdy\nmore"
+    found = printed_pages.date_on(Page([], stderr), "A", "AA", "11/2/1731")
     assert found.notes == ["open between day and month"]
 
 
 def test_listed_easters_have_their_sources() -> None:
     page = Page(["A (AA), edition 1", "always: x", "(source: X)", "listed Easter of 1: a",
                  "(source: Y)", "listed Easter of 2: b"], "")
-    assert printed.listed_on(page) == ["listed Easter of 1: a (source: Y)", "listed Easter of 2: b"]
+    assert printed_pages.listed_on(page) == ["listed Easter of 1: a (source: Y)",
+                                             "listed Easter of 2: b"]
 
 
 def test_feasts_and_gaps_of_a_year(monkeypatch: pytest.MonkeyPatch) -> None:
     printer = Printer(Settings(SAMPLES, "/bin/true"))
-    monkeypatch.setattr(printer, "printed", lambda _asking, _words: Page([
+    monkeypatch.setattr(printer, "print_page", lambda _asking, _words: Page([
         "the year 1752 in A (AA), edition 1",
         "Tuesday 31 December 1751 was followed by Wednesday 1 January 1752 (day 639551)",
         "Wednesday 2 September 1752 was followed by Thursday 14 September 1752 (day 639797): "
@@ -72,15 +73,15 @@ def test_feasts_and_gaps_of_a_year(monkeypatch: pytest.MonkeyPatch) -> None:
         "Ash Wednesday: Wednesday 12 February 1752    23 February 1752 Gregorian    12 February "
         "1752 Julian    day 639593    JDN 2361018"], ""))
     one = asking(1)
-    assert printed.feasts_of_year(printer, one, "AA", 1752) == [("Ash Wednesday", 639593)]
-    assert printed.gaps_of_year(printer, one, "AA", 1752) == {639797: "11 dates left out"}
+    assert printed_pages.feasts_of_year(printer, one, "AA", 1752) == [("Ash Wednesday", 639593)]
+    assert printed_pages.gaps_of_year(printer, one, "AA", 1752) == {639797: "11 dates left out"}
 
 
 def test_the_page_that_was_asked_for_last_stays(monkeypatch: pytest.MonkeyPatch) -> None:
-    monkeypatch.setattr(printed, "KEPT", 2)
+    monkeypatch.setattr(printed_pages, "MOST_PAGES", 2)
     printer = Printer(Settings(SAMPLES, "/bin/true"))
     runs: list[str] = []
-    monkeypatch.setattr(printer, "printed",
+    monkeypatch.setattr(printer, "print_page",
                         lambda _asking, words: runs.append(words[0]) or Page([words[0]], ""))
     for name in "abacab":
         assert printer.page(asking(1), name).lines == [name]
@@ -89,21 +90,21 @@ def test_the_page_that_was_asked_for_last_stays(monkeypatch: pytest.MonkeyPatch)
 
 def test_a_page_between_two_editions_is_not_kept(monkeypatch: pytest.MonkeyPatch) -> None:
     printer = Printer(Settings(SAMPLES, "/bin/true"))
-    monkeypatch.setattr(printer, "printed", lambda _asking, _words: Page(["x"], ""))
+    monkeypatch.setattr(printer, "print_page", lambda _asking, _words: Page(["x"], ""))
     printer.page(asking(1, 2), "almanac")
-    assert not printer.kept
+    assert not printer.cache
 
 
-def test_no_path_is_told_of_a_program_that_is_gone() -> None:
+def test_a_missing_program_is_reported_without_its_path() -> None:
     with pytest.raises(Problem) as why:
         Printer(Settings(SAMPLES, "/none/of/it")).run(("read",))
     assert why.value.code == 503 and "/" not in str(why.value.description)
 
 
 def test_words_reach_the_program_in_utf_8(tmp_path: Path) -> None:
-    code = ("import sys; from oldstyle_web import printed, settings\n"
+    code = ("import sys; from oldstyle_web import printed_pages, settings\n"
             "assert sys.getfilesystemencoding() == 'ascii'\n"
-            "one = printed.Printer(settings.Settings('j', '/bin/echo'))\n"
+            "one = printed_pages.Printer(settings.Settings('j', '/bin/echo'))\n"
             "print(one.run(('read', 'f\\xe9vrier \\u2013 1650'))[1].encode())")
     done = subprocess.run([sys.executable, "-c", code], capture_output=True, text=True, check=False,
                           env={"LC_ALL": "C", "PYTHONUTF8": "0", "PYTHONCOERCECLOCALE": "0",
