@@ -12,6 +12,7 @@ import contextlib
 import datetime
 import itertools
 import json
+import math
 import os
 import random
 import signal
@@ -291,23 +292,49 @@ def in_frames(register):
     yield "pandas: an empty table", len(oldstyle.read_frame(register, frame[:0])) == 0
 
 
-def speed(register, program, count):
-    """Prints the seconds of the pipe, those of the program alone and those of Python's JSON."""
+def speed(program, count):
+    """Prints the rows a second of the raw pipe, whose replies are only read, or read by json.loads,
+    and of read_many, each as the best of three rounds that alternate."""
     rows = list(itertools.islice(itertools.cycle(rows_drawn(random.Random(1), 10_000)), count))
-    lines = list(map(request, rows))
-    clock = time.perf_counter
-    begun = clock()
-    replies = run(program, ["serve", "--journal", JOURNAL], lines).stdout.splitlines()
-    alone = clock() - begun
-    begun = clock()
-    for line in replies:
-        json.loads(line)
-    parsed = clock() - begun
-    begun = clock()
-    for _ in register.read_many(rows):
-        pass
-    print(f"{count} rows: the program alone {alone:.2f} s, json.loads of its replies {parsed:.2f} "
-          f"s, read_many {clock() - begun:.2f} s")
+    lines = [line.encode() + b"\n" for line in map(request, rows)]
+    ways = {"the raw pipe": lambda: piped_raw(program, lines, len),
+            "by json.loads": lambda: piped_raw(program, lines, json.loads),
+            "read_many": lambda: read_all(program, rows)}
+    best = dict.fromkeys(ways, math.inf)
+    for _ in range(3):
+        for name, way in ways.items():
+            best[name] = min(best[name], way())
+    print(f"{count} rows: " + ", ".join(
+        f"{name} {count / took:,.0f} a second" for name, took in best.items())
+        + ", ratios of read_many " + " and ".join(
+            f"{best[name] / best['read_many']:.2f}" for name in list(ways)[:2]))
+
+
+def piped_raw(program, lines, read):
+    """The seconds in which a run of the program answers lines, and the replies are read."""
+    begun = time.perf_counter()
+    with subprocess.Popen([program, "serve", "--journal", JOURNAL], stdin=subprocess.PIPE,
+                          stdout=subprocess.PIPE) as process:
+        writing = threading.Thread(target=write_all, args=(process.stdin, lines))
+        writing.start()
+        count = sum(read(line) is not None for line in process.stdout)
+        writing.join()
+    assert count == len(lines)
+    return time.perf_counter() - begun
+
+
+def write_all(pipe, lines):
+    with pipe:
+        pipe.writelines(lines)
+
+
+def read_all(program, rows):
+    """The seconds of read_many with a register of its own."""
+    begun = time.perf_counter()
+    with oldstyle.Register(JOURNAL, program=program) as register:
+        count = sum(1 for _ in register.read_many(rows))
+    assert count == len(rows)
+    return time.perf_counter() - begun
 
 
 def checks(options, folder):
@@ -320,7 +347,7 @@ def checks(options, folder):
         with contextlib.suppress(ImportError):
             yield from in_frames(register)
         if options.speed:
-            speed(register, program, options.speed)
+            speed(program, options.speed)
     yield from cited(program, os.path.join(folder, "cited.journal"))
     yield from client_files.checks(options, folder)
 
@@ -330,7 +357,7 @@ def main():
     line.add_program()
     line.add_number("--count", 20_000, "rows that are asked in one run")
     line.add_seed()
-    line.add_number("--speed", None, "prints the seconds of that many rows too")
+    line.add_number("--speed", None, "prints how many of that many rows are read in a second too")
     line.add_argument("--schema", type=file_at, metavar="FILE", help="TEI's schema, RELAX NG")
     options = line.read()
     passed = differ = 0

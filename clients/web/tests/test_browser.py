@@ -71,3 +71,23 @@ def test_a_citation_is_printed_with_its_address(
     names = run(browser, "return [...document.querySelectorAll('.link button')]"
                          ".map((one) => one.textContent)")
     assert names == ["Copy the citation", "Copy the link", "BibTeX", "RIS", "CSL-JSON"]
+
+
+def test_the_keyboard_goes_to_a_row_that_is_seen(
+        browser: Any, served: Callable[..., Served]) -> None:
+    from selenium.webdriver.common.keys import Keys
+    one = served()
+    browser.get(f"http://{one.host}:{one.port}/letters")
+    rows = "place,date\n" + "GB,1 May 1700\n" * 500
+    run(browser, "pasted.value = arguments[0]; letters.requestSubmit()", rows)
+    wait(browser, "500 rows, 0 with a remark.")
+    view = browser.find_element("id", "view")
+    for _ in range(3):
+        view.send_keys(Keys.PAGE_DOWN)
+        browser.execute_async_script("setTimeout(arguments[0], 400)")
+    before = run(browser, "return view.scrollTop")
+    browser.switch_to.active_element.send_keys(Keys.TAB)
+    browser.execute_async_script("setTimeout(arguments[0], 400)")
+    assert before > 0 and abs(run(browser, "return view.scrollTop") - before) < 5
+    assert run(browser, "return document.activeElement.textContent") == "Mend"
+    assert not run(browser, "return document.querySelectorAll('#rows [inert]').length")

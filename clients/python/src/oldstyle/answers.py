@@ -3,6 +3,7 @@ from __future__ import annotations
 
 import datetime
 from dataclasses import dataclass, fields
+from operator import itemgetter
 from typing import Any, Dict, Mapping, Optional, Tuple, Type, TypeVar
 
 Value = TypeVar("Value")
@@ -30,6 +31,7 @@ class Day:
 
 
 DAY = [field.name for field in fields(Day)]
+members_of_day = itemgetter(*DAY)
 
 
 @dataclass(frozen=True)
@@ -67,9 +69,10 @@ class Reading:
     @property
     def day(self) -> Optional[Day]:
         """The day, if the date means one alone."""
-        if len(self.runs) == 1 and not self.is_open and self.runs[0].first == self.runs[0].last:
-            return self.runs[0].first
-        return None
+        if len(self.runs) != 1 or self.is_open:
+            return None
+        first, last = self.runs[0].first, self.runs[0].last
+        return first if first.day == last.day else None
 
     @property
     def is_open(self) -> bool:
@@ -123,7 +126,7 @@ def reading_of(code: str, date: str, reply: Mapping[str, Any]) -> Reading:
     answer = reply["answer"]
     return construct(Reading, {
         "code": code, "date": date, "edition": reply["edition"], "kind": answer["kind"],
-        "runs": tuple(map(run_of, answer["runs"])), "reason": answer["reason"],
+        "runs": tuple([run_of(run) for run in answer["runs"]]), "reason": answer["reason"],
         "approximate": answer["approximate"], "supplied": answer["supplied"],
         "uncertain": answer["uncertain"], "other_calendar": answer["other_calendar"],
         "weekday_fits": answer["weekday"]})
@@ -131,14 +134,15 @@ def reading_of(code: str, date: str, reply: Mapping[str, Any]) -> Reading:
 
 def run_of(run: Mapping[str, Any]) -> Run:
     """A run of days. One of a single day has that day once."""
-    first = day_of(run["first"])
-    last = first if run["first"] == run["last"] else day_of(run["last"])
-    return construct(Run, {"first": first, "last": last})
+    first, last = run["first"], run["last"]
+    day = day_of(first)
+    return construct(Run, {"first": day, "last": day if first == last else day_of(last)})
 
 
-def day_of(day: Mapping[str, Any]) -> Day:
-    """A day by its members. A newer program may have more of them."""
-    return construct(Day, {name: day[name] for name in DAY})
+def day_of(day: Dict[str, Any]) -> Day:
+    """A day by its members, which nobody else holds. A newer program may have more of them."""
+    values = members_of_day(day)
+    return construct(Day, day if len(day) == len(DAY) else dict(zip(DAY, values)))
 
 
 def from_members(kind: Type[Value], members: Mapping[str, Any]) -> Value:

@@ -14,6 +14,7 @@ Row = Sequence[Optional[str]]
 Value = TypeVar("Value")
 AHEAD = 1000
 quoted = json.JSONEncoder(ensure_ascii=False).encode
+decoded = json.JSONDecoder().raw_decode
 
 
 class Register:
@@ -74,8 +75,7 @@ class Register:
         """
         if ahead < 1:
             raise ValueError(f"ahead is {ahead}: it is 1 or more")
-        lines = ((row, line_of(row)) for row in rows)
-        for row, reply in self._service.ask_many(lines, ahead):
+        for row, reply in self._service.ask_many(rows, line_of, ahead):
             try:
                 reading = self._reading(row, reply)
             except Fault as fault:
@@ -114,7 +114,10 @@ class Register:
 
     def _reading(self, row: Row, line: bytes) -> Reading:
         try:
-            return reading_of(str(row[0]), str(row[1]), json.loads(line))
+            text = line.decode()
+            reply, length = decoded(text)
+            if length == len(text):
+                return reading_of(str(row[0]), str(row[1]), reply)
         except (KeyError, TypeError, ValueError):
             pass
         weekday = f" ({row[2]})" if len(row) > 2 and row[2] else ""

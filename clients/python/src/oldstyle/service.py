@@ -11,7 +11,8 @@ import subprocess
 import threading
 import time
 import weakref
-from typing import IO, Deque, Iterable, Iterator, List, Optional, Sequence, Tuple, TypeVar
+from typing import (IO, Callable, Deque, Iterable, Iterator, List, Optional, Sequence, Tuple,
+                    TypeVar)
 
 from .faults import (JournalRefused, ProgramDiffers, ProgramEnded, ProgramFailed,
                      ProgramMissing, ProgramSlow)
@@ -26,13 +27,14 @@ HOW_TO_FIND = ("install oldstyle, or name the program: program= in Python, --pro
 STATUS_OF_ARGUMENTS = 2
 
 
-class Ticket:
-    """The place of a line in the queue. It has the reply as soon as that has come."""
+class Batch:
+    """Lines that were sent together: how many they are, and the replies that have come so far."""
 
-    __slots__ = ("reply",)
+    __slots__ = ("count", "replies")
 
-    def __init__(self) -> None:
-        self.reply: Optional[bytes] = None
+    def __init__(self, count: int) -> None:
+        self.count = count
+        self.replies: List[bytes] = []
 
 
 def program_at(named: Optional[str]) -> str:
@@ -69,36 +71,44 @@ class Service:
 
     def ask(self, line: bytes) -> bytes:
         """The reply to a line."""
-        connection = self._current()
-        return connection.wait(connection.send([line])[0], self._last())
+        return self._current().ask([line], self._last())[0]
 
-    def ask_many(self, lines: Iterable[Tuple[Row, bytes]],
+    def ask_many(self, rows: Iterable[Row], line_of: Callable[[Row], bytes],
                  ahead: int) -> Iterator[Tuple[Row, bytes]]:
-        """Each row with the reply to its line, in order. At most `ahead` lines wait for replies.
+        """Each row with the reply to its line, in order. At most `ahead` rows wait for replies.
 
         They go in halves, so that the program answers one half while the other is taken.
         """
         connection = self._current()
-        lines = iter(lines)
-        waiting: Deque[Tuple[Row, Ticket]] = collections.deque()
-        failed = None
-        while True:
-            batch: List[Tuple[Row, bytes]] = []
+        rows = iter(rows)
+        half = max(1, ahead // 2)
+        waiting: Deque[Tuple[List[Row], Batch]] = collections.deque()
+        failed, is_over = None, False
+        while not is_over:
+            taken: List[Row] = []
+            lines: List[bytes] = []
             try:
-                for pair in itertools.islice(lines, ahead - len(waiting)):
-                    batch.append(pair)
+                for row in itertools.islice(rows, half):
+                    lines.append(line_of(row))
+                    taken.append(row)
             except Exception as why:  # the caller's own rows failed: those before have replies
                 failed = why
-            tickets = connection.send([line for _, line in batch])
-            waiting.extend(zip((row for row, _ in batch), tickets))
-            is_over = failed is not None or not batch
-            while len(waiting) > (0 if is_over else ahead // 2):
-                row, ticket = waiting.popleft()
-                yield row, ticket.reply or connection.wait(ticket, self._last())
-            if failed is not None:
-                raise failed
-            if is_over:
-                return
+            waiting.append((taken, connection.send(lines[: len(taken)])))
+            is_over = len(taken) < half
+            while len(waiting) > (1 if ahead > half and not is_over else 0):
+                taken, batch = waiting.popleft()
+                yield from zip(taken, self._replies(connection, batch))
+        if failed is not None:
+            raise failed
+
+    def _replies(self, connection: "Connection", batch: Batch) -> Iterator[bytes]:
+        """The replies of a batch, as they come."""
+        start = 0
+        while start < batch.count:
+            connection.wait(batch, start + 1, self._last())
+            came = batch.replies[start:]
+            start += len(came)
+            yield from came
 
     def _last(self) -> Optional[float]:
         """Until when the next reply is waited for."""
@@ -129,7 +139,7 @@ class Connection:
         self._refusal: Optional[ProgramFailed] = None
         self._lost = ProgramEnded(f"an exception or a fork cut the exchange with {command[0]}: ask "
                                   "again", 0, "")
-        self._tickets: Deque[Ticket] = collections.deque()
+        self._batches: Deque[Batch] = collections.deque()
         self._unsent = bytearray()
         self._rest = b""
         # (In Python 3.9, tempfile.TemporaryFile closes its descriptor twice if a signal handler
@@ -170,24 +180,26 @@ class Connection:
         with self._lock:
             self._finalizer()
 
-    def send(self, lines: Sequence[bytes]) -> List[Ticket]:
+    def send(self, lines: Sequence[bytes]) -> Batch:
         """Puts lines into the queue of what the program is asked."""
-        tickets = [Ticket() for _ in lines]
+        batch = Batch(len(lines))
         self._check_owner()
         with self._lock:
             self._begin()
-            self._tickets.extend(tickets)
-            self._unsent += b"".join(lines)
+            if lines:
+                self._batches.append(batch)
+                self._unsent += b"".join(lines)
+                self._write_block()
             self._refusal = None
-        return tickets
+        return batch
 
-    def wait(self, ticket: Ticket, last: Optional[float] = None) -> bytes:
-        """The reply to a line that was sent. If it doesn't come before the last moment, the
+    def wait(self, batch: Batch, count: int, last: Optional[float] = None) -> None:
+        """Waits for the first replies of a batch. If they don't come before the last moment, the
         program is no longer asked."""
-        while ticket.reply is None:
+        while len(batch.replies) < count:
             self._check_owner()
             with self._lock:
-                if ticket.reply is None:
+                if len(batch.replies) < count:
                     self._begin()
                     try:
                         if last is not None and time.monotonic() > last:
@@ -198,11 +210,12 @@ class Connection:
                         self._refusal = why
                         raise
                     self._refusal = None
-        return ticket.reply
 
-    def ask(self, lines: Sequence[bytes], last: float) -> List[bytes]:
+    def ask(self, lines: Sequence[bytes], last: Optional[float]) -> List[bytes]:
         """The replies to lines, all of which come before the last moment."""
-        return [self.wait(ticket, last) for ticket in self.send(lines)]
+        batch = self.send(lines)
+        self.wait(batch, batch.count, last)
+        return batch.replies
 
     def _check_owner(self) -> None:
         """Refuses questions of another process, in which the lock may be held for ever."""
@@ -238,11 +251,17 @@ class Connection:
         if not piece:
             raise self._end_error()
         *lines, self._rest = (self._rest + piece).split(b"\n")
-        for line in lines:
-            if not self._tickets:
+        start = 0
+        while start < len(lines):
+            if not self._batches:
                 raise ProgramDiffers(f"{self._command[0]} answers what was not asked: is it "
                                      "oldstyle?")
-            self._tickets.popleft().reply = line
+            batch = self._batches[0]
+            came = lines[start : start + batch.count - len(batch.replies)]
+            batch.replies += came
+            start += len(came)
+            if len(batch.replies) == batch.count:
+                self._batches.popleft()
 
     def _end_error(self) -> ProgramEnded:
         """Why the program ended, with its standard error. One that only closed its output is

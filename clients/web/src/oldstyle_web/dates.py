@@ -3,7 +3,6 @@ from __future__ import annotations
 
 import re
 from dataclasses import dataclass, field
-from itertools import zip_longest
 from typing import Any, Iterator
 
 from oldstyle import Day, Run
@@ -17,9 +16,32 @@ from .texts import full, in_words
 from .words import N_
 
 MOST_DAYS = 40
+WORD, NUMBER = re.compile(r"[^\W\d_]+"), re.compile(r"\d+")
+THREE_DIGITS = re.compile(r"(?<!\d)\d{3}(?!\d)")
 SENTENCES = {
     "malformed date": N_("The text has none of the forms of a date."),
     "no date": N_("The text says that there is no date."),
+}
+# What to write instead of a text that is not read as a date, by the reason in the answer.
+ADVICE = {
+    "malformed date": N_('a date is written 1731-02-11, "11 February 1731" or "11 February 1731/2", '
+                         "with a weekday before it or without"),
+    "not the year that follows": N_("after the / stands the year that follows, in full or its last "
+                                    "digits, as 1731/2, 1731/32 or 1731/1732"),
+    "no year from 0 to 10000": N_("a year is 0 to 10000"),
+    "no month from 1 to 12": N_("a month is 1 to 12: of a range of years write the later year in "
+                                "full, as 1640-1645"),
+    "no day from 1 to 31": N_("a day of a month is 1 to 31"),
+    "no date": N_('it says no date: write a day, as "11 February 1731"'),
+    "year of one or two digits": N_("a year of one or two digits needs its zeros, as 0045"),
+    "year with an open digit": N_("173? may be any year of a decade: write the year in four "
+                                  "digits, as 1731 or 0173"),
+    "open between day and month": N_("11/2/1731 may be 11 February or 2 November: write the month "
+                                     "by its name"),
+    "day by both calendars": N_("11/22 February 1731 is a day by two calendars: write it by one of "
+                                "them"),
+    "a feast, not read": N_("a feast is not read: write its day"),
+    "a Roman numeral, not read": N_("a Roman numeral is not read: write the number in digits"),
 }
 FLAGS = [("approximate", N_("approximate")), ("uncertain", N_("in doubt")),
          ("supplied", N_("supplied by an editor"))]
@@ -72,10 +94,9 @@ class DateFound:
         """For each run: the name of its first day, that day, its last day if it is another one or
         an end, and how many days there are. A bound has no day at its open end."""
         is_bound = self.kind in ("before", "after")
-        for run, count in zip_longest(self.runs, [] if is_bound else self.printed.counts):
-            if run is None:
-                return
+        for run in self.runs:
             is_one = run.first == run.last
+            count = None if is_bound else run.last.day - run.first.day + 1
             is_open = self.kind == "before" and len(self.runs) == 1
             has_last = self.kind == "before" or self.kind != "after" and not is_one
             yield (_("Day") if is_one else _("From"), None if is_open else run.first,
@@ -99,8 +120,13 @@ class DateFound:
     @property
     def remarks(self) -> list[str]:
         """The notes that are printed with its days."""
-        notes = (note[:1].upper() + note[1:] for note in self.printed.notes)
-        return [note if note.endswith(".") else f"{note}." for note in notes]
+        return list(map(as_sentence, self.printed.notes))
+
+    @property
+    def advice(self) -> str:
+        """What to write instead of a text that is not read, unless a note says so."""
+        advice = ADVICE.get(self.reason or "") if self.kind == "none" else None
+        return as_sentence(_(advice)) if advice and not self.printed.notes else ""
 
     @property
     def cited(self) -> str:
@@ -122,6 +148,12 @@ class DateFound:
         return f"{what}: {joint.join(texts)}"
 
 
+def as_sentence(note: str) -> str:
+    """A note with a capital letter and a full stop."""
+    note = note[:1].upper() + note[1:]
+    return note if note.endswith(".") else f"{note}."
+
+
 def cited_day(found: Day) -> str:
     return _("%(day)s, %(gregorian)s Gregorian, %(julian)s Julian, JDN %(jdn)s", day=full(found),
              gregorian=in_words(found.gregorian), julian=in_words(found.julian), jdn=found.jdn)
@@ -138,15 +170,23 @@ def date_found(printer: Printer, asking: Asking, code: str, name: str, date: str
     sources = sources_of(asking.periods(code), shown_runs(written["kind"], runs))
     if printed is None:
         printed = printed_date(printer, asking, code, name, date, weekday, "") \
-            if needs_page(written, date) else PrintedDate()
+            if needs_page(written, date, weekday) else PrintedDate()
     found = DateFound(code, name, date, weekday, order, written, runs,
                       sources + printed.sources, printed)
     if written["kind"] == "day":
         found.days = asking.dated_days(code, [run.first.day for run in runs][:MOST_DAYS])
+        if weekday and not printed.agreeing:
+            printed.agreeing = by_weekday([day.found for day in found.days], weekday)
         order_of_days = list(printed.agreeing)
         if all(day.found.day in printed.agreeing for day in found.days):
             found.days.sort(key=lambda day: order_of_days.index(day.found.day))
     return found
+
+
+def by_weekday(days: list[Day], weekday: str) -> dict[int, str]:
+    """How days agree with a weekday, by their numbers: those of that weekday come first."""
+    return {day.day: "ok" if day.weekday == weekday else f"not {weekday}"
+            for day in sorted(days, key=lambda day: day.weekday != weekday)}
 
 
 def shown_runs(kind: str, runs: list[Run]) -> list[Run]:
@@ -157,9 +197,20 @@ def shown_runs(kind: str, runs: list[Run]) -> list[Run]:
     return [Run(end, end)]
 
 
-def needs_page(written: dict[str, Any], date: str) -> bool:
-    """Returns whether the page of the date says more than its answer, such as that its year has
-    three digits."""
-    return bool(written["kind"] != "day" or written["reason"] is not None or "/" in date
-                or not re.search(r"\d{4}", date) or len(written["runs"]) > 1
-                or written["weekday"] is False or written["other_calendar"])
+def needs_page(written: dict[str, Any], date: str, weekday: str) -> bool:
+    """Returns whether the page of a date may say more than its answer: why it means no day, a
+    remark on its year, or how the weekday in its text or its calendar was understood."""
+    kind = written["kind"]
+    if kind == "none":
+        return False
+    is_open = written["weekday"] is False or len(written["runs"]) > 1 if kind == "day" else True
+    return bool(written["reason"] is not None or "/" in date or THREE_DIGITS.search(date)
+                or written["other_calendar"] or is_open and may_name_weekday(kind, date)
+                or weekday and kind != "day")
+
+
+def may_name_weekday(kind: str, date: str) -> bool:
+    """Returns whether a word of a date may be a weekday. The one of `11 March 1731` is its
+    month."""
+    words, numbers = len(WORD.findall(date)), len(NUMBER.findall(date))
+    return words > 0 and (kind, words, numbers) not in (("day", 1, 2), ("month", 1, 1))

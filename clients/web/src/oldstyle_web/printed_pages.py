@@ -24,7 +24,7 @@ NO_LAND = "no territory has the code"
 UNFINISHED, AWAITED = "oldstyle: journal line ", 1
 
 DAY_LINE = re.compile(r"day (\d+)    JDN \d+( ok| not \w+)?$")
-COUNT = re.compile(r"(\d+) days?$")
+COUNT = re.compile(r"\d+ days?$")
 WAITING = re.compile(r"\d+ edits? (is|are) not published yet$")
 SOURCE = re.compile(r"\(source: (.+)\)")
 FLAGS = {"approximate", "in doubt", "supplied by an editor"}
@@ -119,7 +119,6 @@ class PrintedDate:
 
     read_as: str = ""
     notes: list[str] = field(default_factory=list)
-    counts: list[int] = field(default_factory=list)
     agreeing: dict[int, str] = field(default_factory=dict)
     sources: list[str] = field(default_factory=list)
 
@@ -143,12 +142,10 @@ def date_on(page: Page, name: str, code: str, date: str = "", weekday: str = "")
         return found
     found.read_as = page.lines[0].rpartition(", edition ")[0].removesuffix(f" in {name} ({code})")
     for line in page.lines[1:]:
-        if line in OPEN_ENDS or WAITING.search(line):
+        if line in OPEN_ENDS or WAITING.search(line) or COUNT.fullmatch(line):
             continue
         if day := DAY_LINE.search(line):
             found.agreeing[int(day[1])] = (day[2] or "").strip()
-        elif count := COUNT.fullmatch(line):
-            found.counts.append(int(count[1]))
         elif found.notes and (source := SOURCE.fullmatch(line)):
             found.notes[-1] += f" {line}"
             found.sources.append(source[1])

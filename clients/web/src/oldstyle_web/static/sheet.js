@@ -16,6 +16,7 @@ export class Sheet {
         this.editing = new Map();
         this.clear();
         view.addEventListener("scroll", () => this.later(), {passive: true});
+        view.addEventListener("focusin", () => this.later());
         new ResizeObserver(() => this.later()).observe(view);
     }
 
@@ -115,9 +116,13 @@ export class Sheet {
         const top = scale === 1 ? first * this.height
             : Math.max(0, Math.min(scrollTop - at + first * this.height, high - drawn));
         const visible = new Map();
+        // From the view itself, the keyboard goes to the first row that is seen, not to one above.
+        const isAtView = document.activeElement === this.view;
         for (let order = first; order < last; order += 1) {
             const row = this.chosen ? this.chosen[order] : order;
-            visible.set(row, this.drawn.get(row) ?? this.rowOf(row, order));
+            const one = this.drawn.get(row) ?? this.rowOf(row, order);
+            one.inert = isAtView && order * this.height < Math.floor(at);
+            visible.set(row, one);
         }
         const lost = this.body.contains(document.activeElement);
         this.place(visible, top, high - top - drawn);
