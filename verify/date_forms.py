@@ -1,8 +1,9 @@
 #!/usr/bin/env python3
 """Compares the forms of dates that docs/DATES.md shows with the program.
 
-A text of the table of days is read as the day in the same row. A text of the tables of months,
-years, ranges and bounds has a page too, and `convert` refuses it since it is not a single day.
+A text of the tables of days is read as the day in the same row. A text of the tables of months,
+years, decades, ranges and bounds has a page too, and `convert` refuses it since it is not a single
+day.
 Prints each text that the program reads otherwise, and ends with status 1 if there is one.
 """
 import os
@@ -10,7 +11,7 @@ import re
 
 from lib.common import TOP, CommandLine, end, run
 
-DAY = r"\d+ [A-Z][a-z]+ \d+(?:/\d)?"
+DAY = r"\d+ [A-Z][a-z]+ \d+(?:/\d)?(?: N\.S\.)?"
 NOT_ONE_DAY = "a month, a year or a range is not one day"
 
 
@@ -25,11 +26,12 @@ def rows(document, title):
 
 def expected(document):
     """Each text, and what the program must print for it."""
-    for texts, meaning in rows(document, "A day"):
-        days = re.findall(DAY, meaning)
-        assert len(days) in (1, len(texts)), meaning
-        yield from zip(texts, days if len(days) == len(texts) else days * len(texts))
-    for title in ("A month, a year", "A range, a bound"):
+    for title in ("A day", "A day by both calendars"):
+        for texts, meaning in rows(document, title):
+            days = re.findall(DAY, meaning)
+            assert len(days) in (1, len(texts)), meaning
+            yield from zip(texts, days if len(days) == len(texts) else days * len(texts))
+    for title in ("A month, a year", "A decade, a century", "A range, a bound"):
         for texts, _ in rows(document, title):
             yield from ((text, NOT_ONE_DAY) for text in texts)
 

@@ -27,7 +27,14 @@ MAY_BE_MONTH = "([1-9]|1[0-2])"
 NONE = {r" *|n\.d\.|s\.d\.|undated|no date": "no date",
         rf"{MAY_BE_MONTH}([/-])(?!\1\2){MAY_BE_MONTH}\2\d{{3,4}}": "open between day and month",
         rf"(?:{DAY} {NAME} )?\d{{1,2}}": "year of one or two digits",
-        rf"(?:{DAY} {NAME} )?[1-9]\d\d ?(?:[?%x_-]|\.\.)": "year with an open digit"}
+        rf"{DAY} {NAME} [1-9]\d\d(?: ?[?%-]| ?\.\.|[x_])|[1-9]\d\d(?: [?-]| ?%| ?\.\.)":
+            "year with an open digit"}
+
+# Years of which the last digits are open, and centuries by their number.
+DECADE, HUNDRED = r"(\d\d\d)[x_]|(\d\d[1-9])0s", r"(\d\d)[x_]{2}"
+CENTURY = r"([4-9]|1\d|20)th century"
+# The same by signs alone: [158-?], 15--.
+BY_SIGNS = r"(\[?)(?:([1-9]\d\d)(?:\?|-(\??))|([1-9]\d)--(\??))(\]?)"
 
 # A year that may lack its last digit.
 THREE_DIGITS = r"(?<![\d/])[1-9]\d\d(?!\d)"
@@ -84,8 +91,35 @@ def front_of(text, last):
     return last._replace(month=month, day=day)
 
 
+def range_of(first, count):
+    """The range of this number of years."""
+    return Span("range", Simple(first), Simple(first + count - 1))
+
+
+def years_of(text):
+    """The range of a decade or a century, None if the text is neither."""
+    if found := re.fullmatch(DECADE, text, re.I):
+        return range_of(10 * int(found[1] or found[2]), 10)
+    if found := re.fullmatch(HUNDRED, text, re.I):
+        return range_of(100 * int(found[1]), 100)
+    if found := re.fullmatch(CENTURY, text, re.I):
+        return range_of(100 * int(found[1]) - 99, 100)
+    return None
+
+
+def years_by_signs(text):
+    """The same of digits and signs alone, which may be in brackets and in doubt."""
+    found = re.fullmatch(BY_SIGNS, text)
+    if not found or bool(found[1]) != bool(found[6]):
+        return None
+    years = range_of(10 * int(found[2]), 10) if found[2] else range_of(100 * int(found[4]), 100)
+    return years._replace(uncertain=bool(found[3] or found[5]), supplied=bool(found[1]))
+
+
 def extent_of(text):
     """One date, a range or a bound."""
+    if years := years_of(text):
+        return years
     if parts := matched(DATES, text):
         return Span("on", simple_of(parts, text))
     if found := re.fullmatch(BOUND, text, re.I):
@@ -127,7 +161,7 @@ def set_of(text):
 
 def span_of(text):
     """The span that a text means."""
-    if found := set_of(text):
+    if found := years_by_signs(text) or set_of(text):
         return found
     rest, supplied = without(SUPPLIED, text)
     rest, uncertain = without(UNCERTAIN, rest)

@@ -3,8 +3,9 @@ use Rattle.std.proofs.Common.{refl}
 use Rattle.osn_days.specs.Weekday.{weekday_numbered}
 use Rattle.osn_grammar.specs.Languages.{AreMonthsKnown, AreWeekdaysKnown, AreOtherWeekdaysKnown}
 use Rattle.osn_grammar.specs.Languages.{AreOrdinalsKnown, AreOtherWordsKnown, AreWordsKnown}
-use Rattle.osn_grammar.specs.Languages.{AreOtherLanguagesKnown}
-use Rattle.osn_grammar.specs.Names.{names}
+use Rattle.osn_grammar.specs.Languages.{AreOtherLanguagesKnown, AreOtherMonthsKnown}
+use Rattle.osn_grammar.specs.Languages.{AreCenturiesKnown}
+use Rattle.osn_grammar.specs.Names.{names, other_names}
 
 months_known : AreMonthsKnown
 unfolding names lib.Utf8.encode
@@ -45,6 +46,23 @@ months_known = record {
   genitive_with_ij = refl;
 }
 
+other_months_known : AreOtherMonthsKnown
+unfolding names other_names lib.Utf8.encode
+other_months_known = record {
+  january = refl;
+  february = refl;
+  march = refl;
+  april = refl;
+  may = refl;
+  june = refl;
+  july = refl;
+  august = refl;
+  september = refl;
+  october = refl;
+  november = refl;
+  december = refl;
+}
+
 weekdays_known : AreWeekdaysKnown
 unfolding names weekday_numbered lib.Utf8.encode
 weekdays_known = record {
@@ -77,21 +95,24 @@ other_weekdays_known = record {
 }
 
 ordinals_known : AreOrdinalsKnown
-unfolding names lib.Utf8.encode
+unfolding names other_names lib.Utf8.encode
 ordinals_known = record {
   english = refl;
   english_short = refl;
   first = refl;
+  dutch = refl;
 }
 
 others_known : AreOtherWordsKnown
-unfolding names lib.Utf8.encode
+unfolding names other_names lib.Utf8.encode
 others_known = record {
   to = refl;
   joining = refl;
+  between_short = refl;
   before = refl;
   after = refl;
   about = refl;
+  estimated = refl;
   doubt = refl;
   old_style = refl;
   new_style = refl;
@@ -117,13 +138,25 @@ other_languages_known = record {
   fillers = refl;
 }
 
+centuries_known : AreCenturiesKnown
+unfolding names other_names lib.Utf8.encode
+centuries_known = record {
+  century = refl;
+  numerals = refl;
+  numerals_with_j = refl;
+  numerals_without_nine = refl;
+  ordinals = refl;
+}
+
 pub words_known : AreWordsKnown
 unfolding AreWordsKnown
 words_known = (
   months_known,
+  other_months_known,
   weekdays_known,
   other_weekdays_known,
   ordinals_known,
   others_known,
   other_languages_known,
+  centuries_known,
 )

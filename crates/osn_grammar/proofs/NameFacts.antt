@@ -1,13 +1,26 @@
 -- What the table of names has, and that it has no name twice.
-use Rattle.std.proofs.Common.{refl}
+use Rattle.std.proofs.Common.{◌≡◌, true, false, refl}
+use Rattle.std.specs.List.{list_any}
 use Rattle.osn_days.specs.Weekday.{weekday_numbered}
 use Rattle.osn_grammar.specs.Laws.{AreEnglishNamesKnown, AreCountedNamesKnown}
-use Rattle.osn_grammar.specs.Names.{AreNamesDistinct, names}
+use Rattle.osn_grammar.specs.Names.{AreNamesDistinct, are_distinct, is_listed, names, other_names}
 use Rattle.osn_grammar.proofs.LanguageFacts.{words_known}
 
+usual_distinct : are_distinct names ≡ true
+unfolding names
+usual_distinct = refl
+
+others_distinct : are_distinct other_names ≡ true
+unfolding other_names
+others_distinct = refl
+
+others_not_usual : list_any (is_listed names) other_names ≡ false
+unfolding names other_names
+others_not_usual = refl
+
 pub names_distinct : AreNamesDistinct
-unfolding AreNamesDistinct names
-names_distinct = refl
+unfolding AreNamesDistinct
+names_distinct = (usual_distinct, others_distinct, others_not_usual)
 
 pub english_names_known : AreEnglishNamesKnown
 unfolding AreEnglishNamesKnown names weekday_numbered

@@ -18,8 +18,7 @@ use Rattle.osn_written.specs.AnyDate.{has_three_digits}
 use Rattle.osn_grammar.specs.Parts.{tells_time}
 use Rattle.osn_grammar.specs.Reading.{read_date, reading_of_parts, weekday_after, with_weekday}
 use Rattle.osn_grammar.specs.Reading.{reckoning_after, with_reckoning, is_about, is_doubt}
-use Rattle.osn_grammar.specs.Reading.{is_bracket, is_feast, is_open_year, is_roman_numeral}
-use Rattle.osn_grammar.specs.Reading.{is_undated, or_set, set_in}
+use Rattle.osn_grammar.specs.Reading.{is_bracket, is_feast, is_undated, or_set, or_years, set_in}
 use Rattle.osn_grammar.specs.Simple.{◌>>=◌}
 use Rattle.osn_grammar.proofs.TextFacts.{Scans, parts_scanned}
 
@@ -39,8 +38,6 @@ pub record Say (parts told : List Part) (w : Option Weekday) (r : Option Reckoni
   pub doubt : list_any is_doubt parts ≡ u
   pub bracket : list_any is_bracket parts ≡ s
   pub feast : list_any is_feast parts ≡ false
-  pub roman : list_any is_roman_numeral parts ≡ false
-  pub whole : list_any is_open_year parts ≡ false
   pub timed : filter tells_time parts ≡ told
 
 nothing_later : {X : Type 0} (found : Option X) → Ok found ≡ with_later found None
@@ -59,20 +56,16 @@ nothing_says = record {
   doubt = refl;
   bracket = refl;
   feast = refl;
-  roman = refl;
-  whole = refl;
   timed = refl;
 }
 
 -- ---- one part more
 
--- a part that names no weekday and no calendar, and is read
+-- a part that names no weekday, no calendar and no feast
 abbrev pub is_plain : Part → Bool
 is_plain (part.Weekday w) = false
 is_plain (part.Reckoning r) = false
 is_plain part.Feast = false
-is_plain part.RomanNumeral = false
-is_plain part.OpenYear = false
 is_plain _ = true
 
 weekday_stays : (found : Option Weekday) (p : Part) → is_plain p ≡ true
@@ -93,14 +86,6 @@ no_feast : (p : Part) → is_plain p ≡ true → is_feast p ≡ false
 no_feast part.Feast plain = absurd (cc)
 no_feast p plain = refl
 
-no_roman : (p : Part) → is_plain p ≡ true → is_roman_numeral p ≡ false
-no_roman part.RomanNumeral plain = absurd (cc)
-no_roman p plain = refl
-
-no_open : (p : Part) → is_plain p ≡ true → is_open_year p ≡ false
-no_open part.OpenYear plain = absurd (cc)
-no_open p plain = refl
-
 pub part_adds : {ps ts : List Part} {w : Option Weekday} {r : Option Reckoning} {a u s : Bool}
     (p : Part) → is_plain p ≡ true → Say ps ts w r a u s
     → Say (p ∷ ps) (cond (tells_time p) (p ∷ ts) ts) w r (is_about p || a) (is_doubt p || u)
@@ -114,8 +99,6 @@ part_adds {ps} p plain rest_says = record {
   doubt = ap (λ b. is_doubt p || b) rest_says.doubt;
   bracket = ap (λ b. is_bracket p || b) rest_says.bracket;
   feast = rw (no_feast p plain) rest_says.feast;
-  roman = rw (no_roman p plain) rest_says.roman;
-  whole = rw (no_open p plain) rest_says.whole;
   timed = ap (λ ts. cond (tells_time p) (p ∷ ts) ts) rest_says.timed;
 }
 
@@ -145,8 +128,6 @@ weekday_adds {ps} v rest_says = record {
   doubt = rest_says.doubt;
   bracket = rest_says.bracket;
   feast = rest_says.feast;
-  roman = rest_says.roman;
-  whole = rest_says.whole;
   timed = rest_says.timed;
 }
 
@@ -166,8 +147,6 @@ reckoning_adds {ps} v rest_says = record {
   doubt = rest_says.doubt;
   bracket = rest_says.bracket;
   feast = rest_says.feast;
-  roman = rest_says.roman;
-  whole = rest_says.whole;
   timed = rest_says.timed;
 }
 
@@ -199,8 +178,6 @@ parts_read {ts} {w} {r} (p ∷ ps) o e read dated sure is =
       read.timed,
       dated,
       read.feast,
-      read.roman,
-      read.whole,
       read.weekday None,
       read.reckoning None,
       none_before w,
@@ -235,6 +212,7 @@ pub text_read : {text : List ℕ} {ts : List Part} {w : Option Weekday} {r : Opt
     }))
 unfolding read_date
 text_read {text} o e scanned dated sure is =
-    ap (λ ps. or_set (set_in text) (reading_of_parts o ps (filter tells_time ps)))
+    ap (λ ps. or_years text (or_set (set_in text) (reading_of_parts o ps (filter tells_time ps))))
     (parts_scanned scanned.scans)
-    ∙ ap (or_set (set_in text)) (parts_read scanned.parts o e scanned.says dated sure is)
+    ∙ ap (λ read. or_years text (or_set (set_in text) read))
+    (parts_read scanned.parts o e scanned.says dated sure is)

@@ -6,6 +6,7 @@ use Rattle.std.proofs.Common.{Result, Ok, Err, is_err, refl, arith}
 use Rattle.std.proofs.lemmas.Bool.{ne_eqb}
 use Rattle.std.specs.List.{list_any}
 use Rattle.osn_days.specs.declared.date.Date.{Date}
+use Rattle.osn_days.specs.Profile.{newest_rules}
 use Rattle.osn_days.specs.declared.weekday.Weekday.{Weekday}
 use Rattle.osn_grammar.specs.declared.part.Part.{Part}
 use Rattle.osn_grammar.specs.declared.part.Part.TheVariants.{Number, Dash, Open}
@@ -16,7 +17,6 @@ use Rattle.osn_written.specs.declared.any_date.Extent.{Extent}
 use Rattle.osn_written.specs.declared.any_date.Extent.TheVariants as extent
 use Rattle.osn_written.specs.declared.any_date.Reckoning.{Reckoning}
 use Rattle.osn_written.specs.declared.any_date.SimpleDate.{SimpleDate}
-use Rattle.osn_grammar.specs.declared.written.Written.TheVariants as say
 use Rattle.osn_written.specs.declared.any_date.AnyDate.{AnyDate}
 use Rattle.osn_grammar.specs.declared.extent.Beginning.{Beginning}
 use Rattle.osn_grammar.specs.declared.extent.Joining.TheVariants as joins
@@ -24,12 +24,15 @@ use Rattle.osn_grammar.specs.Extent.{beginning_of, dashed_range, date_or_range, 
 use Rattle.osn_grammar.specs.Extent.{first_date, first_read}
 use Rattle.osn_grammar.specs.Extent.{range_after, range_of}
 use Rattle.osn_grammar.specs.Parts.{tells_time}
-use Rattle.osn_grammar.specs.Reading.{date_of, date_unless, is_undated}
-use Rattle.osn_grammar.specs.Reading.{or_open, reading_of_parts, unless_open, unread}
-use Rattle.osn_grammar.specs.Reading.{is_about}
+use Rattle.osn_grammar.specs.BothCalendars.{day_by_both}
+use Rattle.osn_grammar.specs.declared.reading.Told.{Told}
+use Rattle.osn_grammar.specs.Reading.{after_estimated, date_of, is_undated, or_other, or_reason}
+use Rattle.osn_grammar.specs.Reading.{reading_of_parts, unless_open, is_about, is_feast}
 use Rattle.osn_grammar.specs.Reading.{is_doubt, is_bracket, weekday_after, reckoning_after}
+use Rattle.osn_grammar.specs.Roman.{roman_date}
 use Rattle.osn_grammar.specs.SetsInDigits.{Days}
 use Rattle.osn_grammar.specs.Simple.{◌>>=◌, simple_date}
+use Rattle.osn_grammar.specs.Years.{years_in}
 use Rattle.osn_grammar.proofs.DigitLaw.{parts_of}
 
 bind_err : {A B : Type 0} (r : Result A DateFault) (f : A → Result B DateFault) → is_err r ≡ true
@@ -147,40 +150,78 @@ dated (d, None) rest = refl
 dated (d, Some e) rest = refl
 
 date_refused : (weekday : Result (Option Weekday) DateFault)
-    (reckoning : Result (Option Reckoning) DateFault) (extent : Result Extent DateFault)
-    (f : Option Weekday → Option Reckoning → Extent → Result AnyDate DateFault)
-    → is_err extent ≡ true
-    → is_err (weekday >>= (λ w. reckoning >>= (λ r. extent >>= f w r))) ≡ true
-date_refused (Err fault) reckoning extent f wrong = refl
-date_refused (Ok w) (Err fault) extent f wrong = refl
-date_refused (Ok w) (Ok r) (Err fault) f wrong = refl
-date_refused (Ok w) (Ok r) (Ok e) f wrong = absurd (cc)
+    (reckoning : Result (Option Reckoning) DateFault)
+    (time : Option Reckoning → Result Told DateFault)
+    (f : Option Weekday → Told → Result AnyDate DateFault)
+    → ((r : Option Reckoning) → is_err (time r) ≡ true)
+    → is_err (weekday >>= (λ w. reckoning >>= (λ r. time r >>= f w))) ≡ true
+date_refused (Err fault) reckoning time f wrong = refl
+date_refused (Ok w) (Err fault) time f wrong = refl
+date_refused (Ok w) (Ok r) time f wrong = bind_err (time r) (f w) (wrong r)
 
-open_refused : (ts : List Part) (date : Result AnyDate DateFault) → is_err date ≡ true
-    → is_err (or_open ts date) ≡ true
-open_refused ts (Ok w) wrong = absurd (cc)
-open_refused ts (Err faults.Malformed) wrong = refl
-open_refused ts (Err fault) wrong = refl
+reason_refused : (parts ts : List Part) (date : Result AnyDate DateFault) → is_err date ≡ true
+    → is_err (or_reason parts ts date) ≡ true
+reason_refused parts ts (Ok w) wrong = absurd (cc)
+reason_refused parts ts (Err fault) wrong = refl
 
-unless_refused : (o : DateOrder) (parts ts : List Part) (fault : Option DateFault)
-    → is_err (extent_of o ts) ≡ true → is_err (date_unless o parts ts fault) ≡ true
-unless_refused o parts ts (Some fault) wrong = refl
-unless_refused o parts ts None wrong =
-    bind_err (or_open ts (date_of o parts ts)) (λ w. Ok (say.Date w))
-    (open_refused ts (date_of o parts ts)
-    (date_refused (weekday_after None parts) (reckoning_after None parts) (extent_of o ts)
-    (λ w r e. unless_open (record {
-      extent = e;
+-- parts that have none of the other forms
+pub record HaveNoOtherForm (ts : List Part) : Type 0 where
+  pub estimated : (o : DateOrder) (parts : List Part)
+      → after_estimated o parts ts ≡ Err faults.Malformed
+  pub years : years_in ts ≡ None
+  pub roman : roman_date ts ≡ Err faults.Malformed
+  pub both : day_by_both newest_rules ts ≡ Err faults.Malformed
+
+time_refused : (o : DateOrder) (parts ts : List Part) (r : Option Reckoning)
+    (read : Result Extent DateFault) → HaveNoOtherForm ts → is_err read ≡ true
+    → is_err (or_other o parts ts r read) ≡ true
+time_refused o parts ts r (Ok e) other wrong = absurd (cc)
+time_refused o parts ts None (Err fault) other wrong =
+    rw (other.estimated o parts, other.years, other.roman, other.both) refl
+time_refused o parts ts (Some r) (Err fault) other wrong =
+    rw (other.estimated o parts, other.years, other.roman, other.both) refl
+
+unless_refused : (feast : Bool) (o : DateOrder) (parts ts : List Part) → HaveNoOtherForm ts
+    → is_err (extent_of o ts) ≡ true
+    → is_err (if feast then Err faults.Feast else or_reason parts ts (date_of o parts ts)) ≡ true
+unless_refused true o parts ts other wrong = refl
+unless_refused false o parts ts other wrong =
+    reason_refused parts ts (date_of o parts ts)
+    (date_refused (weekday_after None parts) (reckoning_after None parts)
+    (λ r. or_other o parts ts r (extent_of o ts))
+    (λ w time. unless_open (record {
+      extent = time.extent;
       weekday = w;
-      reckoning = r;
+      reckoning = time.reckoning;
       is_approximate = list_any is_about parts;
       is_uncertain = list_any is_doubt parts;
       is_supplied = list_any is_bracket parts;
-    })) wrong))
+    })) (λ r. time_refused o parts ts r (extent_of o ts) other wrong))
+
+pub other_refused : (first next : Days) (rest : List Days)
+    → HaveNoOtherForm (timed (first ∷ next ∷ rest))
+other_refused (d, None) (e, None) rest = record {
+  estimated = λ o parts. refl;
+  years = refl;
+  roman = refl;
+  both = refl;
+}
+other_refused (d, None) (e, Some f) rest = record {
+  estimated = λ o parts. refl;
+  years = refl;
+  roman = refl;
+  both = refl;
+}
+other_refused (d, Some e) next rest = record {
+  estimated = λ o parts. refl;
+  years = refl;
+  roman = refl;
+  both = refl;
+}
 
 pub said_refused : (o : DateOrder) (p : Part) (ps ts : List Part) → filter tells_time (p ∷ ps) ≡ ts
-    → is_undated ts ≡ false → is_err (extent_of o ts) ≡ true
+    → is_undated ts ≡ false → HaveNoOtherForm ts → is_err (extent_of o ts) ≡ true
     → is_err (reading_of_parts o (p ∷ ps) (filter tells_time (p ∷ ps))) ≡ true
-said_refused o p ps ts is dated wrong =
+said_refused o p ps ts is dated other wrong =
     rw (ne_eqb (length (p ∷ ps)) 0 (λ none. omega (arith, none)), is, dated)
-    (unless_refused o (p ∷ ps) ts (unread (p ∷ ps)) wrong)
+    (unless_refused (list_any is_feast (p ∷ ps)) o (p ∷ ps) ts other wrong)

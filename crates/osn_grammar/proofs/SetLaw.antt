@@ -25,7 +25,7 @@ use Rattle.osn_grammar.specs.declared.written.Written.TheVariants as say
 use Rattle.osn_written.specs.declared.any_date.AnyDate.{AnyDate}
 use Rattle.osn_grammar.specs.InDigits.{HasFourDigits, sign, signed}
 use Rattle.osn_grammar.specs.Parts.{tells_time}
-use Rattle.osn_grammar.specs.Reading.{all_members, member_by, member_in, member_of, or_set}
+use Rattle.osn_grammar.specs.Reading.{all_members, member_by, member_in, member_of, or_set, or_years}
 use Rattle.osn_grammar.specs.Reading.{read_date, reading_of_parts, set_in, set_inside, with_signs}
 use Rattle.osn_grammar.specs.Scan.{first_of, is_letter_alone, next_is, part_of_run, parts_after}
 use Rattle.osn_grammar.specs.Scan.{parts_in}
@@ -40,8 +40,8 @@ use Rattle.osn_grammar.proofs.TextFacts.{Ends, IsMark, Reads, Scans, bracket, be
 use Rattle.osn_grammar.proofs.TextFacts.{closed_scans, is_low-append, joined_reads, mark_closes}
 use Rattle.osn_grammar.proofs.TextFacts.{nothing_closes, parts_scanned, reads_scan}
 use Rattle.osn_grammar.proofs.WordFacts.{bracket_begins}
-use Rattle.osn_grammar.proofs.RefusedFacts.{dated, extent_refused, parts_of_date, said_refused}
-use Rattle.osn_grammar.proofs.RefusedFacts.{timed}
+use Rattle.osn_grammar.proofs.RefusedFacts.{dated, extent_refused, other_refused, parts_of_date}
+use Rattle.osn_grammar.proofs.RefusedFacts.{said_refused, timed}
 
 -- ---- the texts of days
 
@@ -308,10 +308,10 @@ sets_law o a u first next rest all =
     ≡ true in
     let wrong : P (parts_in text) = subst P (sym (parts_scanned scans))
     (said_refused o Bracket inside (timed days) tells (dated first (next ∷ rest))
-    (extent_refused o first next rest)) in
+    (other_refused first next rest) (extent_refused o first next rest)) in
     record {
-      is = ap (λ found. or_set found
+      is = ap (or_years text) (ap (λ found. or_set found
           (reading_of_parts o (parts_in text) (filter tells_time (parts_in text)))) dates
-          ∙ set_said (map (member a u) days) _ wrong;
+          ∙ set_said (map (member a u) days) _ wrong);
       dates = ap (λ found. unwrap_or (result_ok found) []) dates;
     }

@@ -1,5 +1,5 @@
 -- From when to when a date may be: one date, a range of two, or a bound. This project's profile.
-use Rattle.std.specs.Prelude.{ℕ, Bool, true, false, not, ◌&&◌, ◌||◌, if◌then◌else◌}
+use Rattle.std.specs.Prelude.{ℕ, Bool, true, false, not, ◌&&◌, if◌then◌else◌}
 use Rattle.std.specs.Prelude.{List, [], ◌∷◌, ◌++◌}
 use Rattle.std.specs.Prelude.{Result, Ok, Err}
 use Rattle.osn_grammar.specs.declared.extent.Beginning.{Beginning}
@@ -19,6 +19,7 @@ use Rattle.osn_written.specs.declared.any_date.Extent.{Extent}
 use Rattle.osn_written.specs.declared.any_date.Extent.TheVariants as extent
 use Rattle.osn_written.specs.declared.any_date.SimpleDate.{SimpleDate}
 use Rattle.osn_written.specs.declared.any_date.SimpleDate.TheVariants as date
+use Rattle.osn_written.specs.AnyDate.{has_three_digits}
 use Rattle.osn_grammar.specs.Simple.{◌>>=◌, is_long, month_in, day_in, date_in_digits, simple_date}
 
 -- ---- ranges
@@ -88,11 +89,32 @@ range_in_digits first last = do
   end ← date_in_digits last
   Ok (extent.FromTo start end)
 
+-- a date in digits may have nothing on the other side: /1640, 1640/. A year of three digits may lack
+-- its last one there
+abbrev pub is_nothing : List Part → Bool
+is_nothing [] = true
+is_nothing (part ∷ rest) = false
+
+abbrev pub unless_short : Extent → Result Extent DateFault
+unless_short e = if has_three_digits e then Err faults.OpenYear else Ok e
+
+abbrev pub nothing_before : List Part → Result Extent DateFault
+nothing_before last = do
+  end ← date_in_digits last
+  unless_short (extent.NotAfter end)
+
+abbrev pub nothing_after : List Part → Result Extent DateFault
+nothing_after first = do
+  start ← date_in_digits first
+  unless_short (extent.NotBefore start)
+
 abbrev pub slashed_range : DateOrder → List Part → List Part → Result Extent DateFault
 slashed_range o first last =
     if is_open first then not_after o last
     else (if is_open last then not_before o first
-    else range_in_digits first last)
+    else (if is_nothing first then nothing_before last
+    else (if is_nothing last then nothing_after first
+    else range_in_digits first last)))
 
 -- after a year, a dash and a number of one or two digits are part of that date, as in
 -- 1698-07-25 - 1699 and 1640-05/1641
@@ -165,6 +187,8 @@ extent_of o (After ∷ parts) = do
   Ok (extent.After d)
 extent_of o (Not ∷ Before ∷ parts) = not_before o parts
 extent_of o (Not ∷ After ∷ parts) = not_after o parts
+extent_of o (Or ∷ Before ∷ parts) = not_after o parts
+extent_of o (Or ∷ After ∷ parts) = not_before o parts
 extent_of o (By ∷ parts) = not_after o parts
 extent_of o (To ∷ parts) = not_after o parts
 extent_of o (Between ∷ parts) = range_after o joins.And [] parts

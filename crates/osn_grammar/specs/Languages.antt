@@ -94,6 +94,57 @@ pub record AreMonthsKnown : Type 0 where
       (codes "Januarij Februarij Martij Aprilis Maij Junij "
       ++ codes "Julij Augusti 7bris 8bris 9bris 10bris")
 
+-- other spellings and other names of each month: contracted, with i for j and u for v, and of old
+-- calendars in German, Dutch and Danish. A word that two months have is not among them
+pub record AreOtherMonthsKnown : Type 0 where
+  pub january : Reads
+      (codes "jany janry ianuary januarie ianuarie januarye ianuarye ianuar ianuari "
+      ++ codes "ianuarij ianvier ianuier jenner gennaro louwmaand glugmåned "
+      ++ codes "glugmaaned")
+      (times 17 (part.Month 1))
+  pub february : Reads
+      (codes "feby febry februarie februarye ffebruary feurier febvrier febraro "
+      ++ codes "febbraro hebrero hornung sprokkelmaand blidemåned blidemaaned")
+      (times 14 (part.Month 2))
+  pub march : Reads
+      (codes "marche merz mertz märtz maertz maert meert marcii marcij lenzmonat "
+      ++ codes "lenzmond lentemaand")
+      (times 12 (part.Month 3))
+  pub april : Reads
+      (codes "apl aprl aprill aprille apryll aprillis auril ostermond ostermonat "
+      ++ codes "grasmaand fåremåned faaremaaned")
+      (times 12 (part.Month 4))
+  pub may : Reads
+      (codes "maye maie mey wonnemond wonnemonat bloeimaand majmåned majmaaned")
+      (times 8 (part.Month 5))
+  pub june : Reads
+      (codes "iune iun iunij iuni juny iuny iuin juing brachmonat brachmond "
+      ++ codes "zomermaand")
+      (times 11 (part.Month 6))
+  pub july : Reads
+      (codes "iuly iul iulij iuli julye iulye julie iulie iuillet heumonat heumond "
+      ++ codes "hooimaand hooymaand ormemåned ormemaaned")
+      (times 15 (part.Month 7))
+  pub august : Reads
+      (codes "augt auguste augst aoust erntemonat erntemond oogstmaand")
+      (times 7 (part.Month 8))
+  pub september : Reads
+      (codes "sepr septr septemb septembr septbr 7br 7bri viiber viibris viibre "
+      ++ codes "herfstmaand fiskemåned fiskemaaned")
+      (times 13 (part.Month 9))
+  pub october : Reads
+      (codes "octr octob octobr octbr 8br 8bri viiiber viiibris viiibre weinmonat "
+      ++ codes "weinmond wijnmaand wynmaand")
+      (times 13 (part.Month 10))
+  pub november : Reads
+      (codes "novr novemb novembr novbr nouember nouembre nouembris 9br 9bri ixber "
+      ++ codes "ixbris ixbre slachtmaand slagtmaand slagtemåned slagtemaaned")
+      (times 16 (part.Month 11))
+  pub december : Reads
+      (codes "decr decemb decembr decbr 10br 10bri xbr xbri christmonat christmond "
+      ++ codes "wintermaand julemåned julemaaned")
+      (times 13 (part.Month 12))
+
 -- ---- weekdays, from Sunday to Saturday
 
 abbrev pub AreWeekdays : List ℕ → Type 0
@@ -140,6 +191,7 @@ pub record AreOrdinalsKnown : Type 0 where
       (codes "1 2 3 4 5 6 7 8 9 10 11 12 13 14 15 16 17 18 19 20 21 22 23 24 25 26 27 28 29 30 31")
   pub english_short : parts_after [] (codes "2d 3d 22d 23d") ≡ parts_after [] (codes "2 3 22 23")
   pub first : parts_after [] (codes "1er 1º 1°") ≡ parts_after [] (codes "1 1 1")
+  pub dutch : parts_after [] (codes "3e 16e") ≡ parts_after [] (codes "3 16")
 
 -- ---- words around a date
 
@@ -147,9 +199,13 @@ pub record AreOtherWordsKnown : Type 0 where
   pub to : Reads (codes "to until till bis tot") (times 5 part.To)
   pub joining : Reads (codes "from or between and")
       (part.From ∷ part.Or ∷ part.Between ∷ part.And ∷ [])
-  pub before : Reads (codes "before ante by") (part.Before ∷ part.Before ∷ part.By ∷ [])
-  pub after : Reads (codes "after post not") (part.After ∷ part.After ∷ part.Not ∷ [])
-  pub about : Reads (codes "about around approximately c. ca. circa") (times 6 part.About)
+  pub between_short : Reads (codes "BET betw.") (times 2 part.Between)
+  pub before : Reads (codes "before ante BEF by")
+      (part.Before ∷ part.Before ∷ part.Before ∷ part.By ∷ [])
+  pub after : Reads (codes "after post AFT not")
+      (part.After ∷ part.After ∷ part.After ∷ part.Not ∷ [])
+  pub about : Reads (codes "about around approximately c. ca. circa ABT") (times 7 part.About)
+  pub estimated : Reads (codes "EST CAL") (times 2 part.Estimated)
   pub doubt : Reads (codes "probably perhaps possibly") (times 3 part.Doubt)
   pub old_style : Reads (codes "O.S. OS old") (times 3 (part.Reckoning OldStyle))
   pub new_style : Reads (codes "N.S. NS new") (times 3 (part.Reckoning NewStyle))
@@ -184,8 +240,35 @@ pub record AreOtherLanguagesKnown : Type 0 where
       ++ codes "il li dì adì addì a ao aos d datum dato fecha data")
       (times 29 part.Filler)
 
+-- ---- centuries
+
+-- the word for a century, and Roman numerals that are not other words
+pub record AreCenturiesKnown : Type 0 where
+  pub century : Reads
+      (codes "century cent jahrhundert jahrhunderts jh jhdt siècle siecle secolo sec "
+      ++ codes "siglo século seculo eeuw århundrade århundradet århundrede saeculum "
+      ++ codes "saeculo saec siglos siècles siecles secoli")
+      (times 24 part.Century)
+  pub numerals : Reads
+      (codes "ii iii iv vii viii ix xi xii xiii xiv xv xvi xvii xviii xix xxi xxii "
+      ++ codes "xxiii xxiv xxv xxvi xxvii xxviii xxix xxxi")
+      (map part.Roman (2 ∷ 3 ∷ 4 ∷ 7 ∷ 8 ∷ 9 ∷ 11 ∷ 12 ∷ 13 ∷ 14 ∷ 15 ∷ 16
+      ∷ 17 ∷ 18 ∷ 19 ∷ 21 ∷ 22 ∷ 23 ∷ 24 ∷ 25 ∷ 26 ∷ 27 ∷ 28 ∷ 29 ∷ 31 ∷ []))
+  pub numerals_with_j : Reads
+      (codes "ij iij vj vij viij xj xij xiij xvj xvij xviij xxj xxij xxiij xxvj "
+      ++ codes "xxvij xxviij xxxj")
+      (map part.Roman (2 ∷ 3 ∷ 6 ∷ 7 ∷ 8 ∷ 11 ∷ 12 ∷ 13 ∷ 16
+      ∷ 17 ∷ 18 ∷ 21 ∷ 22 ∷ 23 ∷ 26 ∷ 27 ∷ 28 ∷ 31 ∷ []))
+  pub numerals_without_nine : Reads
+      (codes "iiii iiij viiii viiij xiiii xiiij xviiii xviiij xxiiii xxiiij xxviiii "
+      ++ codes "xxviiij")
+      (map part.Roman (4 ∷ 4 ∷ 9 ∷ 9 ∷ 14 ∷ 14 ∷ 19 ∷ 19 ∷ 24 ∷ 24 ∷ 29 ∷ 29 ∷ []))
+  pub ordinals : Reads
+      (codes "ixe xie xiie xiiie xive xve xvie xviie xviiie xixe xxe xxie")
+      (map part.Roman (9 ∷ 11 ∷ 12 ∷ 13 ∷ 14 ∷ 15 ∷ 16 ∷ 17 ∷ 18 ∷ 19 ∷ 20 ∷ 21 ∷ []))
+
 -- as a law: all these words are known
 unfoldable pub AreWordsKnown : Type 0
 AreWordsKnown =
-    AreMonthsKnown × AreWeekdaysKnown × AreOtherWeekdaysKnown × AreOrdinalsKnown
-    × AreOtherWordsKnown × AreOtherLanguagesKnown
+    AreMonthsKnown × AreOtherMonthsKnown × AreWeekdaysKnown × AreOtherWeekdaysKnown
+    × AreOrdinalsKnown × AreOtherWordsKnown × AreOtherLanguagesKnown × AreCenturiesKnown

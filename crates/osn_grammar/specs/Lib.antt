@@ -1,9 +1,13 @@
 pub mod Names
+pub mod RomanYear
 pub mod Parts
 pub mod Scan
 pub mod Simple
 pub mod Extent
 pub mod Sets
+pub mod Years
+pub mod BothCalendars
+pub mod Roman
 pub mod Reading
 pub mod Laws
 pub mod Languages

@@ -1,10 +1,11 @@
 -- Which part a name is, by the table of names.
-use Rattle.std.specs.Prelude.{◌≡◌, ℕ, Bool, true, not, ◌&&◌, if◌then◌else◌, List, [], ◌∷◌, map}
+use Rattle.std.specs.Prelude.{◌≡◌, ℕ, Bool, true, false, not, ◌&&◌, if◌then◌else◌, List, [], ◌∷◌, map}
 use Rattle.std.specs.Prelude.{Option, Some, None}
 use Rattle.std.specs.Borrow.{Bor}
 use Rattle.std.specs.List.{list_any}
 use Rattle.std.specs.Str.{bytes_eq}
 use Rattle.osn_grammar.specs.declared.names.TheConstants.{NAMES}
+use Rattle.osn_grammar.specs.declared.other_names.TheConstants.{OTHER_NAMES}
 use Rattle.osn_grammar.specs.declared.part.Part.{Part}
 
 -- the part of the first such name
@@ -17,20 +18,33 @@ first_named (entry ∷ rest) word =
 abbrev pub plain : List (Bor (List ℕ) × Part) → List (List ℕ × Part)
 plain = map (λ e. (e.0.now, e.1))
 
--- the names, each with its part
+-- the usual names, each with its part
 unfoldable pub names : List (List ℕ × Part)
 names = map (λ e. (e.0.now, e.1)) NAMES
 
+-- the other names
+unfoldable pub other_names : List (List ℕ × Part)
+other_names = map (λ e. (e.0.now, e.1)) OTHER_NAMES
+
+abbrev pub named_or : Option Part → Option Part → Option Part
+named_or (Some p) other = Some p
+named_or None other = other
+
 -- the part that a name in small letters is
 abbrev pub part_named : List ℕ → Option Part
-part_named word = first_named names word
+part_named word = named_or (first_named names word) (first_named other_names word)
+
+-- the list has the name
+abbrev pub is_listed : List (List ℕ × Part) → List ℕ × Part → Bool
+is_listed entries entry = list_any (λ (other : List ℕ × Part). bytes_eq other.0 entry.0) entries
 
 -- no name is listed twice
 abbrev pub are_distinct : List (List ℕ × Part) → Bool
 are_distinct [] = true
-are_distinct (entry ∷ rest) =
-    not (list_any (λ (other : List ℕ × Part). bytes_eq other.0 entry.0) rest) && are_distinct rest
+are_distinct (entry ∷ rest) = not (is_listed rest entry) && are_distinct rest
 
 -- as a law: no name is listed twice, so no name is that of two months, or of a month and a weekday
 unfoldable pub AreNamesDistinct : Type 0
-AreNamesDistinct = are_distinct names ≡ true
+AreNamesDistinct =
+    (are_distinct names ≡ true) × (are_distinct other_names ≡ true)
+    × (list_any (is_listed names) other_names ≡ false)

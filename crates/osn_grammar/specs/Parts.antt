@@ -1,5 +1,6 @@
 -- The parts of a text: its numbers, its names and its marks. This project's profile.
-use Rattle.std.specs.Prelude.{ℕ, Bool, true, false, ◌&&◌, ◌||◌, nat_le, ◌==◌, if◌then◌else◌}
+use Rattle.std.specs.Prelude.{ℕ, Bool, true, false, not, ◌&&◌, ◌||◌, nat_le, ◌==◌}
+use Rattle.std.specs.Prelude.{◌+◌, ◌-◌, ◌*◌, if◌then◌else◌}
 use Rattle.std.specs.Prelude.{List, [], ◌∷◌, length, Option, Some, None, option_map}
 use Rattle.std.specs.List.{list_all}
 use Rattle.std.specs.Str.{all_ascii_digits}
@@ -7,7 +8,9 @@ use Rattle.std.specs.Str.Parse.{digits_value}
 use Rattle.osn_grammar.specs.declared.part.Numeral.{Numeral}
 use Rattle.osn_grammar.specs.declared.part.Part.{Part}
 use Rattle.osn_grammar.specs.declared.part.Part.TheVariants as part
+use Rattle.osn_grammar.specs.declared.part.Years.{Years}
 use Rattle.osn_grammar.specs.Names.{part_named}
+use Rattle.osn_grammar.specs.RomanYear.{roman_year}
 
 -- the part says which day is meant
 abbrev pub tells_time : Part → Bool
@@ -46,18 +49,89 @@ is_gap b = b == 120 || b == 95
 abbrev pub is_place : ℕ → Bool
 is_place b = all_ascii_digits (b ∷ []) || is_gap b
 
--- a year whose last digits are open: 173x, 17xx, 173_
+-- two digits
+abbrev pub are_two_digits : ℕ → ℕ → Bool
+are_two_digits a b = all_ascii_digits (a ∷ []) && all_ascii_digits (b ∷ [])
+
+-- the end of `1580s`
+abbrev pub is_zero_s : ℕ → ℕ → Bool
+is_zero_s d e = d == 48 && e == 115
+
+-- the value of a digit
+abbrev pub digit : ℕ → ℕ
+digit b = if nat_le 48 b && nat_le b 57 then b - 48 else 0
+
+-- the years from a first one on
+abbrev pub years_from : ℕ → ℕ → Years
+years_from first more = record { first = first; last = first + more }
+
+-- the ten years that begin with three digits, and the hundred years that begin with two
+abbrev pub decade : ℕ → ℕ → ℕ → Years
+decade a b c = years_from (1000 * digit a + 100 * digit b + 10 * digit c) 9
+
+abbrev pub hundred : ℕ → ℕ → Years
+hundred a b = years_from (1000 * digit a + 100 * digit b) 99
+
+-- a decade whose last digit is open, 158x, 158_, and the years of 15xx, 15__
+abbrev pub years_of_gaps : ℕ → ℕ → ℕ → ℕ → Option Years
+years_of_gaps a b c d =
+    if not (are_two_digits a b) || not (is_gap d) then None
+    else (if all_ascii_digits (c ∷ []) then Some (decade a b c)
+    else (if is_gap c then Some (hundred a b)
+    else None))
+
+-- the decade of 1580s. 1500s may be a century, too
+abbrev pub years_of_plural : ℕ → ℕ → ℕ → ℕ → ℕ → Option Years
+years_of_plural a b c d e =
+    if are_two_digits a b && (all_ascii_digits (c ∷ []) && (not (c == 48) && is_zero_s d e)) then
+    Some (decade a b c)
+    else None
+
+-- the years that a word is
+abbrev pub years_of_word : List ℕ → Option Years
+years_of_word (a ∷ b ∷ c ∷ d ∷ []) = years_of_gaps a b c d
+years_of_word (a ∷ b ∷ c ∷ d ∷ e ∷ []) = years_of_plural a b c d e
+years_of_word _ = None
+
+-- a year with other open digits: 1x3x, 1xxx, and 1500s
 abbrev pub is_open_year : List ℕ → Bool
 is_open_year (a ∷ b ∷ c ∷ d ∷ []) =
     all_ascii_digits (a ∷ []) && (is_place b && (is_place c && is_gap d))
+is_open_year (a ∷ b ∷ c ∷ d ∷ e ∷ []) = are_two_digits a b && (c == 48 && is_zero_s d e)
 is_open_year _ = false
+
+-- an ordinal of one or two digits and `e`: 16e
+abbrev pub ordinal_of : List ℕ → Option Numeral
+ordinal_of (a ∷ e ∷ []) =
+    if all_ascii_digits (a ∷ []) && e == 101 then Some (record { value = digit a; digits = 1 })
+    else None
+ordinal_of (a ∷ b ∷ e ∷ []) =
+    if are_two_digits a b && e == 101 then
+    Some (record { value = 10 * digit a + digit b; digits = 2 })
+    else None
+ordinal_of _ = None
+
+-- a year in Roman numerals
+abbrev pub roman_number : List ℕ → Option Numeral
+roman_number word = option_map (λ n. record { value = n; digits = 4 }) (roman_year word)
+
+-- a word that is neither a number nor a name
+abbrev pub part_by_form : List ℕ → Option Years → Option Numeral → Option Numeral → Part
+part_by_form word (Some years) ordinal year = part.Years years
+part_by_form word None (Some n) year = part.Number n
+part_by_form word None None (Some n) = part.Number n
+part_by_form word None None None =
+    if is_open_year word then part.OpenYear
+    else (if list_all is_roman word then part.RomanNumeral else part.Unknown)
+
+abbrev pub part_of_other : List ℕ → Part
+part_of_other word =
+    part_by_form word (years_of_word word) (ordinal_of word) (roman_number word)
 
 -- a word that is not a number
 abbrev pub part_of_name : List ℕ → Option Part → Part
 part_of_name word (Some p) = p
-part_of_name word None =
-    if is_open_year word then part.OpenYear
-    else (if list_all is_roman word then part.RomanNumeral else part.Unknown)
+part_of_name word None = part_of_other word
 
 -- a word
 abbrev pub part_of_word : List ℕ → Option Numeral → Part

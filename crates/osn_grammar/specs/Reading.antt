@@ -6,13 +6,19 @@ use Rattle.std.specs.List.{list_any}
 use Rattle.std.specs.Option.{unwrap_or}
 use Rattle.std.specs.Result.{result_ok}
 use Rattle.osn_days.specs.declared.weekday.Weekday.{Weekday}
+use Rattle.osn_days.specs.Profile.{newest_rules}
 use Rattle.osn_grammar.specs.declared.part.Part.{Part}
 use Rattle.osn_grammar.specs.declared.part.Part.TheVariants as part
 use Rattle.osn_written.specs.declared.written_date.DateFault.{DateFault}
 use Rattle.osn_written.specs.declared.written_date.DateFault.TheVariants as faults
 use Rattle.osn_grammar.specs.declared.written.DateOrder.{DateOrder}
 use Rattle.osn_written.specs.declared.any_date.Extent.{Extent}
+use Rattle.osn_written.specs.declared.any_date.Extent.TheVariants as extent
 use Rattle.osn_written.specs.declared.any_date.Reckoning.{Reckoning}
+use Rattle.osn_written.specs.declared.any_date.Reckoning.TheVariants.{NewStyle}
+use Rattle.osn_written.specs.declared.any_date.SimpleDate.{SimpleDate}
+use Rattle.osn_grammar.specs.declared.part.Years.{Years}
+use Rattle.osn_grammar.specs.declared.reading.Told.{Told}
 use Rattle.osn_grammar.specs.declared.written.Written.{Written}
 use Rattle.osn_grammar.specs.declared.written.Written.TheVariants as say
 use Rattle.osn_written.specs.declared.any_date.AnyDate.{AnyDate}
@@ -22,6 +28,9 @@ use Rattle.osn_grammar.specs.Parts.{tells_time}
 use Rattle.osn_grammar.specs.Scan.{parts_in}
 use Rattle.osn_grammar.specs.Sets.{inside_brackets, between_commas, is_sign, days_in_digits}
 use Rattle.osn_grammar.specs.Simple.{◌>>=◌, lacks_digit}
+use Rattle.osn_grammar.specs.BothCalendars.{day_by_both}
+use Rattle.osn_grammar.specs.Roman.{roman_date}
+use Rattle.osn_grammar.specs.Years.{range_of, years_in, years_of_text}
 
 -- the weekday so far, with that of one more part. No two may be named
 abbrev pub with_weekday : Option Weekday → Part → Result (Option Weekday) DateFault
@@ -44,10 +53,11 @@ abbrev pub reckoning_after : Option Reckoning → List Part → Result (Option R
 reckoning_after found [] = Ok found
 reckoning_after found (p ∷ rest) = with_reckoning found p >>= (λ next. reckoning_after next rest)
 
--- `about`, `c.`, `~`, `%`
+-- `about`, `c.`, `~`, `%`, `EST`
 abbrev pub is_about : Part → Bool
 is_about part.About = true
 is_about part.AboutAndDoubt = true
+is_about part.Estimated = true
 is_about _ = false
 
 -- `?`, `probably`, `perhaps`, `%`
@@ -67,19 +77,62 @@ is_feast _ = false
 
 abbrev pub is_roman_numeral : Part → Bool
 is_roman_numeral part.RomanNumeral = true
+is_roman_numeral (part.Roman n) = true
 is_roman_numeral _ = false
 
 abbrev pub is_open_year : Part → Bool
 is_open_year part.OpenYear = true
+is_open_year (part.Years years) = true
 is_open_year _ = false
 
--- the fault of a feast, a Roman numeral or a year with an open digit
-abbrev pub unread : List Part → Option DateFault
-unread parts =
-    if list_any is_feast parts then Some faults.Feast
-    else (if list_any is_roman_numeral parts then Some faults.RomanNumeral
-    else (if list_any is_open_year parts then Some faults.OpenYear
-    else None))
+-- ---- other forms
+
+abbrev pub told : Option Reckoning → Extent → Told
+told reckoning e = record { extent = e; reckoning = reckoning }
+
+-- a day by both calendars is that of the new one. No calendar may be named beside it
+abbrev pub told_by_both : Option Reckoning → DateFault → Result SimpleDate DateFault
+    → Result Told DateFault
+told_by_both None fault (Ok d) = Ok (told (Some NewStyle) (extent.On d))
+told_by_both (Some r) fault (Ok d) = Err faults.TwoDays
+told_by_both reckoning fault (Err faults.Malformed) = Err fault
+told_by_both reckoning fault (Err other) = Err other
+
+-- `EST` and `CAL` are other words, except at the beginning of a text and before a number
+abbrev pub begin_estimated : List Part → Bool
+begin_estimated (part.Estimated ∷ rest) = true
+begin_estimated _ = false
+
+abbrev pub begin_with_number : List Part → Bool
+begin_with_number (part.Number n ∷ rest) = true
+begin_with_number _ = false
+
+abbrev pub after_estimated : DateOrder → List Part → List Part → Result Extent DateFault
+after_estimated o parts (part.Estimated ∷ date) =
+    if begin_estimated parts && begin_with_number date then extent_of o date
+    else Err faults.Malformed
+after_estimated o parts _ = Err faults.Malformed
+
+abbrev pub told_by : List Part → Option Reckoning → DateFault → Result Extent DateFault
+    → Option Years → Result SimpleDate DateFault → Result Told DateFault
+told_by timed reckoning fault (Ok e) years roman = Ok (told reckoning e)
+told_by timed reckoning fault (Err other) (Some years) roman = Ok (told reckoning (range_of years))
+told_by timed reckoning fault (Err other) None (Ok d) = Ok (told reckoning (extent.On d))
+told_by timed reckoning fault (Err other) None (Err another) =
+    told_by_both reckoning fault (day_by_both newest_rules timed)
+
+-- what has none of the usual forms may be an estimated date, a decade, a century, a day with a
+-- Roman numeral or a day by both calendars
+abbrev pub told_otherwise : DateOrder → List Part → List Part → Option Reckoning → DateFault
+    → Result Told DateFault
+told_otherwise o parts timed reckoning fault =
+    told_by timed reckoning fault (after_estimated o parts timed) (years_in timed)
+    (roman_date timed)
+
+abbrev pub or_other : DateOrder → List Part → List Part → Option Reckoning
+    → Result Extent DateFault → Result Told DateFault
+or_other o parts timed reckoning (Ok e) = Ok (told reckoning e)
+or_other o parts timed reckoning (Err fault) = told_otherwise o parts timed reckoning fault
 
 -- a year of three digits may lack its last one, if it is in doubt or in brackets
 abbrev pub unless_open : AnyDate → Result AnyDate DateFault
@@ -92,11 +145,11 @@ abbrev pub date_of : DateOrder → List Part → List Part → Result AnyDate Da
 date_of o parts timed = do
   weekday ← weekday_after None parts
   reckoning ← reckoning_after None parts
-  extent ← extent_of o timed
+  time ← or_other o parts timed reckoning (extent_of o timed)
   unless_open (record {
-    extent = extent;
+    extent = time.extent;
     weekday = weekday;
-    reckoning = reckoning;
+    reckoning = time.reckoning;
     is_approximate = list_any is_about parts;
     is_uncertain = list_any is_doubt parts;
     is_supplied = list_any is_bracket parts;
@@ -117,25 +170,27 @@ is_open_end _ = false
 abbrev pub ends_open : List Part → Bool
 ends_open parts = nat_le 2 (length parts) && is_open_end (drop (length parts - 2) parts)
 
--- why parts without a form are not a date
-abbrev pub or_open : List Part → Result AnyDate DateFault → Result AnyDate DateFault
-or_open timed (Err faults.Malformed) =
-    Err (if ends_open timed then faults.OpenYear else faults.Malformed)
-or_open timed read = read
+abbrev pub open_or : List Part → DateFault → DateFault
+open_or timed faults.Malformed = if ends_open timed then faults.OpenYear else faults.Malformed
+open_or timed fault = fault
 
--- a date unless there is a fault
-abbrev pub date_unless : DateOrder → List Part → List Part → Option DateFault
-    → Result Written DateFault
-date_unless o parts timed (Some fault) = Err fault
-date_unless o parts timed None = do
-  w ← or_open timed (date_of o parts timed)
-  Ok (say.Date w)
+-- why parts are not a date: a Roman numeral, a year with an open digit, or else the fault
+abbrev pub reason : List Part → List Part → DateFault → DateFault
+reason parts timed fault =
+    if list_any is_roman_numeral parts then faults.RomanNumeral
+    else (if list_any is_open_year parts then faults.OpenYear
+    else open_or timed fault)
+
+abbrev pub or_reason : List Part → List Part → Result AnyDate DateFault → Result Written DateFault
+or_reason parts timed (Ok w) = Ok (say.Date w)
+or_reason parts timed (Err fault) = Err (reason parts timed fault)
 
 -- a text of no parts has no date, and neither has one that is undated
 abbrev pub reading_of_parts : DateOrder → List Part → List Part → Result Written DateFault
 reading_of_parts o parts timed =
     if length parts == 0 || is_undated timed then Ok say.NoDate
-    else date_unless o parts timed (unread parts)
+    else (if list_any is_feast parts then Err faults.Feast
+    else or_reason parts timed (date_of o parts timed))
 
 -- ---- a set of dates
 
@@ -191,7 +246,18 @@ or_set (Ok ws) (Err fault) = Ok say.Set
 or_set (Err faults.Malformed) (Err fault) = Err fault
 or_set (Err reason) (Err fault) = Err reason
 
+-- a text that is nothing else may be years in digits and signs
+abbrev pub years_unless : Option AnyDate → Result Written DateFault → Result Written DateFault
+years_unless years (Ok w) = Ok w
+years_unless (Some w) (Err fault) = Ok (say.Date w)
+years_unless None (Err fault) = Err fault
+
+abbrev pub or_years : List ℕ → Result Written DateFault → Result Written DateFault
+or_years text read = years_unless (years_of_text text) read
+
 -- what a text says of a date, or why it is not a date
 unfoldable pub read_date : DateOrder → List ℕ → Result Written DateFault
 read_date o text =
-    or_set (set_in text) (reading_of_parts o (parts_in text) (filter tells_time (parts_in text)))
+    or_years text
+    (or_set (set_in text)
+    (reading_of_parts o (parts_in text) (filter tells_time (parts_in text))))

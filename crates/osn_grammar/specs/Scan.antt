@@ -7,6 +7,7 @@ use Rattle.std.specs.Option.{option_to_list}
 use Rattle.std.specs.Str.{all_ascii_digits}
 use Rattle.osn_grammar.specs.declared.part.Part.{Part}
 use Rattle.osn_grammar.specs.declared.part.Part.TheVariants as part
+use Rattle.osn_grammar.specs.Names.{part_named}
 use Rattle.osn_grammar.specs.Parts.{part_of}
 
 -- a character from one to another
@@ -70,8 +71,16 @@ mark_of_stop word rest =
     if next_is (λ c. c == 46) (first_of rest) then Some part.Open
     else (if is_number word && is_number_next rest then Some part.Dot else None)
 
--- the mark that a character is, after a word and before the rest of the text. Blanks, commas and
--- round brackets are not marks
+-- the name of a month
+abbrev pub is_month : Option Part → Bool
+is_month (Some (part.Month m)) = true
+is_month _ = false
+
+abbrev pub is_month_name : List ℕ → Bool
+is_month_name word = is_month (part_named word)
+
+-- the mark that a character is, after a word and before the rest of the text. Blanks, commas, round
+-- brackets and a colon after the name of a month, `Feb:`, are not marks
 abbrev pub mark_of : List ℕ → ℕ → List ℕ → Option Part
 mark_of word c rest =
     if is_dash c then Some part.Dash
@@ -82,7 +91,8 @@ mark_of word c rest =
     else (if c == 91 || c == 93 then Some part.Bracket
     else (if c == 46 then mark_of_stop word rest
     else (if is_blank c || (c == 44 || (c == 40 || c == 41)) then None
-    else Some part.Unknown)))))))
+    else (if c == 58 && is_month_name word then None
+    else Some part.Unknown))))))))
 
 -- the part of a word, which may be empty
 abbrev pub part_of_run : List ℕ → Option Part
@@ -94,10 +104,17 @@ is_letter_alone [] = false
 is_letter_alone (c ∷ rest) =
     is_letter c && not (next_is (λ d. is_letter d || is_digit d) (first_of rest))
 
--- a full stop between two single letters is ignored: `O.S.` is `OS`
+-- a letter comes next
+abbrev pub is_letter_next : List ℕ → Bool
+is_letter_next [] = false
+is_letter_next (c ∷ rest) = is_letter c
+
+-- a full stop between two single letters is ignored: `O.S.` is `OS`. So is a colon between the name
+-- of a month and a letter: `Feb:ry` is `Febry`
 abbrev pub is_passed_over : List ℕ → ℕ → List ℕ → Bool
 is_passed_over word c rest =
-    c == 46 && (is_letter_alone rest && (length word == 1 && is_name word))
+    if c == 46 then is_letter_alone rest && (length word == 1 && is_name word)
+    else c == 58 && (is_letter_next rest && is_month_name word)
 
 -- the word so far, after one more character
 abbrev pub word_after : List ℕ → ℕ → List ℕ → List ℕ

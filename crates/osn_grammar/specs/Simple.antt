@@ -188,18 +188,13 @@ day_in_numbers o (Number d ∷ Dot ∷ Number m ∷ Dot ∷ Number y ∷ Slash �
 day_in_numbers o _ = Err faults.Malformed
 
 -- a day with its month's name: 11 February 1731, 11-Feb-1731, 11/Feb/1731, 1731 February 11, 1731
--- 11 February, February 11 1731, February 11. 1731, and with 1731/2. 24 Dec 1640/3 Jan 1641 is the
--- day by both calendars
+-- 11 February, February 11 1731, February 11. 1731, and with 1731/2
 abbrev pub day_in_words : List Part → Result SimpleDate DateFault
 day_in_words (Number a ∷ Month m ∷ Number b ∷ []) = around_month a m b
 day_in_words (Number a ∷ Dash ∷ Month m ∷ Dash ∷ Number b ∷ []) = around_month a m b
 day_in_words (Number a ∷ Slash ∷ Month m ∷ Slash ∷ Number b ∷ []) = around_month a m b
 day_in_words (Number d ∷ Month m ∷ Number y ∷ Slash ∷ Number l ∷ []) = day_of_month (two y l) m d
 day_in_words (Number a ∷ Slash ∷ Number b ∷ Month m ∷ Number c ∷ []) = double_year_or_days a b m c
-day_in_words (Number a ∷ Slash ∷ Number b ∷ Month m ∷ Number y ∷ Slash ∷ Number l ∷ []) =
-    Err faults.TwoDays
-day_in_words (Number d ∷ Month m ∷ Number y ∷ Slash ∷ Number e ∷ Month n ∷ Number v ∷ []) =
-    Err faults.TwoDays
 day_in_words (Number y ∷ Number d ∷ Month m ∷ []) = year_and_day y d m
 day_in_words (Month m ∷ Number d ∷ Number y ∷ []) = day_of_month (one y) m d
 day_in_words (Month m ∷ Number d ∷ Number y ∷ Slash ∷ Number l ∷ []) = day_of_month (two y l) m d

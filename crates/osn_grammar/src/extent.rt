@@ -144,6 +144,38 @@ fn range_in_digits(first: &[Part], last: &[Part]) -> Result<Extent, DateFault>
     Ok(Extent::FromTo(first, date_in_digits(last)?))
 }
 
+/// Returns whether there are no parts.
+fn is_nothing(parts: &[Part]) -> bool
+    ensures { result ≡ spec.is_nothing parts.now }
+{
+    matches!(parts, [])
+}
+
+/// Returns a bound, unless its year may lack a digit.
+fn unless_short(bound: Extent) -> Result<Extent, DateFault>
+    ensures { result ≡ spec.unless_short bound }
+{
+    if bound.has_year_of_three_digits() {
+        Err(DateFault::OpenYear)
+    } else {
+        Ok(bound)
+    }
+}
+
+/// Returns a date in digits with nothing before its `/`: the last possible one.
+fn nothing_before(last: &[Part]) -> Result<Extent, DateFault>
+    ensures { result ≡ spec.nothing_before last.now }
+{
+    unless_short(Extent::NotAfter(date_in_digits(last)?))
+}
+
+/// Returns a date in digits with nothing after its `/`: the first possible one.
+fn nothing_after(first: &[Part]) -> Result<Extent, DateFault>
+    ensures { result ≡ spec.nothing_after first.now }
+{
+    unless_short(Extent::NotBefore(date_in_digits(first)?))
+}
+
 /// Returns the range of two dates with a `/` between them. Either end may be open.
 fn slashed_range(order: DateOrder, first: &[Part], last: &[Part]) -> Result<Extent, DateFault>
     ensures { result ≡ spec.slashed_range order first.now last.now }
@@ -152,6 +184,10 @@ fn slashed_range(order: DateOrder, first: &[Part], last: &[Part]) -> Result<Exte
         not_after(order, last)
     } else if is_open(last) {
         not_before(order, first)
+    } else if is_nothing(first) {
+        nothing_before(last)
+    } else if is_nothing(last) {
+        nothing_after(first)
     } else {
         range_in_digits(first, last)
     }
@@ -274,6 +310,8 @@ pub fn extent_of(order: DateOrder, parts: &[Part]) -> Result<Extent, DateFault>
         [After, date @ ..] => Ok(Extent::After(simple_date(order, date)?)),
         [Not, Before, date @ ..] => not_before(order, date),
         [Not, After, date @ ..] => not_after(order, date),
+        [Or, Before, date @ ..] => not_after(order, date),
+        [Or, After, date @ ..] => not_before(order, date),
         [By | To, date @ ..] => not_after(order, date),
         [Between, dates @ ..] => range_in(order, Joining::And, dates),
         [From, dates @ ..] => range_in(order, Joining::To, dates),

@@ -2,17 +2,22 @@
 //! territory. What the crate promises to those above is that `read_date` is its definition.
 #![tactic(auto)]
 
+mod both_calendars;
 mod date_in_text;
 mod extent;
 mod names;
 mod order;
+mod other_names;
 mod part;
 mod reading;
+mod roman;
+mod roman_year;
 mod scan;
 mod set;
 mod simple;
 mod words_read;
 mod written;
+mod years;
 
 pub use date_in_text::{date_reading, parse_day};
 pub use reading::read_date;

@@ -2,11 +2,12 @@
 ghost use Rattle.std.specs.Prelude.{◌≡◌};
 ghost use Rattle.osn_grammar.specs.Names as spec;
 
+use crate::other_names::other_part_named;
 use crate::part::{Numeral, Part};
 use osn_days::Weekday;
 use osn_written::Reckoning;
 
-/// Each name with the part of a date that it is: in small letters, with accents and without.
+/// Each usual name with the part of a date that it is: in small letters, with accents and without.
 pub const NAMES: [(&str, Part); 483] = [
     ("january", Part::Month(1)),
     ("jan", Part::Month(1)),
@@ -722,7 +723,7 @@ pub const NAMES: [(&str, Part); 483] = [
 ];
 
 /// Returns the part of the first such name.
-fn first_named(names: &[(&'static str, Part)], word: &str) -> Option<Part>
+pub fn first_named(names: &[(&'static str, Part)], word: &str) -> Option<Part>
     ensures { result ≡ spec.first_named (spec.plain names.now) word.now }
 {
     for entry in names {
@@ -733,9 +734,19 @@ fn first_named(names: &[(&'static str, Part)], word: &str) -> Option<Part>
     None
 }
 
+/// Returns the part that a usual name is, if it is one.
+fn usual_part_named(word: &str) -> Option<Part>
+    ensures { result ≡ spec.first_named spec.names word.now }
+{
+    first_named(&NAMES, word)
+}
+
 /// Returns the part that a name in small letters is, if it is one.
 pub fn part_named(word: &str) -> Option<Part>
     ensures { result ≡ spec.part_named word.now }
 {
-    first_named(&NAMES, word)
+    match usual_part_named(word) {
+        Some(part) => Some(part),
+        None => other_part_named(word),
+    }
 }

@@ -5,6 +5,7 @@ ghost use Rattle.std.specs.Str.{all_ascii_digits};
 ghost use Rattle.osn_grammar.specs.Parts as spec;
 
 use crate::names::part_named;
+use crate::roman_year::roman_year;
 use osn_days::Weekday;
 use osn_written::Reckoning;
 
@@ -13,6 +14,13 @@ use osn_written::Reckoning;
 pub struct Numeral {
     pub value: u32,
     pub digits: u8,
+}
+
+/// The years from a first one to a last one.
+#[derive(Clone, Copy, Debug, PartialEq, Eq)]
+pub struct Years {
+    pub first: u16,
+    pub last: u16,
 }
 
 /// A part of a text.
@@ -41,6 +49,8 @@ pub enum Part {
     Not,
     By,
     About,
+    /// `est` or `cal`, which are other words except at the beginning and before a number.
+    Estimated,
     Doubt,
     /// `%`: both of them.
     AboutAndDoubt,
@@ -50,8 +60,15 @@ pub enum Part {
     Filler,
     Undated,
     Feast,
+    /// A Roman numeral from 2 to 31 that is not another word, or an ordinal such as `XVIe`.
+    Roman(u8),
+    /// Another word of the letters of Roman numerals.
     RomanNumeral,
-    /// A year whose last digits are open, such as `173x`.
+    /// A decade or the years of a century, such as `158x`, `1580s` and `15xx`.
+    Years(Years),
+    /// The word `century`.
+    Century,
+    /// A year with other open digits, such as `1x3x`.
     OpenYear,
     Unknown,
 }
@@ -142,13 +159,146 @@ fn is_place(byte: u8) -> bool
     byte.is_ascii_digit() || is_gap(byte)
 }
 
-/// Returns whether a word is a year whose last digits are open.
+/// Returns whether a word is a year with open digits, or one such as `1500s`, which may be a decade
+/// or a century.
 fn is_open_year(word: &[u8]) -> bool
     ensures { result ≡ spec.is_open_year word.now }
 {
     match word {
         [a, b, c, d] => a.is_ascii_digit() && is_place(*b) && is_place(*c) && is_gap(*d),
+        [a, b, c, d, e] => are_two_digits(*a, *b) && *c == b'0' && is_zero_s(*d, *e),
         _ => false,
+    }
+}
+
+/// Returns the value of a digit.
+fn digit(byte: u8) -> u16
+    ensures value { result ≡ spec.digit byte }
+    ensures small { result ≤ 9 }
+{
+    if byte >= b'0' && byte <= b'9' {
+        u16::from(byte - b'0')
+    } else {
+        0
+    }
+}
+
+/// Returns the ten years that begin with three digits.
+pub fn decade(a: u8, b: u8, c: u8) -> Years
+    ensures { result ≡ spec.decade a b c }
+{
+    let first = 1000 * digit(a) + 100 * digit(b) + 10 * digit(c);
+    Years {
+        first,
+        last: first + 9,
+    }
+}
+
+/// Returns the hundred years that begin with two digits.
+pub fn hundred(a: u8, b: u8) -> Years
+    ensures { result ≡ spec.hundred a b }
+{
+    let first = 1000 * digit(a) + 100 * digit(b);
+    Years {
+        first,
+        last: first + 99,
+    }
+}
+
+/// Returns whether two bytes are digits.
+pub fn are_two_digits(a: u8, b: u8) -> bool
+    ensures { result ≡ spec.are_two_digits a b }
+{
+    a.is_ascii_digit() && b.is_ascii_digit()
+}
+
+/// Returns whether two bytes are `0s`.
+fn is_zero_s(d: u8, e: u8) -> bool
+    ensures { result ≡ spec.is_zero_s d e }
+{
+    d == b'0' && e == b's'
+}
+
+/// Returns the decade of `158x`, or the hundred years of `15xx`.
+fn years_of_gaps(a: u8, b: u8, c: u8, d: u8) -> Option<Years>
+    ensures { result ≡ spec.years_of_gaps a b c d }
+{
+    if !are_two_digits(a, b) || !is_gap(d) {
+        None
+    } else if c.is_ascii_digit() {
+        Some(decade(a, b, c))
+    } else if is_gap(c) {
+        Some(hundred(a, b))
+    } else {
+        None
+    }
+}
+
+/// Returns the decade of `1580s`. `1500s` may be a century too.
+fn years_of_plural(a: u8, b: u8, c: u8, d: u8, e: u8) -> Option<Years>
+    ensures { result ≡ spec.years_of_plural a b c d e }
+{
+    if are_two_digits(a, b) && c.is_ascii_digit() && c != b'0' && is_zero_s(d, e) {
+        Some(decade(a, b, c))
+    } else {
+        None
+    }
+}
+
+/// Returns the years that a word in small letters is, if it is a decade or a century.
+fn years_of_word(word: &[u8]) -> Option<Years>
+    ensures { result ≡ spec.years_of_word word.now }
+{
+    match word {
+        [a, b, c, d] => years_of_gaps(*a, *b, *c, *d),
+        [a, b, c, d, e] => years_of_plural(*a, *b, *c, *d, *e),
+        _ => None,
+    }
+}
+
+/// Returns the number of an ordinal such as `16e`, if a word is one or two digits and `e`.
+fn ordinal_of(word: &[u8]) -> Option<Numeral>
+    ensures { result ≡ spec.ordinal_of word.now }
+{
+    match word {
+        [a, e] if a.is_ascii_digit() && *e == b'e' => Some(Numeral {
+            value: u32::from(digit(*a)),
+            digits: 1,
+        }),
+        [a, b, e] if are_two_digits(*a, *b) && *e == b'e' => Some(Numeral {
+            value: u32::from(10 * digit(*a) + digit(*b)),
+            digits: 2,
+        }),
+        _ => None,
+    }
+}
+
+/// Returns the number of a year in Roman numerals, if a word is one.
+fn roman_number(word: &[u8]) -> Option<Numeral>
+    ensures { result ≡ spec.roman_number word.now }
+{
+    Some(Numeral {
+        value: roman_year(word)?,
+        digits: 4,
+    })
+}
+
+/// Returns the part that a word in small letters is, if it is neither a number nor a name.
+fn part_of_other(word: &[u8]) -> Part
+    ensures { result ≡ spec.part_of_other word.now }
+{
+    if let Some(years) = years_of_word(word) {
+        Part::Years(years)
+    } else if let Some(numeral) = ordinal_of(word) {
+        Part::Number(numeral)
+    } else if let Some(numeral) = roman_number(word) {
+        Part::Number(numeral)
+    } else if is_open_year(word) {
+        Part::OpenYear
+    } else if are_roman(word) {
+        Part::RomanNumeral
+    } else {
+        Part::Unknown
     }
 }
 
@@ -160,11 +310,7 @@ pub fn part_of(word: &str) -> Part
         Part::Number(numeral)
     } else if let Some(part) = part_named(word) {
         part
-    } else if is_open_year(word.as_bytes()) {
-        Part::OpenYear
-    } else if are_roman(word.as_bytes()) {
-        Part::RomanNumeral
     } else {
-        Part::Unknown
+        part_of_other(word.as_bytes())
     }
 }

@@ -8,14 +8,17 @@ ghost use Rattle.osn_grammar.specs.Names.{AreNamesDistinct};
 ghost use Rattle.osn_grammar.specs.Reading as spec;
 ghost use Rattle.osn_grammar.specs.SetsInDigits.{AreSetsRead};
 
+use crate::both_calendars::day_by_both;
 use crate::extent::extent_of;
 use crate::part::Part;
+use crate::roman::roman_date;
 use crate::scan::parts_in;
 use crate::set::set_in;
 use crate::simple::lacks_digit;
 use crate::written::{DateOrder, Written};
+use crate::years::{range_of, years_in, years_of_text};
 use osn_days::Weekday;
-use osn_written::{AnyDate, DateFault, Reckoning};
+use osn_written::{AnyDate, DateFault, Extent, Reckoning, SimpleDate};
 use std::alloc::{AllocError, Global};
 
 /// Returns the weekday so far, with that of one more part. No two may be named.
@@ -66,9 +69,7 @@ fn reckoning_of(parts: &[Part]) -> Result<Option<Reckoning>, DateFault>
 pub fn is_approximate(parts: &[Part]) -> bool
     ensures { result ≡ list_any spec.is_about parts.now }
 {
-    parts
-        .iter()
-        .any(|part| matches!(part, Part::About | Part::AboutAndDoubt))
+    parts.iter().any(|part| matches!(part, Part::About | Part::AboutAndDoubt | Part::Estimated))
 }
 
 /// Returns whether a part says that a date is in doubt.
@@ -98,28 +99,114 @@ fn has_feast(parts: &[Part]) -> bool
 fn has_roman_numeral(parts: &[Part]) -> bool
     ensures { result ≡ list_any spec.is_roman_numeral parts.now }
 {
-    parts.iter().any(|part| matches!(part, Part::RomanNumeral))
+    parts
+        .iter()
+        .any(|part| matches!(part, Part::RomanNumeral | Part::Roman(_)))
 }
 
-/// Returns whether a part is a year with an open digit.
+/// Returns whether a part has years with open digits.
 fn has_open_year(parts: &[Part]) -> bool
     ensures { result ≡ list_any spec.is_open_year parts.now }
 {
-    parts.iter().any(|part| matches!(part, Part::OpenYear))
+    parts
+        .iter()
+        .any(|part| matches!(part, Part::OpenYear | Part::Years(_)))
 }
 
-/// Returns the fault of a feast, a Roman numeral or a year with an open digit, if there is one.
-fn unread(parts: &[Part]) -> Option<DateFault>
-    ensures { result ≡ spec.unread parts.now }
+/// What parts say of the time, by which calendar.
+#[derive(Clone, Copy, Debug, PartialEq, Eq)]
+struct Told {
+    extent: Extent,
+    reckoning: Option<Reckoning>,
+}
+
+/// Returns the day by both calendars, which is by the new one, unless parts name a calendar.
+fn told_by_both(
+    reckoning: Option<Reckoning>,
+    fault: DateFault,
+    day: Result<SimpleDate, DateFault>,
+) -> Result<Told, DateFault>
+    ensures { result ≡ spec.told_by_both reckoning fault day }
 {
-    if has_feast(parts) {
-        Some(DateFault::Feast)
-    } else if has_roman_numeral(parts) {
-        Some(DateFault::RomanNumeral)
-    } else if has_open_year(parts) {
-        Some(DateFault::OpenYear)
-    } else {
-        None
+    match day {
+        Ok(date) if reckoning.is_none() => Ok(Told {
+            extent: Extent::On(date),
+            reckoning: Some(Reckoning::NewStyle),
+        }),
+        Ok(_) => Err(DateFault::TwoDays),
+        Err(DateFault::Malformed) => Err(fault),
+        Err(other) => Err(other),
+    }
+}
+
+/// Returns whether parts begin with `est` or `cal`.
+fn begin_estimated(parts: &[Part]) -> bool
+    ensures { result ≡ spec.begin_estimated parts.now }
+{
+    matches!(parts, [Part::Estimated, ..])
+}
+
+/// Returns whether parts begin with a number.
+fn begin_with_number(parts: &[Part]) -> bool
+    ensures { result ≡ spec.begin_with_number parts.now }
+{
+    matches!(parts, [Part::Number(_), ..])
+}
+
+/// Returns what comes after `est` or `cal`, if a text begins with it and a number comes next.
+fn after_estimated(order: DateOrder, parts: &[Part], timed: &[Part]) -> Result<Extent, DateFault>
+    ensures { result ≡ spec.after_estimated order parts.now timed.now }
+{
+    match timed {
+        [Part::Estimated, date @ ..] if begin_estimated(parts) && begin_with_number(date) => {
+            extent_of(order, date)
+        }
+        _ => Err(DateFault::Malformed),
+    }
+}
+
+/// Returns what parts without a usual form say: an estimated date, a decade, a century, a day with a
+/// Roman numeral or a day by both calendars.
+fn told_otherwise(
+    order: DateOrder,
+    parts: &[Part],
+    timed: &[Part],
+    reckoning: Option<Reckoning>,
+    fault: DateFault,
+) -> Result<Told, DateFault>
+    ensures { result ≡ spec.told_otherwise order parts.now timed.now reckoning fault }
+{
+    if let Ok(extent) = after_estimated(order, parts, timed) {
+        return Ok(Told { extent, reckoning });
+    }
+    if let Some(years) = years_in(timed) {
+        return Ok(Told {
+            extent: range_of(years),
+            reckoning,
+        });
+    }
+    match roman_date(timed) {
+        Ok(date) => Ok(Told {
+            extent: Extent::On(date),
+            reckoning,
+        }),
+        Err(_) => told_by_both(reckoning, fault, day_by_both(timed)),
+    }
+}
+
+/// Returns what parts say, by a usual form or by another one.
+fn or_other(
+    order: DateOrder,
+    parts: &[Part],
+    timed: &[Part],
+    reckoning: Option<Reckoning>,
+    read: Result<Extent, DateFault>,
+) -> Result<Told, DateFault>
+    ensures { result ≡ spec.or_other order parts.now timed.now reckoning read }
+{
+    match read {
+        Ok(extent) => Ok(Told { extent, reckoning }),
+        Err(fault) => told_otherwise(order, parts, timed, reckoning, fault),
     }
 }
 
@@ -141,11 +228,11 @@ fn date_of(order: DateOrder, parts: &[Part], timed: &[Part]) -> Result<AnyDate, 
 {
     let weekday = weekday_of(parts)?;
     let reckoning = reckoning_of(parts)?;
-    let extent = extent_of(order, timed)?;
+    let told = or_other(order, parts, timed, reckoning, extent_of(order, timed))?;
     unless_open(AnyDate {
-        extent,
+        extent: told.extent,
         weekday,
-        reckoning,
+        reckoning: told.reckoning,
         is_approximate: is_approximate(parts),
         is_uncertain: is_uncertain(parts),
         is_supplied: is_supplied(parts),
@@ -169,13 +256,41 @@ fn ends_open(timed: &[Part]) -> bool
     timed.len() >= 2 && is_open_end(&timed[timed.len() - 2..])
 }
 
-/// Returns a date that was read, or why parts without a form are not a date.
-fn or_open(timed: &[Part], read: Result<AnyDate, DateFault>) -> Result<AnyDate, DateFault>
-    ensures { result ≡ spec.or_open timed.now read }
+/// Returns the fault of parts, or that of a year with an open digit if they end with one.
+fn open_or(timed: &[Part], fault: DateFault) -> DateFault
+    ensures { result ≡ spec.open_or timed.now fault }
+{
+    match fault {
+        DateFault::Malformed if ends_open(timed) => DateFault::OpenYear,
+        _ => fault,
+    }
+}
+
+/// Returns why parts are not a date: the Roman numeral or the year with an open digit that they
+/// have, or else the fault.
+fn reason(parts: &[Part], timed: &[Part], fault: DateFault) -> DateFault
+    ensures { result ≡ spec.reason parts.now timed.now fault }
+{
+    if has_roman_numeral(parts) {
+        DateFault::RomanNumeral
+    } else if has_open_year(parts) {
+        DateFault::OpenYear
+    } else {
+        open_or(timed, fault)
+    }
+}
+
+/// Returns a date that was read, or why parts are not a date.
+fn or_reason(
+    parts: &[Part],
+    timed: &[Part],
+    read: Result<AnyDate, DateFault>,
+) -> Result<Written, DateFault>
+    ensures { result ≡ spec.or_reason parts.now timed.now read }
 {
     match read {
-        Err(DateFault::Malformed) if ends_open(timed) => Err(DateFault::OpenYear),
-        _ => read,
+        Ok(date) => Ok(Written::Date(date)),
+        Err(fault) => Err(reason(parts, timed, fault)),
     }
 }
 
@@ -193,10 +308,10 @@ fn reading_of_parts(order: DateOrder, parts: &[Part], timed: &[Part]) -> Result<
     if parts.is_empty() || is_undated(timed) {
         return Ok(Written::NoDate);
     }
-    if let Some(fault) = unread(parts) {
-        return Err(fault);
+    if has_feast(parts) {
+        return Err(DateFault::Feast);
     }
-    Ok(Written::Date(or_open(timed, date_of(order, parts, timed))?))
+    or_reason(parts, timed, date_of(order, parts, timed))
 }
 
 /// Returns that a text is a set of dates, or why its first wrong member is not one, or otherwise
@@ -212,6 +327,19 @@ fn or_set(
         Ok(_) => Ok(Ok(Written::Set)),
         Err(DateFault::Malformed) => Ok(Err(fault)),
         Err(reason) => Ok(Err(reason)),
+    }
+}
+
+/// Returns what a text says, or else the years that it is by digits and signs alone.
+fn or_years(text: &str, read: Result<Written, DateFault>) -> Result<Written, DateFault>
+    ensures { result ≡ spec.or_years text.now read }
+{
+    match read {
+        Ok(written) => Ok(written),
+        Err(fault) => match years_of_text(text) {
+            Some(date) => Ok(Written::Date(date)),
+            None => Err(fault),
+        },
     }
 }
 
@@ -249,6 +377,6 @@ pub fn read_date(
         .collect(alloc)?;
     match reading_of_parts(order, parts.as_slice(), timed.as_slice()) {
         Ok(written) => Ok(Ok(written)),
-        Err(fault) => or_set(alloc, text, fault),
+        Err(fault) => Ok(or_years(text, or_set(alloc, text, fault)?)),
     }
 }

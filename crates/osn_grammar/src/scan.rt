@@ -4,6 +4,7 @@ ghost use Rattle.std.specs.Prelude.{IfOk, OnOk, drop, length, string_bytes};
 ghost use Rattle.std.specs.Option.{option_to_list};
 ghost use Rattle.osn_grammar.specs.Scan as spec;
 
+use crate::names::part_named;
 use crate::part::{Part, are_digits, part_of};
 use std::alloc::{AllocError, Global};
 
@@ -79,6 +80,16 @@ fn first_of(characters: &[char]) -> Option<char>
     }
 }
 
+/// Returns whether a letter comes next.
+fn is_letter_next(rest: &[char]) -> bool
+    ensures { result ≡ spec.is_letter_next rest.now }
+{
+    match rest {
+        [first, ..] => is_letter(*first),
+        [] => false,
+    }
+}
+
 /// Returns whether one letter alone comes next.
 fn is_letter_alone(rest: &[char]) -> bool
     ensures { result ≡ spec.is_letter_alone rest.now }
@@ -115,6 +126,13 @@ fn is_number_next(rest: &[char]) -> bool
     false
 }
 
+/// Returns whether a word is the name of a month, as in `Feb:`.
+fn is_month_name(word: &str) -> bool
+    ensures { result ≡ spec.is_month_name word.now }
+{
+    matches!(part_named(word), Some(Part::Month(_)))
+}
+
 /// Returns the mark that a full stop is, after a word and before the rest of the text.
 fn mark_of_stop(word: &str, rest: &[char]) -> Option<Part>
     ensures { result ≡ spec.mark_of_stop word.now rest.now }
@@ -146,6 +164,7 @@ fn mark_of(word: &str, character: char, rest: &[char]) -> Option<Part>
         '[' | ']' => Some(Part::Bracket),
         '.' => mark_of_stop(word, rest),
         ',' | '(' | ')' => None,
+        ':' if is_month_name(word) => None,
         _ => Some(Part::Unknown),
     }
 }
@@ -171,11 +190,16 @@ fn push_some(parts: &mut Vec<Part>, part: Option<Part>) -> Result<(), AllocError
     Ok(())
 }
 
-/// Returns whether a full stop after a word is ignored, since it is between two single letters.
+/// Returns whether a mark after a word belongs to it: a full stop between two single letters, as in
+/// `O.S.`, or a colon between the name of a month and a letter, as in `Feb:ry`.
 fn is_passed_over(word: &str, character: char, rest: &[char]) -> bool
     ensures { result ≡ spec.is_passed_over word.now character rest.now }
 {
-    character == '.' && is_letter_alone(rest) && word.len() == 1 && !are_digits(word.as_bytes())
+    match character {
+        '.' => is_letter_alone(rest) && word.len() == 1 && !are_digits(word.as_bytes()),
+        ':' => is_letter_next(rest) && is_month_name(word),
+        _ => false,
+    }
 }
 
 /// Takes one more character, before the rest of the text.

@@ -26,7 +26,7 @@ fn before_bracket(text: &str) -> Option<&str>
 }
 
 /// Returns the text between square brackets, if a text is in brackets.
-fn inside_brackets(text: &str) -> Option<&str>
+pub fn inside_brackets(text: &str) -> Option<&str>
     ensures { option_map (λ inside. inside.now) result ≡ spec.inside_brackets text.now }
 {
     before_bracket(after_bracket(text)?)

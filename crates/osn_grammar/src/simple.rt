@@ -1,5 +1,5 @@
 //! Simple dates: a day, a month or a year, by the forms in which they are written.
-ghost use Rattle.std.specs.Prelude.{◌≡◌, ◌+◌, ◌%◌, ◌^◌, ◌==◌, ◌<◌, ◌≤◌};
+ghost use Rattle.std.specs.Prelude.{◌≡◌, ◌+◌, ◌%◌, ◌^◌, ◌==◌, ◌<◌, ◌≤◌, IfOk};
 ghost use Rattle.osn_grammar.specs.Simple as spec;
 
 use crate::order::{is_month, order_of};
@@ -23,7 +23,7 @@ pub fn one(first: Numeral) -> YearNumbers
 }
 
 /// Returns a year of two numbers.
-fn two(first: Numeral, later: Numeral) -> YearNumbers
+pub fn two(first: Numeral, later: Numeral) -> YearNumbers
     ensures { result ≡ spec.two first later }
 {
     YearNumbers {
@@ -67,8 +67,9 @@ fn has_its_later_year(years: YearNumbers) -> bool
 }
 
 /// Returns the year of these numbers.
-fn year_of(years: YearNumbers) -> Result<Year, DateFault>
-    ensures { result ≡ spec.year_of years }
+pub fn year_of(years: YearNumbers) -> Result<Year, DateFault>
+    ensures value { result ≡ spec.year_of years }
+    ensures small { IfOk result (λ year. year.first ≤ 10000) }
 {
     if !is_long(years.first) {
         return Err(DateFault::ShortYear);
@@ -138,7 +139,7 @@ fn day_of(years: YearNumbers, month: u32, day: u32) -> Result<SimpleDate, DateFa
 }
 
 /// Returns the day of a number in a month of a year, if it has one or two digits.
-fn day_of_month(years: YearNumbers, month: u8, day: Numeral) -> Result<SimpleDate, DateFault>
+pub fn day_of_month(years: YearNumbers, month: u8, day: Numeral) -> Result<SimpleDate, DateFault>
     ensures { result ≡ spec.day_of_month years month day }
 {
     if is_long(day) {
@@ -240,7 +241,7 @@ fn year_last(
 }
 
 /// Returns the date of a month's name between two numbers, of which one is the year.
-fn around_month(first: Numeral, month: u8, last: Numeral) -> Result<SimpleDate, DateFault>
+pub fn around_month(first: Numeral, month: u8, last: Numeral) -> Result<SimpleDate, DateFault>
     ensures { result ≡ spec.around_month first month last }
 {
     if is_long(first) {
@@ -349,24 +350,6 @@ fn day_in_words(parts: &[Part]) -> Result<SimpleDate, DateFault>
         [Number(a), Slash, Number(b), Month(m), Number(c)] => {
             double_year_or_days(*a, *b, *m, *c)
         }
-        [
-            Number(_),
-            Slash,
-            Number(_),
-            Month(_),
-            Number(_),
-            Slash,
-            Number(_),
-        ]
-        | [
-            Number(_),
-            Month(_),
-            Number(_),
-            Slash,
-            Number(_),
-            Month(_),
-            Number(_),
-        ] => { Err(DateFault::TwoDays) }
         [Number(y), Number(d), Month(m)] => year_and_day(*y, *d, *m),
         [Month(m), Number(d), Number(y)] | [Month(m), Number(d), Dot, Number(y)] => {
             day_of_month(one(*y), *m, *d)

@@ -105,7 +105,7 @@ const OTHER_FAULTS: [Row; 21] = [
     ("11/2/1731", Err(DateFault::DayOrMonth)),
     ("11/22 February 1731", Err(DateFault::TwoDays)),
     ("Easter 1640", Err(DateFault::Feast)),
-    ("xi February 1731", Err(DateFault::RomanNumeral)),
+    ("vi February 1731", Err(DateFault::RomanNumeral)),
     ("11 Feb. 1731/5", LATER_YEAR),
     ("Feb 32, 1731", Err(DateFault::Day)),
     ("11.13.1731", Err(DateFault::Month)),

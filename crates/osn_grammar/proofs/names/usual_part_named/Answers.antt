@@ -1,5 +1,5 @@
 use Rattle.osn_grammar.specs.Names.{names}
-use Rattle.osn_grammar.proofs.names.part_named.Goals as goal
+use Rattle.osn_grammar.proofs.names.usual_part_named.Goals as goal
 
 pub returns : goal.returns
 unfolding names

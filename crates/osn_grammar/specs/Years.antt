@@ -1,0 +1,125 @@
+-- Decades and centuries, which are ranges of years. This project's profile.
+use Rattle.std.specs.Prelude.{ℕ, Bool, true, false, not, ◌&&◌, ◌||◌, ◌==◌, ◌-◌, ◌*◌}
+use Rattle.std.specs.Prelude.{if◌then◌else◌, List, [], ◌∷◌, Option, Some, None}
+use Rattle.std.specs.Str.{all_ascii_digits}
+use Rattle.osn_grammar.specs.declared.part.Part.{Part}
+use Rattle.osn_grammar.specs.declared.part.Part.TheVariants as part
+use Rattle.osn_grammar.specs.declared.part.Part.TheVariants.{Number, Roman, Century, Dash}
+use Rattle.osn_grammar.specs.declared.part.Part.TheVariants.{Slash, To, Or}
+use Rattle.osn_grammar.specs.declared.part.Years.{Years}
+use Rattle.osn_grammar.specs.Parts.{are_two_digits, decade, hundred}
+use Rattle.osn_grammar.specs.Sets.{inside_brackets}
+use Rattle.osn_grammar.specs.Simple.{is_between}
+use Rattle.osn_written.specs.declared.any_date.AnyDate.{AnyDate}
+use Rattle.osn_written.specs.declared.any_date.Extent.{Extent}
+use Rattle.osn_written.specs.declared.any_date.Extent.TheVariants as extent
+use Rattle.osn_written.specs.declared.any_date.SimpleDate.{SimpleDate}
+use Rattle.osn_written.specs.declared.any_date.SimpleDate.TheVariants as date
+
+abbrev pub whole_year : ℕ → SimpleDate
+whole_year y = date.Year (record {
+  first = y;
+  is_double = false;
+  has_three_digits = false;
+})
+
+abbrev pub range_of : Years → Extent
+range_of years = extent.FromTo (whole_year years.first) (whole_year years.last)
+
+-- ---- in words
+
+-- the 16th century is 1501 to 1600
+abbrev pub century : ℕ → Option Years
+century n =
+    if is_between 1 99 n then Some (record { first = 100 * n - 99; last = 100 * n }) else None
+
+abbrev pub both_years : Option Years → Option Years → Option Years
+both_years None last = None
+both_years (Some first) None = None
+both_years (Some first) (Some last) = Some (record { first = first.first; last = last.last })
+
+-- 1580s-1590s, 15th/16th century, 15th to 16th century, 15th or 16th century
+abbrev pub joined : Option Years → Part → Option Years → Option Years
+joined first Dash last = both_years first last
+joined first Slash last = both_years first last
+joined first To last = both_years first last
+joined first Or last = both_years first last
+joined first _ last = None
+
+-- a decade, 158x, 1580s, or a century, 15xx, 16th century, XVIe siècle, sec. XVI
+abbrev pub one_in : List Part → Option Years
+one_in (part.Years years ∷ []) = Some years
+one_in (Number n ∷ Century ∷ []) = century n.value
+one_in (Roman n ∷ Century ∷ []) = century n
+one_in (Century ∷ Roman n ∷ []) = century n
+one_in _ = None
+
+-- two of them
+abbrev pub decades_in : List Part → Option Years
+decades_in (part.Years first ∷ p ∷ part.Years last ∷ []) = joined (Some first) p (Some last)
+decades_in _ = None
+
+abbrev pub centuries_in : List Part → Option Years
+centuries_in (Number first ∷ p ∷ Number last ∷ Century ∷ []) =
+    joined (century first.value) p (century last.value)
+centuries_in _ = None
+
+abbrev pub roman_years : ℕ → Part → ℕ → Option Years
+roman_years first p last = joined (century first) p (century last)
+
+abbrev pub roman_centuries_in : List Part → Option Years
+roman_centuries_in (Roman first ∷ p ∷ Roman last ∷ Century ∷ []) = roman_years first p last
+roman_centuries_in (Century ∷ Roman first ∷ p ∷ Roman last ∷ []) = roman_years first p last
+roman_centuries_in _ = None
+
+abbrev pub or_years : Option Years → Option Years → Option Years
+or_years (Some years) other = Some years
+or_years None other = other
+
+abbrev pub years_in : List Part → Option Years
+years_in parts =
+    or_years (or_years (one_in parts) (decades_in parts))
+    (or_years (centuries_in parts) (roman_centuries_in parts))
+
+-- ---- in digits and signs
+
+-- 158? and 158- are a decade, and 15-- the years that begin with 15. With a zero in front, 058? is
+-- a year in doubt
+abbrev pub years_by_signs : ℕ → ℕ → ℕ → ℕ → Option Years
+years_by_signs a b c d =
+    if not (are_two_digits a b) || a == 48 then None
+    else (if all_ascii_digits (c ∷ []) && (d == 45 || d == 63) then Some (decade a b c)
+    else (if c == 45 && d == 45 then Some (hundred a b)
+    else None))
+
+abbrev pub date_of_years : Option Years → Bool → Bool → Option AnyDate
+date_of_years None uncertain supplied = None
+date_of_years (Some years) uncertain supplied = Some (record {
+  extent = range_of years;
+  weekday = None;
+  reckoning = None;
+  is_approximate = false;
+  is_uncertain = uncertain;
+  is_supplied = supplied;
+})
+
+-- a text of digits and signs, and nothing else. 158-? and 15--? are in doubt. A dash may be U+2013
+-- after three digits
+abbrev pub open_years : Bool → List ℕ → Option AnyDate
+open_years supplied (a ∷ b ∷ c ∷ d ∷ []) =
+    date_of_years (years_by_signs a b c d) false supplied
+open_years supplied (a ∷ b ∷ c ∷ d ∷ e ∷ []) =
+    if d == 45 && e == 63 then date_of_years (years_by_signs a b c d) true supplied else None
+open_years supplied (a ∷ b ∷ c ∷ d ∷ e ∷ f ∷ []) =
+    if d == 226 && (e == 128 && f == 147) then
+    date_of_years (years_by_signs a b c 45) false supplied
+    else None
+open_years supplied _ = None
+
+-- in brackets an editor supplied it: [158-]
+abbrev pub open_inside : List ℕ → Option (List ℕ) → Option AnyDate
+open_inside text None = open_years false text
+open_inside text (Some inside) = open_years true inside
+
+abbrev pub years_of_text : List ℕ → Option AnyDate
+years_of_text text = open_inside text (inside_brackets text)

@@ -1,0 +1,63 @@
+//! A day with a Roman numeral for its day or its month.
+ghost use Rattle.std.specs.Prelude.{◌≡◌};
+ghost use Rattle.osn_grammar.specs.Roman as spec;
+
+use crate::part::Numeral;
+use crate::part::Part::{self, Dash, Month, Number, Roman, Slash};
+use crate::simple::{YearNumbers, around_month, day_of_month, is_long, one, two};
+use osn_written::{DateFault, SimpleDate};
+
+/// Returns the day of a Roman numeral in a month.
+fn roman_day(years: YearNumbers, month: u8, day: u8) -> Result<SimpleDate, DateFault>
+    ensures { result ≡ spec.roman_day years month day }
+{
+    day_of_month(
+        years,
+        month,
+        Numeral {
+            value: u32::from(day),
+            digits: 2,
+        },
+    )
+}
+
+/// Returns the day of a year and the name of a month before a Roman numeral.
+fn year_first(year: Numeral, month: u8, day: u8) -> Result<SimpleDate, DateFault>
+    ensures { result ≡ spec.year_first year month day }
+{
+    if is_long(year) {
+        roman_day(one(year), month, day)
+    } else {
+        Err(DateFault::Malformed)
+    }
+}
+
+/// Returns the day of two numbers with a Roman numeral between them, which is the month.
+fn around_roman(first: Numeral, month: u8, last: Numeral) -> Result<SimpleDate, DateFault>
+    ensures { result ≡ spec.around_roman first month last }
+{
+    if month <= 12 {
+        around_month(first, month, last)
+    } else {
+        Err(DateFault::Malformed)
+    }
+}
+
+/// Returns the day of parts with one Roman numeral, which is the day beside the name of a month, and
+/// the month between two numbers.
+pub fn roman_date(parts: &[Part]) -> Result<SimpleDate, DateFault>
+    ensures { result ≡ spec.roman_date parts.now }
+{
+    match parts {
+        [Roman(d), Month(m), Number(y)] | [Month(m), Roman(d), Number(y)] => {
+            roman_day(one(*y), *m, *d)
+        }
+        [Roman(d), Month(m), Number(y), Slash, Number(l)]
+        | [Month(m), Roman(d), Number(y), Slash, Number(l)] => roman_day(two(*y, *l), *m, *d),
+        [Number(y), Month(m), Roman(d)] => year_first(*y, *m, *d),
+        [Number(a), Roman(m), Number(b)]
+        | [Number(a), Dash, Roman(m), Dash, Number(b)]
+        | [Number(a), Slash, Roman(m), Slash, Number(b)] => around_roman(*a, *m, *b),
+        _ => Err(DateFault::Malformed),
+    }
+}

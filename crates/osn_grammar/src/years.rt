@@ -1,0 +1,182 @@
+//! Decades and centuries, which are ranges of years.
+ghost use Rattle.std.specs.Prelude.{◌≡◌};
+ghost use Rattle.osn_grammar.specs.Years as spec;
+
+use crate::part::Part::{self, Century, Dash, Number, Or, Roman, Slash, To};
+use crate::part::{Years, are_two_digits, decade, hundred};
+use crate::set::inside_brackets;
+use osn_written::{AnyDate, Extent, SimpleDate, Year};
+
+/// Returns the date that is a whole year.
+fn whole_year(first: u16) -> SimpleDate
+    ensures { result ≡ spec.whole_year first }
+{
+    SimpleDate::Year(Year {
+        first,
+        is_double: false,
+        has_three_digits: false,
+    })
+}
+
+/// Returns the range of the years.
+pub fn range_of(years: Years) -> Extent
+    ensures { result ≡ spec.range_of years }
+{
+    Extent::FromTo(whole_year(years.first), whole_year(years.last))
+}
+
+/// Returns the years of a century, which is the 1st to the 99th: the 16th is 1501 to 1600.
+fn century(number: u32) -> Option<Years>
+    ensures { result ≡ spec.century number }
+{
+    if number >= 1 && number <= 99 {
+        let last = 100 * number as u16;
+        Some(Years {
+            first: last - 99,
+            last,
+        })
+    } else {
+        None
+    }
+}
+
+/// Returns the years from the first of some to the last of others, if a part joins them.
+fn joined(first: Option<Years>, part: Part, last: Option<Years>) -> Option<Years>
+    ensures { result ≡ spec.joined first part last }
+{
+    match part {
+        Dash | Slash | To | Or => Some(Years {
+            first: first?.first,
+            last: last?.last,
+        }),
+        _ => None,
+    }
+}
+
+/// Returns the years of parts that are one decade or one century.
+fn one_in(parts: &[Part]) -> Option<Years>
+    ensures { result ≡ spec.one_in parts.now }
+{
+    match parts {
+        [Part::Years(years)] => Some(*years),
+        [Number(number), Century] => century(number.value),
+        [Roman(number), Century] | [Century, Roman(number)] => century(u32::from(*number)),
+        _ => None,
+    }
+}
+
+/// Returns the years from one decade to another.
+fn decades_in(parts: &[Part]) -> Option<Years>
+    ensures { result ≡ spec.decades_in parts.now }
+{
+    match parts {
+        [Part::Years(first), part, Part::Years(last)] => joined(Some(*first), *part, Some(*last)),
+        _ => None,
+    }
+}
+
+/// Returns the years from one century to another, by their numbers.
+fn centuries_in(parts: &[Part]) -> Option<Years>
+    ensures { result ≡ spec.centuries_in parts.now }
+{
+    match parts {
+        [Number(first), part, Number(last), Century] => {
+            joined(century(first.value), *part, century(last.value))
+        }
+        _ => None,
+    }
+}
+
+/// Returns the years of two numbers of centuries.
+fn roman_years(first: u8, part: Part, last: u8) -> Option<Years>
+    ensures { result ≡ spec.roman_years first part last }
+{
+    joined(century(u32::from(first)), part, century(u32::from(last)))
+}
+
+/// Returns the years from one century to another, by Roman numerals.
+fn roman_centuries_in(parts: &[Part]) -> Option<Years>
+    ensures { result ≡ spec.roman_centuries_in parts.now }
+{
+    match parts {
+        [Roman(first), part, Roman(last), Century] => roman_years(*first, *part, *last),
+        [Century, Roman(first), part, Roman(last)] => roman_years(*first, *part, *last),
+        _ => None,
+    }
+}
+
+/// Returns the first of two.
+fn or_years(first: Option<Years>, other: Option<Years>) -> Option<Years>
+    ensures { result ≡ spec.or_years first other }
+{
+    match first {
+        Some(years) => Some(years),
+        None => other,
+    }
+}
+
+/// Returns the years of parts that are a decade or a century, or two of them.
+pub fn years_in(parts: &[Part]) -> Option<Years>
+    ensures { result ≡ spec.years_in parts.now }
+{
+    or_years(
+        or_years(one_in(parts), decades_in(parts)),
+        or_years(centuries_in(parts), roman_centuries_in(parts)),
+    )
+}
+
+/// Returns the decade of `158?` or `158-`, or the hundred years of `15--`.
+fn years_by_signs(a: u8, b: u8, c: u8, d: u8) -> Option<Years>
+    ensures { result ≡ spec.years_by_signs a b c d }
+{
+    if !are_two_digits(a, b) || a == b'0' {
+        None
+    } else if c.is_ascii_digit() && (d == b'-' || d == b'?') {
+        Some(decade(a, b, c))
+    } else if c == b'-' && d == b'-' {
+        Some(hundred(a, b))
+    } else {
+        None
+    }
+}
+
+/// Returns the date that is these years, if there are any.
+fn date_of_years(years: Option<Years>, is_uncertain: bool, is_supplied: bool) -> Option<AnyDate>
+    ensures { result ≡ spec.date_of_years years is_uncertain is_supplied }
+{
+    Some(AnyDate {
+        extent: range_of(years?),
+        weekday: None,
+        reckoning: None,
+        is_approximate: false,
+        is_uncertain,
+        is_supplied,
+    })
+}
+
+/// Returns the years that a text is, if it is two or three digits of a year and a sign for each of
+/// the others. A question mark after dashes says that the years are in doubt.
+fn open_years(text: &[u8], is_supplied: bool) -> Option<AnyDate>
+    ensures { result ≡ spec.open_years is_supplied text.now }
+{
+    match text {
+        [a, b, c, d] => date_of_years(years_by_signs(*a, *b, *c, *d), false, is_supplied),
+        [a, b, c, d, e] if *d == b'-' && *e == b'?' => {
+            date_of_years(years_by_signs(*a, *b, *c, *d), true, is_supplied)
+        }
+        [a, b, c, d, e, f] if *d == 0xe2 && *e == 0x80 && *f == 0x93 => {
+            date_of_years(years_by_signs(*a, *b, *c, b'-'), false, is_supplied)
+        }
+        _ => None,
+    }
+}
+
+/// Returns the years that a text is, such as `158?`, `[158-]` and `15--?`, if it is nothing else.
+pub fn years_of_text(text: &str) -> Option<AnyDate>
+    ensures { result ≡ spec.years_of_text text.now }
+{
+    match inside_brackets(text) {
+        Some(inside) => open_years(inside.as_bytes(), true),
+        None => open_years(text.as_bytes(), false),
+    }
+}
