@@ -6,8 +6,8 @@ edits that wait. For each date the page of `read` is compared with the one of `p
 asks every day of the line that has the month and day. So are those of months, years, ranges,
 bounds and sets in random forms, by `spans.py`, with the answer of the query `written`, and the
 pages of days about the changes, of the date's month and year, of conversions, and of the
-territories. Wrong arguments, unknown codes and missing files must be reported as docs/PAGES.md
-says.
+territories. No line of these pages and of almanacs may end with a space. Wrong arguments, unknown
+codes and missing files must be reported as docs/PAGES.md says.
 """
 import os
 import random
@@ -85,9 +85,16 @@ def numbered(chance, day):
     return chance.choice(named + ([str(day)] if day <= OFFSET else []))
 
 
+def untrimmed(words, page):
+    """What a run was asked, if a line of its page ends with a space or without a line feed."""
+    if any(line[-2:-1].isspace() or line[-1] != "\n" for line in page.splitlines(True)):
+        yield f"{words}:\n  a line ends with a space or without a line feed: {page}"
+
+
 def differs(program, words, expected, status=0, fault=None):
     """What a run was asked and gave, if it gives another page or reports another fault."""
     done = run(program, words)
+    yield from untrimmed(words, done.stdout)
     found = done.returncode, done.stdout.splitlines(), done.stderr.splitlines()
     if found != (status, expected, [fault] if fault else []):
         yield f"{words}:\n  wanted {expected} {fault or ''}\n  found  {found}"
@@ -192,6 +199,8 @@ class Asked:
         if 1 <= label[0] <= 9_999:
             lines = year_page(self.place, label[0])
             yield from self.page(["year", "XX", str(label[0])], lines)
+            words = ["almanac", self.journal, "XX", str(label[0])]
+            yield from untrimmed(words, run(self.program, words).stdout or " ")
 
     def conversion(self, label):
         calendar, weekday = self.chance.choice(CALENDARS), self.chance.choice(["", *WEEKDAYS])

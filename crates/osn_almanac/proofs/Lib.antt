@@ -1,4 +1,2 @@
-mod EndFacts
 pub mod Text
-pub mod TrimmedFacts
 mod YearFacts

@@ -1,201 +1,176 @@
--- The almanac of a territory and year from what the register answers, line by line, each with its
--- line feed: this project's profile.
-use Rattle.std.specs.Prelude.{ℕ, Bool, ◌&&◌, nat_lt, if◌then◌else◌, ℤ, pos, ◌+ℤ◌, List, [], ◌∷◌}
-use Rattle.std.specs.Prelude.{◌++◌, map, Option, Some, None, true, false, codes}
-use Rattle.std.specs.Fmt.{decimal, signed_decimal}
-use Rattle.std.specs.List.{flat_map, concat}
+-- The almanac of a territory and year, line by line, each with its line feed: this project's
+-- profile. No line ends with a space.
+use Rattle.std.specs.Prelude.{ℕ, Bool, ◌&&◌, nat_lt, if◌then◌else◌, ℤ, pos, unsigned_abs, List, []}
+use Rattle.std.specs.Prelude.{◌∷◌, ◌++◌, Option, Some, None, is_some, codes}
+use Rattle.std.specs.Fmt.{decimal}
+use Rattle.std.specs.List.{flat_map}
 use Rattle.std.specs.Ordering.{int_eq}
-use Rattle.std.specs.Str.{bytes_eq}
-use Rattle.osn_computus.specs.declared.epact.Epact.{Epact}
 use Rattle.osn_computus.specs.declared.letters.Letters.{Letters}
+use Rattle.osn_computus.specs.Figures.{golden_number, indiction, julian_epact, gregorian_epact}
 use Rattle.osn_computus.specs.FigureTexts.{epact_text, letters_text}
+use Rattle.osn_computus.specs.Letters.{letters_of}
 use Rattle.osn_computus.specs.RuleWords.{rule_word}
-use Rattle.osn_days.specs.declared.calendar.Calendar.TheVariants.{Gregorian}
-use Rattle.osn_days.specs.Profile.{Profile}
+use Rattle.osn_days.specs.declared.calendar.Calendar.{Calendar}
+use Rattle.osn_days.specs.declared.calendar.Calendar.TheVariants.{Gregorian, Julian}
+use Rattle.osn_days.specs.CalendarWords.{calendar_word}
 use Rattle.osn_days.specs.Chain.{date_of}
 use Rattle.osn_days.specs.DateText.{text_of_date}
 use Rattle.osn_days.specs.Month.{month_name}
-use Rattle.osn_days.specs.CalendarWords.{calendar_word}
+use Rattle.osn_days.specs.Profile.{Profile}
 use Rattle.osn_lands.specs.declared.period.Period.{Period}
-use Rattle.osn_lands.specs.Dual.{dual_text}
+use Rattle.osn_lands.specs.Dated.{dated_day, dated_on, dated_text}
+use Rattle.osn_lands.specs.Easters.{easters}
+use Rattle.osn_lands.specs.Exceptions.{exception_of}
 use Rattle.osn_lands.specs.StyleWords.{style_word}
-use Rattle.osn_register.specs.declared.answer.Answer.{Answer}
-use Rattle.osn_register.specs.declared.answer.Answer.TheVariants as answers
-use Rattle.osn_register.specs.declared.answer.Found.{Found}
-use Rattle.osn_register.specs.declared.answer.Land.{Land}
-use Rattle.osn_register.specs.declared.answer.PeriodAndSource.{PeriodAndSource}
-use Rattle.osn_register.specs.declared.query.Query.TheVariants.{Read, DayIn, Easter, YearFigures}
-use Rattle.osn_register.specs.declared.query.Query.TheVariants.{Lands, Periods}
+use Rattle.osn_lands.specs.Territory.{TerritoryModel, periods_of, reading}
 use Rattle.osn_register.specs.declared.refusal.Refusal.{Refusal}
-use Rattle.osn_register.specs.Answer.{answer, easter_refusal}
-use Rattle.osn_register.specs.Plain.{LandModel}
-use Rattle.osn_pages.specs.SourceLine.{source_line}
+use Rattle.osn_register.specs.Answer.{period_source, easter_source, easter_refusal}
+use Rattle.osn_register.specs.Named.{named_of}
+use Rattle.osn_register.specs.Plain.{LandModel, sources_of}
+use Rattle.osn_register.specs.Sources.{SourcesModel}
+use Rattle.osn_pages.specs.SourceLine.{source_text}
 use Rattle.osn_almanac.specs.declared.feast.Feast.{Feast}
-use Rattle.osn_almanac.specs.Columns.{day_line, absent_line}
-use Rattle.osn_almanac.specs.Feast.{feast_name, days_after_easter, feasts}
+use Rattle.osn_almanac.specs.Columns.{day_columns, absent_line}
+use Rattle.osn_almanac.specs.Feast.{feast_name, feast_day, feasts}
 
 -- ---- the heading
 
-unfoldable pub heading : List ℕ → List ℕ → ℤ → List ℕ
+unfoldable pub heading : List ℕ → List ℕ → ℕ → List ℕ
 heading name code year =
     codes "Almanac of "
-    ++ (name
-    ++ (codes " (" ++ (code ++ (codes ") for " ++ (signed_decimal year ++ codes "\n")))))
-
--- the name of the territory that has the code, of those that are listed, and no text if no
--- territory has it
-abbrev pub name_among : List ℕ → List Land → List ℕ
-name_among code [] = []
-name_among code (land ∷ rest) =
-    if bytes_eq land.code code then land.name else name_among code rest
-
-abbrev pub name_in : List ℕ → Answer → List ℕ
-name_in code (answers.Lands lands) = name_among code lands
-name_in code other = []
-
-abbrev pub heading_lines : List ℕ → ℤ → Answer → List (List ℕ)
-heading_lines code year lands = heading (name_in code lands) code year ∷ []
+    ++ (name ++ (codes " (" ++ (code ++ (codes ") for " ++ (decimal year ++ codes "\n")))))
 
 -- ---- the figures
 
-unfoldable pub cycles_line : ℕ → ℕ → List ℕ
-cycles_line golden indiction =
+abbrev pub letters_if : Option Letters → List ℕ
+letters_if None = []
+letters_if (Some letters) = letters_text letters
+
+-- the Sunday letters of a year in a calendar, if it has any
+abbrev pub letters_in : Profile → Calendar → ℕ → List ℕ
+letters_in p calendar year = letters_if (letters_of p calendar year)
+
+unfoldable pub cycles_line : ℕ → List ℕ
+cycles_line year =
     codes "Golden number "
-    ++ (decimal golden ++ (codes ", indiction " ++ (decimal indiction ++ codes "\n")))
+    ++ (decimal (golden_number year)
+    ++ (codes ", indiction " ++ (decimal (indiction year) ++ codes "\n")))
 
-unfoldable pub julian_line : ℕ → Letters → List ℕ
-julian_line epact letters =
+unfoldable pub julian_line : Profile → ℕ → List ℕ
+julian_line p year =
     codes "Julian epact "
-    ++ (decimal epact ++ (codes ", Sunday letter " ++ (letters_text letters ++ codes "\n")))
+    ++ (decimal (julian_epact year)
+    ++ (codes ", Sunday letter " ++ (letters_in p Julian year ++ codes "\n")))
 
-unfoldable pub gregorian_line : Epact → Letters → List ℕ
-gregorian_line epact letters =
+unfoldable pub gregorian_line : Profile → ℕ → List ℕ
+gregorian_line p year =
     codes "Gregorian epact "
-    ++ (epact_text epact ++ (codes ", Sunday letter " ++ (letters_text letters ++ codes "\n")))
+    ++ (epact_text (gregorian_epact year)
+    ++ (codes ", Sunday letter " ++ (letters_in p Gregorian year ++ codes "\n")))
 
-abbrev pub figures_lines : Answer → List (List ℕ)
-figures_lines
-    (answers.Figures year golden indiction julian_epact gregorian_epact
-    julian_letters gregorian_letters julian_easter gregorian_easter) =
-    cycles_line golden indiction
-    ∷ julian_line julian_epact julian_letters
-    ∷ gregorian_line gregorian_epact gregorian_letters
-    ∷ []
-figures_lines other = []
-
--- ---- a source
-
--- the line that cites it, if one is given
-abbrev pub source_lines : Option (List ℕ) → List (List ℕ)
-source_lines None = []
-source_lines (Some source) = source_line source ∷ []
+abbrev pub figures_lines : Profile → ℕ → List ℕ
+figures_lines p year = cycles_line year ++ (julian_line p year ++ gregorian_line p year)
 
 -- ---- the changes
 
 -- the period begins with a change, on a day that has a Gregorian date in the year
-abbrev pub is_change_in : ℤ → Period → Bool
+abbrev pub is_change_in : ℕ → Period → Bool
 is_change_in year period =
-    nat_lt 1 period.first && int_eq (date_of Gregorian period.first).year year
-
-unfoldable pub change_text : List ℕ → ℕ → List ℕ → List ℕ → List ℕ → List ℕ
-change_text dual day calendar style rule =
-    codes "From "
-    ++ (dual
-    ++ (codes ", day "
-    ++ (decimal day
-    ++ (codes ": "
-    ++ (calendar
-    ++ (codes " calendar, " ++ (style ++ (codes " style, " ++ (rule ++ codes " rule\n")))))))))
+    nat_lt 1 period.first && int_eq (date_of Gregorian period.first).year (pos year)
 
 -- the day as the new regime dates it, and how that regime reckons
 unfoldable pub change_line : Profile → Period → List ℕ
 change_line p period =
-    change_text (dual_text p period.regime period.first) period.first
-    (calendar_word period.regime.calendar) (style_word period.regime.style)
-    (rule_word period.regime.rule)
+    codes "From "
+    ++ (dated_text (dated_day p period.regime period.first)
+    ++ (codes ", day "
+    ++ (decimal period.first
+    ++ (codes ": "
+    ++ (calendar_word period.regime.calendar
+    ++ (codes " calendar, "
+    ++ (style_word period.regime.style
+    ++ (codes " style, " ++ (rule_word period.regime.rule ++ codes " rule\n")))))))))
 
--- that line, and that of the source
-abbrev pub cited_change : Profile → PeriodAndSource → List (List ℕ)
-cited_change p item = change_line p item.period ∷ source_lines item.source
+-- that line and that of the source, if the change is one of the year
+abbrev pub change_lines : Profile → Option SourcesModel → ℕ → Period → List ℕ
+change_lines p sources year period =
+    if is_change_in year period then
+    change_line p period ++ source_text (period_source sources period.first)
+    else []
 
-unfoldable pub change_of : Profile → ℤ → PeriodAndSource → List (List ℕ)
-change_of p year item = if is_change_in year item.period then cited_change p item else []
-
-abbrev pub changes_text : Profile → ℤ → PeriodAndSource → List ℕ
-changes_text p year item = concat (change_of p year item)
-
-abbrev pub change_lines : Profile → ℤ → Answer → List (List ℕ)
-change_lines p year (answers.Periods periods) = flat_map (change_of p year) periods
-change_lines p year other = []
+abbrev pub changes_text : Profile → TerritoryModel → Option SourcesModel → ℕ → List ℕ
+changes_text p t sources year = flat_map (change_lines p sources year) (periods_of p t)
 
 -- ---- Easter and the feasts counted from it
 
-abbrev pub easter_heading : List Found → Bool → List ℕ
-easter_heading [] listed = codes "Easter never\n"
-easter_heading (found ∷ more) true = codes "Easter listed\n"
-easter_heading (found ∷ more) false = codes "Easter by rule\n"
+-- whether there was an Easter and by what
+abbrev pub easter_heading : TerritoryModel → ℕ → List ℕ → List ℕ
+easter_heading t year [] =
+    if is_some (exception_of t year) then codes "Easter listed\n" else codes "Easter never\n"
+easter_heading t year (easter ∷ more) =
+    if is_some (exception_of t year) then codes "Easter listed\n" else codes "Easter by rule\n"
 
--- a feast by the answer about its day, if the day is on the line
-abbrev pub feast_line_of : Feast → Answer → List ℕ
-feast_line_of feast (answers.OnDay found period) = day_line (feast_name feast) found.day found.dual
-feast_line_of feast other = absent_line (feast_name feast) (codes "off the line")
+-- a day that has a name, with its date in the territory
+unfoldable pub dated_line : Profile → TerritoryModel → List ℕ → ℕ → List ℕ
+dated_line p t name d = day_columns name d ++ (dated_text (dated_on p t d) ++ codes "\n")
 
--- the line of a feast of a year whose Easter is that day
-unfoldable pub feast_line : Profile → List LandModel → List ℕ → ℕ → Feast → List ℕ
-feast_line p lands code easter feast =
-    feast_line_of feast
-    (answer p lands (DayIn code (pos easter +ℤ days_after_easter feast)))
+abbrev pub feast_line_on : Profile → TerritoryModel → List ℕ → Option ℕ → List ℕ
+feast_line_on p t name None = absent_line name (codes "off the line")
+feast_line_on p t name (Some d) = dated_line p t name d
 
-abbrev pub feast_lines : Profile → List LandModel → List ℕ → Found → List (List ℕ)
-feast_lines p lands code easter = map (feast_line p lands code easter.day) feasts
+-- a feast of a year with that Easter, if its day is on the line
+abbrev pub feast_line : Profile → TerritoryModel → ℕ → Feast → List ℕ
+feast_line p t easter feast = feast_line_on p t (feast_name feast) (feast_day p easter feast)
 
-abbrev pub feasts_text : Profile → List LandModel → List ℕ → Found → List ℕ
-feasts_text p lands code easter = concat (feast_lines p lands code easter)
+abbrev pub feast_lines : Profile → TerritoryModel → ℕ → List ℕ
+feast_lines p t easter = flat_map (feast_line p t easter) feasts
 
--- whether there was an Easter and by what, and the source of that
-abbrev pub cited_heading : List Found → Bool → Option (List ℕ) → List (List ℕ)
-cited_heading found listed source = easter_heading found listed ∷ source_lines source
-
-abbrev pub easter_lines : Profile → List LandModel → List ℕ → Answer → List (List ℕ)
-easter_lines p lands code (answers.Easters found listed source) =
-    cited_heading found listed source ++ flat_map (feast_lines p lands code) found
-easter_lines p lands code other = []
+abbrev pub easters_text : Profile → TerritoryModel → Option SourcesModel → ℕ → List ℕ
+easters_text p t sources year =
+    easter_heading t year (easters p t year)
+    ++ (source_text (easter_source sources year)
+    ++ flat_map (feast_lines p t) (easters p t year))
 
 -- ---- the months
 
-unfoldable pub month_day_line : ℕ → Found → List ℕ
-month_day_line month found =
-    day_line (month_name month) found.day (text_of_date (date_of Gregorian found.day))
+-- a day that is the first of a month, with its Gregorian date
+unfoldable pub month_day_line : ℕ → ℕ → List ℕ
+month_day_line month d =
+    day_columns (month_name month) d ++ (text_of_date (date_of Gregorian d) ++ codes "\n")
 
--- a line for each day that is the first of the month
-abbrev pub month_lines_of : ℕ → Answer → List (List ℕ)
-month_lines_of month (answers.Reading (found ∷ more) skipped) =
-    map (month_day_line month) (found ∷ more)
-month_lines_of month other = absent_line (month_name month) (codes "none") ∷ []
+-- a line for each of the days, if there are any
+abbrev pub lines_of_month : ℕ → List ℕ → List ℕ
+lines_of_month month [] = absent_line (month_name month) (codes "none")
+lines_of_month month (d ∷ days) = flat_map (month_day_line month) (d ∷ days)
 
 -- the month of the year as the territory counts it
-unfoldable pub month_lines : Profile → List LandModel → List ℕ → ℤ → ℕ → List (List ℕ)
-month_lines p lands code year month =
-    month_lines_of month (answer p lands (Read code year (pos month) (pos 1)))
-
-abbrev pub month_text : Profile → List LandModel → List ℕ → ℤ → ℕ → List ℕ
-month_text p lands code year month = concat (month_lines p lands code year month)
+abbrev pub month_lines : Profile → TerritoryModel → ℕ → ℕ → List ℕ
+month_lines p t year month =
+    lines_of_month month (reading p t (record { year = pos year; month = month; day = 1 }))
 
 abbrev pub months : List ℕ
 months = 1 ∷ 2 ∷ 3 ∷ 4 ∷ 5 ∷ 6 ∷ 7 ∷ 8 ∷ 9 ∷ 10 ∷ 11 ∷ 12 ∷ []
 
+abbrev pub months_text : Profile → TerritoryModel → ℕ → List ℕ
+months_text p t year = flat_map (month_lines p t year) months
+
 -- ---- the whole
 
-abbrev pub almanac_lines : Profile → List LandModel → List ℕ → ℤ → List (List ℕ)
-almanac_lines p lands code year =
-    heading_lines code year (answer p lands Lands)
-    ++ (figures_lines (answer p lands (YearFigures year))
-    ++ (change_lines p year (answer p lands (Periods code))
-    ++ (easter_lines p lands code (answer p lands (Easter code year))
-    ++ flat_map (month_lines p lands code year) months)))
+abbrev pub year_lines : Profile → TerritoryModel → Option SourcesModel → ℕ → List ℕ
+year_lines p t sources year =
+    figures_lines p year
+    ++ (changes_text p t sources year ++ (easters_text p t sources year ++ months_text p t year))
 
+abbrev pub almanac_of : Profile → Option (List ℕ × TerritoryModel) → Option SourcesModel → List ℕ
+    → ℕ → List ℕ
+almanac_of p None sources code year = []
+almanac_of p (Some named) sources code year =
+    heading named.0 code year ++ year_lines p named.1 sources year
+
+-- the almanac of a year that is not refused
 unfoldable pub almanac : Profile → List LandModel → List ℕ → ℤ → List ℕ
-almanac p lands code year = concat (almanac_lines p lands code year)
+almanac p lands code year =
+    almanac_of p (named_of code lands) (sources_of code lands) code (unsigned_abs year)
 
 -- why there is no almanac: what refuses a query of the territory's Easters
 abbrev pub almanac_refusal : Profile → List LandModel → List ℕ → ℤ → Option Refusal

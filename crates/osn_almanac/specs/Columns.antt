@@ -21,13 +21,11 @@ weekday_column d = left_in 9 (weekday_name (weekday_numbered (weekday d)))
 abbrev pub day_column : ℕ → List ℕ
 day_column = right_in 7
 
--- the line of a day that has a name, with its date
-unfoldable pub day_line : List ℕ → ℕ → List ℕ → List ℕ
-day_line name d date =
+-- the name of a day, its weekday and its number, which its date follows
+unfoldable pub day_columns : List ℕ → ℕ → List ℕ
+day_columns name d =
     name_column name
-    ++ (codes " "
-    ++ (weekday_column d
-    ++ (codes " " ++ (day_column d ++ (codes " " ++ (date ++ codes "\n"))))))
+    ++ (codes " " ++ (weekday_column d ++ (codes " " ++ (day_column d ++ codes " "))))
 
 -- the line of a name that no day has, with a remark
 unfoldable pub absent_line : List ℕ → List ℕ → List ℕ

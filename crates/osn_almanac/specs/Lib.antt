@@ -1,5 +1,4 @@
 pub mod Columns
 pub mod Feast
 pub mod Almanac
-pub mod Trimmed
 pub mod YearPage

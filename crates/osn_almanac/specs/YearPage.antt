@@ -2,10 +2,10 @@
 -- lived, the changes that it has or that shorten it, the feasts that fell in it, and the figures of
 -- the year from 1 January. This project's profile.
 use Rattle.std.specs.Prelude.{ℕ, Bool, ◌&&◌, ◌||◌, ◌==◌, nat_lt, if◌then◌else◌, ◌+◌, ◌-◌}
-use Rattle.std.specs.Prelude.{ℤ, pos, int_le, ◌+ℤ◌, unsigned_abs, List, [], ◌∷◌, ◌++◌, map, length}
+use Rattle.std.specs.Prelude.{ℤ, pos, int_le, List, [], ◌∷◌, ◌++◌, map, length}
 use Rattle.std.specs.Prelude.{Option, Some, None, codes}
 use Rattle.std.specs.Fmt.{decimal}
-use Rattle.std.specs.List.{flat_map, list_any, concat}
+use Rattle.std.specs.List.{flat_map, list_any}
 use Rattle.std.specs.Ordering.{int_eq}
 use Rattle.std.specs.Str.{bytes_eq}
 use Rattle.osn_computus.specs.RuleWords.{rule_word}
@@ -21,10 +21,9 @@ use Rattle.osn_lands.specs.Easters.{easters}
 use Rattle.osn_lands.specs.Runs.{days_of_year}
 use Rattle.osn_lands.specs.StyleWords.{beginning_of_year}
 use Rattle.osn_lands.specs.Territory.{TerritoryModel, periods_of, regime_at}
-use Rattle.osn_register.specs.declared.query.Query.TheVariants.{YearFigures}
-use Rattle.osn_register.specs.Answer.{answer, period_source, easter_source}
+use Rattle.osn_register.specs.Answer.{period_source, easter_source}
 use Rattle.osn_register.specs.Named.{named_of}
-use Rattle.osn_register.specs.Plain.{LandModel, sources_of, is_off_line, is_off_years}
+use Rattle.osn_register.specs.Plain.{LandModel, sources_of, is_off_years}
 use Rattle.osn_register.specs.Sources.{SourcesModel}
 use Rattle.osn_pages.specs.declared.page.Published.{Published}
 use Rattle.osn_pages.specs.Grid.{pieces_of, is_next}
@@ -38,8 +37,9 @@ use Rattle.osn_almanac.specs.declared.feast.Feast.{Feast}
 use Rattle.osn_almanac.specs.declared.feast.Feast.TheVariants as feast
 use Rattle.osn_almanac.specs.declared.year_days.Part.{Part}
 use Rattle.osn_almanac.specs.declared.year_days.Part.TheVariants.{Run, Month}
+use Rattle.osn_almanac.specs.declared.year_feasts.YearEaster.{YearEaster}
 use Rattle.osn_almanac.specs.Almanac.{figures_lines}
-use Rattle.osn_almanac.specs.Feast.{feast_name, days_after_easter, feasts}
+use Rattle.osn_almanac.specs.Feast.{feast_name, feast_day, feasts}
 
 -- ---- days and months
 
@@ -129,21 +129,13 @@ is_change_of p t year change =
 abbrev pub turned_if_other : List ℕ → List ℕ → List ℕ → List ℕ
 turned_if_other part old new = if bytes_eq old new then [] else turned_line part old new
 
-abbrev pub calendar_turned : Regime → Regime → List ℕ
-calendar_turned old new = turned_if_other (codes "the calendar") (calendar_word old.calendar)
-    (calendar_word new.calendar)
-
-abbrev pub beginning_turned : Regime → Regime → List ℕ
-beginning_turned old new = turned_if_other (codes "the year's beginning")
-    (beginning_of_year old.style) (beginning_of_year new.style)
-
-abbrev pub rule_turned : Regime → Regime → List ℕ
-rule_turned old new =
-    turned_if_other (codes "the rule of Easter") (rule_word old.rule) (rule_word new.rule)
-
+-- which parts of the reckoning changed
 unfoldable pub turned_lines : Regime → Regime → List ℕ
 turned_lines old new =
-    calendar_turned old new ++ (beginning_turned old new ++ rule_turned old new)
+    turned_if_other (codes "the calendar") (calendar_word old.calendar) (calendar_word new.calendar)
+    ++ (turned_if_other (codes "the year's beginning") (beginning_of_year old.style)
+    (beginning_of_year new.style)
+    ++ turned_if_other (codes "the rule of Easter") (rule_word old.rule) (rule_word new.rule))
 
 -- the day before a change and the day of the change, and how many dates were left out or came twice
 unfoldable pub followed_line : Profile → TerritoryModel → ℕ → List ℕ
@@ -178,18 +170,15 @@ abbrev pub is_in_year : Profile → TerritoryModel → ℕ → ℕ → Bool
 is_in_year p t year d = int_eq (year_on p t d) (pos year)
 
 -- the Easters of a year from 1 January, of which only the years of figures have any
-abbrev pub easters_from_january : Profile → TerritoryModel → ℕ → List ℕ
-easters_from_january p t n = if is_off_years p (pos n) then [] else easters p t n
+abbrev pub easters_of : Profile → TerritoryModel → ℕ → List YearEaster
+easters_of p t n =
+    if is_off_years p (pos n) then []
+    else map (λ d. record { january_year = n; day = d }) (easters p t n)
 
--- the years from 1 January whose feasts the year can have
-abbrev pub years_about : ℕ → List ℕ
-years_about year = (year - 1) ∷ year ∷ (year + 1) ∷ []
-
--- the day of a feast of an Easter, if the line has it
-abbrev pub feast_day : Profile → ℕ → Feast → Option ℕ
-feast_day p easter f =
-    if is_off_line p (pos easter +ℤ days_after_easter f) then None
-    else Some (unsigned_abs (pos easter +ℤ days_after_easter f))
+-- those of the years from 1 January whose feasts the year can have
+abbrev pub easters_about : Profile → TerritoryModel → ℕ → List YearEaster
+easters_about p t year =
+    easters_of p t (year - 1) ++ (easters_of p t year ++ easters_of p t (year + 1))
 
 -- the source of a listed Easter, after the line of Easter
 abbrev pub feast_source : Option SourcesModel → ℕ → Feast → List ℕ
@@ -208,32 +197,28 @@ feast_on p t sources year n f None = []
 feast_on p t sources year n f (Some d) =
     if is_in_year p t year d then feast_lines sources n f (dated_on p t d) else []
 
-abbrev pub feast_text : Profile → TerritoryModel → Option SourcesModel → ℕ → ℕ → ℕ → Feast
+abbrev pub feast_text : Profile → TerritoryModel → Option SourcesModel → ℕ → YearEaster → Feast
     → List ℕ
-feast_text p t sources year n easter f =
-    feast_on p t sources year n f (feast_day p easter f)
+feast_text p t sources year easter f =
+    feast_on p t sources year easter.january_year f (feast_day p easter.day f)
 
-abbrev pub feasts_of_easter : Profile → TerritoryModel → Option SourcesModel → ℕ → ℕ → ℕ → List ℕ
-feasts_of_easter p t sources year n easter =
-    flat_map (feast_text p t sources year n easter) feasts
+abbrev pub feasts_of : Profile → TerritoryModel → Option SourcesModel → ℕ → YearEaster → List ℕ
+feasts_of p t sources year easter = flat_map (feast_text p t sources year easter) feasts
 
-abbrev pub feasts_of_year : Profile → TerritoryModel → Option SourcesModel → ℕ → ℕ → List ℕ
-feasts_of_year p t sources year n =
-    flat_map (feasts_of_easter p t sources year n) (easters_from_january p t n)
+-- one of these Easters fell in the year
+abbrev pub has_easter : Profile → TerritoryModel → ℕ → List YearEaster → Bool
+has_easter p t year easters = list_any (λ easter. is_in_year p t year easter.day) easters
 
--- an Easter of a year from 1 January fell in the year
-abbrev pub has_easter_of : Profile → TerritoryModel → ℕ → ℕ → Bool
-has_easter_of p t year n = list_any (is_in_year p t year) (easters_from_january p t n)
-
-abbrev pub no_easter_line : Profile → TerritoryModel → ℕ → List ℕ
-no_easter_line p t year =
-    if list_any (has_easter_of p t year) (years_about year) then []
+abbrev pub no_easter_line : Profile → TerritoryModel → ℕ → List YearEaster → List ℕ
+no_easter_line p t year easters =
+    if has_easter p t year easters then []
     else codes "no Easter fell in that year\n"
 
 -- the feasts that the territory dated in the year, and that no Easter was among them
 abbrev pub feasts_text : Profile → TerritoryModel → Option SourcesModel → ℕ → List ℕ
 feasts_text p t sources year =
-    flat_map (feasts_of_year p t sources year) (years_about year) ++ no_easter_line p t year
+    flat_map (feasts_of p t sources year) (easters_about p t year)
+    ++ no_easter_line p t year (easters_about p t year)
 
 -- ---- figures
 
@@ -242,11 +227,6 @@ unfoldable pub figures_heading : ℕ → List ℕ
 figures_heading year =
     codes "of the year " ++ (decimal year ++ codes " counted from 1 January:\n")
 
--- the figures, as in the almanac
-abbrev pub figures_text : Profile → List LandModel → ℕ → List ℕ
-figures_text p lands year =
-    figures_heading year ++ concat (figures_lines (answer p lands (YearFigures (pos year))))
-
 -- ---- the whole
 
 -- the year 1731 in Great Britain (GB), edition 5
@@ -254,22 +234,21 @@ unfoldable pub year_heading : ℕ → List ℕ → List ℕ → ℕ → List ℕ
 year_heading year name code edition =
     heading (codes "the year " ++ decimal year) name code edition
 
--- the lines of a territory's year, its days first
-abbrev pub year_lines : Profile → List LandModel → TerritoryModel → Option SourcesModel → ℕ
-    → List ℕ
-year_lines p lands t sources year =
+-- the lines of a territory's year, its days first, its figures as in the almanac
+abbrev pub year_lines : Profile → TerritoryModel → Option SourcesModel → ℕ → List ℕ
+year_lines p t sources year =
     days_lines p year (map (dated_on p t) (days_of_year p t (pos year)))
     ++ (changes_text p t sources year
-    ++ (feasts_text p t sources year ++ figures_text p lands year))
+    ++ (feasts_text p t sources year ++ (figures_heading year ++ figures_lines p year)))
 
-abbrev pub year_page_of : Profile → List LandModel → Option (List ℕ × TerritoryModel)
-    → Option SourcesModel → List ℕ → Published → ℕ → List ℕ
-year_page_of p lands None sources code published year = []
-year_page_of p lands (Some named) sources code published year =
+abbrev pub year_page_of : Profile → Option (List ℕ × TerritoryModel) → Option SourcesModel
+    → List ℕ → Published → ℕ → List ℕ
+year_page_of p None sources code published year = []
+year_page_of p (Some named) sources code published year =
     year_heading year named.0 code published.edition
-    ++ (year_lines p lands named.1 sources year ++ pending_line published.pending)
+    ++ (year_lines p named.1 sources year ++ pending_line published.pending)
 
 -- the text of the page. A code that no territory has is refused
 abbrev pub year_page : Profile → List LandModel → List ℕ → Published → ℕ → List ℕ
 year_page p lands code published year =
-    year_page_of p lands (named_of code lands) (sources_of code lands) code published year
+    year_page_of p (named_of code lands) (sources_of code lands) code published year

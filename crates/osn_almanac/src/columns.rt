@@ -7,18 +7,17 @@ use osn_days::Day;
 use std::alloc::AllocError;
 use std::fmt::Write;
 
-/// Appends the line of a day that has a name, with its date.
-pub(crate) fn push_day(out: &mut String, name: &str, day: Day, date: &str) -> Result<(), AllocError>
+/// Appends the name of a day, its weekday and its number, which its date is to follow.
+pub(crate) fn push_day(out: &mut String, name: &str, day: Day) -> Result<(), AllocError>
     ensures { OnOk result (string_bytes out.new
-        ≡ string_bytes out.old ++ spec.day_line name.now day date.now) }
+        ≡ string_bytes out.old ++ spec.day_columns name.now day) }
 {
-    writeln!(
+    write!(
         out,
-        "{:<13} {:<9} {:>7} {}",
+        "{:<13} {:<9} {:>7} ",
         name,
         day.weekday().name(),
-        day.number(),
-        date
+        day.number()
     )
 }
 

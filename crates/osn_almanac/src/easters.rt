@@ -1,164 +1,108 @@
 //! The Easters of the year, with their source, and the feasts that are counted from them.
-ghost use Rattle.std.specs.Prelude.{◌≡◌, ◌++◌, OnOk, pos, ◌+ℤ◌, string_bytes};
-ghost use Rattle.std.specs.List.{flat_map, concat};
+ghost use Rattle.std.specs.Prelude.{◌≡◌, ◌++◌, OnOk, string_bytes};
+ghost use Rattle.std.specs.List.{flat_map};
 ghost use Rattle.osn_days.specs.Profile.{newest_rules};
-ghost use Rattle.osn_register.specs.Answer.{answer};
-ghost use Rattle.osn_register.specs.declared.query.Query.TheVariants.{Easter};
+ghost use Rattle.osn_register.specs.Plain.{sources_of};
 ghost use Rattle.osn_almanac.specs.Almanac as spec;
-ghost use Rattle.osn_almanac.specs.Feast.{days_after_easter};
 
 use crate::columns::{push_absent, push_day};
 use crate::feast::{FEASTS, Feast};
-use osn_days::Day;
+use osn_days::{Day, Year};
+use osn_lands::Territory;
 use osn_pages::push_source;
-use osn_register::{Answer, BorrowedQuery, Found, Register, Source};
+use osn_register::Register;
 use std::alloc::AllocError;
+use std::fmt::Write;
 
 /// Returns the line that says whether the territory had an Easter in the year, and by what.
-fn easter_heading(found: &[Found], listed: bool) -> &'static str
-    ensures { result.now ≡ spec.easter_heading found.now listed }
+fn easter_heading(territory: &Territory, year: Year, easters: &[Day]) -> &'static str
+    ensures { result.now ≡ spec.easter_heading territory.now year easters.now }
 {
-    if found.is_empty() {
-        "Easter never\n"
-    } else if listed {
+    if territory.exception(year).is_some() {
         "Easter listed\n"
+    } else if easters.is_empty() {
+        "Easter never\n"
     } else {
         "Easter by rule\n"
     }
 }
 
-/// Appends the line of a feast, by what is answered to its day.
-fn push_feast_in(out: &mut String, feast: Feast, on_day: &Answer) -> Result<(), AllocError>
+/// Appends the line of a day that has a name, as the territory dates it.
+#[tactic(auto, unfolding(crate::specs::Almanac::dated_line))]
+fn push_dated(
+    out: &mut String,
+    territory: &Territory,
+    name: &str,
+    day: Day,
+) -> Result<(), AllocError>
     ensures { OnOk result (string_bytes out.new
-        ≡ string_bytes out.old ++ spec.feast_line_of feast on_day.now) }
+        ≡ string_bytes out.old ++ spec.dated_line newest_rules territory.now name.now day) }
 {
-    match on_day {
-        Answer::OnDay { found, .. } => {
-            push_day(out, feast.name(), found.day, found.dual.as_str())
-        }
-        _ => push_absent(out, feast.name(), "off the line"),
-    }
-}
-
-/// Returns the number of a feast's day, of a year with that Easter.
-pub(crate) fn feast_day(easter: Day, feast: Feast) -> i64
-    ensures { result ≡ pos easter +ℤ days_after_easter feast }
-{
-    i64::from(easter.number()) + i64::from(feast.days_after_easter())
+    push_day(out, name, day)?;
+    writeln!(out, "{}", territory.dated(day))
 }
 
 /// Appends the line of a feast of a year with that Easter.
-#[tactic(auto, unfolding(crate::specs::Almanac::feast_line))]
 fn push_feast(
     out: &mut String,
-    register: &Register,
-    code: &str,
+    territory: &Territory,
     easter: Day,
     feast: Feast,
 ) -> Result<(), AllocError>
-    ensures { OnOk result (string_bytes out.new ≡ string_bytes out.old
-        ++ spec.feast_line newest_rules register.now.lands code.now easter feast) }
+    ensures { OnOk result (string_bytes out.new
+        ≡ string_bytes out.old ++ spec.feast_line newest_rules territory.now easter feast) }
 {
-    let on_day = register.answer_borrowed(BorrowedQuery::DayIn(code, feast_day(easter, feast)))?;
-    push_feast_in(out, feast, &on_day)
+    match feast.day(easter) {
+        Some(day) => push_dated(out, territory, feast.name(), day),
+        None => push_absent(out, feast.name(), "off the line"),
+    }
 }
 
 /// Appends the lines of feasts of a year with that Easter.
 fn push_feasts(
     out: &mut String,
-    register: &Register,
-    code: &str,
+    territory: &Territory,
     easter: Day,
     feasts: &[Feast],
 ) -> Result<(), AllocError>
     ensures { OnOk result (string_bytes out.new ≡ string_bytes out.old
-        ++ flat_map (spec.feast_line newest_rules register.now.lands code.now easter) feasts.now) }
+        ++ flat_map (spec.feast_line newest_rules territory.now easter) feasts.now) }
 {
     for feast in feasts {
-        push_feast(out, register, code, easter, *feast)?;
+        push_feast(out, territory, easter, *feast)?;
     }
     Ok(())
-}
-
-/// Appends the feasts of an Easter.
-#[tactic(auto, using(crate::proofs::Text::concat_map))]
-fn push_feasts_of(
-    out: &mut String,
-    register: &Register,
-    code: &str,
-    easter: &Found,
-) -> Result<(), AllocError>
-    ensures { OnOk result (string_bytes out.new ≡ string_bytes out.old
-        ++ spec.feasts_text newest_rules register.now.lands code.now easter.now) }
-{
-    push_feasts(out, register, code, easter.day, &FEASTS)
 }
 
 /// Appends the feasts of each Easter.
-fn push_each(
+fn push_feasts_of(
     out: &mut String,
-    register: &Register,
-    code: &str,
-    easters: &[Found],
+    territory: &Territory,
+    easters: &[Day],
 ) -> Result<(), AllocError>
     ensures { OnOk result (string_bytes out.new ≡ string_bytes out.old
-        ++ flat_map (spec.feasts_text newest_rules register.now.lands code.now) easters.now) }
+        ++ flat_map (spec.feast_lines newest_rules territory.now) easters.now) }
 {
     for easter in easters {
-        push_feasts_of(out, register, code, easter)?;
+        push_feasts(out, territory, *easter, &FEASTS)?;
     }
     Ok(())
 }
 
-/// Appends the line on the Easters, and that of their source.
-#[tactic(auto, using(crate::proofs::Text::concat_source))]
-fn push_easter_heading(
-    out: &mut String,
-    found: &[Found],
-    listed: bool,
-    source: &Option<Source>,
-) -> Result<(), AllocError>
-    ensures { OnOk result (string_bytes out.new ≡ string_bytes out.old
-        ++ concat (spec.cited_heading found.now listed source.now)) }
-{
-    out.push_str(easter_heading(found, listed))?;
-    push_source(out, source.as_ref())
-}
-
-/// Appends the lines on the Easters, and their feasts, by what is answered.
-fn push_easters_in(
-    out: &mut String,
-    register: &Register,
-    code: &str,
-    easters: &Answer,
-) -> Result<(), AllocError>
-    ensures { OnOk result (string_bytes out.new ≡ string_bytes out.old ++ concat
-        (spec.easter_lines newest_rules register.now.lands code.now easters.now)) }
-{
-    match easters {
-        Answer::Easters {
-            found,
-            listed,
-            source,
-        } => {
-            push_easter_heading(out, found.as_slice(), *listed, source)?;
-            push_each(out, register, code, found.as_slice())
-        }
-        _ => Ok(()),
-    }
-}
-
-/// Appends the lines on the Easters of the year, and their feasts.
+/// Appends the line on the Easters of the year, that of their source, and their feasts.
 pub(crate) fn push_easters(
     out: &mut String,
+    territory: &Territory,
     register: &Register,
     code: &str,
-    year: i64,
+    year: Year,
 ) -> Result<(), AllocError>
-    ensures { OnOk result (string_bytes out.new ≡ string_bytes out.old ++ concat
-        (spec.easter_lines newest_rules register.now.lands code.now
-        (answer newest_rules register.now.lands (Easter code.now year)))) }
+    ensures { OnOk result (string_bytes out.new ≡ string_bytes out.old
+        ++ spec.easters_text newest_rules territory.now
+        (sources_of code.now register.now.lands) year) }
 {
-    let easters = register.answer_borrowed(BorrowedQuery::Easter(code, year))?;
-    push_easters_in(out, register, code, &easters)
+    let easters = territory.easters(year)?;
+    out.push_str(easter_heading(territory, year, easters.as_slice()))?;
+    push_source(out, register.easter_source(code, year))?;
+    push_feasts_of(out, territory, easters.as_slice())
 }

@@ -1,6 +1,9 @@
 //! The feasts that are counted from Easter.
 ghost use Rattle.std.specs.Prelude.{◌≡◌};
+ghost use Rattle.osn_days.specs.Profile.{newest_rules};
 ghost use Rattle.osn_almanac.specs.Feast as spec;
+
+use osn_days::Day;
 
 /// A feast that is counted from Easter.
 #[derive(Clone, Copy)]
@@ -50,5 +53,12 @@ impl Feast {
             Feast::Pentecost => 49,
             Feast::Trinity => 56,
         }
+    }
+
+    /// Returns its day in a year with that Easter, if the line has it.
+    pub(crate) fn day(self, easter: Day) -> Option<Day>
+        ensures { result ≡ spec.feast_day newest_rules easter self }
+    {
+        Day::new(i64::from(easter.number()) + i64::from(self.days_after_easter()))
     }
 }

@@ -1,6 +1,6 @@
 //! A year of a territory: its almanac, for those who lay it beside dated letters, and its page, as
-//! the territory counted the year. The almanac is made of what the register answers, and of nothing
-//! else. What the crate promises to those above is that each text is its definition, line by line.
+//! the territory counted the year. What the crate promises to those above is that each text is its
+//! definition, line by line.
 #![tactic(auto)]
 
 mod almanac;
@@ -9,7 +9,6 @@ mod columns;
 mod easters;
 mod feast;
 mod figures;
-mod heading;
 mod months;
 mod year_changes;
 mod year_days;

@@ -51,49 +51,25 @@ fn push_if_other(out: &mut String, part: &str, old: &str, new: &str) -> Result<(
     push_turned(out, part, old, new)
 }
 
-/// Appends that the calendar changed, if it did.
-fn push_calendar(out: &mut String, old: Regime, new: Regime) -> Result<(), AllocError>
-    ensures { OnOk result (string_bytes out.new
-        ≡ string_bytes out.old ++ spec.calendar_turned old new) }
-{
-    push_if_other(
-        out,
-        "the calendar",
-        old.calendar.word(),
-        new.calendar.word(),
-    )
-}
-
-/// Appends that the beginning of the year changed, if it did.
-fn push_beginning(out: &mut String, old: Regime, new: Regime) -> Result<(), AllocError>
-    ensures { OnOk result (string_bytes out.new
-        ≡ string_bytes out.old ++ spec.beginning_turned old new) }
-{
-    push_if_other(
-        out,
-        "the year's beginning",
-        old.style.beginning_of_year(),
-        new.style.beginning_of_year(),
-    )
-}
-
-/// Appends that the rule of Easter changed, if it did.
-fn push_rule(out: &mut String, old: Regime, new: Regime) -> Result<(), AllocError>
-    ensures { OnOk result (string_bytes out.new
-        ≡ string_bytes out.old ++ spec.rule_turned old new) }
-{
-    push_if_other(out, "the rule of Easter", old.rule.word(), new.rule.word())
-}
-
 /// Appends which parts of the reckoning changed.
 #[tactic(auto, unfolding(crate::specs::YearPage::turned_lines))]
 fn push_parts(out: &mut String, old: Regime, new: Regime) -> Result<(), AllocError>
     ensures { OnOk result (string_bytes out.new
         ≡ string_bytes out.old ++ spec.turned_lines old new) }
 {
-    push_calendar(out, old, new)?;
-    push_beginning(out, old, new)?;
-    push_rule(out, old, new)
+    push_if_other(
+        out,
+        "the calendar",
+        old.calendar.word(),
+        new.calendar.word(),
+    )?;
+    push_if_other(
+        out,
+        "the year's beginning",
+        old.style.beginning_of_year(),
+        new.style.beginning_of_year(),
+    )?;
+    push_if_other(out, "the rule of Easter", old.rule.word(), new.rule.word())
 }
 
 /// Appends the day before a change and the day of the change, and how many dates were left out.
@@ -127,9 +103,9 @@ fn push_followed(
 #[tactic(auto, unfolding(crate::specs::YearPage::change_lines))]
 fn push_change(
     out: &mut String,
+    territory: &Territory,
     register: &Register,
     code: &str,
-    territory: &Territory,
     change: Day,
 ) -> Result<(), AllocError>
     requires { 1 < change }
@@ -146,9 +122,9 @@ fn push_change(
 /// Appends the lines of the change with which a period begins, if it is one of the year.
 fn push_change_if(
     out: &mut String,
+    territory: &Territory,
     register: &Register,
     code: &str,
-    territory: &Territory,
     year: Year,
     period: &Period,
 ) -> Result<(), AllocError>
@@ -157,7 +133,7 @@ fn push_change_if(
         (sources_of code.now register.now.lands) year period.now) }
 {
     if period.first > Day::FIRST && is_change_of(territory, year, period.first) {
-        return push_change(out, register, code, territory, period.first);
+        return push_change(out, territory, register, code, period.first);
     }
     Ok(())
 }
@@ -165,18 +141,19 @@ fn push_change_if(
 /// Appends the lines of the changes of the year, of those with which these periods begin.
 fn push_changes_among(
     out: &mut String,
+    territory: &Territory,
     register: &Register,
     code: &str,
-    territory: &Territory,
     year: Year,
     periods: &[Period],
 ) -> Result<(), AllocError>
     ensures { OnOk result (string_bytes out.new ≡ string_bytes out.old
         ++ flat_map (spec.change_lines_if newest_rules territory.now
-        (sources_of code.now register.now.lands) year) periods.now) }
+        (sources_of code.now register.now.lands) year)
+        periods.now) }
 {
     for period in periods {
-        push_change_if(out, register, code, territory, year, period)?;
+        push_change_if(out, territory, register, code, year, period)?;
     }
     Ok(())
 }
@@ -184,14 +161,14 @@ fn push_changes_among(
 /// Appends the lines of the year's changes.
 pub(crate) fn push_changes(
     out: &mut String,
+    territory: &Territory,
     register: &Register,
     code: &str,
-    territory: &Territory,
     year: Year,
 ) -> Result<(), AllocError>
     ensures { OnOk result (string_bytes out.new ≡ string_bytes out.old
         ++ spec.changes_text newest_rules territory.now
         (sources_of code.now register.now.lands) year) }
 {
-    push_changes_among(out, register, code, territory, year, territory.periods())
+    push_changes_among(out, territory, register, code, year, territory.periods())
 }

@@ -1,11 +1,10 @@
 //! The feasts that a territory dated in a year, as it counted the year.
-ghost use Rattle.std.specs.Prelude.{◌≡◌, ◌++◌, ◌-◌, ◌+◌, OnOk, IfOk, string_bytes};
+ghost use Rattle.std.specs.Prelude.{◌≡◌, ◌++◌, IfOk, OnOk, string_bytes, map};
 ghost use Rattle.std.specs.List.{flat_map};
 ghost use Rattle.osn_days.specs.Profile.{newest_rules};
 ghost use Rattle.osn_register.specs.Plain.{sources_of};
 ghost use Rattle.osn_almanac.specs.YearPage as spec;
 
-use crate::easters::feast_day;
 use crate::feast::{FEASTS, Feast};
 use crate::year_days::label_year;
 use osn_days::{Day, Year};
@@ -15,6 +14,13 @@ use osn_register::Register;
 use std::alloc::{AllocError, Global};
 use std::fmt::Write;
 
+/// An Easter, and the year counted from 1 January that it is of.
+#[derive(Clone, Copy)]
+pub(crate) struct YearEaster {
+    pub(crate) january_year: Year,
+    pub(crate) day: Day,
+}
+
 /// Returns whether the territory dated a day in a year.
 fn is_in_year(territory: &Territory, year: Year, day: Day) -> bool
     ensures { result ≡ spec.is_in_year newest_rules territory.now year day }
@@ -22,19 +28,43 @@ fn is_in_year(territory: &Territory, year: Year, day: Day) -> bool
     territory.dated(day).label.year == label_year(year)
 }
 
-/// Returns the Easters of a year from 1 January, if it is one of those that have figures.
-fn easters_from_january(
-    alloc: Global,
+/// Appends the Easters of a year from 1 January, if it is one of those that have figures.
+fn push_easters_of(
+    easters: &mut Vec<YearEaster>,
     territory: &Territory,
     january_year: u32,
-) -> Result<Vec<Day>, AllocError>
-    ensures { IfOk result (λ days. days.items
-        ≡ spec.easters_from_january newest_rules territory.now january_year) }
+) -> Result<(), AllocError>
+    ensures { OnOk result (easters.new.items ≡ easters.old.items
+        ++ spec.easters_of newest_rules territory.now january_year) }
 {
-    match Year::new(i64::from(january_year)) {
-        Some(year) => territory.easters(year),
-        None => Ok(Vec::new(alloc)),
+    let Some(january_year) = Year::new(i64::from(january_year)) else {
+        return Ok(());
+    };
+    let days = territory.easters(january_year)?;
+    for day in &days {
+        easters.push(YearEaster {
+            january_year,
+            day: *day,
+        })?;
     }
+    Ok(())
+}
+
+/// Returns the Easters of the years from 1 January whose feasts the year can have.
+fn easters_about(
+    alloc: Global,
+    territory: &Territory,
+    year: Year,
+) -> Result<Vec<YearEaster>, AllocError>
+    ensures { IfOk result (λ easters. easters.items
+        ≡ spec.easters_about newest_rules territory.now year) }
+{
+    let number = year.number();
+    let mut easters = Vec::new(alloc);
+    push_easters_of(&mut easters, territory, number - 1)?;
+    push_easters_of(&mut easters, territory, number)?;
+    push_easters_of(&mut easters, territory, number + 1)?;
+    Ok(easters)
 }
 
 /// Appends the source of a listed Easter, if the feast is Easter.
@@ -45,8 +75,9 @@ fn push_feast_source(
     january_year: Year,
     feast: Feast,
 ) -> Result<(), AllocError>
-    ensures { OnOk result (string_bytes out.new ≡ string_bytes out.old
-        ++ spec.feast_source (sources_of code.now register.now.lands) january_year feast) }
+    ensures { OnOk result (string_bytes out.new
+        ≡ string_bytes out.old ++ spec.feast_source
+        (sources_of code.now register.now.lands) january_year feast) }
 {
     match feast {
         Feast::Easter => push_source(out, register.easter_source(code, january_year)),
@@ -60,49 +91,38 @@ fn push_feast_lines(
     out: &mut String,
     register: &Register,
     code: &str,
-    january_year: Year,
+    easter: &YearEaster,
     feast: Feast,
     dated: DatedDay,
 ) -> Result<(), AllocError>
-    ensures { OnOk result (string_bytes out.new ≡ string_bytes out.old
-        ++ spec.feast_lines (sources_of code.now register.now.lands) january_year feast dated) }
+    ensures { OnOk result (string_bytes out.new
+        ≡ string_bytes out.old
+        ++ spec.feast_lines
+        (sources_of code.now register.now.lands) easter.now.january_year feast dated) }
 {
     write!(out, "{}: ", feast.name())?;
     push_day(out, dated)?;
-    push_feast_source(out, register, code, january_year, feast)
-}
-
-/// Returns the day of a feast, if the line has it.
-fn day_of_feast(easter: Day, feast: Feast) -> Option<Day>
-    ensures { result ≡ spec.feast_day newest_rules easter feast }
-{
-    Day::new(feast_day(easter, feast))
+    push_feast_source(out, register, code, easter.january_year, feast)
 }
 
 /// Appends a feast of an Easter, if the territory dated it in the year.
 fn push_feast(
     out: &mut String,
+    territory: &Territory,
     register: &Register,
     code: &str,
-    territory: &Territory,
     year: Year,
-    january_year: Year,
-    easter: Day,
+    easter: &YearEaster,
     feast: Feast,
 ) -> Result<(), AllocError>
     ensures { OnOk result (string_bytes out.new ≡ string_bytes out.old
-        ++ spec.feast_text newest_rules territory.now (sources_of code.now register.now.lands)
-        year january_year easter feast) }
+        ++ spec.feast_text newest_rules territory.now
+        (sources_of code.now register.now.lands) year easter.now feast) }
 {
-    match day_of_feast(easter, feast) {
-        Some(day) if is_in_year(territory, year, day) => push_feast_lines(
-            out,
-            register,
-            code,
-            january_year,
-            feast,
-            territory.dated(day),
-        ),
+    match feast.day(easter.day) {
+        Some(day) if is_in_year(territory, year, day) => {
+            push_feast_lines(out, register, code, easter, feast, territory.dated(day))
+        }
         _ => Ok(()),
     }
 }
@@ -110,138 +130,62 @@ fn push_feast(
 /// Appends those of these feasts of an Easter that the territory dated in the year.
 fn push_feasts_among(
     out: &mut String,
+    territory: &Territory,
     register: &Register,
     code: &str,
-    territory: &Territory,
     year: Year,
-    january_year: Year,
-    easter: Day,
+    easter: &YearEaster,
     feasts: &[Feast],
 ) -> Result<(), AllocError>
-    ensures { OnOk result (string_bytes out.new ≡ string_bytes out.old
-        ++ flat_map (spec.feast_text newest_rules territory.now
-        (sources_of code.now register.now.lands) year january_year easter) feasts.now) }
+    ensures { OnOk result (string_bytes out.new ≡ string_bytes out.old ++ flat_map
+        (spec.feast_text newest_rules territory.now
+        (sources_of code.now register.now.lands) year easter.now) feasts.now) }
 {
     for feast in feasts {
-        push_feast(
-            out,
-            register,
-            code,
-            territory,
-            year,
-            january_year,
-            easter,
-            *feast,
-        )?;
+        push_feast(out, territory, register, code, year, easter, *feast)?;
     }
     Ok(())
-}
-
-/// Appends the feasts of an Easter that the territory dated in the year.
-fn push_feasts_of_easter(
-    out: &mut String,
-    register: &Register,
-    code: &str,
-    territory: &Territory,
-    year: Year,
-    january_year: Year,
-    easter: Day,
-) -> Result<(), AllocError>
-    ensures { OnOk result (string_bytes out.new ≡ string_bytes out.old
-        ++ spec.feasts_of_easter newest_rules territory.now
-        (sources_of code.now register.now.lands) year january_year easter) }
-{
-    push_feasts_among(
-        out,
-        register,
-        code,
-        territory,
-        year,
-        january_year,
-        easter,
-        &FEASTS,
-    )
 }
 
 /// Appends the feasts of these Easters that the territory dated in the year.
-fn push_feasts_of_easters(
+fn push_feasts_of(
     out: &mut String,
+    territory: &Territory,
     register: &Register,
     code: &str,
-    territory: &Territory,
     year: Year,
-    january_year: Year,
-    easters: &[Day],
+    easters: &[YearEaster],
 ) -> Result<(), AllocError>
-    ensures { OnOk result (string_bytes out.new ≡ string_bytes out.old
-        ++ flat_map (spec.feasts_of_easter newest_rules territory.now
-        (sources_of code.now register.now.lands) year january_year) easters.now) }
+    ensures { OnOk result (string_bytes out.new ≡ string_bytes out.old ++ flat_map
+        (spec.feasts_of newest_rules territory.now
+        (sources_of code.now register.now.lands) year) easters.now) }
 {
     for easter in easters {
-        push_feasts_of_easter(out, register, code, territory, year, january_year, *easter)?;
+        push_feasts_among(out, territory, register, code, year, easter, &FEASTS)?;
     }
     Ok(())
 }
 
-/// Appends the feasts of a year from 1 January that the territory dated in the year.
-fn push_feasts_of_year(
+/// Returns whether one of these Easters fell in the year.
+fn has_easter(territory: &Territory, year: Year, easters: &[YearEaster]) -> bool
+    ensures { result ≡ spec.has_easter newest_rules territory.now year easters.now }
+{
+    easters
+        .iter()
+        .any(|easter| is_in_year(territory, year, easter.day))
+}
+
+/// Appends that no Easter fell in the year, if none of these did.
+fn push_no_easter(
     out: &mut String,
-    register: &Register,
-    code: &str,
     territory: &Territory,
     year: Year,
-    january_year: u32,
+    easters: &[YearEaster],
 ) -> Result<(), AllocError>
     ensures { OnOk result (string_bytes out.new ≡ string_bytes out.old
-        ++ spec.feasts_of_year newest_rules territory.now
-        (sources_of code.now register.now.lands) year january_year) }
+        ++ spec.no_easter_line newest_rules territory.now year easters.now) }
 {
-    match Year::new(i64::from(january_year)) {
-        Some(january) => {
-            let easters = territory.easters(january)?;
-            push_feasts_of_easters(
-                out,
-                register,
-                code,
-                territory,
-                year,
-                january,
-                easters.as_slice(),
-            )
-        }
-        None => Ok(()),
-    }
-}
-
-/// Returns whether an Easter of a year from 1 January fell in the year.
-fn has_easter_of(
-    alloc: Global,
-    territory: &Territory,
-    year: Year,
-    january_year: u32,
-) -> Result<bool, AllocError>
-    ensures { IfOk result (λ has.
-        has ≡ spec.has_easter_of newest_rules territory.now year january_year) }
-{
-    let easters = easters_from_january(alloc, territory, january_year)?;
-    Ok(easters.iter().any(|day| is_in_year(territory, year, *day)))
-}
-
-/// Appends that no Easter fell in the year, if none did.
-fn push_no_easter(
-    alloc: Global,
-    out: &mut String,
-    territory: &Territory,
-    year: Year,
-) -> Result<(), AllocError>
-    ensures { OnOk result (string_bytes out.new
-        ≡ string_bytes out.old ++ spec.no_easter_line newest_rules territory.now year) }
-{
-    let number = year.number();
-    let before = has_easter_of(alloc, territory, year, number - 1)?;
-    let same = has_easter_of(alloc, territory, year, number)?;
-    let after = has_easter_of(alloc, territory, year, number + 1)?;
-    if before || same || after {
+    if has_easter(territory, year, easters) {
         return Ok(());
     }
     out.push_str("no Easter fell in that year\n")
@@ -251,18 +195,16 @@ fn push_no_easter(
 pub(crate) fn push_feasts(
     alloc: Global,
     out: &mut String,
+    territory: &Territory,
     register: &Register,
     code: &str,
-    territory: &Territory,
     year: Year,
 ) -> Result<(), AllocError>
     ensures { OnOk result (string_bytes out.new ≡ string_bytes out.old
         ++ spec.feasts_text newest_rules territory.now
         (sources_of code.now register.now.lands) year) }
 {
-    let number = year.number();
-    push_feasts_of_year(out, register, code, territory, year, number - 1)?;
-    push_feasts_of_year(out, register, code, territory, year, number)?;
-    push_feasts_of_year(out, register, code, territory, year, number + 1)?;
-    push_no_easter(alloc, out, territory, year)
+    let easters = easters_about(alloc, territory, year)?;
+    push_feasts_of(out, territory, register, code, year, easters.as_slice())?;
+    push_no_easter(out, territory, year, easters.as_slice())
 }

@@ -45,37 +45,24 @@ fn push_figures_heading(out: &mut String, year: Year) -> Result<(), AllocError>
     writeln!(out, "of the year {} counted from 1 January:", year.number())
 }
 
-/// Appends the figures of the year from 1 January, and that they are those.
-fn push_figures_of(
-    alloc: Global,
-    out: &mut String,
-    register: &Register,
-    year: Year,
-) -> Result<(), AllocError>
-    ensures { OnOk result (string_bytes out.new
-        ≡ string_bytes out.old ++ spec.figures_text newest_rules register.now.lands year) }
-{
-    push_figures_heading(out, year)?;
-    push_figures(alloc, out, register, i64::from(year.number()))
-}
-
 /// Appends the lines of a territory's year, its days first.
 fn push_year(
     alloc: Global,
     out: &mut String,
+    territory: &Territory,
     register: &Register,
     code: &str,
-    territory: &Territory,
     year: Year,
 ) -> Result<(), AllocError>
     ensures { OnOk result (string_bytes out.new ≡ string_bytes out.old
-        ++ spec.year_lines newest_rules register.now.lands territory.now
+        ++ spec.year_lines newest_rules territory.now
         (sources_of code.now register.now.lands) year) }
 {
     push_days(alloc, out, territory, year)?;
-    push_changes(out, register, code, territory, year)?;
-    push_feasts(alloc, out, register, code, territory, year)?;
-    push_figures_of(alloc, out, register, year)
+    push_changes(out, territory, register, code, year)?;
+    push_feasts(alloc, out, territory, register, code, year)?;
+    push_figures_heading(out, year)?;
+    push_figures(alloc, out, year)
 }
 
 /// Returns the whole text of a year's page.
@@ -90,12 +77,12 @@ fn text_of(
 ) -> Result<String, AllocError>
     ensures { IfOk result (λ s. string_bytes s
         ≡ spec.year_heading year name.now code.now published.edition
-        ++ (spec.year_lines newest_rules register.now.lands territory.now
+        ++ (spec.year_lines newest_rules territory.now
         (sources_of code.now register.now.lands) year ++ pending_line published.pending)) }
 {
     let mut text = String::with_capacity(alloc, ROOM)?;
     push_heading(&mut text, year, name, code, published.edition)?;
-    push_year(alloc, &mut text, register, code, territory, year)?;
+    push_year(alloc, &mut text, territory, register, code, year)?;
     push_pending(&mut text, published.pending)?;
     Ok(text)
 }

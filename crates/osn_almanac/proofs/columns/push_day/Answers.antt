@@ -6,7 +6,7 @@ use Rattle.osn_almanac.proofs.Text.{padded_left, day_right, length-weekday_name}
 use Rattle.osn_almanac.proofs.columns.push_day.Goals as goal
 
 pub returns : goal.returns
-unfolding spec.day_line
+unfolding spec.day_columns
 returns c =
     let name = padded_left 13 c.args.name.now (omega arith) in
     let weekday_short = length-weekday_name (weekday_numbered (weekday c.args.day)) in

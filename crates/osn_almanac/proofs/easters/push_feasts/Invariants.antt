@@ -8,5 +8,5 @@ use Rattle.osn_almanac.proofs.easters.push_feasts.Given as goal
 abbrev pub invariant-loop-feast : goal.invariant-loop-feast
 invariant-loop-feast l =
     string_bytes l.out ≡ string_bytes l.initial.out
-    ++ flat_map (spec.feast_line newest_rules l.register.lands l.code l.easter)
+    ++ flat_map (spec.feast_line newest_rules l.territory l.easter)
     (take l.feast-index l.feasts)

@@ -7,7 +7,8 @@ use Rattle.osn_almanac.proofs.figures.push_julian.Goals as goal
 pub returns : goal.returns
 unfolding spec.julian_line
 returns c =
-    on_ok_weaker c.writeln.result (λ h. h ∙ ap (λ t. string_bytes c.args.out.now
-    ++ (codes "Julian epact "
-    ++ (decimal c.args.epact ++ (codes ", Sunday letter " ++ (t ++ codes "\n")))))
-    (c.as_str.ensures.value ∙ c.in_ok-letters.ensures)) c.writeln.ensures.bytes
+    rw (← c.julian_epact-epact.ensures)
+    (on_ok_weaker c.writeln.result (λ h. h ∙ ap (λ t. string_bytes c.args.out.now
+    ++ (codes "Julian epact " ++ (decimal c.julian_epact-epact.result
+    ++ (codes ", Sunday letter " ++ (t ++ codes "\n")))))
+    (c.as_str.ensures.value ∙ c.in_ok-letters.ensures)) c.writeln.ensures.bytes)

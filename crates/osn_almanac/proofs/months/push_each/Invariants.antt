@@ -8,5 +8,5 @@ use Rattle.osn_almanac.proofs.months.push_each.Given as goal
 abbrev pub invariant-loop-month : goal.invariant-loop-month
 invariant-loop-month l =
     string_bytes l.out ≡ string_bytes l.initial.out
-    ++ flat_map (spec.month_text newest_rules l.register.lands l.code l.year)
+    ++ flat_map (spec.month_lines newest_rules l.territory l.year)
     (take l.month-index l.months)

@@ -9,6 +9,5 @@ use Rattle.osn_almanac.proofs.year_changes.push_changes_among.Given as goal
 abbrev pub invariant-loop-period : goal.invariant-loop-period
 invariant-loop-period l =
     string_bytes l.out ≡ string_bytes l.initial.out
-    ++ flat_map (spec.change_lines_if newest_rules l.territory
-    (sources_of l.code l.register.lands) l.year)
+    ++ flat_map (spec.change_lines_if newest_rules l.territory (sources_of l.code l.register.lands) l.year)
     (take l.period-index l.periods)
