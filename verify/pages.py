@@ -31,7 +31,7 @@ WRONG_WORDS = {
     "form": 'a date is written 1731-02-11, "11 February 1731" or "11 February 1731/2", '
             "with a weekday before it or without",
     "short year": "a year of one or two digits needs its zeros, as 0045",
-    "later year": "after the / stands the year that follows, in full or its last digits, "
+    "later year": "after the / comes the year that follows, in full or its last digits, "
                   "as 1731/2, 1731/32 or 1731/1732",
     "year": "a year is 0 to 10000",
     "month": "a month is 1 to 12: of a range of years write the later year in full, as 1640-1645",
@@ -44,6 +44,7 @@ JULIAN_NUMBER = 'a Julian day number is 1721426 to 5373484, as "JDN 2353712"'
 EITHER = "{0} may be a day number or a Julian day number: write "
 EITHER_NUMBER = EITHER + '"day {0}" or "JDN {0}" in its place, with the quotes'
 CONVERSION = EITHER + 'oldstyle convert jdn {0}, or oldstyle convert day "day {0}"'
+MONTH = "a month is 1 to 12 or its name, such as September or Sept"
 YEAR = "a year is 1 to 9999 as the place counted it: of 1731/2 write 1731"
 # Wrong arguments, of which the last one is reported, and what is reported. FILE is the journal.
 MISTAKES = [
@@ -64,10 +65,10 @@ MISTAKES = [
     ("year FILE XX 10000", YEAR),
     ("year FILE XX 1731/2", YEAR),
     ("read none XX Fryday", WRONG_WORDS["form"]),
-    ("month none XX 1700 13", "a month is 1 to 12 or its English name"),
+    ("month none XX 1700 13", MONTH),
     ("day FILE XX 1751-02-30", "the gregorian calendar has no such date in the years 1 to 9999"),
-    ("month FILE XX 1700 13", "a month is 1 to 12 or its English name"),
-    ("month FILE XX 1700 Febuary", "a month is 1 to 12 or its English name"),
+    ("month FILE XX 1700 13", MONTH),
+    ("month FILE XX 1700 Febuary", MONTH),
     ("territory FILE --limits lands=x", "limits are some of lands=N,changes=N,exceptions=N,edits=N,"
                                         "editions=N, with a comma between"),
 ]
@@ -76,7 +77,10 @@ EARLIER_MISTAKES = [
     ("month FILE XX 10001 1", "10001", WRONG_WORDS["year"]),
     ("convert roman 1700-01-01", "roman", CALENDAR),
 ]
-NO_CODE = "a code is 2 to 8 capital letters or digits, the first a letter"
+# Words that name the territory XX.
+CALLED = ["XX", "xx", "Xx", NAMES["XX"], "SOME \u00e9 place"]
+# What the program takes a mistyped word for.
+MEANT = {"Fryday": "Friday", "Febuary": "February"}
 
 
 def numbered(chance, day):
@@ -91,13 +95,19 @@ def untrimmed(words, page):
         yield f"{words}:\n  a line ends with a space or without a line feed: {page}"
 
 
-def differs(program, words, expected, status=0, fault=None):
-    """What a run was asked and gave, if it gives another page or reports another fault."""
+def on_word(text, why):
+    """The lines on an argument that is not what its place asks for."""
+    return [f"oldstyle: {text}: {why}"] + [f"help: {word}: did you mean {name}?"
+                                           for word, name in MEANT.items() if word in text.split()]
+
+
+def differs(program, words, expected, status=0, faults=()):
+    """What a run was asked and gave, if it gives another page or reports other faults."""
     done = run(program, words)
     yield from untrimmed(words, done.stdout)
     found = done.returncode, done.stdout.splitlines(), done.stderr.splitlines()
-    if found != (status, expected, [fault] if fault else []):
-        yield f"{words}:\n  wanted {expected} {fault or ''}\n  found  {found}"
+    if found != (status, expected, list(faults)):
+        yield f"{words}:\n  wanted {expected} {faults}\n  found  {found}"
 
 
 def mistakes(program, journal):
@@ -105,17 +115,18 @@ def mistakes(program, journal):
     mistakes = [(words, words.split()[-1], why) for words, why in MISTAKES] + EARLIER_MISTAKES
     for text, word, why in mistakes:
         words = text.replace("FILE", journal).split()
-        yield from differs(program, words, [], 2, f"oldstyle: {word}: {why}")
-    unknown = f"oldstyle: no territory has the code ZZ: see oldstyle territory {journal}"
-    missing = journal + ".gone"
+        yield from differs(program, words, [], 2, on_word(word, why))
+    listed = f"help: oldstyle territory {journal} lists the territories"
+    gone = journal + ".gone"
     for words in (["read", "XX", "1700-01-01"], ["day", "XX", "1"], ["month", "XX", "1700", "1"],
                   ["year", "XX", "1700"], ["territory", "XX"]):
         name, _, *others = words
-        expected = f"oldstyle: {missing}: no such file"
-        yield from differs(program, [name, journal, "ZZ", *others], [], 1, unknown)
-        yield from differs(program, [name, journal, "x", *others], [], 1, f"oldstyle: x: {NO_CODE}")
-        yield from differs(program, [name, missing, "XX", *others], [], 3, expected)
-    yield from differs(program, ["letters", missing], [], 3, expected)
+        expected = [f"oldstyle: {gone}: no such file"]
+        for place in ("ZZ", "z"):
+            unknown = f"oldstyle: no territory has the code or the name {place}"
+            yield from differs(program, [name, journal, place, *others], [], 1, [unknown, listed])
+        yield from differs(program, [name, gone, "XX", *others], [], 3, expected)
+    yield from differs(program, ["letters", gone], [], 3, expected)
 
 
 class Asked:
@@ -136,13 +147,14 @@ class Asked:
     def territories(self):
         lands = list_page(self.service.published, self.service.edition)
         yield from self.page(["territory"], lands)
-        yield from self.page(["territory", "XX"], territory_page(self.place))
+        called = self.chance.choice(CALLED)
+        yield from self.page(["territory", called], territory_page(self.place))
         text = self.chance.choice(MALFORMED)
         try:
             parse(text)
         except Malformed as why:
-            line = f"oldstyle: {text}: {WRONG_WORDS[str(why)]}"
-            yield from differs(self.program, ["read", self.journal, "XX", text], [], 2, line)
+            lines = on_word(text, WRONG_WORDS[str(why)])
+            yield from differs(self.program, ["read", self.journal, "XX", text], [], 2, lines)
 
     def reading(self, label):
         text = date_text(self.chance, label)

@@ -13,8 +13,8 @@ LOCKED = (3, "", "oldstyle: another run of the program keeps that journal\n")
 REPLACED = ("oldstyle: another program moved, replaced or changed the journal: "
             "no more is kept in it\n")
 # The same of a journal that is followed.
-FOLLOWED_REPLACED = ("oldstyle: another file, or none, stands where the journal that is followed "
-                     "was: no further line is answered\n")
+FOLLOWED_REPLACED = ("oldstyle: the journal that is followed was replaced or removed: "
+                     "no further line is answered\n")
 
 
 def land(number):

@@ -1,3 +1,4 @@
+pub mod Help
 pub mod Completions
 pub mod Limits
 pub mod Run

@@ -21,6 +21,8 @@ const JOURNAL: Argument = Required("journal", "JOURNAL", "The file of the journa
 
 const CODE: Argument = Required("code", "CODE", "The code of the territory");
 
+const PLACE: Argument = Required("code", "PLACE", "The territory, by its code or its name");
+
 const TEXT: Argument = Required("text", "TEXT", "The file of the text");
 
 const ORDER: Argument = Valued(
@@ -51,7 +53,7 @@ document, or both years are given. It may be a month, a year, a range or a bound
 \"11 February 1731 N.S.\". If a date means several days, those of the weekday come first.",
         arguments: &[
             JOURNAL,
-            CODE,
+            PLACE,
             Required("date", "DATE", "The date, as in the document"),
             Valued(
                 "weekday",
@@ -95,7 +97,7 @@ is the day number plus 1721425.",
   ./oldstyle day examples/samples.journal GB 639797",
         arguments: &[
             JOURNAL,
-            CODE,
+            PLACE,
             Required(
                 "date",
                 "DATE",
@@ -113,13 +115,17 @@ is the day number plus 1721425.",
 A month that the year has at its beginning and at its end is printed twice.",
         arguments: &[
             JOURNAL,
-            CODE,
+            PLACE,
             Required(
                 "year",
                 "YEAR",
                 "The year as the territory counted it, 0 to 10000",
             ),
-            Required("month", "MONTH", "The month, 1 to 12 or its English name"),
+            Required(
+                "month",
+                "MONTH",
+                "The month, 1 to 12 or its name, such as Sept",
+            ),
             LIMITS,
         ],
     },
@@ -133,7 +139,7 @@ The year goes from its first day there to its last one. Its feasts are those tha
 dated in it. The figures are of the year from 1 January, and the page says so.",
         arguments: &[
             JOURNAL,
-            CODE,
+            PLACE,
             Required(
                 "year",
                 "YEAR",
@@ -152,8 +158,8 @@ dated in it. The figures are of the year from 1 January, and the page says so.",
             JOURNAL,
             Optional(
                 "code",
-                "CODE",
-                "The code of the territory whose periods are listed",
+                "PLACE",
+                "The territory whose periods are listed, by its code or its name",
             ),
             LIMITS,
         ],

@@ -57,7 +57,7 @@ pub enum PageWords<'a> {
     },
     /// Which day a written date means in a territory.
     Read {
-        /// The code of the territory.
+        /// The territory, by its code or its name.
         code: &'a str,
         /// The date as written in the document.
         date: &'a str,
@@ -70,30 +70,30 @@ pub enum PageWords<'a> {
     },
     /// How a territory dated a day.
     Day {
-        /// The code of the territory.
+        /// The territory, by its code or its name.
         code: &'a str,
         /// A Gregorian date, or a day number.
         date: &'a str,
     },
     /// A month as a territory lived it.
     Month {
-        /// The code of the territory.
+        /// The territory, by its code or its name.
         code: &'a str,
         /// The year as the territory counted it.
         year: &'a str,
-        /// The month, by its number or its English name.
+        /// The month, by its number or its name.
         month: &'a str,
     },
     /// A year as a territory counted it.
     Year {
-        /// The code of the territory.
+        /// The territory, by its code or its name.
         code: &'a str,
         /// The year as the territory counted it.
         year: &'a str,
     },
     /// The periods of a territory, or all territories.
     Territory {
-        /// The code of the territory, if one is named.
+        /// The territory, by its code or its name, if one is named.
         code: Option<&'a str>,
     },
 }

@@ -2,3 +2,5 @@ pub mod LettersLemmas
 pub mod FilesLemmas
 pub mod PageLemmas
 pub mod ConversionLemmas
+pub mod PieceLemmas
+pub mod HintLemmas

@@ -1,6 +1,10 @@
 pub mod Order
 pub mod DayNumber
+pub mod MonthWord
 pub mod PageWords
+pub mod Pieces
+pub mod Place
+pub mod DateHint
 pub mod Page
 pub mod Conversion
 pub mod Letters

@@ -1,6 +1,6 @@
 -- The page that a command prints, or why it prints none.
-use Rattle.std.specs.Prelude.{◌≡◌, ◌⊎◌, ◌++◌, ℕ, pos, List, [], ◌∷◌, length, codes, Option, None}
-use Rattle.std.specs.Prelude.{Some}
+use Rattle.std.specs.Prelude.{◌≡◌, ◌⊎◌, ◌++◌, ℕ, pos, List, [], ◌∷◌, length, map, codes, Option}
+use Rattle.std.specs.Prelude.{None, Some}
 use Rattle.std.specs.Prelude.{Bool, true, false, ◌&&◌, if◌then◌else◌, MatchResult}
 use Rattle.std.specs.Option.{MatchOption}
 use Rattle.std.specs.Fmt.{decimal}
@@ -11,6 +11,7 @@ use Rattle.osn_days.specs.Profile.{newest_rules}
 use Rattle.osn_written.specs.declared.any_date.AnyDate.{AnyDate}
 use Rattle.osn_grammar.specs.Reading.{members}
 use Rattle.osn_lands.specs.Territory.{TerritoryModel}
+use Rattle.osn_register.specs.Answer.{listed}
 use Rattle.osn_register.specs.Named.{named_of}
 use Rattle.osn_register.specs.Plain.{LandModel, code_refusal}
 use Rattle.osn_register.specs.declared.limits.Limits.{Limits}
@@ -31,17 +32,21 @@ use Rattle.osn_pages.specs.Territory.{territories_page}
 use Rattle.osn_pages.specs.declared.page.Page.{Page}
 use Rattle.osn_pages.specs.declared.page.Page.TheVariants as pages
 use Rattle.osn_pages.specs.declared.page.Published.{Published}
-use Rattle.osn_page_commands.specs.PageWords.{topic_of_words, takes_memory, code_of, date_text_of}
+use Rattle.osn_page_commands.specs.DateHint.{TellsWord}
+use Rattle.osn_page_commands.specs.PageWords.{topic_of_words, takes_memory, land_word, date_text_of}
 use Rattle.osn_page_commands.specs.PageWords.{wrong_word}
+use Rattle.osn_page_commands.specs.Place.{place_named, place_lines}
 use Rattle.osn_page_commands.specs.declared.page_words.Topic.{Topic}
 use Rattle.osn_page_commands.specs.declared.page_words.Topic.TheVariants.{Almanac, Year, Land}
 use Rattle.osn_page_commands.specs.declared.page_words.Topic.TheVariants.{Set, Lands}
+use Rattle.osn_page_commands.specs.declared.place.Place.{Place}
+use Rattle.osn_page_commands.specs.declared.place.Place.TheVariants.{One, NotOne}
 use Rattle.osn_report.specs.Fault.{numbered_line}
 use Rattle.osn_report.specs.Folders.{Folders, ReadsOne}
 use Rattle.osn_report.specs.Journal.{MakesObject, MakesNoObject}
 use Rattle.osn_shown.specs.Shown.{shown}
 use Rattle.osn_report.specs.Printing.{PrintsIfMade, PrintsOrReports}
-use Rattle.osn_report.specs.Messages.{EndsBy, TellsIfMade, TellsMisuse}
+use Rattle.osn_report.specs.Messages.{EndsBy, TellsIfMade}
 use Rattle.osn_report.specs.declared.fault.CommandFault.{CommandFault}
 use Rattle.osn_report.specs.declared.fault.CommandFault.TheVariants.{File, NoMemory, NotOpened}
 use Rattle.osn_report.specs.declared.fault.CommandFault.TheVariants.{ReadFault}
@@ -184,12 +189,29 @@ PrintsPageOf s path code date topic o e status =
     (lacks_strict_day (published s) code date topic) o e status)
     (λ refusal. IsRefused path code topic refusal o e status)
 
+-- that, on the territory that a word names; or the word names none or several, which was reported
+abbrev pub PrintsPageOn : ObjectState → List ℕ → List ℕ → List ℕ → Topic → Place → Output → Output
+    → Status → Type 0
+PrintsPageOn s path word date topic (One code) o e status =
+    PrintsPageOf s path code date topic o e status
+PrintsPageOn s path word date topic (NotOne named) o e status =
+    (o.new ≡ o.old)
+    × TellsIfMade e statuses.Refused (place_lines path word named (map listed (published s))) status
+
+-- what the word names: for an almanac it is a code, and the page of all territories is on none
+abbrev pub place_of : Topic → List ℕ → List LandModel → Place
+place_of (Almanac year) word lands = One word
+place_of (Year year) word lands = place_named word lands
+place_of (Land page is_strict) word lands = place_named word lands
+place_of (Set given is_strict) word lands = place_named word lands
+place_of Lands word lands = One word
+
 -- for a journal: it makes an object, and that was done
 abbrev pub PrintsTopic : Limits → List ℕ → Input → List ℕ → List ℕ → Topic → Output → Output
     → Status → Type 0
-PrintsTopic limits path journal code date topic o e status =
+PrintsTopic limits path journal word date topic o e status =
     (s : ObjectState) × MakesObject limits journal.bytes s
-    × PrintsPageOf s path code date topic o e status
+    × PrintsPageOn s path word date topic (place_of topic word (published s)) o e status
 
 -- by words: that, once the journal was opened; or a word is not what its place asks for, which was
 -- reported, and no file was opened
@@ -197,9 +219,9 @@ abbrev pub RunsWords : Limits → List ℕ → PageWordsModel → (Bool → Type
     → Output → Status → Type 0
 RunsWords limits path words CanFail d o e status = MatchResult (topic_of_words words)
     (λ topic. ReadsOne path CanFail d (λ file.
-    PrintsTopic limits path file (code_of words) (date_text_of words) topic o e status))
+    PrintsTopic limits path file (land_word words) (date_text_of words) topic o e status))
     (λ misuse. (d.after ≡ d.before) × (o.new ≡ o.old)
-    × TellsMisuse e misuse (wrong_word words misuse) status)
+    × TellsWord e misuse (wrong_word words misuse) status)
 
 -- there was no memory to read the words, which was reported, and no file was opened
 abbrev pub LacksMemory : PageWordsModel → Folders → Output → Output → Status → Type 0

@@ -1,10 +1,9 @@
 -- What the words of a command line ask for, or which word is not what its place asks for.
-use Rattle.std.specs.Prelude.{ℕ, pos, Bool, true, false, ◌&&◌, nat_le, if◌then◌else◌, codes, List}
+use Rattle.std.specs.Prelude.{ℕ, pos, Bool, true, false, nat_le, if◌then◌else◌, codes, List}
 use Rattle.std.specs.Prelude.{[], ◌∷◌, Option, Some, None, Result, Ok, Err}
 use Rattle.std.specs.Option.{ok_or}
 use Rattle.std.specs.Str.{bytes_eq}
 use Rattle.osn_days.specs.CalendarWords.{calendar_named}
-use Rattle.osn_days.specs.Month.{month_named}
 use Rattle.osn_days.specs.Profile.{newest_rules}
 use Rattle.osn_days.specs.Weekday.{weekday_name}
 use Rattle.osn_days.specs.declared.calendar.Calendar.{Calendar}
@@ -26,6 +25,7 @@ use Rattle.osn_written.specs.declared.written_date.WrittenDate.{WrittenDate}
 use Rattle.osn_invocation.specs.Invocation.{PageWordsModel, almanac_words, reading_words, day_words}
 use Rattle.osn_invocation.specs.Invocation.{month_words, year_words, territory_words}
 use Rattle.osn_page_commands.specs.DayNumber.{day_by_number, day_by_julian, is_julian_word}
+use Rattle.osn_page_commands.specs.MonthWord.{month_of_word, month_takes_memory}
 use Rattle.osn_page_commands.specs.Order.{order_of_word}
 use Rattle.osn_page_commands.specs.declared.page_words.Topic.{Topic}
 use Rattle.osn_page_commands.specs.declared.page_words.Topic.TheVariants.{Almanac, Year, Land}
@@ -186,12 +186,6 @@ year_in (Some year) = if nat_le year 10000 then Ok year else Err (misuses.Date f
 abbrev pub year_of_word : List ℕ → Result ℕ Misuse
 year_of_word text = year_in (number_of text)
 
--- a month by its number, or else by its English name
-abbrev pub month_of_word : Option ℕ → List ℕ → Result ℕ Misuse
-month_of_word (Some month) text =
-    if nat_le 1 month && nat_le month 12 then Ok month else Err misuses.Month
-month_of_word None text = ok_or (month_named text) misuses.Month
-
 -- the page on a month
 abbrev pub month_page_of : List ℕ → List ℕ → Result Page Misuse
 month_page_of year month = do
@@ -224,7 +218,7 @@ topic_of_words (year_words code year) = year_topic_of year
 topic_of_words (territory_words None) = Ok Lands
 topic_of_words (territory_words (Some code)) = Ok (Land pages.Periods false)
 
--- words take memory if they name a date
+-- words take memory if they name a date, or a month by a name
 abbrev pub day_takes_memory : Option (Result ℕ Misuse) → Bool
 day_takes_memory (Some day) = false
 day_takes_memory None = true
@@ -233,7 +227,7 @@ abbrev pub takes_memory : PageWordsModel → Bool
 takes_memory (almanac_words code year) = false
 takes_memory (reading_words code date weekday order strict) = true
 takes_memory (day_words code date) = day_takes_memory (day_by_number date)
-takes_memory (month_words code year month) = false
+takes_memory (month_words code year month) = month_takes_memory (number_of month)
 takes_memory (year_words code year) = false
 takes_memory (territory_words code) = false
 
@@ -246,15 +240,15 @@ date_text_of (month_words code year month) = []
 date_text_of (year_words code year) = []
 date_text_of (territory_words code) = []
 
--- the code of the territory that is named, if any
-abbrev pub code_of : PageWordsModel → List ℕ
-code_of (almanac_words code year) = code
-code_of (reading_words code date weekday order strict) = code
-code_of (day_words code date) = code
-code_of (month_words code year month) = code
-code_of (year_words code year) = code
-code_of (territory_words None) = []
-code_of (territory_words (Some code)) = code
+-- the word that names the territory, if there is one
+abbrev pub land_word : PageWordsModel → List ℕ
+land_word (almanac_words code year) = code
+land_word (reading_words code date weekday order strict) = code
+land_word (day_words code date) = code
+land_word (month_words code year month) = code
+land_word (year_words code year) = code
+land_word (territory_words None) = []
+land_word (territory_words (Some code)) = code
 
 -- the word that is not what its place asks for
 abbrev pub wrong_word_of_reading : List ℕ → Option (List ℕ) → Option (List ℕ) → Misuse → List ℕ

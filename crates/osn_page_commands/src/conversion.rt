@@ -2,10 +2,11 @@
 ghost use Rattle.osn_lines.specs.Streams.{output_of};
 ghost use Rattle.osn_page_commands.specs.Conversion.{PrintsConversion};
 
+use crate::date_hint::tell_word;
 use crate::page_words::{conversion_of_words, wrong_word_of_conversion};
 use osn_lines::Sink;
 use osn_pages::conversion_page;
-use osn_report::{Status, print, tell_misuse, tell_no_memory};
+use osn_report::{Status, print, tell_no_memory};
 use std::alloc::Global;
 
 /// Runs the command `convert`: prints a day by every calendar and by its numbers. The day is that
@@ -28,7 +29,7 @@ pub fn convert_command<W: Sink, E: Sink>(
         Ok(Ok((day, given))) => print(conversion_page(alloc, day, given), output, errors),
         Ok(Err(misuse)) => {
             let word = wrong_word_of_conversion(calendar, date, misuse);
-            tell_misuse(alloc, errors, misuse, word)
+            tell_word(alloc, errors, misuse, word)
         }
         Err(_) => tell_no_memory(errors),
     }

@@ -7,14 +7,15 @@ ghost use Rattle.osn_lines.specs.Streams.{output_of};
 ghost use Rattle.osn_page_commands.specs.Page as spec;
 ghost use Rattle.osn_report.specs.Folders.{folders_of};
 
+use crate::date_hint::tell_word;
 use crate::page::print_page;
-use crate::page_words::{code_of, date_text_of, topic_of_words, wrong_word};
+use crate::page_words::{date_text_of, land_word, topic_of_words, wrong_word};
 use osn_files::load_journal;
 use osn_folder::{Folder, OpenFailed, open_named};
 use osn_invocation::PageWords;
 use osn_lines::Sink;
 use osn_register::Limits;
-use osn_report::{CommandFault, Failure, Status, tell_misuse, tell_no_memory};
+use osn_report::{CommandFault, Failure, Status, tell_no_memory};
 use std::alloc::Global;
 
 /// Returns the fault of a page whose journal could not be opened, by its cause.
@@ -60,7 +61,7 @@ pub fn page_in_folder<'a, D: Folder, W: Sink, E: Sink>(
         Ok(Ok(topic)) => topic,
         Ok(Err(misuse)) => {
             let word = wrong_word(words, misuse);
-            return Ok(tell_misuse(alloc, errors, misuse, word));
+            return Ok(tell_word(alloc, errors, misuse, word));
         }
         Err(_) => return Ok(tell_no_memory(errors)),
     };
@@ -73,10 +74,10 @@ pub fn page_in_folder<'a, D: Folder, W: Sink, E: Sink>(
             });
         }
     };
-    let code = code_of(words);
+    let word = land_word(words);
     let date = date_text_of(words);
     match load_journal(alloc, limits, &mut file) {
-        Ok(object) => Ok(print_page(alloc, &object, journal, code, date, &topic, output, errors)),
+        Ok(object) => Ok(print_page(alloc, &object, journal, word, date, &topic, output, errors)),
         Err(fault) => Err(Failure {
             path: journal,
             fault: CommandFault::File(fault),

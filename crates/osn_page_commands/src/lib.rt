@@ -4,13 +4,17 @@
 #![tactic(auto)]
 
 mod conversion;
+mod date_hint;
 mod day_number;
 mod in_folder;
 mod letters;
 mod letters_files;
+mod month_word;
 mod order;
 mod page;
 mod page_words;
+mod place;
+mod place_lines;
 mod places;
 mod refusal_lines;
 mod table_faults;

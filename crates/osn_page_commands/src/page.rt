@@ -4,8 +4,11 @@ ghost use Rattle.osn_lines.specs.Streams.{output_of};
 ghost use Rattle.osn_register.specs.Plain.{code_refusal};
 ghost use Rattle.osn_register.specs.Refusal.{IsRefusalOrNoMemory};
 ghost use Rattle.osn_page_commands.specs.Page as spec;
+ghost use Rattle.osn_page_commands.specs.Place as places;
 
 use crate::page_words::Topic;
+use crate::place::{Place, place_named};
+use crate::place_lines::place_lines;
 use crate::refusal_lines::refusal_line;
 use osn_almanac::{almanac_text, year_page_text};
 use osn_core::Object;
@@ -158,8 +161,8 @@ fn print_text_of<W: Sink, E: Sink>(
     }
 }
 
-/// Prints the page that was asked for, on what an object has published.
-pub(crate) fn print_page<W: Sink, E: Sink>(
+/// Prints the page that was asked for, on the territory of a code.
+fn print_page_of<W: Sink, E: Sink>(
     alloc: Global,
     object: &Object,
     path: &str,
@@ -181,6 +184,64 @@ pub(crate) fn print_page<W: Sink, E: Sink>(
         Err(refusal) => {
             let line = refusal_line(alloc, path, code, topic, refusal);
             tell_line(errors, Status::Refused, line)
+        }
+    }
+}
+
+/// Prints the page that was asked for, on the only territory that a word names, or reports on
+/// standard error that it names none or several.
+fn print_page_named<W: Sink, E: Sink>(
+    alloc: Global,
+    object: &Object,
+    path: &str,
+    word: &str,
+    date: &str,
+    topic: &Topic,
+    output: &mut W,
+    errors: &mut E,
+) -> Status
+    ensures { spec.PrintsPageOn object.now path.now word.now date.now topic.now
+        (places.place_named word.now (spec.published object.now))
+        (output_of W.contents W.has_failed W.holds_back output.old output.new)
+        (output_of E.contents E.has_failed E.holds_back errors.old errors.new) result }
+{
+    let register = object.register();
+    match place_named(alloc, register, word) {
+        Ok(Place::One(code)) => {
+            let code = code.as_str();
+            print_page_of(alloc, object, path, code, date, topic, output, errors)
+        }
+        Ok(Place::NotOne(lands)) => {
+            let lines = place_lines(alloc, path, word, lands.as_slice(), register);
+            tell_line(errors, Status::Refused, lines)
+        }
+        Err(_) => tell_no_memory(errors),
+    }
+}
+
+/// Prints the page that was asked for, on what an object has published. The word names its
+/// territory. For an almanac it is a code, and the page of all territories has none.
+pub(crate) fn print_page<W: Sink, E: Sink>(
+    alloc: Global,
+    object: &Object,
+    path: &str,
+    word: &str,
+    date: &str,
+    topic: &Topic,
+    output: &mut W,
+    errors: &mut E,
+) -> Status
+    ensures { spec.PrintsPageOn object.now path.now word.now date.now topic.now
+        (spec.place_of topic.now word.now (spec.published object.now))
+        (output_of W.contents W.has_failed W.holds_back output.old output.new)
+        (output_of E.contents E.has_failed E.holds_back errors.old errors.new) result }
+{
+    match topic {
+        Topic::Almanac(_) | Topic::Lands => {
+            print_page_of(alloc, object, path, word, date, topic, output, errors)
+        }
+        Topic::Year(_) | Topic::Land { .. } | Topic::Set { .. } => {
+            print_page_named(alloc, object, path, word, date, topic, output, errors)
         }
     }
 }

@@ -3,11 +3,13 @@ ghost use Rattle.std.specs.Prelude.{◌≡◌, option_map, true, IfOk, OnErr};
 ghost use Rattle.osn_invocation.specs.Invocation.{page_words};
 ghost use Rattle.osn_written.specs.WrittenDate.{number_of as number_in};
 ghost use Rattle.osn_page_commands.specs.DayNumber.{day_by_number as day_in};
+ghost use Rattle.osn_page_commands.specs.MonthWord.{month_takes_memory};
 ghost use Rattle.osn_page_commands.specs.PageWords as spec;
 
 use crate::day_number::{day_by_julian, day_by_number, is_julian_word};
+use crate::month_word::month_of_word;
 use crate::order::order_of_word;
-use osn_days::{Calendar, Day, Keyword, Weekday, Year, month_named};
+use osn_days::{Calendar, Day, Keyword, Weekday, Year};
 use osn_grammar::{DateOrder, Written, parse_day, read_date};
 use osn_invocation::PageWords;
 use osn_pages::{Page, day_of_written};
@@ -254,24 +256,19 @@ fn year_of_word(text: &str) -> Result<u16, Misuse>
     }
 }
 
-/// Returns a month by its number or its English name.
-fn month_of_word(text: &str) -> Result<u8, Misuse>
-    ensures { result ≡ spec.month_of_word (number_in text.now) text.now }
-{
-    match number_of(text) {
-        Some(month) if month >= 1 && month <= 12 => Ok(month as u8),
-        Some(_) => Err(Misuse::Month),
-        None => month_named(text).ok_or(Misuse::Month),
-    }
-}
-
 /// Returns the page on a month.
-fn month_page_of(year: &str, month: &str) -> Result<Page, Misuse>
-    ensures { result ≡ spec.month_page_of year.now month.now }
+fn month_page_of(alloc: Global, year: &str, month: &str) -> Result<Result<Page, Misuse>, AllocError>
+    ensures value { IfOk result (λ page. page ≡ spec.month_page_of year.now month.now) }
+    ensures memory { OnErr result (month_takes_memory (number_in month.now) ≡ true) }
 {
-    let year = year_of_word(year)?;
-    let month = month_of_word(month)?;
-    Ok(Page::Month { year, month })
+    let year = match year_of_word(year) {
+        Ok(year) => year,
+        Err(misuse) => return Ok(Err(misuse)),
+    };
+    match month_of_word(alloc, month)? {
+        Ok(month) => Ok(Ok(Page::Month { year, month })),
+        Err(misuse) => Ok(Err(misuse)),
+    }
 }
 
 /// Returns the year that a number is, if the year has figures.
@@ -319,7 +316,9 @@ pub(crate) fn topic_of_words(
             ..
         } => topic_of_reading(alloc, date, weekday, order, strict),
         PageWords::Day { date, .. } => Ok(of_land(day_page_of(alloc, date)?, false)),
-        PageWords::Month { year, month, .. } => Ok(of_land(month_page_of(year, month), false)),
+        PageWords::Month { year, month, .. } => {
+            Ok(of_land(month_page_of(alloc, year, month)?, false))
+        }
         PageWords::Year { year, .. } => Ok(year_topic_of(year)),
         PageWords::Territory { code: None } => Ok(Ok(Topic::Lands)),
         PageWords::Territory { code: Some(_) } => Ok(of_land(Ok(Page::Periods), false)),
@@ -336,9 +335,9 @@ pub(crate) fn date_text_of<'a>(words: PageWords<'a>) -> &'a str
     }
 }
 
-/// Returns the code of the territory that words name, or an empty text if they name no territory.
-pub(crate) fn code_of<'a>(words: PageWords<'a>) -> &'a str
-    ensures { result.now ≡ spec.code_of (page_words words.entry) }
+/// Returns the word that names the territory of a page, or an empty text if there is none.
+pub(crate) fn land_word<'a>(words: PageWords<'a>) -> &'a str
+    ensures { result.now ≡ spec.land_word (page_words words.entry) }
 {
     match words {
         PageWords::Almanac { code, .. }

@@ -41,7 +41,7 @@ note path said = codes "note: " ++ (shown path ++ (codes ": " ++ (said ++ codes 
 abbrev pub head_text : List ℕ → List ℕ
 head_text path = codes "help: "
     ++ (shown path ++ codes
-    " is no journal: oldstyle publish FILE TEXT begins one in a new or empty file\n")
+    " is not a journal: oldstyle publish FILE TEXT begins one in a new or empty file\n")
 
 -- what a stop may have left at the end of a journal, and what cuts it off
 abbrev pub torn_text : ℕ → List ℕ → List ℕ

@@ -172,8 +172,8 @@ followed_line (follow_faults.NotRead cause) = read_line
 followed_line follow_faults.Shorter = codes "oldstyle: the journal that is followed got shorter: "
     ++ codes "no further line is answered\n"
 followed_line follow_faults.Replaced =
-    codes "oldstyle: another file, or none, stands where the journal that is "
-    ++ codes "followed was: no further line is answered\n"
+    codes "oldstyle: the journal that is followed was replaced or removed: "
+    ++ codes "no further line is answered\n"
 
 -- the line on standard error
 abbrev pub fault_line : CommandFault → List ℕ
@@ -181,12 +181,12 @@ fault_line (faults.File why) = file_line why
 fault_line (faults.Service why) = service_line why
 fault_line (faults.Refused refusal) = refusal_line refusal
 fault_line (faults.Desk why) = desk_line why
-fault_line faults.KeptWithOther = codes "oldstyle: --keep goes with neither --journal nor --save\n"
-fault_line faults.UpgradeWithoutKeep = codes "oldstyle: --upgrade goes with --keep alone\n"
+fault_line faults.KeptWithOther = codes "oldstyle: --keep can't be used with --journal or --save\n"
+fault_line faults.UpgradeWithoutKeep = codes "oldstyle: --upgrade can only be used with --keep\n"
 fault_line (faults.Keep why) = keep_line why
 fault_line (faults.KeptFile why) = kept_file_line why
 fault_line faults.FollowedWithOther =
-    codes "oldstyle: --follow goes with none of --journal, --save and --keep\n"
+    codes "oldstyle: --follow can't be used with --journal, --save or --keep\n"
 fault_line (faults.FollowedFile why) = followed_line why
 fault_line (faults.OlderVersion version) = older_line version
 fault_line (faults.RefusedLine line) = refused_line line

@@ -22,7 +22,7 @@ date_text faults.Malformed =
     codes "a date is written 1731-02-11, \"11 February 1731\" or \"11 February 1731/2\", "
     ++ codes "with a weekday before it or without"
 date_text faults.LaterYear =
-    codes "after the / stands the year that follows, in full or its last digits, "
+    codes "after the / comes the year that follows, in full or its last digits, "
     ++ codes "as 1731/2, 1731/32 or 1731/1732"
 date_text faults.Year = codes "a year is 0 to 10000"
 date_text faults.Month =
@@ -67,7 +67,7 @@ misuse_text (WhichConversion number) =
 misuse_text DoubleDate = codes "a date with both years is a territory's: use oldstyle read"
 misuse_text (NoSuchDate calendar) = codes "the "
     ++ (calendar_word calendar ++ codes " calendar has no such date in the years 1 to 9999")
-misuse_text Month = codes "a month is 1 to 12 or its English name"
+misuse_text Month = codes "a month is 1 to 12 or its name, such as September or Sept"
 misuse_text Year = codes "a year is 1 to 9999 as the place counted it: of 1731/2 write 1731"
 misuse_text Limits = codes
     "limits are some of lands=N,changes=N,exceptions=N,edits=N,editions=N, with a comma between"
@@ -76,9 +76,9 @@ misuse_text Order = codes "an order is dmy, for 11/2/1731 as 11 February, or mdy
 misuse_text OpenOrder = codes "11/2/1731 may be 11 February or 2 November: "
     ++ codes "write the month by its name, or say --order dmy or mdy"
 misuse_text DateAndParts = codes
-    "it goes with none of --year, --month and --day: leave it out, or leave them out"
-misuse_text PartWithoutYear = codes "it goes with --year: name the column of years too"
-misuse_text DayWithoutMonth = codes "it goes with --month: name the column of months too"
+    "it can't be used with --year, --month or --day: leave it out, or leave them out"
+misuse_text PartWithoutYear = codes "it requires --year: name the column of years too"
+misuse_text DayWithoutMonth = codes "it requires --month: name the column of months too"
 misuse_text Shell = codes "a shell is bash, zsh or fish"
 
 -- the line on standard error, which begins with the word as it was typed

@@ -41,7 +41,7 @@ fn head_text(alloc: Global, path: &str) -> Result<String, AllocError>
     ensures { IfOk result (λ text. string_bytes text ≡ spec.head_text path.now) }
 {
     format!(in alloc;
-        "help: {} is no journal: oldstyle publish FILE TEXT begins one in a new or empty file\n",
+        "help: {} is not a journal: oldstyle publish FILE TEXT begins one in a new or empty file\n",
         Shown(path)
     )
 }

@@ -25,9 +25,9 @@ const WRITE_FAULT: &str = "oldstyle: write fault\n";
 
 const NO_MEMORY: &str = "oldstyle: no memory\n";
 
-const KEPT_WITH_OTHER: &str = "oldstyle: --keep goes with neither --journal nor --save\n";
+const KEPT_WITH_OTHER: &str = "oldstyle: --keep can't be used with --journal or --save\n";
 
-const UPGRADE_WITHOUT_KEEP: &str = "oldstyle: --upgrade goes with --keep alone\n";
+const UPGRADE_WITHOUT_KEEP: &str = "oldstyle: --upgrade can only be used with --keep\n";
 
 const KEPT_ELSEWHERE: &str = "oldstyle: another run of the program keeps that journal\n";
 
@@ -35,13 +35,13 @@ const KEPT_REPLACED: &str = "oldstyle: another program moved, replaced or change
 no more is kept in it\n";
 
 const FOLLOWED_WITH_OTHER: &str =
-    "oldstyle: --follow goes with none of --journal, --save and --keep\n";
+    "oldstyle: --follow can't be used with --journal, --save or --keep\n";
 
 const FOLLOWED_SHORTER: &str = "oldstyle: the journal that is followed got shorter: \
 no further line is answered\n";
 
-const FOLLOWED_REPLACED: &str = "oldstyle: another file, or none, stands where the journal that is \
-followed was: no further line is answered\n";
+const FOLLOWED_REPLACED: &str = "oldstyle: the journal that is followed was replaced or removed: \
+no further line is answered\n";
 
 /// Writes a line. If standard error fails too, only the status reports the fault.
 pub fn write_line<E: Sink>(errors: &mut E, line: &str)

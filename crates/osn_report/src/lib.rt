@@ -20,7 +20,7 @@ pub use failure::{Failure, failure_of_two};
 pub use fault::CommandFault;
 pub use fault_report::{refused, report, tell_line, tell_no_memory, write_line};
 pub use hint::limit_hint;
-pub use misuse::{Misuse, tell_misuse};
+pub use misuse::{Misuse, misuse_line, tell_misuse};
 pub use output::{StandardOutput, WriteCause, end_output};
 pub use printing::{print, print_or_report, print_text};
 pub use progress::{ProgressSource, ReadProgress};

@@ -68,7 +68,7 @@ fn date_text(fault: DateFault) -> &'static str
 with a weekday before it or without"
         }
         DateFault::LaterYear => {
-            "after the / stands the year that follows, in full or its last digits, as 1731/2, \
+            "after the / comes the year that follows, in full or its last digits, as 1731/2, \
 1731/32 or 1731/1732"
         }
         DateFault::Year => "a year is 0 to 10000",
@@ -136,7 +136,9 @@ number",
                 "the {} calendar has no such date in the years 1 to 9999",
                 calendar.word()
             ),
-            Misuse::Month => f.write_str("a month is 1 to 12 or its English name"),
+            Misuse::Month => f.write_str(
+                "a month is 1 to 12 or its name, such as September or Sept",
+            ),
             Misuse::Year => f.write_str(
                 "a year is 1 to 9999 as the place counted it: of 1731/2 write 1731",
             ),
@@ -153,13 +155,13 @@ with a comma between",
 --order dmy or mdy",
             ),
             Misuse::DateAndParts => f.write_str(
-                "it goes with none of --year, --month and --day: leave it out, or leave them out",
+                "it can't be used with --year, --month or --day: leave it out, or leave them out",
             ),
             Misuse::PartWithoutYear => {
-                f.write_str("it goes with --year: name the column of years too")
+                f.write_str("it requires --year: name the column of years too")
             }
             Misuse::DayWithoutMonth => {
-                f.write_str("it goes with --month: name the column of months too")
+                f.write_str("it requires --month: name the column of months too")
             }
             Misuse::Shell => f.write_str("a shell is bash, zsh or fish"),
         }
@@ -167,7 +169,11 @@ with a comma between",
 }
 
 /// Returns the line on an argument, as it was typed.
-fn misuse_line(alloc: Global, misuse: Misuse, typed: &str) -> Result<String, AllocError>
+///
+/// # Errors
+///
+/// If memory runs out.
+pub fn misuse_line(alloc: Global, misuse: Misuse, typed: &str) -> Result<String, AllocError>
     ensures { IfOk result (λ line. string_bytes line ≡ spec.misuse_line misuse typed.now) }
 {
     format!(in alloc; "oldstyle: {}: {misuse}\n", Shown(typed))

@@ -20,13 +20,13 @@ returns-in-Ok-load_journal-clause-ok g c =
     page_printed c.args.limits c.args.journal.now (page_words c.args.words)
     (MayFail file.has_failed)
     (folders_of g.D.Folder.known c.args.folder.now c.open_named.new.folder)
-    c.in-Ok-Ok.topic c.code_of-code.result.now c.date_text_of-date.result.now
+    c.in-Ok-Ok.topic c.land_word-word.result.now c.date_text_of-date.result.now
     (output_of g.W.Sink.contents g.W.Sink.has_failed g.W.Sink.holds_back c.args.output.now
     new.output)
     (output_of g.E.Sink.contents g.E.Sink.has_failed g.E.Sink.holds_back c.args.errors.now
     new.errors)
     c.print_page.result (sym c.in-Ok-Ok.ensures.value ∙ c.in-Ok-Ok.field-0-is)
-    c.code_of-code.ensures c.date_text_of-date.ensures (
+    c.land_word-word.ensures c.date_text_of-date.ensures (
       c.in-Ok.ensures.ok,
       input_of file.remaining file.has_failed c.in-Ok.file left,
       (c.in-Ok.ensures.file, (λ e. (left, e))),

@@ -1,8 +1,8 @@
-use Rattle.std.proofs.Common.{refl, subst}
+use Rattle.std.proofs.Common.{subst}
 use Rattle.osn_lines.specs.Streams.{output_of}
-use Rattle.osn_page_commands.specs.Page.{PrintsTopicText, topic_text, refusal_line}
-use Rattle.osn_page_commands.proofs.PageLemmas.{page_made, page_unmade, page_refused}
-use Rattle.osn_page_commands.proofs.page.print_page.Goals as goal
+use Rattle.osn_page_commands.specs.Page.{PrintsTopicText}
+use Rattle.osn_page_commands.proofs.PageLemmas.{page_made}
+use Rattle.osn_page_commands.proofs.page.print_page_of.Goals as goal
 
 pub returns-in-Ok : goal.returns-in-Ok
 returns-in-Ok g c =

@@ -1,0 +1,181 @@
+//! Reports on standard error a word that is not what its place asks for, and what may be meant.
+ghost use Rattle.std.specs.Prelude.{◌≡◌, ◌++◌, find, map, IfOk, OnOk, option_map, string_bytes};
+ghost use Rattle.osn_lines.specs.Streams.{output_of};
+ghost use Rattle.osn_near.specs.Near.{is_near as is_name_near};
+ghost use Rattle.osn_page_commands.specs.DateHint as spec;
+ghost use Rattle.osn_page_commands.specs.Pieces.{pieces};
+
+use crate::month_word::month_in_date;
+use osn_grammar::parse_day;
+use osn_lines::Sink;
+use osn_near::is_near;
+use osn_report::{Misuse, Status, misuse_line, tell_line};
+use osn_shown::Shown;
+use osn_written::{DateFault, number_of, parts_at};
+use std::alloc::{AllocError, Global};
+
+/// The names that are suggested.
+const NAMES: [&str; 19] = [
+    "January",
+    "February",
+    "March",
+    "April",
+    "May",
+    "June",
+    "July",
+    "August",
+    "September",
+    "October",
+    "November",
+    "December",
+    "Sunday",
+    "Monday",
+    "Tuesday",
+    "Wednesday",
+    "Thursday",
+    "Friday",
+    "Saturday",
+];
+
+/// Returns whether a date may have the word in the place of its month or its weekday.
+fn is_date_word(alloc: Global, word: &str) -> Result<bool, AllocError>
+    ensures { IfOk result (λ is. is ≡ spec.is_date_word word.now) }
+{
+    if month_in_date(alloc, word)?.is_some() {
+        return Ok(true);
+    }
+    let text = format!(in alloc; "{word} 1 January 2000")?;
+    Ok(parse_day(alloc, text.as_str())?.is_ok())
+}
+
+/// Returns the first of these names that is near a word, and no further than `most`.
+fn first_near(
+    alloc: Global,
+    most: usize,
+    word: &str,
+    names: &[&'static str],
+) -> Result<Option<&'static str>, AllocError>
+    ensures { IfOk result (λ found. option_map (λ name. name.now) found
+        ≡ find (is_name_near most word.now) (map (λ name. name.now) names.now)) }
+{
+    for name in names {
+        if is_near(alloc, most, word, name)? {
+            return Ok(Some(name));
+        }
+    }
+    Ok(None)
+}
+
+/// Returns the first name that is near a word, and no further than `most`.
+fn first_name(alloc: Global, most: usize, word: &str) -> Result<Option<&'static str>, AllocError>
+    ensures { IfOk result (λ found. option_map (λ name. name.now) found
+        ≡ find (is_name_near most word.now) spec.date_names) }
+{
+    first_near(alloc, most, word, &NAMES)
+}
+
+/// Returns the nearest name of a word that no date has, if one is near.
+#[tactic(auto, unfolding(crate::specs::DateHint::nearest_name))]
+fn nearest_name(alloc: Global, word: &str) -> Result<Option<&'static str>, AllocError>
+    ensures { IfOk result (λ found.
+        option_map (λ name. name.now) found ≡ spec.nearest_name word.now) }
+{
+    if is_date_word(alloc, word)? {
+        return Ok(None);
+    }
+    match first_name(alloc, 1, word)? {
+        Some(name) => Ok(Some(name)),
+        None => first_name(alloc, 2, word),
+    }
+}
+
+/// Returns the first word of a text that has a nearest name, with that name.
+fn first_hint<'a>(
+    alloc: Global,
+    text: &'a str,
+) -> Result<Option<(&'a str, &'static str)>, AllocError>
+    ensures { IfOk result (λ hint. option_map (λ x. (x.0.now, x.1.now)) hint
+        ≡ spec.first_hint (pieces 32 text.now)) }
+{
+    let mut rest = text;
+    while let Some((word, further)) = parts_at(rest, ' ') {
+        match nearest_name(alloc, word)? {
+            Some(name) => return Ok(Some((word, name))),
+            None => rest = further,
+        }
+    }
+    match nearest_name(alloc, rest)? {
+        Some(name) => Ok(Some((rest, name))),
+        None => Ok(None),
+    }
+}
+
+/// Appends the line on the first word of a text that has a nearest name, if one has.
+fn push_name_help(lines: &mut String, alloc: Global, text: &str) -> Result<(), AllocError>
+    ensures { OnOk result (string_bytes lines.new
+        ≡ string_bytes lines.old ++ spec.name_help text.now) }
+{
+    match first_hint(alloc, text)? {
+        Some((word, name)) => writeln!(lines, "help: {}: did you mean {name}?", Shown(word)),
+        None => Ok(()),
+    }
+}
+
+/// Appends the line on two years with a slash between, if the text is that.
+fn push_year_help(lines: &mut String, text: &str) -> Result<(), AllocError>
+    ensures { OnOk result (string_bytes lines.new
+        ≡ string_bytes lines.old ++ spec.misuse_help (Misuse.Date DateFault.Year) text.now) }
+{
+    match parts_at(text, '/') {
+        Some((first, _)) if number_of(first).is_some() => {
+            writeln!(
+                lines,
+                "help: write the first of the two years alone: {first}"
+            )
+        }
+        _ => Ok(()),
+    }
+}
+
+/// Appends the line on what may be meant, if there is one.
+fn push_help(
+    lines: &mut String,
+    alloc: Global,
+    misuse: Misuse,
+    typed: &str,
+) -> Result<(), AllocError>
+    ensures { OnOk result (string_bytes lines.new
+        ≡ string_bytes lines.old ++ spec.misuse_help misuse typed.now) }
+{
+    match misuse {
+        Misuse::Date(DateFault::Malformed) | Misuse::Weekday | Misuse::Month => {
+            push_name_help(lines, alloc, typed)
+        }
+        Misuse::Date(DateFault::Year) => push_year_help(lines, typed),
+        _ => Ok(()),
+    }
+}
+
+/// Returns the line on a word, as it was typed, and the one on what may be meant.
+fn misuse_lines(alloc: Global, misuse: Misuse, typed: &str) -> Result<String, AllocError>
+    ensures { IfOk result (λ lines. string_bytes lines ≡ spec.misuse_lines misuse typed.now) }
+{
+    let mut lines = misuse_line(alloc, misuse, typed)?;
+    push_help(&mut lines, alloc, misuse, typed)?;
+    Ok(lines)
+}
+
+/// Reports on standard error what the place of a word asks for, and what may be meant by the word
+/// as it was typed. Returns the status.
+pub(crate) fn tell_word<E: Sink>(
+    alloc: Global,
+    errors: &mut E,
+    misuse: Misuse,
+    typed: &str,
+) -> Status
+    ensures { spec.TellsWord
+        (output_of E.contents E.has_failed E.holds_back errors.old errors.new) misuse typed.now
+        result }
+{
+    tell_line(errors, Status::Misused, misuse_lines(alloc, misuse, typed))
+}

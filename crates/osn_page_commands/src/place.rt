@@ -1,0 +1,102 @@
+//! Which territory of a register a word names.
+ghost use Rattle.std.specs.Prelude.{◌≡◌, find, IfOk, option_map};
+ghost use Rattle.osn_page_commands.specs.Place as spec;
+
+use osn_near::is_near;
+use osn_register::{Land, LandList, Register, Text};
+use osn_written::Listing;
+use std::alloc::{AllocError, Global};
+
+/// What a word names.
+#[derive(Debug, Drop)]
+pub(crate) enum Place {
+    /// The territory of this code, and no other.
+    One(Text),
+    /// No territory, or these, of which it may be any.
+    NotOne(LandList),
+}
+
+/// Returns whether a territory has the word as its code or its name, in capital or small letters.
+fn is_called(word: &str, land: &Land) -> bool
+    ensures { result ≡ spec.is_called word.now land.now }
+{
+    land.code.as_str().eq_ignore_ascii_case(word) || land.name.as_str().eq_ignore_ascii_case(word)
+}
+
+/// Returns the only one of these territories, or all of them.
+fn only_of(lands: Vec<Land>) -> Result<Place, AllocError>
+    ensures { IfOk result (λ place. place ≡ spec.only_of lands.items) }
+{
+    if let [only] = lands.as_slice() {
+        return Ok(Place::One(only.code.copy()?));
+    }
+    Ok(Place::NotOne(Listing::new(lands)))
+}
+
+/// Returns the territories that have the word as their code or their name.
+fn lands_called(register: &Register, word: &str) -> Result<Vec<Land>, AllocError>
+    ensures { IfOk result (λ lands.
+        lands.items ≡ spec.lands_called word.now register.now.lands) }
+{
+    let mut lands = register.listed()?;
+    lands.retain(|land| is_called(word, land));
+    Ok(lands)
+}
+
+/// Returns what a word names: the territory whose code it is, as published; or else the only one
+/// that has it as its code or its name, in capital or small letters.
+pub(crate) fn place_named(
+    alloc: Global,
+    register: &Register,
+    word: &str,
+) -> Result<Place, AllocError>
+    ensures { IfOk result (λ place. place ≡ spec.place_named word.now register.now.lands) }
+{
+    if register.find_land(word).is_some() {
+        return Ok(Place::One(Text::from_str(alloc, word)?));
+    }
+    only_of(lands_called(register, word)?)
+}
+
+/// Returns whether the code or the name of a territory is near a word, and no further than `most`.
+fn is_land_near(alloc: Global, most: usize, word: &str, land: &Land) -> Result<bool, AllocError>
+    ensures { IfOk result (λ near. near ≡ spec.is_land_near most word.now land.now) }
+{
+    Ok(
+        is_near(alloc, most, word, land.code.as_str())?
+            || is_near(alloc, most, word, land.name.as_str())?,
+    )
+}
+
+/// Returns the first of these territories that is near a word, and no further than `most`.
+fn first_near<'a>(
+    alloc: Global,
+    most: usize,
+    word: &str,
+    lands: &'a [Land],
+) -> Result<Option<&'a Land>, AllocError>
+    ensures { IfOk result (λ found. option_map (λ land. land.now) found
+        ≡ find (spec.is_land_near most word.now) lands.now) }
+{
+    for land in lands {
+        if is_land_near(alloc, most, word, land)? {
+            return Ok(Some(land));
+        }
+    }
+    Ok(None)
+}
+
+/// Returns the nearest of these territories, by its code or its name, if one is near the word.
+pub(crate) fn nearest_land<'a>(
+    alloc: Global,
+    word: &str,
+    lands: &'a [Land],
+) -> Result<Option<&'a Land>, AllocError>
+    ensures { IfOk result (λ found. option_map (λ land. land.now) found
+        ≡ spec.nearest_land word.now lands.now) }
+{
+    match first_near(alloc, 1, word, lands)? {
+        Some(land) => Ok(Some(land)),
+        None => first_near(alloc, 2, word, lands),
+    }
+}
