@@ -51,7 +51,7 @@ MARK = "called\nanswered\n"
 LACKS = {"NoMemory\n", "NoPlace\n", "Err(NoMemory)\n", "Err(NoPlace)\n", "Err(AllocError)\n"}
 LACKS_AFTER = re.compile(r"Err\(Interrupted \{ lines: (\d+), cause: NoMemory \}\)\n")
 
-NOT_SYNCED = (3, "oldstyle: the journal is saved, and the disk may not have it yet\n")
+NOT_SYNCED = (3, "oldstyle: the journal is saved, but may not be on the disk yet\n")
 NOT_KEPT = (3, "oldstyle: read fault\n")
 
 Run = namedtuple("Run", "status output errors growths")

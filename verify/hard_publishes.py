@@ -68,10 +68,8 @@ class Trial:
         return done.returncode, done.stderr
 
     def not_written(self, cause):
-        """How a publish ends if the journal can't be written for this cause, which is named if the
-        journal is saved again."""
-        note = f"note: {self.journal}: {cause}\n" if self.is_anew else ""
-        return WRITE_FAULT[0], WRITE_FAULT[1] + note
+        """How a publish ends if the journal can't be written for this cause."""
+        return WRITE_FAULT[0], f"{WRITE_FAULT[1]}note: {self.journal}: {cause}\n"
 
     def check_whole(self, what, result, expected, is_published):
         """Checks how the run ended, and whether the journal has the edition."""
@@ -110,7 +108,7 @@ def try_files(trial, folder):
             ("a folder as a text", {"text": folder}, f"oldstyle: {folder}: is a directory\n"),
             ("no text", {"text": none}, f"oldstyle: {none}: no such file\n"),
             ("a folder as a journal", {"journal": folder},
-             f"oldstyle: {folder}: it is no file, but a folder or a pipe\n"),
+             f"oldstyle: {folder}: it is a folder or a pipe, not a file\n"),
             ("a journal in no folder", {"journal": inside},
              f"oldstyle: {inside}: there is no folder {none}: make it first\n")):
         trial.begin()

@@ -35,7 +35,7 @@ MODE = 0o640
 DELAY, WAIT = 3_000_000, 60
 CHANGED = "oldstyle: the file has changed meanwhile and is left as it is: the journal is in "
 NOTED = " held another journal, which is now "
-NOT_SYNCED = "oldstyle: the journal is saved, and the disk may not have it yet\n"
+NOT_SYNCED = "oldstyle: the journal is saved, but may not be on the disk yet\n"
 FAULTS = ["oldstyle: read fault\n", "oldstyle: write fault\n"]
 # What is reported after one of them is not checked: the cause, which is that of the refused call,
 # or what to do.

@@ -38,6 +38,8 @@ PENDING = ("oldstyle: publish refuses a journal with 1 pending edit: publish wha
 NOT_KEPT = ("oldstyle: publish refuses a journal of version 1: serve --keep with --upgrade saves "
             "it anew as version 4\nhelp: run oldstyle serve --keep J --upgrade < /dev/null, then "
             "publish\n")
+NO_HEAD = ("oldstyle: journal line 1: 32 NotJson\nhelp: J is no journal: oldstyle publish FILE "
+           "TEXT begins one in a new or empty file\n")
 # What a plan prints for a journal that its publish saves again.
 ANEW = ("oldstyle: the journal is of version {}, which has no sources: publish saves it anew as "
         "version 4\n")
@@ -61,7 +63,7 @@ def try_journals(files):
             ("plan", current + edit + "\n", (0, PENDING, True)),
             ("publish", older, (1, NOT_KEPT, True)),
             ("plan", older, (0, NOT_KEPT, True)),
-            ("publish", "x\n", (1, "oldstyle: journal line 1: 32 NotJson\n", True)),
+            ("publish", "x\n", (1, NO_HEAD, True)),
             ("publish", current + edit[:9], (0, "", True))):
         result = result_of(files, command, files.write("journal", content), text)
         check(f"{command} with {content!r} gives {result}", result == expected)

@@ -199,7 +199,7 @@ def publish_begin(count, editions, journal):
 
 def publish_end(count, editions):
     if count == 0:
-        return f"nothing to change: edition {editions} stands"
+        return f"nothing to change: edition {editions} is the newest"
     return f"published as edition {editions + 1}"
 
 

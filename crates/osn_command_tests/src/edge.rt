@@ -129,7 +129,7 @@ const SAVED: [RunRow; 4] = [
             3,
             "",
             "oldstyle: write fault
-help: letter holds no journal, and is left as it is: name another file for --save
+help: letter is not a journal, and is left as it is: name another file for --save
 ",
         ),
     ),

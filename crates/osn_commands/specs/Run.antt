@@ -31,6 +31,7 @@ use Rattle.osn_report.specs.declared.fault.CommandFault.TheVariants.{NotOpened, 
 use Rattle.osn_report.specs.declared.status.Status.{Status}
 use Rattle.osn_report.specs.declared.status.Status.TheVariants as statuses
 use Rattle.osn_serve_commands.specs.InFolder.{RunsServing, opened_by}
+use Rattle.osn_serve_commands.specs.Mode.{mode_by}
 use Rattle.osn_text_commands.specs.InFolder.{PlansInFolder}
 use Rattle.osn_text_commands.specs.PublishFolder.{PublishesInFolder}
 use Rattle.osn_text_commands.specs.Text.{PrintsText}
@@ -87,7 +88,7 @@ IsUnopened file d path fault =
 abbrev pub Fails : Limits → CommandModel → (Bool → Type 0) → Folders → List ℕ → CommandFault
     → Type 0
 Fails limits (serving journal save kept followed service) CanFail d path fault =
-    IsNotRead (opened_by journal kept followed) d path fault
+    IsNotRead (opened_by (mode_by service.upgrade kept followed journal save)) d path fault
 Fails limits (replaying readers schedule) CanFail d path fault =
     FailsOnOne schedule CanFail d (ReplayFails readers) path fault
 Fails limits (working script questions) CanFail d path fault =

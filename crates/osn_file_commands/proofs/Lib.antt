@@ -1,3 +1,2 @@
-pub mod AuditLemmas
 pub mod FailLemmas
 pub mod LineLemmas

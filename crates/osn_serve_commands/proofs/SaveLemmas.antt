@@ -1,6 +1,6 @@
 -- The service over the files of a folder did what its contract says, by what the service of streams
 -- did and the journal that was saved.
-use Rattle.std.proofs.Common.{◌≡◌, ◌⊎◌, ℕ, Bool, true, false, List, [], ◌∷◌, Option, Some, None}
+use Rattle.std.proofs.Common.{◌≡◌, ℕ, Bool, true, false, List, [], ◌∷◌, Option, Some, None}
 use Rattle.std.proofs.Common.{Result, Ok, Err, IfSome, is_some, option_map, ap, refl, sym, subst}
 use Rattle.std.proofs.Common.{inl, inr, ◌∙◌, if◌then◌else◌, bytes_eq, unwrap_or}
 use Rattle.std.specs.Option.{option_map_or}
@@ -288,27 +288,15 @@ read_whole (Some k) path held (Some given) begun is read same = (
   ap is_some same,
 )
 
-module _ (limits : Limits) (journal save found : Option (List ℕ)) (given rules : ServeRules)
+module _ (limits : Limits) (journal save : Option (List ℕ)) (rules : ServeRules)
     (CanFail : Bool → Type 0) (d : Folders) (i : Input) (o e : Output) (status : Status)
-    (opened : Option Known) (path : List ℕ) (at : path ≡ unwrap_or journal [])
-    (named : found ≡ save) (by : given ≡ rules) where
-  -- what was done with the path and the rules that were found
-  as_asked : (Served : List ℕ → Option (List ℕ) → ServeRules → Type 0) → Served path found given
-      → Served (unwrap_or journal []) save rules
-  as_asked Served h =
-      subst (λ p. Served p save rules) at
-      (subst (λ s. Served path s rules) named (subst (λ r. Served path found r) by h))
-
-  told_at : (fault : CommandFault) → TellsAt path e fault status
-      → TellsAt (unwrap_or journal []) e fault status
-  told_at fault h = subst (λ p. TellsAt p e fault status) at h
-
+    (opened : Option Known) where
   -- the service was run, and no file is replaced
   pub service_ran : (begun : Option Input) → replaced_path journal save ≡ None
       → IsFileIf d.before journal (option_map (λ journal. journal.bytes) begun)
       → CanFailIf CanFail begun → Changes (Opens (path_if journal)) d.before opened
       → Changes LeavesAllSafe d.before opened
-      → SavesOverFound limits path found given begun opened d.after i o e status
+      → SavesOverFound limits (unwrap_or journal []) save rules begun opened d.after i o e status
       → RunsService limits journal save rules CanFail d i o e status
   service_ran begun none file fails opens crash h = record {
     begun = begun;
@@ -317,49 +305,63 @@ module _ (limits : Limits) (journal save found : Option (List ℕ)) (given rules
     fails = fails;
     opens = opens;
     crash = crash;
-    ended = rw none (as_asked
-        (λ p s r. SavesOverFound limits p s r begun opened d.after i o e status) h);
+    ended = rw none h;
   }
 
   -- it was run, and the file that it began with is replaced
-  pub replacing_ran : (replaced : List ℕ) (file : Input)
-      → replaced_path journal save ≡ Some replaced → IsFileOf d.before replaced file.bytes
-      → CanFail file.unread → CanFail false
-      → Changes (Opens (replaced ∷ [])) d.before opened → Changes LeavesAllSafe d.before opened
-      → ReplacesRead limits path found given file opened d.after i o e status
-      → RunsService limits journal save rules CanFail d i o e status
-  replacing_ran replaced file is given_file fails sound opens crash (inl none) =
-      let journal_is = replaces_journal journal save replaced is in record {
-        begun = Some file;
-        opened = opened;
-        file = rw journal_is (file.bytes, refl, given_file);
-        fails = fails;
-        opens = rw journal_is opens;
-        crash = crash;
-        ended = rw is (inl (none.0, none.1, none.2, (none.3.0, told_at none.0 none.3.1)));
-      }
-  replacing_ran replaced file is given_file fails sound opens crash
-      (inr (held, begun, whole, h)) =
-      let journal_is = replaces_journal journal save replaced is in record {
-        begun = Some begun;
-        opened = opened;
-        file = rw journal_is (
-          begun.bytes,
-          refl,
-          read_whole d.before replaced held file.bytes begun.bytes given_file whole.read
-              whole.bytes,
-        );
-        fails = subst CanFail (sym whole.sound) sound;
-        opens = rw journal_is opens;
-        crash = crash;
-        ended = rw is (inr (
-          Some held,
-          stands_as begun.bytes held whole.bytes,
-          as_asked
-              (λ p s r. EndsServing limits p s r (Some begun) (Some held) false opened d.after i o e
-              status) h,
-        ));
-      }
+  module _ (path : List ℕ) (locked : Option (List ℕ)) (at : path ≡ unwrap_or journal [])
+      (named : locked ≡ save) where
+    told_at : (fault : CommandFault) → TellsAt path e fault status
+        → TellsAt (unwrap_or journal []) e fault status
+    told_at fault h = subst (λ p. TellsAt p e fault status) at h
+
+    served_at : (begun : Input) (held : List ℕ)
+        → EndsServing limits path locked rules (Some begun) (Some held) false opened d.after i o e
+        status
+        → EndsServing limits (unwrap_or journal []) save rules (Some begun) (Some held) false opened
+        d.after i o e status
+    served_at begun held h =
+        subst (λ p. EndsServing limits p save rules (Some begun) (Some held) false opened d.after i
+        o e status) at
+        (subst (λ s. EndsServing limits path s rules (Some begun) (Some held) false opened d.after i
+        o e status) named h)
+
+    pub replacing_ran : (replaced : List ℕ) (file : Input)
+        → replaced_path journal save ≡ Some replaced → IsFileOf d.before replaced file.bytes
+        → CanFail file.unread → CanFail false
+        → Changes (Opens (replaced ∷ [])) d.before opened → Changes LeavesAllSafe d.before opened
+        → ReplacesRead limits path locked rules file opened d.after i o e status
+        → RunsService limits journal save rules CanFail d i o e status
+    replacing_ran replaced file is given_file fails sound opens crash (inl none) =
+        let journal_is = replaces_journal journal save replaced is in record {
+          begun = Some file;
+          opened = opened;
+          file = rw journal_is (file.bytes, refl, given_file);
+          fails = fails;
+          opens = rw journal_is opens;
+          crash = crash;
+          ended = rw is (inl (none.0, none.1, none.2, (none.3.0, told_at none.0 none.3.1)));
+        }
+    replacing_ran replaced file is given_file fails sound opens crash
+        (inr (held, begun, whole, h)) =
+        let journal_is = replaces_journal journal save replaced is in record {
+          begun = Some begun;
+          opened = opened;
+          file = rw journal_is (
+            begun.bytes,
+            refl,
+            read_whole d.before replaced held file.bytes begun.bytes given_file whole.read
+                whole.bytes,
+          );
+          fails = subst CanFail (sym whole.sound) sound;
+          opens = rw journal_is opens;
+          crash = crash;
+          ended = rw is (inr (
+            Some held,
+            stands_as begun.bytes held whole.bytes,
+            served_at begun held h,
+          ));
+        }
 
 -- a journal was not read whole
 pub not_read_whole : (why : ReadAllFault) (fault : CommandFault) (journal : Input)

@@ -1,7 +1,7 @@
 -- What the service has done over the files of a folder. They are the one that a journal is loaded
 -- from, the one that it is saved to, and the one that it is kept in.
 use Rattle.std.specs.Prelude.{◌≡◌, ◌⊎◌, Bool, List, [], ℕ, Option, Some, None, IfSome, option_map}
-use Rattle.std.specs.Prelude.{Result, true, false, if◌then◌else◌, unwrap_or}
+use Rattle.std.specs.Prelude.{Result, Ok, Err, true, false, if◌then◌else◌, unwrap_or}
 use Rattle.std.specs.Str.{bytes_eq}
 use Rattle.std.specs.declared.convert.Infallible.{Infallible}
 use Rattle.osn_core.specs.Sequential.{ObjectState}
@@ -28,12 +28,12 @@ use Rattle.osn_report.specs.Journal.{Begins, BeginsNot}
 use Rattle.osn_report.specs.Printing.{PrintsNone, PrintsNoneAt}
 use Rattle.osn_report.specs.Messages.{Ends, EndsBy}
 use Rattle.osn_report.specs.declared.fault.CommandFault.{CommandFault}
-use Rattle.osn_report.specs.declared.fault.CommandFault.TheVariants.{File, Keep, KeptWithOther}
-use Rattle.osn_report.specs.declared.fault.CommandFault.TheVariants.{FollowedWithOther, NoMemory}
-use Rattle.osn_report.specs.declared.fault.CommandFault.TheVariants.{UpgradeWithoutKeep}
+use Rattle.osn_report.specs.declared.fault.CommandFault.TheVariants.{File, Keep, NoMemory}
 use Rattle.osn_report.specs.declared.status.Status.{Status}
 use Rattle.osn_serve_commands.specs.Follow.{EndsFollowed}
 use Rattle.osn_serve_commands.specs.Keep.{EndsKept, first_output, later_output}
+use Rattle.osn_serve_commands.specs.Mode.{ModeModel, loading, keeping, upgrading, following}
+use Rattle.osn_serve_commands.specs.Mode.{mode_by}
 use Rattle.osn_serve_commands.specs.SaveTarget.{IsTarget, IsNoTarget, TellsTarget}
 use Rattle.osn_serve_commands.specs.Saving.{LocksIf, CannotLockIf, FinishesSave}
 use Rattle.osn_serve_commands.specs.declared.target.SaveTarget.{SaveTarget}
@@ -119,13 +119,18 @@ abbrev pub FindsTarget : Limits → Option (List ℕ) → Option Known → Optio
 FindsTarget limits None before after found = (after ≡ before) × (found ≡ NoFile)
 FindsTarget limits (Some path) before after found = IsTarget limits path before after found
 
--- no journal is saved over what was found there, which was reported before a line was answered
+-- no journal is saved over what was found there, by this fault
+abbrev pub FindsNoTarget : Limits → Option (List ℕ) → Option Known → Option Known → TargetFault
+    → Type 0
+FindsNoTarget limits None before after fault = ⊥
+FindsNoTarget limits (Some path) before after fault = IsNoTarget limits path before after fault
+
+-- that was reported before a line was answered
 abbrev pub RefusesTarget : Limits → Option (List ℕ) → Option Known → Option Known → Output → Output
     → Status → Type 0
-RefusesTarget limits None before after o e status = ⊥
-RefusesTarget limits (Some path) before after o e status =
-    (fault : TargetFault) × IsNoTarget limits path before after fault × (o.new ≡ o.old)
-    × TellsTarget path e fault status
+RefusesTarget limits save before after o e status =
+    (fault : TargetFault) × FindsNoTarget limits save before after fault × (o.new ≡ o.old)
+    × TellsTarget (unwrap_or save []) e fault status
 
 -- the service was run, and its journal saved over what was found at its path; or that was refused
 abbrev pub SavesOverFound : Limits → List ℕ → Option (List ℕ) → ServeRules → Option Input
@@ -213,28 +218,12 @@ pub record UpgradesAndKeeps (limits : Limits) (path : List ℕ) (rules : ServeRu
     pub keeps : EndsKeeping limits path rules CanFail
         (record { before = upgraded; after = d.after }) i o (later_output e between failed) status
 
--- the file of this path was kept, as it is, or after an upgrade if that was asked for. It could not
--- be, and no line was answered; or that was done
-abbrev pub KeepsAsAsked : Bool → Limits → List ℕ → ServeRules → (Bool → Type 0) → Folders → Input
+-- it could not be upgraded, and no line was answered; or it was upgraded and kept
+abbrev pub EndsUpgrading : Limits → List ℕ → ServeRules → (Bool → Type 0) → Folders → Input
     → Output → Output → Status → Type 0
-KeepsAsAsked false limits path rules CanFail d i o e status =
-    EndsKeeping limits path rules CanFail d i o e status
-KeepsAsAsked true limits path rules CanFail d i o e status =
+EndsUpgrading limits path rules CanFail d i o e status =
     ((o.new ≡ o.old) × CannotUpgrade limits path CanFail d e status)
     ⊎ UpgradesAndKeeps limits path rules CanFail d i o e status
-
--- the service was run, with a journal that is kept or without: a journal that is kept can't be used
--- with another
-abbrev pub RunsEditing : Limits → Option (List ℕ) → Option (List ℕ) → Option (List ℕ)
-    → ServiceModel → (Bool → Type 0) → Folders → Input → Output → Output → Status → Type 0
-RunsEditing limits journal save None service CanFail d i o e status =
-    EndsService limits journal save (rules_of service) CanFail d i o e status
-RunsEditing limits None None (Some path) service CanFail d i o e status =
-    KeepsAsAsked service.upgrade limits path (rules_of service) CanFail d i o e status
-RunsEditing limits (Some journal) save (Some path) service CanFail d i o e status =
-    (d.after ≡ d.before) × PrintsNone KeptWithOther o e status
-RunsEditing limits None (Some save) (Some path) service CanFail d i o e status =
-    (d.after ≡ d.before) × PrintsNone KeptWithOther o e status
 
 -- ---- the service of a journal that is followed
 
@@ -248,45 +237,31 @@ EndsFollowing limits path service d o e status =
     ⊎ ((before : Option (List Arrival)) × (after : Option (List Arrival))
     × EndsFollowed limits path service before after o e status))
 
--- the paths of the files that are opened to be read
-abbrev pub opened_by : Option (List ℕ) → Option (List ℕ) → Option (List ℕ) → List (List ℕ)
-opened_by journal None None = path_if journal
-opened_by journal (Some kept) None = []
-opened_by journal kept (Some followed) = []
+-- ---- the service that the options ask for
 
--- the service was run, with a journal that is followed or without: a journal that is followed can't
--- be used with another
-abbrev pub RunsByFiles : Limits → Option (List ℕ) → Option (List ℕ) → Option (List ℕ)
-    → Option (List ℕ) → ServiceModel → (Bool → Type 0) → Folders → Input → Output → Output
-    → Status → Type 0
-RunsByFiles limits journal save kept None service CanFail d i o e status =
-    RunsEditing limits journal save kept service CanFail d i o e status
-RunsByFiles limits None None None (Some path) service CanFail d i o e status =
+-- the service was run that was asked for; or the options can't be used together, which was reported
+abbrev pub RunsMode : Limits → Result ModeModel CommandFault → ServiceModel → (Bool → Type 0)
+    → Folders → Input → Output → Output → Status → Type 0
+RunsMode limits (Ok (loading journal save)) service CanFail d i o e status =
+    EndsService limits journal save (rules_of service) CanFail d i o e status
+RunsMode limits (Ok (keeping path)) service CanFail d i o e status =
+    EndsKeeping limits path (rules_of service) CanFail d i o e status
+RunsMode limits (Ok (upgrading path)) service CanFail d i o e status =
+    EndsUpgrading limits path (rules_of service) CanFail d i o e status
+RunsMode limits (Ok (following path)) service CanFail d i o e status =
     EndsFollowing limits path service d o e status
-RunsByFiles limits (Some journal) save kept (Some path) service CanFail d i o e status =
-    (d.after ≡ d.before) × PrintsNone FollowedWithOther o e status
-RunsByFiles limits None (Some save) kept (Some path) service CanFail d i o e status =
-    (d.after ≡ d.before) × PrintsNone FollowedWithOther o e status
-RunsByFiles limits None None (Some kept) (Some path) service CanFail d i o e status =
-    (d.after ≡ d.before) × PrintsNone FollowedWithOther o e status
+RunsMode limits (Err fault) service CanFail d i o e status =
+    (d.after ≡ d.before) × PrintsNone fault o e status
 
--- an upgrade is asked for, and no journal to keep is named
-abbrev pub lacks_keep : Bool → Option (List ℕ) → Bool
-lacks_keep upgrade None = upgrade
-lacks_keep upgrade (Some path) = false
+-- the paths of the files that it opens to be read
+abbrev pub opened_by : Result ModeModel CommandFault → List (List ℕ)
+opened_by (Ok (loading journal save)) = path_if journal
+opened_by mode = []
 
--- the service was run by these options, unless they lack a journal to be kept
-abbrev pub RunsUnless : Bool → Limits → Option (List ℕ) → Option (List ℕ) → Option (List ℕ)
-    → Option (List ℕ) → ServiceModel → (Bool → Type 0) → Folders → Input → Output → Output
-    → Status → Type 0
-RunsUnless true limits journal save kept followed service CanFail d i o e status =
-    (d.after ≡ d.before) × PrintsNone UpgradeWithoutKeep o e status
-RunsUnless false limits journal save kept followed service CanFail d i o e status =
-    RunsByFiles limits journal save kept followed service CanFail d i o e status
-
--- the service was run by its options
+-- the service was run by its options: the journal to begin with, the file to save to, the journal
+-- to keep and the one to follow, if they are given, and the rest
 abbrev pub RunsServing : Limits → Option (List ℕ) → Option (List ℕ) → Option (List ℕ)
     → Option (List ℕ) → ServiceModel → (Bool → Type 0) → Folders → Input → Output → Output
     → Status → Type 0
 RunsServing limits journal save kept followed service =
-    RunsUnless (lacks_keep service.upgrade kept) limits journal save kept followed service
+    RunsMode limits (mode_by service.upgrade kept followed journal save) service

@@ -5,6 +5,7 @@ pub mod SaveTarget
 pub mod Saving
 pub mod Follow
 pub mod InFolder
+pub mod Mode
 pub mod SavingInside
 pub mod Upgrade
 pub mod UpgradeInside

@@ -1,9 +1,12 @@
 -- What is at the path that a journal will be saved to, before a line is answered.
 use Rattle.std.specs.Prelude.{◌≡◌, ◌⊎◌, ⊤, ℕ, true, List, [], ◌∷◌, ◌++◌, codes, Option, None}
-use Rattle.std.specs.Prelude.{IfSome}
 use Rattle.osn_core.specs.Sequential.{ObjectState}
-use Rattle.osn_folder.specs.Folder.{Known, Changes, HasNoFile, IsFileOf, Opens, Stays}
-use Rattle.osn_folder.specs.declared.fault.OpenFailed.TheVariants.{NotFound}
+use Rattle.osn_folder.specs.Folder.{Known, Changes, HasNoFile, IsCauseAt, IsFileOf, Opens, Stays}
+use Rattle.osn_folder.specs.declared.fault.ChangeCause.{ChangeCause}
+use Rattle.osn_folder.specs.declared.fault.ChangeCause.TheVariants as changes
+use Rattle.osn_folder.specs.declared.fault.OpenFailed.{OpenFailed}
+use Rattle.osn_folder.specs.declared.fault.OpenFailed.TheVariants.{NotFound, NoFolder}
+use Rattle.osn_folder.specs.declared.fault.OpenFailed.TheVariants.{PermissionDenied}
 use Rattle.osn_lines.specs.declared.whole.ReadAllFault.{ReadAllFault}
 use Rattle.osn_lines.specs.declared.whole.ReadAllFault.TheVariants as read_faults
 use Rattle.osn_lines.specs.Lines.{lines}
@@ -15,7 +18,7 @@ use Rattle.osn_files.specs.declared.fault.FileFault.TheVariants as file_faults
 use Rattle.osn_files.specs.declared.fault.LineFault.{LineFault}
 use Rattle.osn_register.specs.declared.limits.Limits.{Limits}
 use Rattle.osn_report.specs.Journal.{MakesObject}
-use Rattle.osn_report.specs.Messages.{EndsBy, TellsIfMade}
+use Rattle.osn_report.specs.Messages.{EndsBy, TellsAt, TellsIfMade}
 use Rattle.osn_report.specs.declared.fault.CommandFault.TheVariants as command_faults
 use Rattle.osn_report.specs.declared.status.Status.{Status}
 use Rattle.osn_report.specs.declared.status.Status.TheVariants as statuses
@@ -26,7 +29,8 @@ use Rattle.osn_serve_commands.specs.declared.target.SaveTarget.TheVariants.{NoFi
 use Rattle.osn_serve_commands.specs.declared.target.SaveTarget.TheVariants.{Journal}
 use Rattle.osn_serve_commands.specs.declared.target.TargetFault.{TargetFault}
 use Rattle.osn_serve_commands.specs.declared.target.TargetFault.TheVariants.{NoJournal}
-use Rattle.osn_serve_commands.specs.declared.target.TargetFault.TheVariants.{NotRead, NoMemory}
+use Rattle.osn_serve_commands.specs.declared.target.TargetFault.TheVariants.{NotOpened, NotRead}
+use Rattle.osn_serve_commands.specs.declared.target.TargetFault.TheVariants.{NoMemory}
 
 abbrev pub by_read : ReadAllFault → TargetFault
 by_read read_faults.NoMemory = NoMemory
@@ -49,6 +53,7 @@ HoldsTarget limits held Journal = (s : ObjectState) × MakesObject limits (Some 
 abbrev pub HoldsNoTarget : Limits → List ℕ → TargetFault → Type 0
 HoldsNoTarget limits held NoJournal =
     (refused : ℕ × LineFault) × (load newest_rules limits (lines held) ≡ Err refused)
+HoldsNoTarget limits held (NotOpened cause) = ⊥
 HoldsNoTarget limits held NotRead = ⊤
 HoldsNoTarget limits held NoMemory = ⊤
 
@@ -71,23 +76,33 @@ IsTarget limits path before after Empty = ReadsWhole path [] before after
 IsTarget limits path before after Journal =
     (held : List ℕ) × ReadsWhole path held before after × HoldsTarget limits held Journal
 
+-- why no journal is saved at a path that can't be opened, by the cause of that
+abbrev pub cause_of : OpenFailed → ChangeCause
+cause_of NoFolder = changes.NoFolder
+cause_of PermissionDenied = changes.PermissionDenied
+cause_of cause = changes.Other
+
 -- a journal can't be saved over what is there, by this fault
 abbrev pub IsNoTarget : Limits → List ℕ → Option Known → Option Known → TargetFault → Type 0
 IsNoTarget limits path before after NoJournal =
     (held : List ℕ) × ReadsWhole path held before after × HoldsNoTarget limits held NoJournal
+IsNoTarget limits path before after (NotOpened cause) =
+    Changes (Opens (path ∷ [])) before after × HasNoFile before path
+    × (why : OpenFailed) × (cause ≡ cause_of why) × IsCauseAt before path why
 IsNoTarget limits path before after NotRead = Changes (Opens (path ∷ [])) before after
 IsNoTarget limits path before after NoMemory = Changes (Opens (path ∷ [])) before after
 
 -- ---- what is printed
 
--- what is printed about a path that no journal is saved to
+-- what is printed about a file that no journal is saved to
 abbrev pub target_text : List ℕ → List ℕ → List ℕ
 target_text path why = codes "oldstyle: write fault\nhelp: "
     ++ (shown path ++ (codes " " ++ (why ++ codes ": name another file for --save\n")))
 
 abbrev pub TellsTarget : List ℕ → Output → TargetFault → Status → Type 0
 TellsTarget path e NoJournal status = TellsIfMade e statuses.WriteFault
-    (target_text path (codes "holds no journal, and is left as it is")) status
+    (target_text path (codes "is not a journal, and is left as it is")) status
+TellsTarget path e (NotOpened cause) status = TellsAt path e (command_faults.NotSaved cause) status
 TellsTarget path e NotRead status = TellsIfMade e statuses.WriteFault
     (target_text path (codes "can't be read, and is left as it is")) status
 TellsTarget path e NoMemory status = EndsBy e command_faults.NoMemory status

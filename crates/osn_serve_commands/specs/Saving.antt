@@ -33,7 +33,7 @@ changed_line unfinished =
 
 -- the line on a journal that is in its file, but maybe not on the disk
 abbrev pub not_synced_line : List ℕ
-not_synced_line = codes "oldstyle: the journal is saved, and the disk may not have it yet\n"
+not_synced_line = codes "oldstyle: the journal is saved, but may not be on the disk yet\n"
 
 -- it was reported why it isn't sure that the journal is saved in the file of this path
 abbrev pub TellsUnsaved : List ℕ → Output → SaveFault → Status → Type 0

@@ -36,30 +36,6 @@ pub(crate) fn cut_text(alloc: Global, line: u64) -> Result<String, AllocError>
     format!(in alloc; "oldstyle: journal line {line} was not finished, and is cut off\n")
 }
 
-/// Cuts off the last line of a kept file, which was not finished, and reports that on standard
-/// error.
-fn cut_last<K: KeptFile, E: Sink>(
-    alloc: Global,
-    part: WholePart,
-    keeper: &mut K,
-    errors: &mut E,
-) -> Result<(), CommandFault>
-    requires { part.lines < 2 ^ 63 }
-    ensures sound { OnOk result (K.fault keeper.new ≡ K.fault keeper.old) }
-    ensures ok { OnOk result (
-        (K.contents keeper.new ≡ option_map (take part.bytes) (K.contents keeper.old))
-        × WritesLine (output_of E.contents E.has_failed E.holds_back errors.old errors.new)
-        (cut_line (part.lines + 1))) }
-    ensures err { IfErr result (λ fault. IsChangeFault fault (K.fault keeper.new)
-        × (E.contents errors.new ≡ E.contents errors.old)
-        × (K.contents keeper.new ≡ K.contents keeper.old)) }
-{
-    let told = cut_text(alloc, part.lines + 1)?;
-    keeper.cut(part.bytes)?;
-    write_line(errors, told.as_str());
-    Ok(())
-}
-
 /// Cuts off the last line of a kept file, if it was not finished, and reports that on standard
 /// error.
 pub fn cut_unfinished<K: KeptFile, E: Sink>(
@@ -79,7 +55,12 @@ pub fn cut_unfinished<K: KeptFile, E: Sink>(
 {
     match part.last {
         LastLine::Ended | LastLine::LacksFeed => Ok(()),
-        LastLine::Unfinished => cut_last(alloc, part, keeper, errors),
+        LastLine::Unfinished => {
+            let told = cut_text(alloc, part.lines + 1)?;
+            keeper.cut(part.bytes)?;
+            write_line(errors, told.as_str());
+            Ok(())
+        }
     }
 }
 

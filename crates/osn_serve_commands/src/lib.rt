@@ -9,6 +9,7 @@ mod follow;
 mod held;
 mod in_folder;
 mod keep;
+mod mode;
 mod saved_file;
 mod saving;
 mod serve;

@@ -1,5 +1,5 @@
 //! The file that a journal is saved to: its lock, and how the journal goes there.
-ghost use Rattle.std.specs.Prelude.{◌≡◌, None, option_map, true, false};
+ghost use Rattle.std.specs.Prelude.{◌≡◌, None, option_map};
 ghost use Rattle.std.specs.Prelude.{IfErr, IfOk, IfSome, string_bytes};
 ghost use Rattle.osn_lines.specs.Streams.{output_of};
 ghost use Rattle.osn_serve_commands.specs.Saving.{CannotLockIf, FinishesSave, LocksIf};
@@ -81,7 +81,7 @@ pub(crate) fn report_unsaved<E: Sink>(
         SaveFault::NotSynced => {
             write_line(
                 errors,
-                "oldstyle: the journal is saved, and the disk may not have it yet\n",
+                "oldstyle: the journal is saved, but may not be on the disk yet\n",
             );
             Status::WriteFault
         }
@@ -92,50 +92,9 @@ pub(crate) fn report_unsaved<E: Sink>(
     }
 }
 
-/// Saves a journal in place of what is at a path, which must still contain what was loaded, if that
-/// is given; or reports on standard error why it could not.
-fn save_over<D: Folder, E: Sink>(
-    alloc: Global,
-    folder: &mut D,
-    file: LockedFile<'_, D::Lock>,
-    loaded: Option<&[u8]>,
-    text: &str,
-    errors: &mut E,
-) -> Status
-    ensures { FinishesSave false (option_map (λ bytes. bytes.now) loaded.entry)
-        file.entry.path.now text.now (D.known folder.old) (D.known folder.new)
-        (output_of E.contents E.has_failed E.holds_back errors.old errors.new) result }
-{
-    match save_file(folder, alloc, file.lock, file.path, loaded, text) {
-        Ok(()) => Status::Done,
-        Err(fault) => report_unsaved(alloc, errors, file.path, fault),
-    }
-}
-
-/// Saves a journal in place of another one, which is left beside it. Standard error names the path
-/// of that one, or reports why this could not be done.
-fn save_and_note<D: Folder, E: Sink>(
-    alloc: Global,
-    folder: &mut D,
-    file: LockedFile<'_, D::Lock>,
-    text: &str,
-    errors: &mut E,
-) -> Status
-    ensures { FinishesSave true None file.entry.path.now text.now
-        (D.known folder.old) (D.known folder.new)
-        (output_of E.contents E.has_failed E.holds_back errors.old errors.new) result }
-{
-    match save_beside(folder, alloc, file.lock, file.path, text) {
-        Ok(backup) => {
-            let line = beside_line(alloc, file.path, backup.as_str());
-            tell_line(errors, Status::Done, line)
-        }
-        Err(fault) => report_unsaved(alloc, errors, file.path, fault),
-    }
-}
-
 /// Saves a journal at a path: in place of another one, which is left beside it, if that is asked
 /// for; or else in place of a file that must still contain what was loaded, if that is given.
+/// Standard error names the path of a journal that is left, or reports why this could not be done.
 fn save_journal<D: Folder, E: Sink>(
     alloc: Global,
     folder: &mut D,
@@ -150,9 +109,17 @@ fn save_journal<D: Folder, E: Sink>(
         (output_of E.contents E.has_failed E.holds_back errors.old errors.new) result }
 {
     if beside {
-        save_and_note(alloc, folder, file, text, errors)
-    } else {
-        save_over(alloc, folder, file, loaded, text, errors)
+        return match save_beside(folder, alloc, file.lock, file.path, text) {
+            Ok(backup) => {
+                let line = beside_line(alloc, file.path, backup.as_str());
+                tell_line(errors, Status::Done, line)
+            }
+            Err(fault) => report_unsaved(alloc, errors, file.path, fault),
+        };
+    }
+    match save_file(folder, alloc, file.lock, file.path, loaded, text) {
+        Ok(()) => Status::Done,
+        Err(fault) => report_unsaved(alloc, errors, file.path, fault),
     }
 }
 

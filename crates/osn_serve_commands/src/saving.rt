@@ -1,8 +1,7 @@
 //! The command `serve` over the files of a folder, if no journal is kept: the file that the journal
 //! is saved to is locked first.
-ghost use Rattle.std.specs.Prelude.{◌≡◌, [], Some, IfErr, IfOk, option_map, unwrap_or};
+ghost use Rattle.std.specs.Prelude.{◌≡◌, [], IfErr, IfOk, option_map, unwrap_or};
 ghost use Rattle.osn_folder.specs.Folder.{MayFail, path_if};
-ghost use Rattle.osn_invocation.specs.Invocation.{service_model};
 ghost use Rattle.osn_lines.specs.Streams.{input_of, output_of};
 ghost use Rattle.osn_report.specs.Failure.{IsNotRead};
 ghost use Rattle.osn_report.specs.Folders.{folders_of};
@@ -12,27 +11,13 @@ ghost use Rattle.osn_serve_commands.specs.Serve.{input_if};
 
 use crate::saved_file::{LockedFile, finish, lock_if};
 use crate::serve::serve_command;
-use crate::target::{bytes_of, is_left_beside, save_target, tell_target};
+use crate::target::{bytes_of, is_left_beside, target_if, tell_target};
 use osn_folder::{Folder, open_if, open_named};
-use osn_invocation::ServeOptions;
 use osn_lines::{Bytes, Sink, Source, read_all, write_all};
 use osn_register::Limits;
 use osn_report::{CommandFault, Failure, Status, report_at};
 use osn_service::ServeRules;
 use std::alloc::{AllocError, Global};
-
-/// Returns what the lines of the service may do, and when it ends, by the options. A source is
-/// taken.
-pub(crate) fn rules_of(options: ServeOptions) -> ServeRules
-    ensures { result ≡ spec.rules_of (service_model options.entry) }
-{
-    ServeRules {
-        readers: options.readers,
-        read_only: options.read_only,
-        takes_sources: true,
-        stop_at_refusal: options.stop_at_refusal,
-    }
-}
 
 /// Returns the line on editions that were published and saved nowhere.
 fn unsaved_line(alloc: Global, editions: usize) -> Result<String, AllocError> {
@@ -133,83 +118,6 @@ fn serve_replacing<D: Folder, J: Source, R: Source, W: Sink, E: Sink, T: Sink + 
     )
 }
 
-/// Does the same, if the journal is saved to another path than it is loaded from. A journal that is
-/// at that path is left beside the new one, and any other contents of a file there are refused
-/// before a line is answered.
-fn serve_over<D: Folder, J: Source, R: Source, W: Sink, E: Sink, T: Sink + Drop>(
-    alloc: Global,
-    limits: Limits,
-    folder: &mut D,
-    path: &str,
-    journal: &mut Option<J>,
-    file: LockedFile<'_, D::Lock>,
-    rules: ServeRules,
-    input: &mut R,
-    output: &mut W,
-    errors: &mut E,
-    terminal: Option<T>,
-) -> Status
-    ensures { spec.SavesOverFound limits path.now (Some file.entry.path.now) rules
-        (input_if J.remaining J.has_failed journal.old journal.new)
-        (D.known folder.old) (D.known folder.new)
-        (input_of R.remaining R.has_failed input.old input.new)
-        (output_of W.contents W.has_failed W.holds_back output.old output.new)
-        (output_of E.contents E.has_failed E.holds_back errors.old errors.new) result }
-{
-    let found = match save_target(alloc, limits, folder, file.path) {
-        Ok(found) => found,
-        Err(fault) => return tell_target(alloc, errors, file.path, fault),
-    };
-    serve_opened(
-        alloc,
-        limits,
-        folder,
-        path,
-        journal,
-        bytes_of(found),
-        is_left_beside(found),
-        Some(file),
-        rules,
-        input,
-        output,
-        errors,
-        terminal,
-    )
-}
-
-/// Serves over what was found at the path that the journal is saved to, or saves nothing.
-fn serve_beside<D: Folder, J: Source, R: Source, W: Sink, E: Sink, T: Sink + Drop>(
-    alloc: Global,
-    limits: Limits,
-    folder: &mut D,
-    path: &str,
-    journal: &mut Option<J>,
-    locked: Option<LockedFile<'_, D::Lock>>,
-    rules: ServeRules,
-    input: &mut R,
-    output: &mut W,
-    errors: &mut E,
-    terminal: Option<T>,
-) -> Status
-    ensures { spec.SavesOverFound limits path.now (option_map (λ file. file.path.now) locked.entry)
-        rules
-        (input_if J.remaining J.has_failed journal.old journal.new)
-        (D.known folder.old) (D.known folder.new)
-        (input_of R.remaining R.has_failed input.old input.new)
-        (output_of W.contents W.has_failed W.holds_back output.old output.new)
-        (output_of E.contents E.has_failed E.holds_back errors.old errors.new) result }
-{
-    match locked {
-        Some(file) => serve_over(
-            alloc, limits, folder, path, journal, file, rules, input, output, errors, terminal,
-        ),
-        None => serve_opened(
-            alloc, limits, folder, path, journal, None, false, None, rules, input, output, errors,
-            terminal,
-        ),
-    }
-}
-
 /// Returns the path that a journal is loaded from and saved to, if it is one.
 fn replaced_path<'a>(journal: Option<&'a str>, save: Option<&str>) -> Option<&'a str>
     ensures { option_map (λ path. path.now) result
@@ -234,31 +142,33 @@ fn path_or_none<'a>(path: Option<&'a str>) -> &'a str
 
 /// Opens the journal, if any, answers the request lines, and saves the journal that is left. The
 /// file that this replaces is locked from before the journal is opened until it is replaced.
+///
+/// A journal that is loaded from another path, or from none, leaves one that is at the path of the
+/// save beside it. Any other contents of a file there are refused before a line is answered.
 pub(crate) fn serve<'a, D: Folder, R: Source, W: Sink, E: Sink, T: Sink + Drop>(
     alloc: Global,
     limits: Limits,
     folder: &mut D,
-    options: ServeOptions<'a>,
+    journal: Option<&'a str>,
+    save: Option<&'a str>,
+    rules: ServeRules,
     input: &mut R,
     output: &mut W,
     errors: &mut E,
     terminal: Option<T>,
 ) -> Result<Status, Failure<'a>>
     ensures ok { IfOk result (spec.EndsService limits
-        (option_map (λ path. path.now) options.entry.journal)
-        (option_map (λ path. path.now) options.entry.save)
-        (spec.rules_of (service_model options.entry)) (MayFail D.File.has_failed)
+        (option_map (λ path. path.now) journal.entry) (option_map (λ path. path.now) save.entry)
+        rules (MayFail D.File.has_failed)
         (folders_of D.known folder.old folder.new)
         (input_of R.remaining R.has_failed input.old input.new)
         (output_of W.contents W.has_failed W.holds_back output.old output.new)
         (output_of E.contents E.has_failed E.holds_back errors.old errors.new)) }
     ensures err { IfErr result (λ failure. IsNotRead
-        (path_if (option_map (λ path. path.now) options.entry.journal))
+        (path_if (option_map (λ path. path.now) journal.entry))
         (folders_of D.known folder.old folder.new) failure.path.now failure.fault
         × (output.new ≡ output.old) × (errors.new ≡ errors.old)) }
 {
-    let ServeOptions { journal, save, .. } = options;
-    let rules = rules_of(options);
     let locked = match lock_if(folder, save) {
         Ok(locked) => locked,
         Err(fault) => {
@@ -285,12 +195,18 @@ pub(crate) fn serve<'a, D: Folder, R: Source, W: Sink, E: Sink, T: Sink + Drop>(
         }
         None => {
             let mut source = open_if(folder, journal)?;
-            Ok(serve_beside(
+            let found = match target_if(alloc, limits, folder, save) {
+                Ok(found) => found,
+                Err(fault) => return Ok(tell_target(alloc, errors, path_or_none(save), fault)),
+            };
+            Ok(serve_opened(
                 alloc,
                 limits,
                 folder,
                 path_or_none(journal),
                 &mut source,
+                bytes_of(found),
+                is_left_beside(found),
                 locked,
                 rules,
                 input,

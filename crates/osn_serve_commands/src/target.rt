@@ -7,10 +7,10 @@ ghost use Rattle.osn_serve_commands.specs.InFolder as in_folder;
 ghost use Rattle.osn_serve_commands.specs.SaveTarget as spec;
 
 use osn_files::{FileFault, load_journal};
-use osn_folder::{Folder, OpenFailed};
+use osn_folder::{ChangeCause, Folder, OpenFailed};
 use osn_lines::{Bytes, ReadAllFault, Sink, read_all};
 use osn_register::Limits;
-use osn_report::{Status, tell_line, tell_no_memory};
+use osn_report::{CommandFault, Status, report_at, tell_line, tell_no_memory};
 use osn_shown::Shown;
 use std::alloc::{AllocError, Global};
 
@@ -30,7 +30,9 @@ pub enum SaveTarget {
 pub enum TargetFault {
     /// It contains something that is not a journal under the limits.
     NoJournal,
-    /// It could not be opened or read.
+    /// It can't be opened, by this cause, so that it isn't known whether a file is there.
+    NotOpened(ChangeCause),
+    /// It could not be read.
     NotRead,
     /// Memory ran out.
     NoMemory,
@@ -59,12 +61,24 @@ impl From<FileFault> for TargetFault {
     }
 }
 
+/// Returns why no journal is saved at a path that can't be opened.
+fn cause_of(cause: OpenFailed) -> ChangeCause
+    ensures { result ≡ spec.cause_of cause }
+{
+    match cause {
+        OpenFailed::NoFolder => ChangeCause::NoFolder,
+        OpenFailed::PermissionDenied => ChangeCause::PermissionDenied,
+        OpenFailed::NotFound | OpenFailed::IsDirectory | OpenFailed::Other => ChangeCause::Other,
+    }
+}
+
 /// Returns what is at a path that a journal will be saved to.
 ///
 /// # Errors
 ///
-/// `NoJournal` if a file contains something that makes no journal under these limits, `NotRead` if
-/// it can't be read, `NoMemory` if memory ran out.
+/// `NoJournal` if a file contains something that makes no journal under these limits, `NotOpened`
+/// if nothing can be opened there, `NotRead` if the file can't be read, `NoMemory` if memory ran
+/// out.
 pub fn save_target<D: Folder>(
     alloc: Global,
     limits: Limits,
@@ -86,7 +100,26 @@ pub fn save_target<D: Folder>(
             target_of(alloc, limits, &held)
         }
         Err(OpenFailed::NotFound) => Ok(SaveTarget::NoFile),
-        Err(_) => Err(TargetFault::NotRead),
+        Err(cause) => Err(TargetFault::NotOpened(cause_of(cause))),
+    }
+}
+
+/// Returns what is at the path that the journal is saved to, if it is saved.
+pub(crate) fn target_if<D: Folder>(
+    alloc: Global,
+    limits: Limits,
+    folder: &mut D,
+    path: Option<&str>,
+) -> Result<SaveTarget, TargetFault>
+    ensures ok { IfOk result (in_folder.FindsTarget limits (option_map (λ path. path.now) path.entry)
+        (D.known folder.old) (D.known folder.new)) }
+    ensures err { IfErr result (in_folder.FindsNoTarget limits
+        (option_map (λ path. path.now) path.entry) (D.known folder.old) (D.known folder.new)) }
+    ensures crash { Changes LeavesAllSafe (D.known folder.old) (D.known folder.new) }
+{
+    match path {
+        Some(path) => save_target(alloc, limits, folder, path),
+        None => Ok(SaveTarget::NoFile),
     }
 }
 
@@ -119,8 +152,11 @@ pub fn tell_target<E: Sink>(alloc: Global, errors: &mut E, path: &str, fault: Ta
 {
     match fault {
         TargetFault::NoJournal => {
-            let text = target_text(alloc, path, "holds no journal, and is left as it is");
+            let text = target_text(alloc, path, "is not a journal, and is left as it is");
             tell_line(errors, Status::WriteFault, text)
+        }
+        TargetFault::NotOpened(cause) => {
+            report_at(alloc, errors, path, CommandFault::NotSaved(cause))
         }
         TargetFault::NotRead => {
             let text = target_text(alloc, path, "can't be read, and is left as it is");

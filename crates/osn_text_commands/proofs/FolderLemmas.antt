@@ -26,18 +26,18 @@ pub edition_of_older : (limits : Limits) (asked : RequestModel) (wanted : Regist
     → IsHeldIn limits held part version s
     → IsOlderPlan asked held part version s wanted bytes journal text cut
     → IsOlderEdition limits asked wanted given bytes journal text cut
-edition_of_older limits asked wanted given held bytes journal text cut part version s read holds
-    (pending, had, (edits, plans, free, older)) =
+edition_of_older limits asked wanted given held bytes journal text cut part version s read holds h =
+    let older = h.older in
     let same = sym older.same in record {
       read = subst (AreReadOf given) same read;
       version = version;
       object = s;
       holds = subst (λ l. HoldsObject limits l version s) same holds.1;
-      pending = pending;
-      edits = edits;
-      had = had;
-      plans = plans;
-      free = free;
+      pending = h.pending;
+      edits = h.edits;
+      had = h.had;
+      plans = h.plans;
+      free = h.free;
       needs = older.needs;
       lawful = older.lawful;
       sources = older.sources;

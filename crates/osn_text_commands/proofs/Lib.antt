@@ -5,5 +5,4 @@ pub mod NoteLemmas
 pub mod FolderLemmas
 pub mod PlanLemmas
 pub mod PublishLemmas
-pub mod SinceLemmas
 pub mod TextLemmas

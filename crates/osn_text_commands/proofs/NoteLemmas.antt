@@ -1,21 +1,20 @@
 -- The note beside a plan is the one that its definition says, and was written.
-use Rattle.std.proofs.Common.{◌≡◌, ◌==◌, ◌∙◌, ℕ, Bool, true, false, List, [], ◌∷◌, length, Option}
-use Rattle.std.proofs.Common.{Some, None, ap, arith, eqb-true, inl, inr, refl, subst, sym}
+use Rattle.std.proofs.Common.{◌≡◌, ◌==◌, ℕ, true, false, List, [], ◌∷◌, length, Option}
+use Rattle.std.proofs.Common.{Some, None, ap, arith, eqb-true, inl, inr, refl, subst}
 use Rattle.osn_core.specs.Sequential.{ObjectState}
 use Rattle.osn_format.specs.declared.version.Version.{Version}
 use Rattle.osn_lines.specs.Streams.{Output}
 use Rattle.osn_register.specs.declared.edit.Edit.{Edit}
 use Rattle.osn_register.specs.declared.refusal.Refusal.{Refusal}
 use Rattle.osn_register.specs.declared.refusal.Refusal.TheVariants as refusals
-use Rattle.osn_report.specs.Messages.{Ends, EndsBy, TellsIfMade}
+use Rattle.osn_report.specs.Messages.{EndsBy, TellsIfMade}
 use Rattle.osn_report.specs.declared.fault.CommandFault.TheVariants as faults
 use Rattle.osn_report.specs.declared.status.Status.{Status}
 use Rattle.osn_report.specs.declared.status.Status.TheVariants as statuses
 use Rattle.osn_serve_commands.specs.Keep.{is_kept}
 use Rattle.osn_text_commands.specs.Edition.{IsNoMemoryOr, edition_refusal, needs_sources}
-use Rattle.osn_text_commands.specs.Note.{IsNoteOf, TellsNote, TellsRefused, edits_note, kept_note}
-use Rattle.osn_text_commands.specs.Note.{missing_note, note_line, pending_or, refusal_or}
-use Rattle.osn_text_commands.specs.Note.{version_note}
+use Rattle.osn_text_commands.specs.Note.{IsNoteOf, TellsNote, TellsRefused, edits_or}
+use Rattle.osn_text_commands.specs.Note.{note_line, refusal_or, version_note}
 use Rattle.osn_text_commands.specs.PlanWords.{refused_edits_line}
 use Rattle.osn_text_commands.specs.declared.note.Note.{Note}
 use Rattle.osn_text_commands.specs.declared.note.Note.TheVariants as notes
@@ -33,29 +32,17 @@ some_refused refused other f (inl is) = inr (ap notes.Refused is)
 some_refused refused other f (inr is) = inl (rw is refl)
 
 module _ (s : ObjectState) (found : Note) where
-  -- by whether there are edits, for a journal that is not there
-  pub missing_none : (edits : List Edit) → (length edits == 0) ≡ true
-      → IsNoteOf notes.New found → IsNoteOf (missing_note s edits) found
-  missing_none [] none h = h
-  missing_none (e ∷ es) none h = absurd (omega (arith, eqb-true (length (e ∷ es)) 0 none))
+  -- by whether there are edits
+  pub without_edits : (edits : List Edit) (other : Note) → (length edits == 0) ≡ true
+      → IsNoteOf other found → IsNoteOf (edits_or s edits other) found
+  without_edits [] other none h = h
+  without_edits (e ∷ es) other none h = absurd (omega (arith, eqb-true (length (e ∷ es)) 0 none))
 
-  pub missing_some : (edits : List Edit) → (length edits == 0) ≡ false
-      → IsNoteOf (refusal_or (edition_refusal s edits) notes.New) found
-      → IsNoteOf (missing_note s edits) found
-  missing_some [] some h = absurd (cc)
-  missing_some (e ∷ es) some h = h
-
-  -- and for one that takes them
-  pub kept_none : (edits : List Edit) → (length edits == 0) ≡ true
-      → IsNoteOf notes.Nothing found → IsNoteOf (kept_note s edits) found
-  kept_none [] none h = h
-  kept_none (e ∷ es) none h = absurd (omega (arith, eqb-true (length (e ∷ es)) 0 none))
-
-  pub kept_some : (edits : List Edit) → (length edits == 0) ≡ false
-      → IsNoteOf (refusal_or (edition_refusal s edits) notes.Nothing) found
-      → IsNoteOf (kept_note s edits) found
-  kept_some [] some h = absurd (cc)
-  kept_some (e ∷ es) some h = h
+  pub with_edits : (edits : List Edit) (other : Note) → (length edits == 0) ≡ false
+      → IsNoteOf (refusal_or (edition_refusal s edits) other) found
+      → IsNoteOf (edits_or s edits other) found
+  with_edits [] other some h = absurd (cc)
+  with_edits (e ∷ es) other some h = h
 
   -- by the version of the journal
   pub version_needs : (version : Version) (edits : List Edit) → needs_sources version edits ≡ true
@@ -64,7 +51,7 @@ module _ (s : ObjectState) (found : Note) where
   version_needs version edits needs h = rw needs h
 
   pub version_kept : (version : Version) (edits : List Edit) → needs_sources version edits ≡ false
-      → is_kept version ≡ true → IsNoteOf (kept_note s edits) found
+      → is_kept version ≡ true → IsNoteOf (edits_or s edits notes.Nothing) found
       → IsNoteOf (version_note version s edits) found
   version_kept version edits needs kept h = rw (needs, kept) h
 
@@ -73,38 +60,7 @@ module _ (s : ObjectState) (found : Note) where
       → IsNoteOf (version_note version s edits) found
   version_older version edits needs kept h = rw (needs, kept) h
 
-  -- by whether edits are pending
-  pub is_pending : (pending : List Edit) (other : Note) (n : ℕ) → n ≡ length pending
-      → (n ≡ 0 → ⊥) → found ≡ notes.Pending n → IsNoteOf (pending_or pending other) found
-  is_pending [] other n size some is = absurd (some size)
-  is_pending (e ∷ es) other n size some is = inl (is ∙ ap notes.Pending size)
-
-  pub not_pending : (pending : List Edit) (other : Note) (n : ℕ) → n ≡ length pending
-      → n ≡ 0 → IsNoteOf other found → IsNoteOf (pending_or pending other) found
-  not_pending [] other n size none h = h
-  not_pending (e ∷ es) other n size none h = absurd (omega (arith, size, none))
-
-  -- by whether the journal is there
-  pub is_missing : (is_there : Bool) (version : Version) (edits : List Edit) → is_there ≡ false
-      → IsNoteOf (missing_note s edits) found → IsNoteOf (edits_note is_there version s edits) found
-  is_missing is_there version edits is h = rw is h
-
-  pub is_found : (is_there : Bool) (version : Version) (edits : List Edit) → is_there ≡ true
-      → IsNoteOf (version_note version s edits) found
-      → IsNoteOf (edits_note is_there version s edits) found
-  is_found is_there version edits is h = rw is h
-
 -- ---- its line
-
--- a note that is not NoMemory was written
-pub note_told : (path line : List ℕ) (note is wanted : Note) (e : Output) (status : Status)
-    → note ≡ is → (is ≡ notes.Refused refusals.NoMemory → ⊥) → note_line path is ≡ Some line
-    → IsNoteOf wanted note → TellsIfMade e statuses.Done line status
-    → TellsNote (note_line path wanted) e status
-note_told path line note is wanted e status same other says (inl found) h =
-    subst (λ l. TellsNote l e status) (sym says ∙ ap (note_line path) (sym same ∙ found)) h
-note_told path line note is wanted e status same other says (inr none) h =
-    absurd (other (sym same ∙ none))
 
 -- that memory ran out was
 memory_told : (line : Option (List ℕ)) (e : Output) (status : Status)
@@ -126,14 +82,6 @@ refused_told path refusal wanted e status (inl found) h =
     other refusals.NoMemory h = inr h
     other f h = h
 refused_told path refusal wanted e status (inr none) h = absurd (cc)
-
--- nothing was, if that was the note
-pub nothing_told : (path : List ℕ) (note wanted : Note) (e : Output) (status : Status)
-    → note ≡ notes.Nothing → IsNoteOf wanted note → Ends e None status
-    → TellsNote (note_line path wanted) e status
-nothing_told path note wanted e status same (inl found) h =
-    subst (λ n. TellsNote (note_line path n) e status) (sym same ∙ found) (inl h)
-nothing_told path note wanted e status same (inr none) h = absurd (cc)
 
 -- a refusal other than NoMemory was
 pub other_told : (refusal : Refusal) (e : Output) (status : Status)

@@ -1,6 +1,6 @@
 -- A publish did what its contract says, by whether there are edits and whether some are pending.
 use Rattle.std.proofs.Common.{◌≡◌, ◌==◌, ℕ, Bool, true, false, List, [], ◌∷◌, length}
-use Rattle.std.proofs.Common.{Option, None, inl, inr, refl, subst, arith}
+use Rattle.std.proofs.Common.{Option, Some, None, inl, inr, refl, subst, arith}
 use Rattle.std.proofs.Common.{eqb-true}
 use Rattle.std.specs.List.{All}
 use Rattle.osn_core.specs.Sequential.{HasLawfulSource, ObjectState}
@@ -18,12 +18,13 @@ use Rattle.osn_report.specs.declared.fault.CommandFault.TheVariants.{Refused}
 use Rattle.osn_report.specs.declared.status.Status.{Status}
 use Rattle.osn_serve_commands.specs.Keep.{is_kept}
 use Rattle.osn_text_commands.specs.Edition.{IsNoMemoryOr, edition_refusal}
-use Rattle.osn_text_commands.specs.PlanWords.{not_kept_line, pending_line}
+use Rattle.osn_text_commands.specs.PlanWords.{pending_line}
 use Rattle.osn_text_commands.specs.Publish.{AppendsEdits, AppendsIfKept, PublishesEdits}
-use Rattle.osn_text_commands.specs.Publish.{PublishesUnlessLater, PublishesUnlessPending}
+use Rattle.osn_text_commands.specs.Publish.{PublishesPlan, PublishesUnlessLater}
+use Rattle.osn_text_commands.specs.Publish.{PublishesUnlessPending}
 use Rattle.osn_text_commands.specs.Publish.{Refuses, RefusesBy, WritesEdition, published_text}
 use Rattle.osn_text_commands.specs.Publish.{standing_text}
-use Rattle.osn_text_commands.specs.Since.{RequestModel, later_than}
+use Rattle.osn_text_commands.specs.Since.{RequestModel, later_lines, later_than}
 use Rattle.osn_text_commands.specs.Text.{published}
 
 module _ (Stays : Type 0) (journal : List ℕ) (s : ObjectState) (wanted : RegisterModel)
@@ -39,7 +40,8 @@ module _ (Stays : Type 0) (journal : List ℕ) (s : ObjectState) (wanted : Regis
   -- the edits had to be written
   pub edition_written : (edits : List Edit) → (length edits == 0) ≡ false
       → edition_refusal s edits ≡ None → All HasLawfulSource edits
-      → WritesEdition Stays old file given edits (published_text journal s wanted edits) o e status
+      → WritesEdition Stays journal old file given edits (published_text journal s wanted edits) o e
+      status
       → AppendsEdits Stays journal s wanted old file given edits o e status
   edition_written [] some lawful sources h = absurd (cc)
   edition_written (edit ∷ edits) some lawful sources h = inr (rw lawful (sources, h))
@@ -54,17 +56,6 @@ module _ (Stays : Type 0) (journal : List ℕ) (s : ObjectState) (wanted : Regis
   edition_refused (edit ∷ edits) f some (inr refused) h = inr (rw refused h)
 
   module _ (version : Version) where
-    -- a journal of the version is kept, or not
-    pub kept_appended : (kept : Bool) → kept ≡ true → (edits : List Edit)
-        → AppendsEdits Stays journal s wanted old file given edits o e status
-        → AppendsIfKept kept Stays journal version s wanted old file given edits o e status
-    kept_appended kept is edits h = rw is h
-
-    pub older_refused : (kept : Bool) → kept ≡ false → (edits : List Edit)
-        → RefusesBy (not_kept_line journal version) old file o e status
-        → AppendsIfKept kept Stays journal version s wanted old file given edits o e status
-    older_refused kept is edits h = rw is h
-
     -- the edits need sources that it lacks, and one is refused; or they need none
     pub anew_refused : (needs : Bool) → needs ≡ true → (edits : List Edit) (f : Refusal)
         → IsNoMemoryOr (edition_refusal s edits) f → Refuses (Refused f) old file o e status
@@ -81,13 +72,28 @@ module _ (Stays : Type 0) (asked : RequestModel) (version : Version) (s : Object
     (wanted : RegisterModel) (old file : FileState) (given : Option (List ℕ)) (o e : Output)
     (status : Status) where
   -- nothing is pending
-  pub nothing_pending : (pending : List Edit) → (length pending == 0) ≡ true
+  nothing_pending : (pending : List Edit) → (length pending == 0) ≡ true
       → PublishesUnlessLater (later_than asked.edition (length s.batches)) Stays version s asked
       wanted old file given o e status
       → PublishesUnlessPending Stays version s pending asked wanted old file given o e status
   nothing_pending [] none h = h
   nothing_pending (edit ∷ edits) none h =
       absurd (omega (arith, eqb-true (length (edit ∷ edits)) 0 none))
+
+  -- nor is the text of a later edition
+  pub planned : (pending : List Edit) → (length pending == 0) ≡ true
+      → later_than asked.edition (length s.batches) ≡ None
+      → PublishesPlan Stays version s asked wanted old file given o e status
+      → PublishesUnlessPending Stays version s pending asked wanted old file given o e status
+  planned pending none had h = nothing_pending pending none (rw had h)
+
+  -- or it is
+  pub later_told : (pending : List Edit) (edition : ℕ) → (length pending == 0) ≡ true
+      → later_than asked.edition (length s.batches) ≡ Some edition
+      → RefusesBy (later_lines asked.text asked.journal edition (length s.batches)) old file o e
+      status
+      → PublishesUnlessPending Stays version s pending asked wanted old file given o e status
+  later_told pending edition none late h = nothing_pending pending none (rw late h)
 
   -- some edits are
   pub pending_told : (pending : List Edit) → (length pending == 0) ≡ false

@@ -86,14 +86,14 @@ FindsHindrance path true before after (Some cause) = CannotKeepBy path before af
 
 abbrev pub cause_words : KeepCause → List ℕ
 cause_words causes.Held = codes "another run of the program keeps that journal"
-cause_words causes.NoFile = codes "it is no file, but a folder or a pipe"
+cause_words causes.NoFile = codes "it is a folder or a pipe, not a file"
 cause_words causes.Denied = codes "permission denied"
 cause_words causes.NotRead = codes "read fault"
 cause_words causes.NotWritten =
-    codes "permission denied: publish writes to it, or its disk takes no writes"
+    codes "permission denied: publish writes to it, or its disk is read-only"
 cause_words causes.NoFolder = codes "there is no such folder"
 cause_words causes.NotMade =
-    codes "permission denied: publish makes it in its folder, or the disk takes no writes"
+    codes "permission denied: publish makes it in its folder, or the disk is read-only"
 
 unfoldable pub no_folder_line : List ℕ → List ℕ → List ℕ
 no_folder_line path folder = codes "oldstyle: "

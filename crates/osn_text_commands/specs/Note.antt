@@ -25,26 +25,21 @@ abbrev pub refusal_or : Option Refusal → Note → Note
 refusal_or None other = other
 refusal_or (Some refusal) other = notes.Refused refusal
 
--- the note on edits for a journal that is not there
-abbrev pub missing_note : ObjectState → List Edit → Note
-missing_note s [] = notes.New
-missing_note s (e ∷ es) = refusal_or (edition_refusal s (e ∷ es)) notes.New
-
--- the note on edits that a journal takes
-abbrev pub kept_note : ObjectState → List Edit → Note
-kept_note s [] = notes.Nothing
-kept_note s (e ∷ es) = refusal_or (edition_refusal s (e ∷ es)) notes.Nothing
+-- the note on edits, if there are some, that a publish refuses them, or else another note
+abbrev pub edits_or : ObjectState → List Edit → Note → Note
+edits_or s [] other = other
+edits_or s (e ∷ es) other = refusal_or (edition_refusal s (e ∷ es)) other
 
 -- the note on edits for a journal of this version
 abbrev pub version_note : Version → ObjectState → List Edit → Note
 version_note version s edits =
     if needs_sources version edits
     then refusal_or (edition_refusal s edits) (notes.Anew version)
-    else (if is_kept version then kept_note s edits else notes.NotKept version)
+    else (if is_kept version then edits_or s edits notes.Nothing else notes.NotKept version)
 
 -- the note on edits for a journal with nothing pending, which is there or not
 abbrev pub edits_note : Bool → Version → ObjectState → List Edit → Note
-edits_note false version s edits = missing_note s edits
+edits_note false version s edits = edits_or s edits notes.New
 edits_note true version s edits = version_note version s edits
 
 -- that these edits are pending, or else another note

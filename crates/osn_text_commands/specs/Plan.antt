@@ -12,7 +12,7 @@ use Rattle.osn_register.specs.Plain.{RegisterModel}
 use Rattle.osn_register.specs.declared.edit.Edit.{Edit}
 use Rattle.osn_register.specs.declared.limits.Limits.{Limits}
 use Rattle.osn_report.specs.Journal.{Begins, BeginsNot}
-use Rattle.osn_report.specs.Printing.{PrintsIfMade, PrintsNone}
+use Rattle.osn_report.specs.Printing.{PrintsIfMade, PrintsNoneAt}
 use Rattle.osn_report.specs.Messages.{TellsIfMade, TellsNothing}
 use Rattle.osn_report.specs.declared.fault.CommandFault.TheVariants.{File}
 use Rattle.osn_report.specs.declared.status.Status.{Status}
@@ -121,7 +121,7 @@ IsOfVersionIf (Some journal) version =
 abbrev pub PrintsPlan : Limits → List ℕ → Option Input → List ℕ → Input → Output → Output
     → Status → Type 0
 PrintsPlan limits path journal text_path text o e status =
-    ((fault : FileFault) × BeginsNot limits journal fault × PrintsNone (File fault) o e status)
+    ((fault : FileFault) × BeginsNot limits journal fault × PrintsNoneAt path (File fault) o e status)
     ⊎ ((s : ObjectState) × Begins limits journal s
     × (version : Version) × IsOfVersionIf journal version
     × PrintsPlanOf limits s path text_path text

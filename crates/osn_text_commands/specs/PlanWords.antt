@@ -33,7 +33,7 @@ published_line edition = codes "published as edition " ++ (decimal edition ++ co
 -- the line on a publish of no edits, after this many editions
 abbrev pub standing_line : ℕ → List ℕ
 standing_line editions =
-    codes "nothing to change: edition " ++ (decimal editions ++ codes " stands\n")
+    codes "nothing to change: edition " ++ (decimal editions ++ codes " is the newest\n")
 
 -- ---- what is written to standard error
 

@@ -19,7 +19,7 @@ use Rattle.osn_register.specs.declared.edit.Edit.{Edit}
 use Rattle.osn_register.specs.declared.limits.Limits.{Limits}
 use Rattle.osn_register.specs.declared.refusal.Refusal.{Refusal}
 use Rattle.osn_register.specs.declared.refusal.Refusal.TheVariants as refusals
-use Rattle.osn_report.specs.Printing.{FailsToPrint, PrintsIfMade, PrintsNone}
+use Rattle.osn_report.specs.Printing.{FailsToPrint, PrintsIfMade, PrintsNone, PrintsNoneAt}
 use Rattle.osn_report.specs.Messages.{Ends, TellsIfMade, TellsLine}
 use Rattle.osn_report.specs.declared.fault.CommandFault.{CommandFault}
 use Rattle.osn_report.specs.declared.fault.CommandFault.TheVariants.{Refused}
@@ -89,11 +89,12 @@ abbrev pub LosesEdition : Type 0 → List ℕ → List Edit → CommandFault →
 LosesEdition CanStay held edits fault cut file =
     IsChangeFault fault file.fault × IsLeftWhole CanStay held edits cut file.contents
 
--- Edits had to be written to the file as an edition, and this text printed. Which line was cut off
+-- Edits had to be written to the file of this path as an edition, and this text printed. Which line was cut off
 -- was reported first, if one was. The edition is in the file and the text was printed, if it could
 -- be; or the edition is not in the file, which was reported.
-pub record WritesEdition (CanStay : Type 0) (old file : FileState) (given : Option (List ℕ))
-    (edits : List Edit) (text : List ℕ) (o e : Output) (status : Status) : Type 0 where
+pub record WritesEdition (CanStay : Type 0) (path : List ℕ) (old file : FileState)
+    (given : Option (List ℕ)) (edits : List Edit) (text : List ℕ) (o e : Output)
+    (status : Status) : Type 0 where
   pub cut : Option ℕ
   pub between : Option (List ℕ)
   pub failed : Bool
@@ -101,7 +102,7 @@ pub record WritesEdition (CanStay : Type 0) (old file : FileState) (given : Opti
   pub tells : TellsCut (first_output e between failed held_back) cut
   pub ended : (PrintsReport text o (later_output e between failed) status
       × IfHeld old given (λ held. HoldsEdition held edits old.fault cut file))
-      ⊎ ((fault : CommandFault) × PrintsNone fault o (later_output e between failed) status
+      ⊎ ((fault : CommandFault) × PrintsNoneAt path fault o (later_output e between failed) status
       × IfHeld old given (λ held. LosesEdition CanStay held edits fault cut file))
 
 -- ---- how the command ends
@@ -125,7 +126,7 @@ AppendsEdits CanStay path s wanted old file given (edit ∷ edits) o e status =
     Refuses (Refused refusals.NoMemory) old file o e status
     ⊎ MatchOption (edition_refusal s (edit ∷ edits))
     (All HasLawfulSource (edit ∷ edits)
-    × WritesEdition CanStay old file given (edit ∷ edits)
+    × WritesEdition CanStay path old file given (edit ∷ edits)
     (published_text path s wanted (edit ∷ edits)) o e status)
     (λ refusal. Refuses (Refused refusal) old file o e status)
 
@@ -193,7 +194,7 @@ PublishesUnlessPending CanStay version s (edit ∷ edits) asked wanted old file 
 abbrev pub EndsPublish : Type 0 → Limits → RequestModel → RegisterModel → FileState → FileState
     → Input → Output → Output → Status → Type 0
 EndsPublish CanStay limits asked wanted old file given o e status =
-    ((fault : CommandFault) × Refuses fault old file o e status
+    ((fault : CommandFault) × (file ≡ old) × PrintsNoneAt asked.journal fault o e status
     × IfHeld old given.bytes (λ held. HoldsNoObject limits held given.unread fault))
     ⊎ ((version : Version) × (s : ObjectState)
     × IfHeld old given.bytes (λ held. HoldsObject limits held version s)

@@ -68,17 +68,14 @@ pub record IsOlderOf (path held : List ℕ) (part : WholePart) (version : Versio
   pub printed : text ≡ published_text path s wanted edits
   pub told : IsCutOf part cut
 
--- the same with the edits of a plan that no later edition hinders
-abbrev pub IsOlderFree : RequestModel → List ℕ → WholePart → Version → ObjectState
-    → RegisterModel → List ℕ → List ℕ → List ℕ → Option (List ℕ) → Type 0
-IsOlderFree asked held part version s wanted bytes journal text cut =
-    (edits : List Edit) × IsPlan s.limits wanted.lands (published s) edits
-    × (hindered asked s.batches edits ≡ None)
-    × IsOlderOf asked.journal held part version s wanted edits bytes journal text cut
-
--- the same of a journal with nothing pending that has the edition of the text
-abbrev pub IsOlderPlan : RequestModel → List ℕ → WholePart → Version → ObjectState
-    → RegisterModel → List ℕ → List ℕ → List ℕ → Option (List ℕ) → Type 0
-IsOlderPlan asked held part version s wanted bytes journal text cut =
-    (s.pending ≡ []) × (later_than asked.edition (length s.batches) ≡ None)
-    × IsOlderFree asked held part version s wanted bytes journal text cut
+-- The same of a journal with nothing pending that has the edition of the text, with the edits of a
+-- plan that no later edition hinders.
+pub record IsOlderPlan (asked : RequestModel) (held : List ℕ) (part : WholePart)
+    (version : Version) (s : ObjectState) (wanted : RegisterModel) (bytes journal text : List ℕ)
+    (cut : Option (List ℕ)) : Type 0 where
+  pub pending : s.pending ≡ []
+  pub had : later_than asked.edition (length s.batches) ≡ None
+  pub edits : List Edit
+  pub plans : IsPlan s.limits wanted.lands (published s) edits
+  pub free : hindered asked s.batches edits ≡ None
+  pub older : IsOlderOf asked.journal held part version s wanted edits bytes journal text cut

@@ -9,7 +9,7 @@ use Rattle.osn_page_commands.specs.Page.{land_refusal_line}
 use Rattle.osn_register.specs.Plain.{LandModel, code_refusal}
 use Rattle.osn_register.specs.declared.limits.Limits.{Limits}
 use Rattle.osn_report.specs.Journal.{MakesObject, MakesNoObject}
-use Rattle.osn_report.specs.Printing.{PrintsIfMade, PrintsNone}
+use Rattle.osn_report.specs.Printing.{PrintsIfMade, PrintsNoneAt}
 use Rattle.osn_report.specs.Messages.{TellsIfMade}
 use Rattle.osn_report.specs.declared.fault.CommandFault.TheVariants.{File}
 use Rattle.osn_report.specs.declared.status.Status.{Status}
@@ -41,6 +41,6 @@ PrintsLands edition lands path (Some code) o e status =
 abbrev pub PrintsText : Limits → List ℕ → Input → Option (List ℕ) → Output → Output → Status
     → Type 0
 PrintsText limits path journal code o e status =
-    ((fault : FileFault) × MakesNoObject limits journal fault × PrintsNone (File fault) o e status)
+    ((fault : FileFault) × MakesNoObject limits journal fault × PrintsNoneAt path (File fault) o e status)
     ⊎ ((s : ObjectState) × MakesObject limits journal.bytes s
     × PrintsLands (length s.batches) (published s) path code o e status)

@@ -125,15 +125,15 @@ fn cause_words(cause: KeepCause) -> &'static str
 {
     match cause {
         KeepCause::Held => "another run of the program keeps that journal",
-        KeepCause::NoFile => "it is no file, but a folder or a pipe",
+        KeepCause::NoFile => "it is a folder or a pipe, not a file",
         KeepCause::Denied => "permission denied",
         KeepCause::NotRead => "read fault",
         KeepCause::NotWritten => {
-            "permission denied: publish writes to it, or its disk takes no writes"
+            "permission denied: publish writes to it, or its disk is read-only"
         }
         KeepCause::NoFolder => "there is no such folder",
         KeepCause::NotMade => {
-            "permission denied: publish makes it in its folder, or the disk takes no writes"
+            "permission denied: publish makes it in its folder, or the disk is read-only"
         }
     }
 }

@@ -43,24 +43,14 @@ fn refusal_or(object: &mut Object, edits: Vec<Edit>, other: Note) -> Note
     }
 }
 
-/// Returns the note on edits for a journal that is not there.
-fn missing_note(object: &mut Object, edits: Vec<Edit>) -> Note
-    ensures { spec.IsNoteOf (spec.missing_note object.old edits.items) result }
+/// Returns the note on edits, if there are some, that a publish refuses them, or else another note.
+fn edits_or(object: &mut Object, edits: Vec<Edit>, other: Note) -> Note
+    ensures { spec.IsNoteOf (spec.edits_or object.old edits.items other) result }
 {
     if edits.is_empty() {
-        return Note::New;
+        return other;
     }
-    refusal_or(object, edits, Note::New)
-}
-
-/// Returns the note on edits that a journal of this version takes.
-fn kept_note(object: &mut Object, edits: Vec<Edit>) -> Note
-    ensures { spec.IsNoteOf (spec.kept_note object.old edits.items) result }
-{
-    if edits.is_empty() {
-        return Note::Nothing;
-    }
-    refusal_or(object, edits, Note::Nothing)
+    refusal_or(object, edits, other)
 }
 
 /// Returns the note on edits for a journal of this version.
@@ -71,7 +61,7 @@ fn version_note(version: Version, object: &mut Object, edits: Vec<Edit>) -> Note
         return refusal_or(object, edits, Note::Anew(version));
     }
     match check_kept(version) {
-        Ok(()) => kept_note(object, edits),
+        Ok(()) => edits_or(object, edits, Note::Nothing),
         Err(_) => Note::NotKept(version),
     }
 }
@@ -93,7 +83,7 @@ pub(crate) fn note_of(
     if is_there {
         version_note(version, object, edits)
     } else {
-        missing_note(object, edits)
+        edits_or(object, edits, Note::New)
     }
 }
 

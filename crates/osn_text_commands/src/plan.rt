@@ -19,7 +19,7 @@ use osn_lines::{Sink, Source};
 use osn_plan::plan;
 use osn_plan_page::plan_page;
 use osn_register::{Edit, Limits, Register};
-use osn_report::{CommandFault, Status, print, report, tell_line};
+use osn_report::{CommandFault, Status, print, report_at, tell_line};
 use std::alloc::{AllocError, Global};
 
 /// Returns the lines of a plan, which would be the next edition of the object.
@@ -88,33 +88,9 @@ fn print_edits<W: Sink, E: Sink>(
     }
 }
 
-/// Prints the plan from what an object has published to the register that the text says.
+/// Prints the plan from what an object has published to the register that the text says, unless the
+/// text is of an edition that the object lacks.
 fn print_plan<W: Sink, E: Sink>(
-    alloc: Global,
-    asked: PublishRequest<'_>,
-    is_there: bool,
-    version: Version,
-    object: &mut Object,
-    wanted: &Register,
-    output: &mut W,
-    errors: &mut E,
-) -> Status
-    ensures { spec.PrintsPlanTo object.old asked.entry.text.now wanted.now
-        (spec.edits_line asked.entry.journal.now asked.entry.text.now is_there version object.old
-        asked.entry.edition)
-        (output_of W.contents W.has_failed W.holds_back output.old output.new)
-        (output_of E.contents E.has_failed E.holds_back errors.old errors.new) result }
-{
-    match plan(alloc, object.register(), wanted) {
-        Ok(edits) => print_edits(
-            alloc, asked, is_there, version, object, wanted, edits, output, errors,
-        ),
-        Err(fault) => tell_plan(alloc, errors, asked.text, &fault),
-    }
-}
-
-/// Does the same, unless the text is of an edition that the object lacks.
-fn print_unless_later<W: Sink, E: Sink>(
     alloc: Global,
     asked: PublishRequest<'_>,
     is_there: bool,
@@ -133,14 +109,15 @@ fn print_unless_later<W: Sink, E: Sink>(
         (output_of E.contents E.has_failed E.holds_back errors.old errors.new) result }
 {
     let editions = object.batches().len();
-    match later_than(asked.edition, editions) {
-        Some(edition) => {
-            let lines = later_lines(alloc, asked.text, asked.journal, edition, editions);
-            tell_line(errors, Status::Refused, lines)
-        }
-        None => print_plan(
-            alloc, asked, is_there, version, object, wanted, output, errors,
+    if let Some(edition) = later_than(asked.edition, editions) {
+        let lines = later_lines(alloc, asked.text, asked.journal, edition, editions);
+        return tell_line(errors, Status::Refused, lines);
+    }
+    match plan(alloc, object.register(), wanted) {
+        Ok(edits) => print_edits(
+            alloc, asked, is_there, version, object, wanted, edits, output, errors,
         ),
+        Err(fault) => tell_plan(alloc, errors, asked.text, &fault),
     }
 }
 
@@ -172,7 +149,7 @@ fn plan_text_file<T: Source, W: Sink, E: Sink>(
                 onto_newest: false,
             };
             let wanted = &said.register;
-            print_unless_later(
+            print_plan(
                 alloc, asked, is_there, version, object, wanted, output, errors,
             )
         }
@@ -236,6 +213,6 @@ pub fn plan_command<J: Source, T: Source, W: Sink, E: Sink>(
             output,
             errors,
         ),
-        Err(fault) => report(alloc, errors, CommandFault::File(fault)),
+        Err(fault) => report_at(alloc, errors, path, CommandFault::File(fault)),
     }
 }

@@ -50,7 +50,7 @@ pub(crate) fn push_standing(out: &mut String, editions: usize) -> Result<(), All
     ensures { OnOk result
         (string_bytes out.new ≡ string_bytes out.old ++ spec.standing_line editions) }
 {
-    writeln!(out, "nothing to change: edition {editions} stands")
+    writeln!(out, "nothing to change: edition {editions} is the newest")
 }
 
 fn edits_word(edits: usize) -> &'static str

@@ -1,12 +1,12 @@
 //! The command `publish`: the edits of a plan, as one edition of a journal that is kept.
 ghost use Rattle.std.specs.Prelude.{◌≡◌, ◌^◌, ◌<◌, ℕ, List, [], Option, IfErr, IfOk, OnErr};
-ghost use Rattle.std.specs.Prelude.{None, length, option_map, string_bytes};
+ghost use Rattle.std.specs.Prelude.{None, option_map, string_bytes};
 ghost use Rattle.osn_journal.specs.KeptJournal.{file_of};
 ghost use Rattle.osn_lines.specs.Streams.{input_of, output_of};
 ghost use Rattle.osn_text_commands.specs.Edition.{IsEachEditionLoaded};
 ghost use Rattle.osn_text_commands.specs.Publish as spec;
 ghost use Rattle.osn_text_commands.specs.PublishInside as inside;
-ghost use Rattle.osn_text_commands.specs.Since.{hindered, later_than, request_of};
+ghost use Rattle.osn_text_commands.specs.Since.{hindered, request_of};
 
 use crate::plan_fault::tell_plan;
 use crate::plan_words::pending_line;
@@ -16,7 +16,7 @@ use osn_folder::KeptFile;
 use osn_lines::{Sink, Source};
 use osn_plan::plan;
 use osn_register::{Edit, Limits, Register};
-use osn_report::{Status, report, tell_line};
+use osn_report::{Status, report_at, tell_line};
 use osn_serve_commands::{HeldJournal, read_kept};
 use std::alloc::Global;
 
@@ -75,94 +75,8 @@ fn publish_unless_behind<K: KeptFile, W: Sink, E: Sink>(
     }
 }
 
-/// Publishes what changes the published register of a journal with nothing pending into the
-/// register that is wanted.
-///
-/// # Errors
-///
-/// The rewritten journal, if an edit gives a source that its version lacks.
-fn publish_plan<K: KeptFile, W: Sink, E: Sink>(
-    alloc: Global,
-    keeper: &mut K,
-    held: HeldJournal,
-    asked: PublishRequest<'_>,
-    wanted: &Register,
-    output: &mut W,
-    errors: &mut E,
-) -> Result<Status, OlderEdition>
-    requires few { held.part.lines < 2 ^ 63 }
-    requires pending { held.object.pending ≡ [] }
-    // Whatever a source gave of which the part counts.
-    ensures ok { IfOk result (λ status. (given : Option (List ℕ))
-        → inside.IsPartOf held.part given
-        → spec.PublishesPlan (inside.CanStay K.cut_back_may_fail) held.version held.object
-        (request_of asked.entry) wanted.now
-        (file_of K.contents K.synced K.fault keeper.old)
-        (file_of K.contents K.synced K.fault keeper.new) given
-        (output_of W.contents W.has_failed W.holds_back output.old output.new)
-        (output_of E.contents E.has_failed E.holds_back errors.old errors.new) status) }
-    ensures older { IfErr result (λ older. inside.IsOlderFree (request_of asked.entry)
-        held.bytes.items held.part held.version held.object wanted.now older.bytes.items
-        (string_bytes older.edition.journal)
-        (string_bytes older.edition.text) (option_map string_bytes older.cut)) }
-    ensures quiet { OnErr result ((keeper.new ≡ keeper.old) × (output.new ≡ output.old)
-        × (errors.new ≡ errors.old)) }
-{
-    match plan(alloc, held.object.register(), wanted) {
-        Ok(edits) => {
-            publish_unless_behind(alloc, keeper, held, asked, wanted, edits, output, errors)
-        }
-        Err(fault) => Ok(tell_plan(alloc, errors, asked.text, &fault)),
-    }
-}
-
-/// Does the same, unless the text is of an edition that the journal lacks.
-///
-/// # Errors
-///
-/// The rewritten journal, if an edit gives a source that its version lacks.
-fn publish_unless_later<K: KeptFile, W: Sink, E: Sink>(
-    alloc: Global,
-    keeper: &mut K,
-    held: HeldJournal,
-    asked: PublishRequest<'_>,
-    wanted: &Register,
-    output: &mut W,
-    errors: &mut E,
-) -> Result<Status, OlderEdition>
-    requires few { held.part.lines < 2 ^ 63 }
-    requires pending { held.object.pending ≡ [] }
-    // Whatever a source gave of which the part counts.
-    ensures ok { IfOk result (λ status. (given : Option (List ℕ))
-        → inside.IsPartOf held.part given
-        → spec.PublishesUnlessLater
-        (later_than asked.entry.edition (length held.object.batches))
-        (inside.CanStay K.cut_back_may_fail) held.version held.object (request_of asked.entry)
-        wanted.now
-        (file_of K.contents K.synced K.fault keeper.old)
-        (file_of K.contents K.synced K.fault keeper.new) given
-        (output_of W.contents W.has_failed W.holds_back output.old output.new)
-        (output_of E.contents E.has_failed E.holds_back errors.old errors.new) status) }
-    ensures older { IfErr result (λ older.
-        (later_than asked.entry.edition (length held.object.batches) ≡ None)
-        × inside.IsOlderFree (request_of asked.entry)
-        held.bytes.items held.part held.version held.object wanted.now older.bytes.items
-        (string_bytes older.edition.journal)
-        (string_bytes older.edition.text) (option_map string_bytes older.cut)) }
-    ensures quiet { OnErr result ((keeper.new ≡ keeper.old) × (output.new ≡ output.old)
-        × (errors.new ≡ errors.old)) }
-{
-    let editions = held.object.batches().len();
-    match later_than(asked.edition, editions) {
-        Some(edition) => {
-            let lines = later_lines(alloc, asked.text, asked.journal, edition, editions);
-            Ok(tell_line(errors, Status::Refused, lines))
-        }
-        None => publish_plan(alloc, keeper, held, asked, wanted, output, errors),
-    }
-}
-
-/// Does the same for a journal that may have pending edits.
+/// Publishes what changes the published register of a journal into the register that is wanted,
+/// unless edits are pending, or the text is of an edition that the journal lacks.
 ///
 /// # Errors
 ///
@@ -197,7 +111,17 @@ fn publish_held<K: KeptFile, W: Sink, E: Sink>(
         let line = pending_line(alloc, held.object.pending().len());
         return Ok(tell_line(errors, Status::Refused, line));
     }
-    publish_unless_later(alloc, keeper, held, asked, wanted, output, errors)
+    let editions = held.object.batches().len();
+    if let Some(edition) = later_than(asked.edition, editions) {
+        let lines = later_lines(alloc, asked.text, asked.journal, edition, editions);
+        return Ok(tell_line(errors, Status::Refused, lines));
+    }
+    match plan(alloc, held.object.register(), wanted) {
+        Ok(edits) => {
+            publish_unless_behind(alloc, keeper, held, asked, wanted, edits, output, errors)
+        }
+        Err(fault) => Ok(tell_plan(alloc, errors, asked.text, &fault)),
+    }
 }
 
 /// Runs the command `publish`: makes the edits that change what a journal published into a register
@@ -245,6 +169,6 @@ pub fn publish_command<K: KeptFile, J: Source, W: Sink, E: Sink>(
 {
     match read_kept(alloc, limits, journal) {
         Ok(held) => publish_held(alloc, keeper, held, asked, wanted, output, errors),
-        Err(fault) => Ok(report(alloc, errors, fault)),
+        Err(fault) => Ok(report_at(alloc, errors, asked.journal, fault)),
     }
 }

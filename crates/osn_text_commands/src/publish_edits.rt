@@ -8,7 +8,6 @@ ghost use Rattle.osn_files.specs.JournalText.{journal_text};
 ghost use Rattle.osn_journal.specs.KeptJournal.{file_of};
 ghost use Rattle.osn_lines.specs.Streams.{output_of};
 ghost use Rattle.osn_register.specs.declared.edit.Edit.{Edit};
-ghost use Rattle.osn_serve_commands.specs.Keep.{is_kept};
 ghost use Rattle.osn_text_commands.specs.Edition.{IsNoMemoryOr, edition_refusal, needs_sources};
 ghost use Rattle.osn_text_commands.specs.Edition.{with_batch};
 ghost use Rattle.osn_text_commands.specs.Publish as spec;
@@ -23,7 +22,7 @@ use osn_format::Version;
 use osn_lines::{Sink, write_all};
 use osn_plan_page::plan_page;
 use osn_register::{Edit, Refusal, Register};
-use osn_report::{CommandFault, Status, print, report, tell_line, write_line};
+use osn_report::{CommandFault, Status, print, report, report_at, tell_line, write_line};
 use osn_serve_commands::{HeldJournal, check_kept, cut_text_of};
 use std::alloc::{AllocError, Global};
 
@@ -60,9 +59,10 @@ pub(crate) fn print_report<W: Sink, E: Sink>(text: &str, output: &mut W, errors:
     }
 }
 
-/// Writes an edition to the file, and prints its text.
+/// Writes an edition to the file of this path, and prints its text.
 fn publish_edition<K: KeptFile, W: Sink, E: Sink>(
     alloc: Global,
+    path: &str,
     part: WholePart,
     keeper: &mut K,
     edition: &Edition,
@@ -73,7 +73,7 @@ fn publish_edition<K: KeptFile, W: Sink, E: Sink>(
     // Whatever a source gave of which the part counts, and whatever edits the lines are of.
     ensures { (given : Option (List ℕ)) → inside.IsPartOf part given
         → (edits : List Edit) → inside.AreLinesOf part edits edition.now.lines.items
-        → spec.WritesEdition (inside.CanStay K.cut_back_may_fail)
+        → spec.WritesEdition (inside.CanStay K.cut_back_may_fail) path.now
         (file_of K.contents K.synced K.fault keeper.old)
         (file_of K.contents K.synced K.fault keeper.new) given edits
         (string_bytes edition.now.text)
@@ -82,7 +82,7 @@ fn publish_edition<K: KeptFile, W: Sink, E: Sink>(
 {
     match write_edition(alloc, part, keeper, &edition.lines, errors) {
         Ok(()) => print_report(edition.text.as_str(), output, errors),
-        Err(fault) => report(alloc, errors, fault),
+        Err(fault) => report_at(alloc, errors, path, fault),
     }
 }
 
@@ -111,42 +111,8 @@ fn append_edits<K: KeptFile, W: Sink, E: Sink>(
         return print(standing_text(alloc, object, wanted), output, errors);
     }
     match edition_of(alloc, path, part, object, wanted, edits) {
-        Ok(edition) => publish_edition(alloc, part, keeper, &edition, output, errors),
+        Ok(edition) => publish_edition(alloc, path, part, keeper, &edition, output, errors),
         Err(refusal) => report(alloc, errors, CommandFault::Refused(refusal)),
-    }
-}
-
-/// Does the same, if a journal of this version is kept.
-fn append_if_kept<K: KeptFile, W: Sink, E: Sink>(
-    alloc: Global,
-    path: &str,
-    version: Version,
-    part: WholePart,
-    keeper: &mut K,
-    object: &mut Object,
-    wanted: &Register,
-    edits: Vec<Edit>,
-    output: &mut W,
-    errors: &mut E,
-) -> Status
-    requires { part.lines < 2 ^ 63 }
-    // Whatever a source gave of which the part counts.
-    ensures { (given : Option (List ℕ)) → inside.IsPartOf part given
-        → spec.AppendsIfKept (is_kept version) (inside.CanStay K.cut_back_may_fail) path.now version
-        object.old wanted.now
-        (file_of K.contents K.synced K.fault keeper.old)
-        (file_of K.contents K.synced K.fault keeper.new) given edits.items
-        (output_of W.contents W.has_failed W.holds_back output.old output.new)
-        (output_of E.contents E.has_failed E.holds_back errors.old errors.new) result }
-{
-    match check_kept(version) {
-        Ok(()) => append_edits(
-            alloc, path, part, keeper, object, wanted, edits, output, errors,
-        ),
-        Err(_) => {
-            let lines = not_kept_line(alloc, path, version);
-            tell_line(errors, Status::Refused, lines)
-        }
     }
 }
 
@@ -254,16 +220,21 @@ pub(crate) fn publish_edits<K: KeptFile, W: Sink, E: Sink>(
         mut object,
         ..
     } = held;
-    Ok(append_if_kept(
-        alloc,
-        path,
-        version,
-        part,
-        keeper,
-        &mut object,
-        wanted,
-        edits,
-        output,
-        errors,
-    ))
+    match check_kept(version) {
+        Ok(()) => Ok(append_edits(
+            alloc,
+            path,
+            part,
+            keeper,
+            &mut object,
+            wanted,
+            edits,
+            output,
+            errors,
+        )),
+        Err(_) => {
+            let lines = not_kept_line(alloc, path, version);
+            Ok(tell_line(errors, Status::Refused, lines))
+        }
+    }
 }

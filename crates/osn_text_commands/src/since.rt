@@ -205,8 +205,8 @@ fn push_end(out: &mut String, journal: &str, editions: usize) -> Result<(), Allo
     let journal = Shown(journal);
     writeln!(
         out,
-        "help: make the text anew by oldstyle text {journal}; or write edition = {editions} in \
-it, if it has these edits; or publish by --onto-newest all the same"
+        "help: print the text again by oldstyle text {journal}; or write edition = {editions} in \
+it, if it has these edits; or publish it anyway by --onto-newest"
     )
 }
 

@@ -8,7 +8,7 @@ use osn_files::load_journal;
 use osn_lines::{Sink, Source};
 use osn_page_commands::land_refusal_line;
 use osn_register::{Limits, Register};
-use osn_report::{CommandFault, Status, print, report, tell_line};
+use osn_report::{CommandFault, Status, print, report_at, tell_line};
 use osn_text_writer::{write_territory, write_text};
 use std::alloc::Global;
 
@@ -83,6 +83,6 @@ pub fn text_command<J: Source, W: Sink, E: Sink>(
 {
     match load_journal(alloc, limits, journal) {
         Ok(object) => print_lands(alloc, &object, path, code, output, errors),
-        Err(fault) => report(alloc, errors, CommandFault::File(fault)),
+        Err(fault) => report_at(alloc, errors, path, CommandFault::File(fault)),
     }
 }

@@ -1,17 +1,38 @@
-use Rattle.std.proofs.Common.{refl, sym, ◌∙◌}
+use Rattle.std.proofs.Common.{refl}
 use Rattle.std.proofs.lemmas.Result.{IfOk-weaker}
-use Rattle.osn_invocation.specs.Invocation.{service_model}
-use Rattle.osn_serve_commands.proofs.OptionLemmas.{lacking_keep, lacking_none}
+use Rattle.osn_serve_commands.specs.Mode.{mode_of_options}
+use Rattle.osn_serve_commands.proofs.ModeLemmas.{misused, run_as, unopened_as}
 use Rattle.osn_serve_commands.proofs.in_folder.serve_in_folder.Goals as goal
 
-pub returns-then-lacks_keep-clause-ok : goal.returns-then-lacks_keep-clause-ok
-returns-then-lacks_keep-clause-ok g c =
-    lacking_keep c.args.limits _ _ _ _ (service_model c.args.options) _ _ _ _ _ c.report.result
-    _ (sym c.lacks_keep.ensures ∙ c.if-lacks_keep.true) (refl, (refl, c.report.ensures))
+pub returns-in-Load-clause-ok : goal.returns-in-Load-clause-ok
+returns-in-Load-clause-ok g c =
+    IfOk-weaker c.serve.result _ _
+    (λ status h. run_as c.args.limits _ _ _ _ _ _ _ status c.in-Ok.mode _ c.in-Ok.ensures.ok
+    c.in-Load.is h)
+    c.serve.ensures.ok
 
-pub returns-clause-ok : goal.returns-clause-ok
-returns-clause-ok g c =
-    IfOk-weaker c.serve_by_files.result _ _
-    (λ status h. lacking_none c.args.limits _ _ _ _ (service_model c.args.options) _ _ _ _ _
-    status _ (sym c.lacks_keep.ensures ∙ c.if-lacks_keep.false) h)
-    c.serve_by_files.ensures.ok
+pub returns-in-Load-clause-err : goal.returns-in-Load-clause-err
+returns-in-Load-clause-err g c =
+    unopened_as c.serve.result (λ failure. failure.path.now) (λ failure. failure.fault)
+    (mode_of_options c.args.options) c.in-Ok.mode _ _ _ _ c.in-Ok.ensures.ok c.in-Load.is
+    c.serve.ensures.err
+
+pub returns-in-Keep-clause-ok : goal.returns-in-Keep-clause-ok
+returns-in-Keep-clause-ok g c =
+    run_as c.args.limits _ _ _ _ _ _ _ c.keep.result c.in-Ok.mode _ c.in-Ok.ensures.ok c.in-Keep.is
+    c.keep.ensures
+
+pub returns-in-Upgrade-clause-ok : goal.returns-in-Upgrade-clause-ok
+returns-in-Upgrade-clause-ok g c =
+    run_as c.args.limits _ _ _ _ _ _ _ c.upgrade_and_keep.result c.in-Ok.mode _ c.in-Ok.ensures.ok
+    c.in-Upgrade.is c.upgrade_and_keep.ensures
+
+pub returns-in-Follow-clause-ok : goal.returns-in-Follow-clause-ok
+returns-in-Follow-clause-ok g c =
+    run_as c.args.limits _ _ _ _ _ _ _ c.follow_file.result c.in-Ok.mode _ c.in-Ok.ensures.ok
+    c.in-Follow.is c.follow_file.ensures
+
+pub returns-in-Err-clause-ok : goal.returns-in-Err-clause-ok
+returns-in-Err-clause-ok g c =
+    misused c.args.limits _ _ _ _ _ _ _ c.report.result c.in-Err.fault c.in-Err.ensures.err
+    (refl, (refl, c.report.ensures))

@@ -1,6 +1,8 @@
-use Rattle.std.proofs.Common.{◌+◌, ◌∙◌, Some, None, refl}
-use Rattle.std.proofs.lemmas.Result.{on_ok_weaker}
+use Rattle.std.proofs.Common.{◌+◌, ◌∙◌, Some, None, inl, inr, refl, subst}
+use Rattle.osn_lines.specs.Streams.{output_of}
+use Rattle.osn_report.specs.Messages.{WritesLine}
 use Rattle.osn_serve_commands.proofs.KeptFileLemmas.{all_left, unfinished_cut}
+use Rattle.osn_serve_commands.proofs.ResultLemmas.{if_err_made}
 use Rattle.osn_serve_commands.proofs.keep.cut_unfinished.Goals as goal
 
 pub returns-in-Ended-clause-ok : goal.returns-in-Ended-clause-ok
@@ -11,13 +13,27 @@ returns-in-Ended-clause-ok g c = (
       let is = all_left c.args.part held c.in-Ended.is whole in (is.0, known ∙ is.1)),
 )
 
-pub returns-in-Unfinished-clause-ok : goal.returns-in-Unfinished-clause-ok
-returns-in-Unfinished-clause-ok g c =
-    on_ok_weaker c.cut_last.result
-    (λ cut. (
-      Some (c.args.part.lines + 1),
-      cut.1,
-      (λ held known whole.
-          unfinished_cut c.args.part held _ _ c.in-Unfinished.is cut.0 known whole),
+pub returns-in_err-told-in-Unfinished-clause-err : goal.returns-in_err-told-in-Unfinished-clause-err
+returns-in_err-told-in-Unfinished-clause-err g c =
+    if_err_made c.from_residual.result c.from_residual.ensures.1 (λ e is. (inr is, refl, refl))
+
+pub returns-in_err-cut-in-Unfinished-clause-err : goal.returns-in_err-cut-in-Unfinished-clause-err
+returns-in_err-cut-in-Unfinished-clause-err g c =
+    if_err_made c.from_residual-in_err-cut-in-Unfinished.result
+    c.from_residual-in_err-cut-in-Unfinished.ensures.1
+    (λ e is. (
+      inl (_, c.in_err-cut-in-Unfinished.ensures.fault, is),
+      refl,
+      c.in_err-cut-in-Unfinished.ensures.err,
     ))
-    c.cut_last.ensures.ok
+
+pub returns-in_ok-cut-in-Unfinished-clause-ok : goal.returns-in_ok-cut-in-Unfinished-clause-ok
+returns-in_ok-cut-in-Unfinished-clause-ok g c = (
+  Some (c.args.part.lines + 1),
+  subst (WritesLine (output_of g.E.Sink.contents g.E.Sink.has_failed g.E.Sink.holds_back
+      c.args.errors.now c.write_line.new.errors))
+      (c.as_str.ensures.value ∙ c.in_ok-told-in-Unfinished.ensures) c.write_line.ensures,
+  (λ held known whole.
+      unfinished_cut c.args.part held _ _ c.in-Unfinished.is
+      c.in_ok-cut-in-Unfinished.ensures.ok known whole),
+)

@@ -14,7 +14,7 @@ returns-in-Ok c =
     version_kept c.args.object.now _ c.args.version c.args.edits.items
     (subst (λ l. needs_sources c.args.version l ≡ false) c.deref.ensures.value
     (sym c.needs_sources.ensures ∙ c.if-needs_sources.false)) c.in-Ok.ensures.ok
-    c.kept_note.ensures
+    c.edits_or.ensures
 
 pub returns-in-Err : goal.returns-in-Err
 returns-in-Err c =

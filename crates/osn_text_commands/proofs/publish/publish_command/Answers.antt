@@ -36,7 +36,8 @@ returns-in-Err-clause-ended g c =
     let failed = g.J.Source.has_failed c.read_kept.new.journal in
     inl (
       c.in-Err.fault,
-      (refl, (refl, c.report.ensures)),
+      refl,
+      (refl, c.report_at.ensures),
       (λ held known got.
           known_bytes given held
           (λ held. HoldsNoObject c.args.limits held failed c.in-Err.fault) got

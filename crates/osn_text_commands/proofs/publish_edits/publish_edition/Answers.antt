@@ -35,7 +35,7 @@ returns-in-Err g c = λ given part_of edits lines.
       tells = h.1;
       ended = inr (
         c.in-Err.fault,
-        (refl, c.report.ensures),
+        (refl, c.report_at.ensures),
         (λ held known got.
             made held known (known_bytes given held (IsWholePart c.args.part) got part_of)),
       );
