@@ -1,22 +1,19 @@
 //! Commands over streams that fail, completions, and arguments that are not text.
 use crate::support::compare::same;
-use crate::support::{is_outcome, left_by, left_over, sink};
-use osn_commands::{run, tell_no_words};
-use osn_folder::Disk;
+use crate::support::{LANDS, is_left, left_over, text_of};
+use osn_commands::tell_no_words;
 use osn_lines::Plain;
 use osn_register::Limits;
 use osn_report::Status;
 use osn_serve_commands::serve_command;
 use osn_service::ServeRules;
+use std::alloc::Global;
 use std::io::{ErrorKind, Read, Write};
 use std::process::Abort;
 use std::rt::Files;
 use std::sync::Wait;
-use std::test::Fail;
 use std::thread::Threads;
 use std::{fs, io};
-
-const LANDS: &str = "{\"op\":\"lands\",\"reader\":1}\n";
 
 /// What fails at each call.
 #[derive(Drop)]
@@ -38,100 +35,78 @@ impl Write for Failing {
     }
 }
 
-#[test]
-fn streams_that_fail(rt: HostRuntime) -> Result<(), Fail> {
-    let alloc = rt.alloc();
-    let mut errors = sink(alloc);
-    let mut failing = Some(Plain::new(Failing));
-    let mut input = Plain::new(LANDS.as_bytes());
+/// Returns how a service ends whose output fails, whether there is a journal to save, and what it
+/// prints on standard error. If it has a journal, its reads fail too.
+fn served(alloc: Global, has_journal: bool) -> (Status, bool, Vec<u8>) {
+    let mut journal = if has_journal {
+        Some(Plain::new(Failing))
+    } else {
+        None
+    };
+    let mut errors = Plain::new(Vec::new(alloc));
     let left = serve_command(
         alloc,
         Limits::standard(),
         "a.journal",
-        &mut failing,
+        &mut journal,
         ServeRules::editing(8),
         true,
-        &mut input,
-        &mut sink(alloc),
+        &mut Plain::new(LANDS.as_bytes()),
+        &mut Plain::new(Failing),
         &mut errors,
     );
-    same(&rt, left.status, Status::ReadFault);
-    assert!(rt; left.journal.is_none());
-    same(
-        &rt,
-        str::from_utf8(&errors.into_inner())?,
-        "oldstyle: read fault\nnote: a.journal: read fault\n",
-    );
-    let mut errors = sink(alloc);
-    let mut none: Option<Plain<Failing>> = None;
-    let mut output = Plain::new(Failing);
-    let left = serve_command(
-        alloc,
-        Limits::standard(),
-        "",
-        &mut none,
-        ServeRules::editing(8),
-        true,
-        &mut input,
-        &mut output,
-        &mut errors,
-    );
-    same(&rt, left.status, Status::WriteFault);
-    same(
-        &rt,
-        str::from_utf8(&errors.into_inner())?,
-        "oldstyle: write fault\n",
-    );
-    Ok(())
+    let is_saved = left.journal.is_some();
+    (left.status, is_saved, errors.into_inner())
+}
+
+/// Checks how that service ends.
+fn is_served(rt: &impl Abort, alloc: Global, has_journal: bool, wanted: (Status, &str)) {
+    let (status, is_saved, errors) = served(alloc, has_journal);
+    same(rt, (status, text_of(rt, &errors)), wanted);
+    same(rt, is_saved, false);
 }
 
 #[test]
-fn a_follower_whose_input_fails(rt: HostRuntime) -> Result<(), Fail> {
-    let alloc = rt.alloc();
-    let (mut output, mut errors) = (sink(alloc), sink(alloc));
-    let status = run(
-        &rt,
-        &mut Disk::new(&rt),
-        &["oldstyle", "serve", "--follow", "a.journal"],
-        &mut Plain::new(Failing),
-        &mut output,
-        &mut errors,
-        Some(sink(alloc)),
-    );
-    let told = (3, "", "oldstyle: read fault\n");
-    is_outcome(&left_by(status, output, errors), told)
+fn streams_that_fail(rt: HostRuntime) {
+    let told = "oldstyle: read fault\nnote: a.journal: read fault\n";
+    is_served(&rt, rt.alloc(), true, (Status::ReadFault, told));
+    let told = "oldstyle: write fault\n";
+    is_served(&rt, rt.alloc(), false, (Status::WriteFault, told));
 }
 
-/// Checks that the completions of these shells are printed.
+#[test]
+fn a_follower_whose_input_fails(rt: HostRuntime) {
+    let line = "oldstyle serve --follow a.journal";
+    let left = left_over(&rt, line, Failing);
+    is_left(&rt, line, &left, (3, "", "oldstyle: read fault\n"), "");
+}
+
+/// Checks that these completions are printed.
 fn are_printed<R: Files<File = fs::File> + Threads + Wait + AllocGlobal + Abort>(
     rt: &R,
-    shells: &[&str],
-) -> Result<(), Fail> {
-    for shell in shells {
-        let line = format!(in rt.alloc(); "oldstyle completions {shell}")?;
-        let left = left_over(rt, line.as_str(), "")?;
-        let ended = (
-            left.status.code(),
-            left.errors.is_empty(),
-            left.written.is_empty(),
-        );
-        same(rt, (shell, ended), (shell, (0, true, false)));
+    lines: &[&str],
+) {
+    for line in lines {
+        let left = left_over(rt, line, "".as_bytes());
+        let ended = (left.status, left.errors.is_empty(), left.output.is_empty());
+        same(rt, (line, ended), (line, (Status::Done, true, false)));
     }
-    Ok(())
 }
 
 /// Those of bash are a case.
 #[test]
-fn words_are_completed(rt: HostRuntime) -> Result<(), Fail> {
-    are_printed(&rt, &["zsh", "fish"])
+fn words_are_completed(rt: HostRuntime) {
+    are_printed(
+        &rt,
+        &["oldstyle completions zsh", "oldstyle completions fish"],
+    );
 }
 
 #[test]
 fn a_word_that_is_no_text(rt: HostRuntime) {
-    let mut errors = sink(rt.alloc());
+    let mut errors = Plain::new(Vec::new(rt.alloc()));
     let status = tell_no_words(&io::Error::from(ErrorKind::InvalidData), &mut errors);
     let told = errors.into_inner();
-    same(&rt, status.code(), 2);
     let line = "error: a word of the command line is not UTF-8\n";
-    same(&rt, told.as_slice(), line.as_bytes());
+    same(&rt, (status.code(), text_of(&rt, &told)), (2, line));
 }

@@ -1,28 +1,13 @@
-//! How the program reads and writes files: what is saved, and what a file contains if it can't be
-//! saved. Also what is printed to a terminal. Each test works in a folder of its own.
+//! How the program reads and writes files of the system: what is saved, and what a file contains if
+//! it can't be saved.
 use crate::support::compare::same;
-use crate::support::{File, RunRow, are_run, entered, has_text, left_by, left_over, sink};
-use osn_commands::run;
-use osn_folder::Disk;
-use osn_lines::Plain;
-use osn_report::Status;
-use osn_test_texts::joined;
-use std::fs;
-use std::fs::Permissions;
-use std::io::{Read, Write};
+use crate::support::{HEAD, Step, entered, left_over, take_steps, text_of};
+use std::io::Read;
 use std::os::fd::AsRawFd;
-use std::os::unix::fs::{PermissionsExt, symlink};
-use std::process::Abort;
 use std::rt::Files;
-use std::sync::Wait;
 use std::test::Fail;
-use std::thread::Threads;
 
 const OLD: &str = "{\"journal\":1}\n";
-
-const EMPTY: &str = "{\"journal\":2}\n";
-
-const HELD: [File; 2] = [("a.journal", OLD), ("kept.journal", OLD)];
 
 const NOTHING: &str = "{\"op\":\"publish\"}\n";
 
@@ -30,8 +15,10 @@ const REFUSED: &str = "{\"fault\":15,\"name\":\"NothingPending\"}\n";
 
 /// Paths that take no journal: a full device, a folder, a path in no folder. A service that ends
 /// early saves nothing.
-const UNSAVED: [RunRow; 4] = [
-    (
+const UNSAVED: [Step; 8] = [
+    Step::Write("a.journal", OLD),
+    Step::MakeFolder("folder"),
+    Step::Run(
         "oldstyle serve --save /dev/full",
         NOTHING,
         (
@@ -40,7 +27,7 @@ const UNSAVED: [RunRow; 4] = [
             "oldstyle: write fault\nnote: /dev/full: write fault\n",
         ),
     ),
-    (
+    Step::Run(
         "oldstyle serve --save folder",
         NOTHING,
         (
@@ -49,7 +36,7 @@ const UNSAVED: [RunRow; 4] = [
             "oldstyle: write fault\nnote: folder: write fault\n",
         ),
     ),
-    (
+    Step::Run(
         "oldstyle serve --save nowhere/b.journal",
         NOTHING,
         (
@@ -58,7 +45,7 @@ const UNSAVED: [RunRow; 4] = [
             "oldstyle: write fault\nnote: nowhere/b.journal: no such folder\n",
         ),
     ),
-    (
+    Step::Run(
         "oldstyle serve --journal gone.journal --save a.journal",
         NOTHING,
         (
@@ -67,44 +54,43 @@ const UNSAVED: [RunRow; 4] = [
             "oldstyle: read fault\nnote: gone.journal: no such file\n",
         ),
     ),
+    Step::HasText("a.journal", OLD),
+    Step::HasFiles(2),
 ];
 
 #[test]
 fn what_cannot_be_saved(rt: HostRuntime) -> Result<(), Fail> {
-    let folder = entered(&rt, "unsaved", &HELD)?;
-    fs::create_dir(&rt, "folder")?;
-    are_run(&rt, &UNSAVED)?;
-    has_text(&rt, "a.journal", OLD)?;
-    same(&rt, fs::read_dir(&rt, ".")?.count(), 3);
-    fs::remove_dir_all(&rt, folder.as_path())?;
-    Ok(())
+    take_steps(&rt, entered(&rt, "unsaved")?, &UNSAVED)
 }
 
 /// A folder is not a file of a table.
-const NO_TABLE: [RunRow; 1] = [(
-    "oldstyle letters a.journal --places folder",
-    "place,date\n",
-    (3, "", "oldstyle: folder: is a directory\n"),
-)];
+const NO_TABLE: [Step; 3] = [
+    Step::Write("a.journal", OLD),
+    Step::MakeFolder("folder"),
+    Step::Run(
+        "oldstyle letters a.journal --places folder",
+        "place,date\n",
+        (3, "", "oldstyle: folder: is a directory\n"),
+    ),
+];
 
 #[test]
 fn a_folder_is_no_table_of_places(rt: HostRuntime) -> Result<(), Fail> {
-    let folder = entered(&rt, "places", &HELD)?;
-    fs::create_dir(&rt, "folder")?;
-    are_run(&rt, &NO_TABLE)?;
-    fs::remove_dir_all(&rt, folder.as_path())?;
-    Ok(())
+    take_steps(&rt, entered(&rt, "places")?, &NO_TABLE)
 }
 
 /// A journal that was loaded is replaced, and another one is left beside the one that replaces it.
 /// A text that is not a journal is not lost.
-const SAVED: [RunRow; 4] = [
-    (
+const SAVED: [Step; 12] = [
+    Step::Write("a.journal", OLD),
+    Step::Write("kept.journal", OLD),
+    Step::Write("letter", "Dear"),
+    Step::Run(
         "oldstyle serve --journal a.journal --save a.journal",
         "",
         (0, "", ""),
     ),
-    (
+    Step::Run(
         "oldstyle serve --save a.journal",
         "",
         (
@@ -113,7 +99,7 @@ const SAVED: [RunRow; 4] = [
             "note: a.journal held another journal, which is now a.journal.~1~\n",
         ),
     ),
-    (
+    Step::Run(
         "oldstyle serve --journal kept.journal --save a.journal",
         "",
         (
@@ -122,7 +108,7 @@ const SAVED: [RunRow; 4] = [
             "note: a.journal held another journal, which is now a.journal.~2~\n",
         ),
     ),
-    (
+    Step::Run(
         "oldstyle serve --save letter",
         NOTHING,
         (
@@ -133,25 +119,23 @@ help: letter is not a journal, and is left as it is: name another file for --sav
 ",
         ),
     ),
+    Step::HasText("a.journal", HEAD),
+    Step::HasText("a.journal.~1~", HEAD),
+    Step::HasText("a.journal.~2~", HEAD),
+    Step::HasText("letter", "Dear"),
+    Step::HasFiles(5),
 ];
 
 #[test]
 fn what_is_saved_over_is_not_lost(rt: HostRuntime) -> Result<(), Fail> {
-    let folder = entered(&rt, "over", &HELD)?;
-    fs::write(&rt, "letter", "Dear")?;
-    are_run(&rt, &SAVED)?;
-    has_text(&rt, "a.journal", EMPTY)?;
-    has_text(&rt, "a.journal.~1~", EMPTY)?;
-    has_text(&rt, "a.journal.~2~", EMPTY)?;
-    has_text(&rt, "letter", "Dear")?;
-    same(&rt, fs::read_dir(&rt, ".")?.count(), 5);
-    fs::remove_dir_all(&rt, folder.as_path())?;
-    Ok(())
+    take_steps(&rt, entered(&rt, "over")?, &SAVED)
 }
 
-/// Links that lead nowhere.
-const ASTRAY: [RunRow; 2] = [
-    (
+/// A link to nothing, or to itself, stays one, and nothing is saved.
+const ASTRAY: [Step; 7] = [
+    Step::Link("gone.journal", "astray.journal"),
+    Step::Link("round.journal", "round.journal"),
+    Step::Run(
         "oldstyle serve --save astray.journal",
         "",
         (
@@ -160,7 +144,7 @@ const ASTRAY: [RunRow; 2] = [
             "oldstyle: read fault\nnote: astray.journal: no such file\n",
         ),
     ),
-    (
+    Step::Run(
         "oldstyle serve --save round.journal",
         "",
         (
@@ -169,50 +153,34 @@ const ASTRAY: [RunRow; 2] = [
             "oldstyle: read fault\nnote: round.journal: no such file\n",
         ),
     ),
+    Step::IsLink("astray.journal"),
+    Step::IsLink("round.journal"),
+    Step::HasFiles(2),
 ];
 
-/// A link to nothing, or to itself, stays one, and nothing is saved.
 #[test]
 fn links_that_lead_nowhere_stay(rt: HostRuntime) -> Result<(), Fail> {
-    let folder = entered(&rt, "astray", &HELD)?;
-    symlink(&rt, "gone.journal", "astray.journal")?;
-    symlink(&rt, "round.journal", "round.journal")?;
-    are_run(&rt, &ASTRAY)?;
-    let astray = fs::symlink_metadata(&rt, "astray.journal")?.is_symlink();
-    let round = fs::symlink_metadata(&rt, "round.journal")?.is_symlink();
-    let files = fs::read_dir(&rt, ".")?.count();
-    same(&rt, (astray, round, files), (true, true, 4));
-    fs::remove_dir_all(&rt, folder.as_path())?;
-    Ok(())
+    take_steps(&rt, entered(&rt, "astray")?, &ASTRAY)
 }
 
 /// A save through a link replaces the file that it leads to. The file keeps its permissions, and so
 /// does the old one beside it.
+const LINKED: [Step; 10] = [
+    Step::Write("kept.journal", OLD),
+    Step::Link("kept.journal", "link.journal"),
+    Step::SetMode("kept.journal", 0o640),
+    Step::RunNoting("oldstyle serve --save link.journal", "/kept.journal.~1~\n"),
+    Step::HasText("kept.journal", HEAD),
+    Step::HasText("kept.journal.~1~", OLD),
+    Step::IsLink("link.journal"),
+    Step::HasMode("kept.journal", 0o640),
+    Step::HasMode("kept.journal.~1~", 0o640),
+    Step::HasFiles(3),
+];
+
 #[test]
 fn a_link_and_permissions_stay(rt: HostRuntime) -> Result<(), Fail> {
-    let folder = entered(&rt, "links", &HELD)?;
-    symlink(&rt, "kept.journal", "link.journal")?;
-    fs::set_permissions(&rt, "kept.journal", Permissions::from_mode(0o640))?;
-    let left = left_over(&rt, "oldstyle serve --save link.journal", "")?;
-    let told = str::from_utf8(&left.errors)?;
-    same(
-        &rt,
-        (left.status, told.ends_with("/kept.journal.~1~\n")),
-        (Status::Done, true),
-    );
-    has_text(&rt, "kept.journal", EMPTY)?;
-    has_text(&rt, "kept.journal.~1~", OLD)?;
-    let link = fs::symlink_metadata(&rt, "link.journal")?.is_symlink();
-    let mode = fs::metadata(&rt, "kept.journal")?.permissions().mode();
-    let old = fs::metadata(&rt, "kept.journal.~1~")?.permissions().mode();
-    let files = fs::read_dir(&rt, ".")?.count();
-    same(
-        &rt,
-        (link, mode & 0o777, old & 0o777, files),
-        (true, 0o640, 0o640, 4),
-    );
-    fs::remove_dir_all(&rt, folder.as_path())?;
-    Ok(())
+    take_steps(&rt, entered(&rt, "links")?, &LINKED)
 }
 
 /// A pipe is written as it is.
@@ -220,101 +188,11 @@ fn a_link_and_permissions_stay(rt: HostRuntime) -> Result<(), Fail> {
 fn a_pipe_takes_a_journal(rt: HostRuntime) -> Result<(), Fail> {
     let (mut reader, writer) = rt.pipe()?;
     let number = writer.as_raw_fd();
-    let line = format!(in rt.alloc(); "oldstyle serve --save /dev/fd/{number}")?;
-    let left = left_over(&rt, line.as_str(), "")?;
+    let line = format!(in rt.alloc(); "oldstyle serve --save /dev/fd/{number}");
+    let left = left_over(&rt, line.expect(&rt, "memory").as_str(), "".as_bytes());
     same(&rt, (left.status.code(), left.errors.len()), (0, 0));
     let mut bytes = [0; 64];
     let read = reader.read(&mut bytes)?;
-    same(&rt, str::from_utf8(&bytes[..read])?, EMPTY);
-    Ok(())
-}
-
-const HEAD: [File; 1] = [("a.journal", OLD)];
-
-/// A reply that agrees, except its end.
-const AGREES: &str = "{\"ask\":{\"op\":\"lands\",\"reader\":1},\"reply\":{\"answer\":\
-{\"lands\":[]},\"edition\":0,\"reader\":1}";
-
-/// Writes a transcript with this number of lines, each of 65,536 bytes with its line feed.
-fn write_transcript<R: Files + AllocGlobal>(rt: &R, path: &str, lines: u32) -> Result<(), Fail> {
-    let spaces = " ".repeat(rt.alloc(), 65_534usize.saturating_sub(AGREES.len()))?;
-    let mut file = fs::create(rt, path)?;
-    for _line in 0..lines {
-        file.write_all(AGREES.as_bytes())?;
-        file.write_all(spaces.as_bytes())?;
-        file.write_all(b"}\n")?;
-    }
-    Ok(())
-}
-
-/// Returns what is printed to a terminal by a run that ends well.
-fn told_of<R: Files<File = fs::File> + Threads + Wait + AllocGlobal + Abort>(
-    rt: &R,
-    words: &[&str],
-    read: &str,
-) -> Result<Vec<u8>, Fail> {
-    let (mut output, mut errors) = (sink(rt.alloc()), sink(rt.alloc()));
-    let mut told = Vec::new(rt.alloc());
-    let mut disk = Disk::new(rt);
-    let status = run(
-        rt,
-        &mut disk,
-        words,
-        &mut Plain::new(read.as_bytes()),
-        &mut output,
-        &mut errors,
-        Some(Plain::new(&mut told)),
-    );
-    let left = left_by(status, output, errors);
-    same(rt, (left.status, left.errors.len()), (Status::Done, 0));
-    Ok(told)
-}
-
-const AUDIT: [&str; 4] = ["oldstyle", "audit", "a.journal", "a.transcript"];
-
-/// A terminal gets a line for each 64 MiB, and no line for a shorter transcript.
-#[test]
-fn a_terminal_is_told_how_far_an_audit_is(rt: HostRuntime) -> Result<(), Fail> {
-    let folder = entered(&rt, "long", &HEAD)?;
-    write_transcript(&rt, "a.transcript", 1023)?;
-    same(&rt, told_of(&rt, &AUDIT, "")?.len(), 0);
-    write_transcript(&rt, "a.transcript", 1025)?;
-    let told = told_of(&rt, &AUDIT, "")?;
-    let line = "oldstyle: 64 MiB of the transcript read\n";
-    same(&rt, str::from_utf8(&told)?, line);
-    fs::remove_dir_all(&rt, folder.as_path())?;
-    Ok(())
-}
-
-const FIRST: &str = r#"{"op":"add_land","code":"RM","name":"Rome","calendar":"julian",
-  "style":"january","rule":"julian"}
-{"op":"publish"}
-"#;
-
-const SECOND: &str = "{\"op\":\"add_exception\",\"code\":\"RM\",\"year\":1500,\"day\":547610}
-{\"op\":\"publish\"}
-";
-
-/// A terminal gets a line about editions that are saved nowhere, and about no others.
-#[test]
-fn a_terminal_is_told_of_editions_that_are_saved_nowhere(rt: HostRuntime) -> Result<(), Fail> {
-    let folder = entered(&rt, "unsaved", &HEAD)?;
-    let one = joined(rt.alloc(), FIRST)?;
-    let two = format!(in rt.alloc(); "{one}{SECOND}")?;
-    let serve = ["oldstyle", "serve"];
-    let told = told_of(&rt, &serve, one.as_str())?;
-    let line = "oldstyle: 1 edition was saved nowhere: --save or --keep would have kept it\n";
-    same(&rt, str::from_utf8(&told)?, line);
-    let told = told_of(&rt, &serve, two.as_str())?;
-    let line = "oldstyle: 2 editions were saved nowhere: --save or --keep would have kept them\n";
-    same(&rt, str::from_utf8(&told)?, line);
-    let save = ["oldstyle", "serve", "--save", "b.journal"];
-    same(&rt, told_of(&rt, &save, two.as_str())?.len(), 0);
-    same(
-        &rt,
-        told_of(&rt, &serve, "{\"op\":\"publish\"}\n")?.len(),
-        0,
-    );
-    fs::remove_dir_all(&rt, folder.as_path())?;
+    same(&rt, text_of(&rt, &bytes[..read]), HEAD);
     Ok(())
 }

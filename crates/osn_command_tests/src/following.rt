@@ -1,29 +1,28 @@
 //! Runs of the service that follow a journal which another run keeps.
 use crate::support::compare::same;
-use crate::support::{RunRow, are_run, entered};
+use crate::support::{LANDS, Step, entered, leave, take_steps, text_of};
 use osn_folder::{Disk, Folder, FollowFault, FollowedFile};
 use std::fs;
+use std::process::Abort;
+use std::rt::Files;
 use std::test::Fail;
 
-const LANDS: &str = "{\"op\":\"lands\",\"reader\":1}\n";
-
-const NOTHING: [RunRow; 1] = [(
-    "oldstyle serve --follow folder",
-    LANDS,
-    (
-        3,
-        "",
-        "oldstyle: read fault\nnote: folder: is a directory\n",
+const NOTHING: [Step; 2] = [
+    Step::MakeFolder("folder"),
+    Step::Run(
+        "oldstyle serve --follow folder",
+        LANDS,
+        (
+            3,
+            "",
+            "oldstyle: read fault\nnote: folder: is a directory\n",
+        ),
     ),
-)];
+];
 
 #[test]
 fn a_folder_is_not_followed(rt: HostRuntime) -> Result<(), Fail> {
-    let folder = entered(&rt, "followed", &[])?;
-    fs::create_dir(&rt, "folder")?;
-    are_run(&rt, &NOTHING)?;
-    fs::remove_dir_all(&rt, folder.as_path())?;
-    Ok(())
+    take_steps(&rt, entered(&rt, "followed")?, &NOTHING)
 }
 
 /// What the file has at a look, and what it has gained then.
@@ -39,24 +38,34 @@ const LOOKS: [Look; 6] = [
     ("one\n", Err(FollowFault::Shorter)),
 ];
 
+/// Checks what a file has gained at a look.
+fn has_gained(
+    rt: &impl Abort,
+    gained: Result<Vec<u8>, FollowFault>,
+    wanted: Result<&str, FollowFault>,
+) {
+    match &gained {
+        Ok(gained) => same(rt, Ok(text_of(rt, gained)), wanted),
+        Err(fault) => same(rt, Err(*fault), wanted),
+    }
+}
+
+/// Checks what a file has gained at each look, and after another program has moved it.
+fn gains<R: Files<File = fs::File> + AllocGlobal + Abort>(rt: &R, looks: &[Look]) {
+    let mut disk = Disk::new(rt);
+    let followed = disk.follow(rt.alloc(), "growing.journal");
+    let mut file = followed.expect(rt, "memory");
+    for (text, wanted) in looks {
+        fs::write(rt, "growing.journal", *text).expect(rt, text);
+        has_gained(rt, file.look(rt.alloc()), *wanted);
+    }
+    fs::rename(rt, "growing.journal", "moved.journal").expect(rt, "it moves");
+    has_gained(rt, file.look(rt.alloc()), Err(FollowFault::Replaced));
+}
+
 #[test]
 fn a_file_that_grows_is_followed(rt: HostRuntime) -> Result<(), Fail> {
-    let folder = entered(&rt, "growing", &[])?;
-    let mut file = Disk::new(&rt).follow(rt.alloc(), "growing.journal")?;
-    for (text, wanted) in &LOOKS {
-        fs::write(&rt, "growing.journal", *text)?;
-        match (file.look(rt.alloc()), wanted) {
-            (Ok(gained), Ok(wanted)) => same(&rt, str::from_utf8(&gained)?, *wanted),
-            (Err(fault), Err(wanted)) => same(&rt, fault, *wanted),
-            _ => return Err(Fail::new("a look")),
-        }
-    }
-    fs::rename(&rt, "growing.journal", "moved.journal")?;
-    same(
-        &rt,
-        file.look(rt.alloc()).err(),
-        Some(FollowFault::Replaced),
-    );
-    fs::remove_dir_all(&rt, folder.as_path())?;
-    Ok(())
+    let folder = entered(&rt, "growing")?;
+    gains(&rt, &LOOKS);
+    leave(&rt, folder)
 }

@@ -1,32 +1,25 @@
 //! Runs of the service that keep their journal in a file: what the file contains then, and what is
-//! not kept. Each test works in a folder of its own.
+//! not kept.
 use crate::support::compare::same;
-use crate::support::{File, KeptRow as Row, RunRow, SAVED, are_kept, are_run, entered};
+use crate::support::{
+    ADDED, HEAD, KEPT, LANDS, PUBLISHED, ROME, SAVED, STAGED, Step, entered, leave, made_text,
+    take_steps,
+};
 use osn_folder::{Disk, Folder, KeptFile, KeptFileFault, SaveFault, save_file};
 use std::fs;
 use std::process::Abort;
 use std::rt::Files;
 use std::test::Fail;
 
-const HEAD: &str = "{\"journal\":2}\n";
-
-const LANDS: &str = "{\"op\":\"lands\",\"reader\":1}\n";
-
 const NO_LANDS: &str = "{\"answer\":{\"lands\":[]},\"edition\":0,\"reader\":1}\n";
 
-const ROME: &str = "{\"op\":\"add_land\",\"code\":\"RM\",\"name\":\"Rome\",\
-\"calendar\":\"julian\",\"style\":\"january\",\"rule\":\"julian\"}
-{\"op\":\"publish\"}
-";
-
-const ADDED: &str = r#"{"op":"lands","reader":1}
+const ASKED_AND_ADDED: &str = r#"{"op":"lands","reader":1}
 {"op":"add_exception","code":"RM","year":1582,"day":577736}
 {"op":"publish"}
 "#;
 
-const STAGED: &str = "{\"ok\":\"staged\",\"pending\":1}\n{\"edition\":1,\"ok\":\"published\"}\n";
-
-const NOTED: &str = r#"{"answer":{"lands":[{"code":"RM","name":"Rome"}]},"edition":1,"reader":1}
+const ANSWERED_AND_NOTED: &str = r#"{"answer":{"lands":[{"code":"RM","name":"Rome"}]},"edition":1,
+  "reader":1}
 {"ok":"staged","pending":1}
 {"edition":2,"ok":"published"}
 "#;
@@ -34,46 +27,33 @@ const NOTED: &str = r#"{"answer":{"lands":[{"code":"RM","name":"Rome"}]},"editio
 const EXISTS: &str = "{\"fault\":4,\"name\":\"LandExists\"}\n{\"fault\":15,
   \"name\":\"NothingPending\"}\n";
 
-const KEPT: &str = r#"{"journal":2}
-{"calendar":"julian","code":"RM","name":"Rome","op":"add_land","rule":"julian","style":"january"}
-{"op":"publish"}
-"#;
-
 const LETTER: &str = "Honoured Sir";
 
-const FILES: [File; 1] = [("rome.journal", KEPT)];
-
 /// A new file, in which each run finds what those before it did.
-const KEEPING: [Row; 4] = [
-    (
-        ("oldstyle serve --keep a.journal", LANDS, (0, NO_LANDS, "")),
-        "a.journal",
-        HEAD,
+const KEEPING: [Step; 8] = [
+    Step::Run("oldstyle serve --keep a.journal", LANDS, (0, NO_LANDS, "")),
+    Step::HasText("a.journal", HEAD),
+    Step::Run("oldstyle serve --keep a.journal", ROME, (0, STAGED, "")),
+    Step::HasText("a.journal", KEPT),
+    Step::Run("oldstyle serve --keep a.journal", ROME, (0, EXISTS, "")),
+    Step::HasText("a.journal", KEPT),
+    Step::Run(
+        "oldstyle serve --keep a.journal --readers 1",
+        ASKED_AND_ADDED,
+        (0, ANSWERED_AND_NOTED, ""),
     ),
-    (
-        ("oldstyle serve --keep a.journal", ROME, (0, STAGED, "")),
-        "a.journal",
-        KEPT,
-    ),
-    (
-        ("oldstyle serve --keep a.journal", ROME, (0, EXISTS, "")),
-        "a.journal",
-        KEPT,
-    ),
-    (
-        (
-            "oldstyle serve --keep a.journal --readers 1",
-            ADDED,
-            (0, NOTED, ""),
-        ),
-        "a.journal",
-        SAVED,
-    ),
+    Step::HasText("a.journal", SAVED),
 ];
 
+#[test]
+fn each_change_is_kept(rt: HostRuntime) -> Result<(), Fail> {
+    take_steps(&rt, entered(&rt, "keeping")?, &KEEPING)
+}
+
 /// Paths at which no file is kept.
-const NOWHERE: [RunRow; 2] = [
-    (
+const NOWHERE: [Step; 4] = [
+    Step::MakeFolder("folder"),
+    Step::Run(
         "oldstyle serve --keep folder",
         LANDS,
         (
@@ -82,7 +62,7 @@ const NOWHERE: [RunRow; 2] = [
             "oldstyle: read fault\nnote: folder: is a directory\n",
         ),
     ),
-    (
+    Step::Run(
         "oldstyle serve --keep nowhere/a.journal",
         LANDS,
         (
@@ -91,29 +71,27 @@ const NOWHERE: [RunRow; 2] = [
             "oldstyle: read fault\nnote: nowhere/a.journal: no such folder\n",
         ),
     ),
+    Step::HasFiles(1),
 ];
 
 #[test]
-fn each_change_is_kept(rt: HostRuntime) -> Result<(), Fail> {
-    let folder = entered(&rt, "keeping", &FILES)?;
-    are_kept(&rt, &KEEPING)?;
-    fs::remove_dir_all(&rt, folder.as_path())?;
-    Ok(())
+fn no_file_is_kept_in_the_place_of_a_folder(rt: HostRuntime) -> Result<(), Fail> {
+    take_steps(&rt, entered(&rt, "unkept")?, &NOWHERE)
 }
 
-#[test]
-fn no_file_is_kept_in_the_place_of_a_folder(rt: HostRuntime) -> Result<(), Fail> {
-    let folder = entered(&rt, "unkept", &FILES)?;
-    fs::create_dir(&rt, "folder")?;
-    are_run(&rt, &NOWHERE)?;
-    same(&rt, fs::exists(&rt, "a.journal")?, false);
-    fs::remove_dir_all(&rt, folder.as_path())?;
-    Ok(())
-}
+/// Another name for the territory.
+const TEXT: &str = r#"[RM]
+name = "Roma"
+calendar = "julian"
+style = "january"
+rule = "julian"
+"#;
 
 /// Runs while another run keeps the journal.
-const HELD: [RunRow; 3] = [
-    (
+const HELD: [Step; 7] = [
+    Step::Write("rome.journal", PUBLISHED),
+    Step::Write("rome.toml", TEXT),
+    Step::RunBesideKeeper(
         "oldstyle serve --keep rome.journal",
         ADDED,
         (
@@ -122,7 +100,7 @@ const HELD: [RunRow; 3] = [
             "oldstyle: another run of the program keeps that journal\n",
         ),
     ),
-    (
+    Step::RunBesideKeeper(
         "oldstyle serve --journal rome.journal --save rome.journal",
         ADDED,
         (
@@ -131,54 +109,73 @@ const HELD: [RunRow; 3] = [
             "oldstyle: another run of the program keeps that journal\n",
         ),
     ),
-    (
+    Step::RunBesideKeeper(
+        "oldstyle publish rome.journal rome.toml",
+        "",
+        (
+            3,
+            "",
+            "oldstyle: rome.journal: another run of the program keeps that journal\n",
+        ),
+    ),
+    Step::RunBesideKeeper(
         "oldstyle territory rome.journal",
         "",
         (0, "Territories, edition 1\nRome (RM)\n", ""),
     ),
+    Step::HasText("rome.journal", PUBLISHED),
 ];
 
 #[test]
 fn one_run_keeps_a_journal_and_any_reads_it(rt: HostRuntime) -> Result<(), Fail> {
-    let folder = entered(&rt, "held", &FILES)?;
-    let kept = Disk::new(&rt).keep("rome.journal");
-    are_run(&rt, &HELD)?;
-    assert!(&rt; kept.is_ok());
-    drop(kept);
-    fs::remove_dir_all(&rt, folder.as_path())?;
-    Ok(())
+    take_steps(&rt, entered(&rt, "held")?, &HELD)
 }
 
-/// Checks that a file contains this text.
-fn is_held<R: Files<File = fs::File> + AllocGlobal + Abort>(
-    rt: &R,
-    path: &str,
-    text: &str,
-) -> Result<(), Fail> {
-    same(rt, fs::read_to_string(rt, path)?.as_str(), text);
-    Ok(())
+/// Checks that a file which another program has moved is not reported as synced.
+fn is_replaced<R: Files<File = fs::File> + AllocGlobal + Abort>(rt: &R, path: &str) {
+    made_text(rt, path, KEPT);
+    let (mut kept, _) = Disk::new(rt).keep(path).expect(rt, "nobody keeps it");
+    fs::rename(rt, path, "moved.journal").expect(rt, path);
+    same(rt, kept.append(HEAD.as_bytes()), Ok(()));
+    same(rt, kept.sync(), Err(KeptFileFault::Replaced));
+    drop(kept);
 }
 
 #[test]
-fn what_another_program_did_is_told(rt: HostRuntime) -> Result<(), Fail> {
-    let folder = entered(&rt, "disturbed", &FILES)?;
-    let mut disk = Disk::new(&rt);
-    let (mut kept, _) = disk.keep("rome.journal").expect(&rt, "nobody keeps it");
+fn a_kept_file_that_was_moved_is_noticed(rt: HostRuntime) -> Result<(), Fail> {
+    let folder = entered(&rt, "moved")?;
+    is_replaced(&rt, "rome.journal");
+    leave(&rt, folder)
+}
+
+/// Saves a text after another program has made a file at its path, and one that has the name of an
+/// unfinished file.
+fn saved_late<R: Files<File = fs::File> + AllocGlobal + Abort>(rt: &R) -> Result<(), SaveFault> {
+    let mut disk = Disk::new(rt);
     let lock = disk
         .lock_to_save("new.journal")
-        .expect(&rt, "nobody saves to it");
-    fs::rename(&rt, "rome.journal", "moved.journal")?;
-    fs::write(&rt, "new.journal", LETTER)?;
-    fs::write(&rt, "new.journal.unfinished", LETTER)?;
-    same(&rt, kept.append(HEAD.as_bytes()), Ok(()));
-    same(&rt, kept.sync(), Err(KeptFileFault::Replaced));
-    let saved = save_file(&mut disk, rt.alloc(), lock, "new.journal", None, KEPT);
-    let beside = String::from_str(rt.alloc(), "new.journal.unfinished-2")?;
-    same(&rt, saved, Err(SaveFault::Changed(beside)));
-    is_held(&rt, "new.journal", LETTER)?;
-    is_held(&rt, "new.journal.unfinished", LETTER)?;
-    is_held(&rt, "new.journal.unfinished-2", KEPT)?;
-    drop(kept);
-    fs::remove_dir_all(&rt, folder.as_path())?;
-    Ok(())
+        .expect(rt, "nobody saves to it");
+    made_text(rt, "new.journal", LETTER);
+    made_text(rt, "new.journal.unfinished", LETTER);
+    save_file(&mut disk, rt.alloc(), lock, "new.journal", None, KEPT)
+}
+
+/// Checks that such a save is refused, and which file the text is in then.
+fn is_changed<R: Files<File = fs::File> + AllocGlobal + Abort>(rt: &R) {
+    let saved = saved_late(rt);
+    let beside = String::from_str(rt.alloc(), "new.journal.unfinished-2").expect(rt, "memory");
+    same(rt, saved, Err(SaveFault::Changed(beside)));
+}
+
+const ALL_LEFT: [Step; 3] = [
+    Step::HasText("new.journal", LETTER),
+    Step::HasText("new.journal.unfinished", LETTER),
+    Step::HasText("new.journal.unfinished-2", KEPT),
+];
+
+#[test]
+fn what_another_program_wrote_is_not_saved_over(rt: HostRuntime) -> Result<(), Fail> {
+    let folder = entered(&rt, "changed")?;
+    is_changed(&rt);
+    take_steps(&rt, folder, &ALL_LEFT)
 }

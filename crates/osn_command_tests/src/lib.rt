@@ -13,9 +13,7 @@ mod following;
 #[cfg(test)]
 mod keeping;
 #[cfg(test)]
-mod kept_journals;
-#[cfg(test)]
-mod publishing;
+mod long_records;
 #[cfg(test)]
 mod support;
 #[cfg(test)]

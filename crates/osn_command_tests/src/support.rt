@@ -1,11 +1,11 @@
-//! What the tests share: values compared, runs of the program, and what each has to leave.
+//! What the tests share: values compared, runs of the program, and steps in a folder of the system.
 pub mod compare;
 mod folders;
-mod outcome;
 mod rome;
 mod runs;
+mod steps;
 
-pub use folders::{File, KeptRow, are_kept, entered, has_text};
-pub use outcome::{Left, is_outcome, left_by, sink};
-pub use rome::{ADDED, NOTED, PUBLISHED, SAVED};
-pub use runs::{RunRow, are_run, left_over};
+pub use folders::{entered, leave, made_text};
+pub use rome::{ADDED, HEAD, KEPT, LANDS, NOTED, PUBLISHED, ROME, SAVED, STAGED};
+pub use runs::{Left, Wanted, is_left, left_over, text_of};
+pub use steps::{Length, Step, Table, take_steps};

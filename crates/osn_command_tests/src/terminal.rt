@@ -1,19 +1,12 @@
 //! What is printed to a terminal: how much was read of a long input, and how many editions were
 //! saved nowhere.
 use crate::support::compare::same;
-use crate::support::{ADDED, File, Left, NOTED, PUBLISHED, entered, is_outcome, left_by, sink};
-use osn_commands::run;
-use osn_folder::Disk;
+use crate::support::{HEAD, PUBLISHED, ROME, STAGED, Step, entered, take_steps, text_of};
 use osn_lines::{Plain, Progress};
 use osn_report::ReadProgress;
 use std::alloc::Global;
-use std::io::Read;
 use std::process::Abort;
-use std::rt::Files;
-use std::sync::Wait;
 use std::test::Fail;
-use std::thread::Threads;
-use std::{fs, io, str};
 
 /// 64 MiB in bytes.
 const STEP: usize = 67_108_864;
@@ -51,89 +44,127 @@ fn told_of_reads(alloc: Global, reads: &[usize]) -> Vec<u8> {
     told
 }
 
-fn are_told(rt: &impl Abort, alloc: Global, rows: &[(&[usize], &'static str)]) -> Result<(), Fail> {
+fn are_told(rt: &impl Abort, alloc: Global, rows: &[(&[usize], &'static str)]) {
     for (reads, wanted) in rows {
         let told = told_of_reads(alloc, reads);
-        same(rt, str::from_utf8(&told)?, *wanted);
+        same(rt, text_of(rt, &told), *wanted);
     }
-    Ok(())
 }
 
 #[test]
-fn a_terminal_is_told_each_64_mebibytes(rt: HostRuntime) -> Result<(), Fail> {
-    are_told(&rt, rt.alloc(), &READS)
+fn a_terminal_is_told_each_64_mebibytes(rt: HostRuntime) {
+    are_told(&rt, rt.alloc(), &READS);
 }
 
-const FILES: [File; 2] = [("a.journal", PUBLISHED), ("places.csv", "place,code\n")];
-
-/// Returns how a run of this line ends, and what it prints to a terminal.
-fn told_of<R: Files<File = fs::File> + Threads + Wait + AllocGlobal>(
-    rt: &R,
-    line: &str,
-    input: impl Read + Drop,
-) -> Result<(Left, Vec<u8>), Fail> {
-    let words: Vec<&str> = line.split_whitespace().collect(rt.alloc())?;
-    let (mut output, mut errors) = (sink(rt.alloc()), sink(rt.alloc()));
-    let mut told = Vec::new(rt.alloc());
-    let status = run(
-        rt,
-        &mut Disk::new(rt),
-        &words,
-        &mut Plain::new(input),
-        &mut output,
-        &mut errors,
-        Some(Plain::new(&mut told)),
-    );
-    Ok((left_by(status, output, errors), told))
-}
-
-const HEADER: &str = "place,date\n";
-
-const WRITTEN: &str = "place,date,days,gregorian,julian,dual,weekday_found,jdn,earliest,latest,\
-kind,edtf,edition,remark\n";
-
-/// Checks what is printed about a table of 64 MiB whose lines are empty except the first.
-fn is_told_of_table<R: Files<File = fs::File> + Threads + Wait + AllocGlobal + Abort>(
-    rt: &R,
-    line: &str,
-) -> Result<(), Fail> {
-    let empty = io::repeat(b'\n').take(STEP.saturating_sub(HEADER.len()) as u64);
-    let (left, told) = told_of(rt, line, HEADER.as_bytes().chain(empty))?;
-    is_outcome(&left, (0, WRITTEN, ""))?;
-    let line = "oldstyle: 64 MiB of the letters read\n";
-    same(rt, str::from_utf8(&told)?, line);
-    Ok(())
-}
+/// Tables with a header and empty lines, of 128 MiB and of 64 MiB: the output is the header alone.
+const TABLES: [Step; 4] = [
+    Step::Write("a.journal", PUBLISHED),
+    Step::Write("places.csv", "place,code\n"),
+    Step::RunOverTable(
+        "oldstyle letters a.journal",
+        ("place,date\n", b'\n', 134_217_717),
+        (0, 97, ""),
+        "oldstyle: 64 MiB of the letters read\noldstyle: 128 MiB of the letters read\n",
+    ),
+    Step::RunOverTable(
+        "oldstyle letters a.journal --places places.csv",
+        ("place,date\n", b'\n', 67_108_853),
+        (0, 97, ""),
+        "oldstyle: 64 MiB of the letters read\n",
+    ),
+];
 
 #[test]
 fn a_terminal_is_told_how_far_a_table_is(rt: HostRuntime) -> Result<(), Fail> {
-    let folder = entered(&rt, "table", &FILES)?;
-    is_told_of_table(&rt, "oldstyle letters a.journal")?;
-    fs::remove_dir_all(&rt, folder.as_path())?;
-    Ok(())
+    take_steps(&rt, entered(&rt, "table")?, &TABLES)
 }
 
+/// A terminal gets a line for each 64 MiB, and no line for a shorter transcript.
+const TRANSCRIPTS: [Step; 5] = [
+    Step::Write("a.journal", HEAD),
+    Step::WriteTranscript("a.transcript", 1_023),
+    Step::Run(
+        "oldstyle audit a.journal a.transcript",
+        "",
+        (0, "audit: 1023 replies agree\n", ""),
+    ),
+    Step::WriteTranscript("a.transcript", 1_025),
+    Step::RunAtTerminal(
+        "oldstyle audit a.journal a.transcript",
+        "",
+        (0, "audit: 1025 replies agree\n", ""),
+        "oldstyle: 64 MiB of the transcript read\n",
+    ),
+];
+
 #[test]
-fn a_terminal_is_told_how_far_a_table_with_places_is(rt: HostRuntime) -> Result<(), Fail> {
-    let folder = entered(&rt, "places", &FILES)?;
-    is_told_of_table(&rt, "oldstyle letters a.journal --places places.csv")?;
-    fs::remove_dir_all(&rt, folder.as_path())?;
-    Ok(())
+fn a_terminal_is_told_how_far_an_audit_is(rt: HostRuntime) -> Result<(), Fail> {
+    take_steps(&rt, entered(&rt, "long")?, &TRANSCRIPTS)
 }
 
-const REFUSED: &str = "oldstyle: line 3 is refused, and no line after it was answered\n";
+const TWICE: &str = r#"{"op":"add_land","code":"RM","name":"Rome","calendar":"julian",
+  "style":"january","rule":"julian"}
+{"op":"publish"}
+{"op":"add_exception","code":"RM","year":1500,"day":547610}
+{"op":"publish"}
+"#;
 
-/// An edition is published before a line is refused, at which the service ends.
+const STAGED_TWICE: &str = r#"{"ok":"staged","pending":1}
+{"edition":1,"ok":"published"}
+{"ok":"staged","pending":1}
+{"edition":2,"ok":"published"}
+"#;
+
+const ADDED_TWICE: &str = r#"{"op":"add_exception","code":"RM","year":1582,"day":577736}
+{"op":"publish"}
+{"op":"add_exception","code":"RM","year":1582,"day":577736}
+{"op":"publish"}
+"#;
+
+const NOTED_ONCE: &str = r#"{"ok":"staged","pending":1}
+{"edition":2,"ok":"published"}
+{"fault":10,"name":"ExceptionExists"}
+"#;
+
+/// A terminal gets a line about editions that are saved nowhere, and about no others. In the last
+/// run an edition is published before a line is refused, at which the service ends.
+const EDITIONS: [Step; 6] = [
+    Step::Write("a.journal", PUBLISHED),
+    Step::RunAtTerminal(
+        "oldstyle serve",
+        ROME,
+        (0, STAGED, ""),
+        "oldstyle: 1 edition was saved nowhere: --save or --keep would have kept it\n",
+    ),
+    Step::RunAtTerminal(
+        "oldstyle serve",
+        TWICE,
+        (0, STAGED_TWICE, ""),
+        "oldstyle: 2 editions were saved nowhere: --save or --keep would have kept them\n",
+    ),
+    Step::Run(
+        "oldstyle serve --save b.journal",
+        TWICE,
+        (0, STAGED_TWICE, ""),
+    ),
+    Step::Run(
+        "oldstyle serve",
+        "{\"op\":\"publish\"}\n",
+        (0, "{\"fault\":15,\"name\":\"NothingPending\"}\n", ""),
+    ),
+    Step::RunAtTerminal(
+        "oldstyle serve --journal a.journal --stop-at-refusal",
+        ADDED_TWICE,
+        (
+            1,
+            NOTED_ONCE,
+            "oldstyle: line 3 is refused, and no line after it was answered\n",
+        ),
+        "oldstyle: 1 edition was saved nowhere: --save or --keep would have kept it\n",
+    ),
+];
+
 #[test]
-fn a_terminal_is_told_of_an_edition_before_a_refusal(rt: HostRuntime) -> Result<(), Fail> {
-    let folder = entered(&rt, "refusal", &FILES)?;
-    let read = format!(in rt.alloc(); "{ADDED}{ADDED}")?;
-    let line = "oldstyle serve --journal a.journal --stop-at-refusal";
-    let (left, told) = told_of(&rt, line, read.as_bytes())?;
-    let written = format!(in rt.alloc(); "{NOTED}{{\"fault\":10,\"name\":\"ExceptionExists\"}}\n")?;
-    is_outcome(&left, (1, written.as_str(), REFUSED))?;
-    let line = "oldstyle: 1 edition was saved nowhere: --save or --keep would have kept it\n";
-    same(&rt, str::from_utf8(&told)?, line);
-    fs::remove_dir_all(&rt, folder.as_path())?;
-    Ok(())
+fn a_terminal_is_told_of_editions_that_are_saved_nowhere(rt: HostRuntime) -> Result<(), Fail> {
+    take_steps(&rt, entered(&rt, "editions")?, &EDITIONS)
 }

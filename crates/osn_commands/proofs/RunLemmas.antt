@@ -1,7 +1,6 @@
 -- A run of the program did what its contract says.
 use Rattle.std.proofs.Common.{◌≡◌, ◌≢◌, Bool, true, List, ℕ, Result, Ok, Err, IfOk, IfErr, OnErr}
 use Rattle.std.proofs.Common.{sym, subst, inl, inr}
-use Rattle.std.specs.List.{list_any}
 use Rattle.std.specs.Result.{is_ok}
 use Rattle.clap.specs.Words.{HasKind, fault_of, kind_of}
 use Rattle.clap.specs.declared.error.Error.{Error}
@@ -17,8 +16,6 @@ use Rattle.osn_report.specs.Printing.{PrintsIfMade, PrintsOrReports}
 use Rattle.osn_report.specs.declared.fault.CommandFault.{CommandFault}
 use Rattle.osn_report.specs.declared.status.Status.{Status}
 use Rattle.osn_commands.specs.Run.{Fails, IsHelp, PrintsSuch, Runs, RunsArgs, ShowsOrEnds}
-use Rattle.osn_commands.specs.Help.{is_option}
-use Rattle.osn_commands.specs.Run.{command_word}
 
 -- what was run is what these words ask for
 pub ran : (limits : Limits) (given found : CommandWords) (CanFail : Bool → Type 0)
@@ -34,19 +31,19 @@ help_is_no_fault kind (inl help) e = cc
 help_is_no_fault kind (inr version) e = cc
 
 -- help was shown
-pub shows_help : (kind given : ErrorKind) (command : List ℕ) (has_option : Bool) (o e : Output)
-    (status : Status) (text : List ℕ) → given ≡ kind → IsHelp given
-    → PrintsIfMade text o e status → ShowsOrEnds kind command has_option o e status
-shows_help kind given command has_option o e status text is help (inl printed) =
+pub shows_help : (kind given : ErrorKind) (o e : Output) (status : Status) (text : List ℕ)
+    → given ≡ kind → IsHelp given → PrintsIfMade text o e status
+    → ShowsOrEnds kind o e status
+shows_help kind given o e status text is help (inl printed) =
     let asked = subst IsHelp is help in
     inr (help_is_no_fault kind asked, (text, inl (asked, printed)))
-shows_help kind given command has_option o e status text is help (inr memory) = inl memory
+shows_help kind given o e status text is help (inr memory) = inl memory
 
 -- what the grammar refuses was shown
 pub show_runs : (args : List (List ℕ)) (error : Error) (CanFail : Bool → Type 0)
     (CanStay : Type 0) (d : Folders) (i : Input) (o e : Output) (status : Status)
     → HasKind (fault_of command_line args) error → d.after ≡ d.before
-    → ShowsOrEnds (kind_of error) (command_word args) (list_any is_option args) o e status
+    → ShowsOrEnds (kind_of error) o e status
     → RunsArgs args CanFail CanStay d i o e status
 show_runs args error CanFail CanStay d i o e status kind same (inl first) = inr (same, inl first)
 show_runs args error CanFail CanStay d i o e status (inl memory) same (inr shown) =

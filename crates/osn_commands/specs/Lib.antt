@@ -1,4 +1,3 @@
-pub mod Help
 pub mod Completions
 pub mod Limits
 pub mod Run

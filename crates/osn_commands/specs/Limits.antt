@@ -8,7 +8,6 @@ use Rattle.osn_register.specs.Limits.{standard_limits}
 use Rattle.osn_register.specs.declared.limits.Limits.{Limits}
 use Rattle.osn_invocation.specs.Invocation.{is_number}
 use Rattle.osn_written.specs.WrittenDate.{parts_at}
-use Rattle.osn_page_commands.specs.Pieces.{pieces}
 use Rattle.osn_report.specs.declared.misuse.Misuse.{Misuse}
 use Rattle.osn_report.specs.declared.misuse.Misuse.TheVariants as misuses
 
@@ -18,9 +17,15 @@ abbrev pub ◌>>=◌ : {A B : Type 0} → Option A → (A → Option B) → Opti
 (Some x) >>= f = f x
 None >>= f = None
 
+-- the text with a byte in front of its first part
+abbrev pub onto_first : ℕ → List (List ℕ) → List (List ℕ)
+onto_first b [] = (b ∷ []) ∷ []
+onto_first b (part ∷ parts) = (b ∷ part) ∷ parts
+
 -- the settings of a text, which are between its commas: `lands=5000,changes=200`
 abbrev pub settings : List ℕ → List (List ℕ)
-settings text = pieces 44 text
+settings [] = [] ∷ []
+settings (b ∷ rest) = if b == 44 then [] ∷ settings rest else onto_first b (settings rest)
 
 -- the number that a text is, below 2 ^ 32, after an optional plus
 abbrev pub number_of : List ℕ → Option ℕ

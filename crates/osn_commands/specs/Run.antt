@@ -1,7 +1,6 @@
 -- What a run of the program does, with the files of a folder.
-use Rattle.std.specs.Prelude.{◌≡◌, ◌≢◌, ◌⊎◌, Bool, List, [], ◌∷◌, ◌++◌, ℕ, get_or}
+use Rattle.std.specs.Prelude.{◌≡◌, ◌≢◌, ◌⊎◌, Bool, List, [], ◌∷◌, ℕ}
 use Rattle.std.specs.Prelude.{MatchResult, unwrap_or}
-use Rattle.std.specs.List.{list_any}
 use Rattle.clap.specs.Words.{Text, fault_of, IsAmong}
 use Rattle.clap.specs.declared.error.kind.ErrorKind.{ErrorKind}
 use Rattle.clap.specs.declared.error.kind.ErrorKind.TheVariants.{OutOfMemory, DisplayHelp}
@@ -36,7 +35,6 @@ use Rattle.osn_text_commands.specs.InFolder.{PlansInFolder}
 use Rattle.osn_text_commands.specs.PublishFolder.{PublishesInFolder}
 use Rattle.osn_text_commands.specs.Text.{PrintsText}
 use Rattle.osn_commands.specs.Completions.{PrintsCompletions}
-use Rattle.osn_commands.specs.Help.{help_on, is_option}
 use Rattle.osn_commands.specs.Limits.{limits_of_words}
 
 -- ---- each command
@@ -115,22 +113,17 @@ abbrev pub HasNoMemory : Output → Output → Status → Type 0
 HasNoMemory o e status = (o.new ≡ o.old) × EndsBy e NoMemory status
 
 -- a text was shown in place of a command: help or the version on standard output, or on standard
--- error what is wrong with the arguments of a command, and what to do about it
-abbrev pub Shows : ErrorKind → List ℕ → Bool → Output → Output → Status → Type 0
-Shows kind command has_option o e status =
+-- error what is wrong with the arguments
+abbrev pub Shows : ErrorKind → Output → Output → Status → Type 0
+Shows kind o e status =
     (text : List ℕ)
     × ((IsHelp kind × Prints text o e status)
-    ⊎ ((IsHelp kind → ⊥) × (o.new ≡ o.old)
-    × TellsLine e statuses.Misused (text ++ help_on kind command has_option) status))
+    ⊎ ((IsHelp kind → ⊥) × (o.new ≡ o.old) × TellsLine e statuses.Misused text status))
 
 -- that, or memory ran out first
-abbrev pub ShowsOrEnds : ErrorKind → List ℕ → Bool → Output → Output → Status → Type 0
-ShowsOrEnds kind command has_option o e status =
-    HasNoMemory o e status ⊎ ((kind ≢ OutOfMemory) × Shows kind command has_option o e status)
-
--- the argument after the program's name, if there is one
-abbrev pub command_word : List (List ℕ) → List ℕ
-command_word args = get_or args 1 []
+abbrev pub ShowsOrEnds : ErrorKind → Output → Output → Status → Type 0
+ShowsOrEnds kind o e status =
+    HasNoMemory o e status ⊎ ((kind ≢ OutOfMemory) × Shows kind o e status)
 
 -- what is asked for was done under its limits; or it ended early, and it was reported why and at
 -- which file
@@ -157,5 +150,4 @@ RunsArgs args CanFail CanStay d i o e status =
     ((fault_of command_line args ≡ [])
     × RunsInvocation (invocation_in args) CanFail CanStay d i o e status)
     ⊎ ((d.after ≡ d.before) × (HasNoMemory o e status
-    ⊎ ((kind : ErrorKind) × IsAmong kind (fault_of command_line args)
-    × Shows kind (command_word args) (list_any is_option args) o e status)))
+    ⊎ ((kind : ErrorKind) × IsAmong kind (fault_of command_line args) × Shows kind o e status)))

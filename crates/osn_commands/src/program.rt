@@ -1,7 +1,6 @@
 //! The program: the arguments are read, files are opened, and the command is called.
 ghost use Rattle.std.specs.Prelude.{◌≡◌, map, [], Ok, Err, IfErr, IfOk, option_map, unwrap_or};
 ghost use Rattle.std.specs.Prelude.{string_bytes, true};
-ghost use Rattle.std.specs.List.{list_any};
 ghost use Rattle.std.specs.Result.{is_ok};
 ghost use Rattle.osn_folder.specs.Folder.{MayFail};
 ghost use Rattle.osn_folder.specs.declared.fault.OpenFailed.{OpenFailed};
@@ -11,11 +10,10 @@ ghost use Rattle.osn_report.specs.Folders.{folders_of};
 ghost use Rattle.osn_report.specs.Printing.{PrintsOrReports};
 ghost use Rattle.osn_report.specs.declared.fault.CommandFault.{CommandFault};
 ghost use Rattle.osn_text_commands.specs.PublishInside.{CanStay};
-ghost use Rattle.osn_commands.specs.Help.{is_option};
-ghost use Rattle.osn_commands.specs.Run.{Fails, Runs, RunsArgs, RunsInvocation, command_word};
+ghost use Rattle.osn_commands.specs.Run.{Fails, Runs, RunsArgs, RunsInvocation};
 
 use crate::completing::completions_command;
-use crate::display::{Typed, show};
+use crate::display::show;
 use crate::limits::limits_of_words;
 use osn_file_commands::{audit_in_folder, desk_in_folder, replay_in_folder};
 use osn_folder::{Folder, OpenFailed};
@@ -29,41 +27,6 @@ use osn_text_commands::{plan_in_folder, publish_in_folder, text_in_folder};
 use std::convert::AsStr;
 use std::sync::Wait;
 use std::thread::Threads;
-
-/// Returns the argument after the program's name, or an empty text if there is none.
-fn command_word<S: AsStr>(args: &[S]) -> &str
-    ensures { result.now ≡ command_word (map S.text args.now) }
-{
-    match args.get(1) {
-        Some(word) => word.as_str(),
-        None => "",
-    }
-}
-
-/// Returns whether an argument begins with a dash.
-fn is_option(argument: &str) -> bool
-    ensures { result ≡ is_option argument.now }
-{
-    matches!(argument.as_bytes(), [b'-', ..])
-}
-
-/// Returns whether one of these arguments begins with a dash.
-fn has_option<S: AsStr>(args: &[S]) -> bool
-    ensures { result ≡ list_any is_option (map S.text args.now) }
-{
-    args.iter().any(|argument| is_option(argument.as_str()))
-}
-
-/// Returns what was typed, as far as it decides what help there is.
-fn typed_in<S: AsStr>(args: &[S]) -> Typed<'_>
-    ensures command { result.command.now ≡ command_word (map S.text args.now) }
-    ensures has_option { result.has_option ≡ list_any is_option (map S.text args.now) }
-{
-    Typed {
-        command: command_word(args),
-        has_option: has_option(args),
-    }
-}
 
 /// Does what the arguments of a command line ask for, of which the first is the program's name, and
 /// returns how that ended. Files that are read are opened before the command begins, in the order
@@ -92,7 +55,7 @@ where
     let alloc = rt.alloc();
     match parse_args(alloc, args) {
         Ok(invocation) => run_invocation(rt, folder, invocation, input, output, errors, terminal),
-        Err(error) => show(alloc, &error, typed_in(args), output, errors),
+        Err(error) => show(alloc, &error, output, errors),
     }
 }
 

@@ -1,11 +1,32 @@
 -- Loops that append a line, or the lines, of each item.
-use Rattle.std.proofs.Common.{◌≡◌, ◌⊎◌, ◌+◌, ◌≤◌, arith, ℕ, List, [], ◌∷◌, ◌++◌, length}
+use Rattle.std.proofs.Common.{◌≡◌, ◌⊎◌, ◌+◌, ◌<◌, ◌≤◌, arith, ℕ, List, [], ◌∷◌, ◌++◌, length}
+use Rattle.std.proofs.Common.{take, get_or}
 use Rattle.std.proofs.Common.{append_assoc, append-nil, add-one, refl, sym, ap, ◌∙◌, inl, inr, Vec}
+use Rattle.std.proofs.Math.Seq.{take-suc}
+use Rattle.std.proofs.lemmas.Grind.{flat_map-append}
+use Rattle.std.specs.List.{flat_map}
 use Rattle.std.specs.declared.alloc.Global.{Global}
 use Rattle.osn_register.specs.declared.query.Query.{Query}
 use Rattle.osn_core.specs.declared.step.Reply.{Reply}
 use Rattle.osn_reply.specs.Transcript.{transcript_line}
 use Rattle.osn_file_commands.specs.Transcript.{reader_lines, transcript_from}
+
+flat_map_next : {X A : Type 0} (f : X → List A) (xs : List X) (i : ℕ) (d : X) → i < length xs
+    → flat_map f (take (i + 1) xs) ≡ flat_map f (take i xs) ++ f (get_or xs i d)
+flat_map_next f xs i d low =
+    rw (add-one i, take-suc xs i d low)
+    (flat_map-append f (take i xs) (get_or xs i d ∷ [])
+    ∙ ap (λ ys. flat_map f (take i xs) ++ ys) (append-nil (f (get_or xs i d))))
+
+-- a loop that appends a line for each item
+pub next_line : {X : Type 0} (f : X → List ℕ) (now new piece line : List ℕ) (xs : List X) (i : ℕ)
+    (x : X) → i < length xs → now ≡ flat_map f (take i xs) → new ≡ now ++ piece
+    → piece ≡ line → line ≡ f x → x ≡ get_or xs i x
+    → new ≡ flat_map f (take (i + 1) xs)
+next_line f now new piece line xs i x low so_far pushed shown made is =
+    pushed ∙ ap (λ t. t ++ piece) so_far
+    ∙ ap (λ t. flat_map f (take i xs) ++ t) (shown ∙ made ∙ ap f is)
+    ∙ sym (flat_map_next f xs i x low)
 
 -- a text is continued by a piece, which begins the remaining text
 pub next_piece : (before now new piece line rest all left : List ℕ)

@@ -1,13 +1,13 @@
 //! The call that loads a journal.
 use crate::register_lines::{JOURNAL, object_text};
-use crate::scarce::{Change, is_sound_change};
+use crate::scarce::{Change, is_sound};
 use osn_core::Object;
 use osn_files::{FileFault, load_journal};
 use osn_lines::Plain;
 use osn_register::Limits;
 use osn_test_texts::joined;
-use std::alloc::Global;
-use std::test::Fail;
+use std::process::Abort;
+use std::sync::Wait;
 
 /// Loads a journal, and puts the object in place of none.
 #[derive(Drop)]
@@ -20,13 +20,17 @@ impl Change for LoadJournal<'_> {
 
     type Answer = Result<(), FileFault>;
 
-    fn on(&self, _alloc: Global) -> Result<Option<Object>, Fail> {
-        Ok(None)
+    fn on<R: Wait + AllocGlobal + Abort>(&self, _rt: &R) -> Option<Object> {
+        None
     }
 
-    fn make(&self, alloc: Global, on: &mut Option<Object>) -> Option<Result<(), FileFault>> {
+    fn make<R: Wait + AllocGlobal + Abort>(
+        &self,
+        rt: &R,
+        on: &mut Option<Object>,
+    ) -> Option<Result<(), FileFault>> {
         let mut source = Plain::new(self.text.as_bytes());
-        match load_journal(alloc, Limits::standard(), &mut source) {
+        match load_journal(rt.alloc(), Limits::standard(), &mut source) {
             Ok(object) => {
                 *on = Some(object);
                 Some(Ok(()))
@@ -36,18 +40,18 @@ impl Change for LoadJournal<'_> {
         }
     }
 
-    fn standing(&self, alloc: Global, on: &mut Option<Object>) -> Result<String, Fail> {
+    fn text<R: Wait + AllocGlobal + Abort>(&self, rt: &R, on: &mut Option<Object>) -> String {
         match on {
-            Some(object) => object_text(alloc, object),
-            None => Ok(String::new(alloc)),
+            Some(object) => object_text(rt, object),
+            None => String::new(rt.alloc()),
         }
     }
 
-    fn end(&self, _on: Option<Object>) {}
+    fn end<R: Wait + AllocGlobal + Abort>(&self, _rt: &R, _on: Option<Object>) {}
 }
 
 #[test]
-fn a_journal_is_loaded(rt: HostRuntime) -> Result<(), Fail> {
-    let text = joined(rt.alloc(), JOURNAL)?;
-    is_sound_change(rt.alloc(), &LoadJournal { text: &text })
+fn a_journal_is_loaded(rt: HostRuntime) {
+    let text = joined(rt.alloc(), JOURNAL).expect(&rt, "there is memory");
+    is_sound(&rt, &LoadJournal { text: &text });
 }

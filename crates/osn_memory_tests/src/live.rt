@@ -1,15 +1,14 @@
 //! The calls of the running register.
 use crate::register_lines::{EDITS, JOURNAL, QUERIES, edit_of, query_of};
-use crate::scarce::{Change, is_sound_change};
+use crate::scarce::{Change, is_sound};
 use osn_core::{Command, Reply};
 use osn_files::read_script;
 use osn_lines::Plain;
 use osn_live::{AskFault, Editor, PublishFault, Reader, open};
 use osn_register::{Edit, Limits, Query, Refusal};
 use osn_test_texts::joined;
-use std::alloc::Global;
+use std::process::Abort;
 use std::sync::Wait;
-use std::test::Fail;
 
 /// An editor and a reader.
 struct Running {
@@ -17,220 +16,148 @@ struct Running {
     reader: Reader,
 }
 
-/// Ends a running register.
-fn close<R: Wait>(rt: &R, running: Running) {
-    let Running { editor, reader: _ } = running;
-    editor.close(rt);
+/// Returns the commands of the journal.
+fn script<R: AllocGlobal + Abort>(rt: &R) -> Vec<Command> {
+    let text = joined(rt.alloc(), JOURNAL).expect(rt, "there is memory");
+    read_script(rt.alloc(), &mut Plain::new(text.as_bytes())).expect(rt, "a script")
 }
 
-/// Does what a command says, which must succeed.
-fn command<R: Wait>(rt: &R, editor: &mut Editor, command: &Command) -> Result<(), Fail> {
-    match command {
-        Command::Stage(edit) => {
-            editor.stage(edit)?;
-        }
-        Command::Publish => {
-            editor.publish(rt)?;
-        }
-    }
-    Ok(())
-}
-
-/// Does what all commands say.
-fn command_all<R: Wait>(rt: &R, editor: &mut Editor, commands: &[Command]) -> Result<(), Fail> {
-    for each in commands {
-        command(rt, editor, each)?;
-    }
-    Ok(())
-}
-
-/// Returns a running register of one reader, with nothing published.
-fn opened<R: Wait>(rt: &R, alloc: Global) -> Result<Running, Fail> {
-    let (editor, mut readers) = open(rt, alloc, Limits::standard(), 1)?;
-    match readers.pop() {
-        Some(reader) => Ok(Running { editor, reader }),
-        None => {
-            editor.close(rt);
-            Err(Fail::new("no reader"))
-        }
-    }
-}
-
-/// Returns one with the edition of the journal.
-fn begun<R: Wait>(rt: &R, alloc: Global) -> Result<Running, Fail> {
-    let text = joined(alloc, JOURNAL)?;
-    let commands = read_script(alloc, &mut Plain::new(text.as_bytes()))?;
-    let mut running = opened(rt, alloc)?;
-    match command_all(rt, &mut running.editor, &commands) {
-        Ok(()) => Ok(running),
-        Err(fail) => {
-            close(rt, running);
-            Err(fail)
-        }
-    }
-}
-
-/// Returns the reply to its reader for a query.
-fn told(alloc: Global, reader: &mut Reader, line: &str) -> Result<String, Fail> {
-    let query = query_of(alloc, line)?;
-    let reply = reader.ask(&query)?;
-    Ok(format!(in alloc; "{reply:?}\n")?)
-}
-
-/// Returns a text of its state, as far as the replies to its reader show it.
-fn running_text(alloc: Global, running: &mut Running) -> Result<String, Fail> {
-    let mut text = String::new(alloc);
-    for line in QUERIES {
-        text.push_str(told(alloc, &mut running.reader, line)?.as_str())?;
-    }
-    Ok(text)
-}
-
-#[derive(Drop)]
-struct StageLive<'a, R> {
-    rt: &'a R,
-    edit: &'a Edit,
-}
-
-impl<R: Wait> Change for StageLive<'_, R> {
-    type On = Running;
-
-    type Answer = Result<u32, Refusal>;
-
-    fn on(&self, alloc: Global) -> Result<Running, Fail> {
-        begun(self.rt, alloc)
-    }
-
-    fn make(&self, _alloc: Global, on: &mut Running) -> Option<Result<u32, Refusal>> {
-        match on.editor.stage(self.edit) {
-            Err(Refusal::NoMemory) => None,
-            answer => Some(answer),
-        }
-    }
-
-    fn standing(&self, alloc: Global, on: &mut Running) -> Result<String, Fail> {
-        running_text(alloc, on)
-    }
-
-    fn end(&self, on: Running) {
-        close(self.rt, on);
-    }
-}
-
-/// Checks the edit of a line, staged.
-fn is_staged<R: Wait>(rt: &R, alloc: Global, line: &str) -> Result<(), Fail> {
-    let edit = edit_of(alloc, line)?;
-    is_sound_change(alloc, &StageLive { rt, edit: &edit })
-}
-
-#[test]
-fn an_edit_is_staged_live(rt: HostRuntime) -> Result<(), Fail> {
-    for line in EDITS {
-        is_staged(&rt, rt.alloc(), line)?;
-    }
-    Ok(())
-}
-
-#[derive(Drop)]
-struct PublishLive<'a, R> {
-    rt: &'a R,
-}
-
-/// Stages the edit of a line, which must succeed.
-fn stage_line(alloc: Global, editor: &mut Editor, line: &str) -> Result<(), Fail> {
-    let edit = edit_of(alloc, line)?;
-    editor.stage(&edit)?;
-    Ok(())
-}
-
-/// Stages an edit of each kind, which must succeed.
-fn stage_all(alloc: Global, editor: &mut Editor) -> Result<(), Fail> {
-    for line in EDITS {
-        stage_line(alloc, editor, line)?;
-    }
-    Ok(())
-}
-
-impl<R: Wait> Change for PublishLive<'_, R> {
-    type On = Running;
-
-    type Answer = Result<u32, PublishFault>;
-
-    fn on(&self, alloc: Global) -> Result<Running, Fail> {
-        let mut running = begun(self.rt, alloc)?;
-        match stage_all(alloc, &mut running.editor) {
-            Ok(()) => Ok(running),
-            Err(fail) => {
-                close(self.rt, running);
-                Err(fail)
+/// Does what commands say, which must succeed.
+fn run_script<R: Wait + Abort>(rt: &R, editor: &mut Editor, commands: &[Command]) {
+    for command in commands {
+        match command {
+            Command::Stage(edit) => {
+                editor.stage(edit).expect(rt, "it is staged");
+            }
+            Command::Publish => {
+                editor.publish(rt).expect(rt, "it is published");
             }
         }
     }
+}
 
-    fn make(&self, _alloc: Global, on: &mut Running) -> Option<Result<u32, PublishFault>> {
-        match on.editor.publish(self.rt) {
-            Ok(note) => Some(Ok(note.edition())),
-            Err(PublishFault::NoMemory) => None,
-            Err(fault) => Some(Err(fault)),
-        }
-    }
-
-    fn standing(&self, alloc: Global, on: &mut Running) -> Result<String, Fail> {
-        running_text(alloc, on)
-    }
-
-    fn end(&self, on: Running) {
-        close(self.rt, on);
+/// Stages the edits of lines, which must succeed.
+fn stage_all<R: AllocGlobal + Abort>(rt: &R, editor: &mut Editor, lines: &[&str]) {
+    for line in lines {
+        editor.stage(&edit_of(rt, line)).expect(rt, line);
     }
 }
 
-#[test]
-fn edits_are_published_live(rt: HostRuntime) -> Result<(), Fail> {
-    let publish = PublishLive { rt: &rt };
-    is_sound_change(rt.alloc(), &publish)
+/// Returns a running register of one reader, with the edition of the journal, and with the edits of
+/// lines pending.
+fn begun<R: Wait + AllocGlobal + Abort>(rt: &R, lines: &[&str]) -> Running {
+    let opened = open(rt, rt.alloc(), Limits::standard(), 1);
+    let (mut editor, mut readers) = opened.expect(rt, "there is memory");
+    run_script(rt, &mut editor, &script(rt));
+    stage_all(rt, &mut editor, lines);
+    let reader = readers.pop().expect(rt, "a reader");
+    Running { editor, reader }
 }
 
-#[derive(Drop)]
-struct AskLive<'a, R> {
-    rt: &'a R,
-    query: &'a Query,
+/// Returns a text of the reply to the reader for the query of a line.
+fn reply_text<R: AllocGlobal + Abort>(rt: &R, reader: &mut Reader, line: &str) -> String {
+    let reply = reader.ask(&query_of(rt, line)).expect(rt, line);
+    format!(in rt.alloc(); "{reply:?}\n").expect(rt, line)
 }
 
-impl<R: Wait> Change for AskLive<'_, R> {
+#[derive(Clone, Copy)]
+enum Call<'a> {
+    Stage(&'a Edit),
+    Publish,
+    Ask(&'a Query),
+}
+
+#[derive(Debug, Drop)]
+enum Outcome {
+    Staged(Result<u32, Refusal>),
+    Published(Result<u32, PublishFault>),
+    Replied(Result<Reply, AskFault>),
+}
+
+fn staged(editor: &mut Editor, edit: &Edit) -> Option<Outcome> {
+    match editor.stage(edit) {
+        Err(Refusal::NoMemory) => None,
+        answer => Some(Outcome::Staged(answer)),
+    }
+}
+
+fn published<R: Wait>(rt: &R, editor: &mut Editor) -> Option<Outcome> {
+    match editor.publish(rt) {
+        Ok(note) => Some(Outcome::Published(Ok(note.edition()))),
+        Err(PublishFault::NoMemory) => None,
+        Err(fault) => Some(Outcome::Published(Err(fault))),
+    }
+}
+
+fn replied(reader: &mut Reader, query: &Query) -> Option<Outcome> {
+    match reader.ask(query) {
+        Err(AskFault::NoMemory | AskFault::NoPlace) => None,
+        answer => Some(Outcome::Replied(answer)),
+    }
+}
+
+impl Change for Call<'_> {
     type On = Running;
 
-    type Answer = Result<Reply, AskFault>;
+    type Answer = Outcome;
 
-    fn on(&self, alloc: Global) -> Result<Running, Fail> {
-        begun(self.rt, alloc)
-    }
-
-    fn make(&self, _alloc: Global, on: &mut Running) -> Option<Result<Reply, AskFault>> {
-        match on.reader.ask(self.query) {
-            Err(AskFault::NoMemory | AskFault::NoPlace) => None,
-            answer => Some(answer),
+    fn on<R: Wait + AllocGlobal + Abort>(&self, rt: &R) -> Running {
+        match *self {
+            Call::Stage(_) | Call::Ask(_) => begun(rt, &[]),
+            Call::Publish => begun(rt, &EDITS),
         }
     }
 
-    fn standing(&self, alloc: Global, on: &mut Running) -> Result<String, Fail> {
-        running_text(alloc, on)
+    fn make<R: Wait + AllocGlobal + Abort>(&self, rt: &R, on: &mut Running) -> Option<Outcome> {
+        match *self {
+            Call::Stage(edit) => staged(&mut on.editor, edit),
+            Call::Publish => published(rt, &mut on.editor),
+            Call::Ask(query) => replied(&mut on.reader, query),
+        }
     }
 
-    fn end(&self, on: Running) {
-        close(self.rt, on);
+    fn text<R: Wait + AllocGlobal + Abort>(&self, rt: &R, on: &mut Running) -> String {
+        let mut text = String::new(rt.alloc());
+        for line in QUERIES {
+            let reply = reply_text(rt, &mut on.reader, line);
+            text.push_str(reply.as_str()).expect(rt, line);
+        }
+        text
+    }
+
+    fn end<R: Wait + AllocGlobal + Abort>(&self, rt: &R, on: Running) {
+        let Running { editor, reader: _ } = on;
+        editor.close(rt);
     }
 }
 
-/// Checks the query of a line, asked of a reader.
-fn is_asked<R: Wait>(rt: &R, alloc: Global, line: &str) -> Result<(), Fail> {
-    let query = query_of(alloc, line)?;
-    is_sound_change(alloc, &AskLive { rt, query: &query })
+/// Checks the edits of lines, each staged.
+fn are_staged<R: Wait + AllocGlobal + Abort>(rt: &R, lines: &[&str]) {
+    for line in lines {
+        let edit = edit_of(rt, line);
+        is_sound(rt, &Call::Stage(&edit));
+    }
 }
 
 #[test]
-fn a_reader_is_asked(rt: HostRuntime) -> Result<(), Fail> {
-    for line in QUERIES {
-        is_asked(&rt, rt.alloc(), line)?;
+fn an_edit_is_staged_live(rt: HostRuntime) {
+    are_staged(&rt, &EDITS);
+}
+
+#[test]
+fn edits_are_published_live(rt: HostRuntime) {
+    is_sound(&rt, &Call::Publish);
+}
+
+/// Checks the queries of lines, each asked of a reader.
+fn are_asked<R: Wait + AllocGlobal + Abort>(rt: &R, lines: &[&str]) {
+    for line in lines {
+        let query = query_of(rt, line);
+        is_sound(rt, &Call::Ask(&query));
     }
-    Ok(())
+}
+
+#[test]
+fn a_reader_is_asked(rt: HostRuntime) {
+    are_asked(&rt, &QUERIES);
 }

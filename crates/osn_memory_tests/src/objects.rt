@@ -1,124 +1,99 @@
 //! The calls of the object that a register and its editions are in.
-use crate::register_lines::{EDITS, QUERIES, begun_object, edit_of, object_text, query_of};
-use crate::scarce::{Change, Reading, is_sound_change, is_sound_reading};
+use crate::register_lines::{EDITS, JOURNAL, QUERIES, edit_of, loaded, object_text, query_of};
+use crate::scarce::{Change, is_sound};
 use osn_core::{Object, Reply};
-use osn_register::{Edit, Limits, Query, Refusal};
-use std::alloc::Global;
-use std::test::Fail;
+use osn_register::{Edit, Query, Refusal};
+use std::process::Abort;
+use std::sync::Wait;
 
-#[derive(Drop)]
-struct Stage<'a> {
-    edit: &'a Edit,
+/// An edit that is pending before the first edition, for which the list of editions grows.
+const PENDING: &str = r#"{"journal":4}
+{"op":"add_land","code":"RM","name":"Rome","calendar":"julian","style":"january","rule":"julian"}
+"#;
+
+#[derive(Clone, Copy)]
+enum Call<'a> {
+    Stage(&'a Edit),
+    Publish,
+    Ask(&'a Query),
 }
 
-impl Change for Stage<'_> {
+#[derive(Debug, Drop)]
+enum Outcome {
+    Counted(Result<u32, Refusal>),
+    Replied(Reply),
+}
+
+/// Returns the result of a stage or a publish, or `None` if it lacks memory.
+fn counted(answer: Result<u32, Refusal>) -> Option<Outcome> {
+    match answer {
+        Err(Refusal::NoMemory) => None,
+        answer => Some(Outcome::Counted(answer)),
+    }
+}
+
+/// Returns the reply to a query, or `None` if it lacks memory.
+fn replied(object: &Object, query: &Query) -> Option<Outcome> {
+    match object.ask(query) {
+        Ok(reply) => Some(Outcome::Replied(reply)),
+        Err(_) => None,
+    }
+}
+
+impl Change for Call<'_> {
     type On = Object;
 
-    type Answer = Result<u32, Refusal>;
+    type Answer = Outcome;
 
-    fn on(&self, alloc: Global) -> Result<Object, Fail> {
-        begun_object(alloc)
-    }
-
-    fn make(&self, _alloc: Global, on: &mut Object) -> Option<Result<u32, Refusal>> {
-        match on.stage(self.edit) {
-            Err(Refusal::NoMemory) => None,
-            answer => Some(answer),
+    fn on<R: Wait + AllocGlobal + Abort>(&self, rt: &R) -> Object {
+        match *self {
+            Call::Stage(_) | Call::Ask(_) => loaded(rt, JOURNAL),
+            Call::Publish => loaded(rt, PENDING),
         }
     }
 
-    fn standing(&self, alloc: Global, on: &mut Object) -> Result<String, Fail> {
-        object_text(alloc, on)
-    }
-
-    fn end(&self, _on: Object) {}
-}
-
-/// Checks the edit of a line, staged.
-fn is_staged(alloc: Global, line: &str) -> Result<(), Fail> {
-    let edit = edit_of(alloc, line)?;
-    is_sound_change(alloc, &Stage { edit: &edit })
-}
-
-#[test]
-fn an_edit_is_staged(rt: HostRuntime) -> Result<(), Fail> {
-    for line in EDITS {
-        is_staged(rt.alloc(), line)?;
-    }
-    Ok(())
-}
-
-/// Publishes the first edition, for which the list of editions grows.
-struct Publish;
-
-/// Stages the edit of a line, which must succeed.
-fn stage_line(alloc: Global, object: &mut Object, line: &str) -> Result<(), Fail> {
-    let edit = edit_of(alloc, line)?;
-    object.stage(&edit)?;
-    Ok(())
-}
-
-impl Change for Publish {
-    type On = Object;
-
-    type Answer = Result<u32, Refusal>;
-
-    fn on(&self, alloc: Global) -> Result<Object, Fail> {
-        let mut object = Object::new(alloc, Limits::standard());
-        stage_line(alloc, &mut object, EDITS[0])?;
-        Ok(object)
-    }
-
-    fn make(&self, _alloc: Global, on: &mut Object) -> Option<Result<u32, Refusal>> {
-        match on.publish() {
-            Err(Refusal::NoMemory) => None,
-            answer => Some(answer),
+    fn make<R: Wait + AllocGlobal + Abort>(&self, _rt: &R, on: &mut Object) -> Option<Outcome> {
+        match *self {
+            Call::Stage(edit) => counted(on.stage(edit)),
+            Call::Publish => counted(on.publish()),
+            Call::Ask(query) => replied(on, query),
         }
     }
 
-    fn standing(&self, alloc: Global, on: &mut Object) -> Result<String, Fail> {
-        object_text(alloc, on)
+    fn text<R: Wait + AllocGlobal + Abort>(&self, rt: &R, on: &mut Object) -> String {
+        object_text(rt, on)
     }
 
-    fn end(&self, _on: Object) {}
+    fn end<R: Wait + AllocGlobal + Abort>(&self, _rt: &R, _on: Object) {}
+}
+
+/// Checks the edits of lines, each staged.
+fn are_staged<R: Wait + AllocGlobal + Abort>(rt: &R, lines: &[&str]) {
+    for line in lines {
+        let edit = edit_of(rt, line);
+        is_sound(rt, &Call::Stage(&edit));
+    }
 }
 
 #[test]
-fn edits_are_published(rt: HostRuntime) -> Result<(), Fail> {
-    is_sound_change(rt.alloc(), &Publish)
-}
-
-#[derive(Drop)]
-struct Ask<'a> {
-    object: &'a Object,
-    query: &'a Query,
-}
-
-impl Reading for Ask<'_> {
-    type Answer = Reply;
-
-    fn read(&self, _alloc: Global) -> Option<Reply> {
-        self.object.ask(self.query).ok()
-    }
-}
-
-/// Checks the query of a line, asked of an object.
-fn is_told(alloc: Global, object: &Object, line: &str) -> Result<(), Fail> {
-    let query = query_of(alloc, line)?;
-    is_sound_reading(
-        alloc,
-        &Ask {
-            object,
-            query: &query,
-        },
-    )
+fn an_edit_is_staged(rt: HostRuntime) {
+    are_staged(&rt, &EDITS);
 }
 
 #[test]
-fn a_query_is_asked(rt: HostRuntime) -> Result<(), Fail> {
-    let object = begun_object(rt.alloc())?;
-    for line in QUERIES {
-        is_told(rt.alloc(), &object, line)?;
+fn edits_are_published(rt: HostRuntime) {
+    is_sound(&rt, &Call::Publish);
+}
+
+/// Checks the queries of lines.
+fn are_asked<R: Wait + AllocGlobal + Abort>(rt: &R, lines: &[&str]) {
+    for line in lines {
+        let query = query_of(rt, line);
+        is_sound(rt, &Call::Ask(&query));
     }
-    Ok(())
+}
+
+#[test]
+fn a_query_is_asked(rt: HostRuntime) {
+    are_asked(&rt, &QUERIES);
 }

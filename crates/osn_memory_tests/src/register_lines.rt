@@ -1,13 +1,11 @@
-//! Edits, queries, registers and objects that are read from their lines, and texts of the state of
-//! a register.
+//! Edits, queries and objects that are read from their lines, and texts of the state of a register.
 use osn_core::Object;
 use osn_files::{journal_text, load_journal};
 use osn_lines::Plain;
 use osn_register::{Edit, Limits, Query, Register};
 use osn_request::{Request, read_request};
 use osn_test_texts::joined;
-use std::alloc::Global;
-use std::test::Fail;
+use std::process::Abort;
 
 /// A published edition: a territory with changes, an exception and sources, and one with none.
 pub(crate) const JOURNAL: &str = r#"{"journal":4}
@@ -58,59 +56,49 @@ const TELLING: [&str; 5] = [
 ];
 
 /// Returns the edit of a line.
-pub(crate) fn edit_of(alloc: Global, line: &str) -> Result<Edit, Fail> {
-    let line = joined(alloc, line)?;
-    match read_request(alloc, 1, line.as_bytes())? {
-        Request::Stage(edit) => Ok(edit),
-        _ => Err(Fail::new("no edit")),
+pub(crate) fn edit_of<R: AllocGlobal + Abort>(rt: &R, line: &str) -> Edit {
+    match read_request(rt.alloc(), 1, line.as_bytes()).expect(rt, line) {
+        Request::Stage(edit) => edit,
+        _ => panic!(rt; "{line} is no edit"),
     }
 }
 
 /// Returns the query of a line.
-pub(crate) fn query_of(alloc: Global, line: &str) -> Result<Query, Fail> {
-    match read_request(alloc, 1, line.as_bytes())? {
-        Request::Ask { query, .. } => Ok(query),
-        _ => Err(Fail::new("no query")),
+pub(crate) fn query_of<R: AllocGlobal + Abort>(rt: &R, line: &str) -> Query {
+    match read_request(rt.alloc(), 1, line.as_bytes()).expect(rt, line) {
+        Request::Ask { query, .. } => query,
+        _ => panic!(rt; "{line} is no query"),
     }
 }
 
-/// Returns an object with the published edition.
-pub(crate) fn begun_object(alloc: Global) -> Result<Object, Fail> {
-    let text = joined(alloc, JOURNAL)?;
+/// Returns the object of a journal.
+pub(crate) fn loaded<R: AllocGlobal + Abort>(rt: &R, journal: &str) -> Object {
+    let text = joined(rt.alloc(), journal).expect(rt, "there is memory");
     let mut source = Plain::new(text.as_bytes());
-    Ok(load_journal(alloc, Limits::standard(), &mut source)?)
+    load_journal(rt.alloc(), Limits::standard(), &mut source).expect(rt, "a journal")
 }
 
-/// Returns a register of the published edition.
-pub(crate) fn begun_register(alloc: Global) -> Result<Register, Fail> {
-    let object = begun_object(alloc)?;
-    Ok(object.register().copy()?)
+/// Returns a text of the answer to the query of a line.
+fn answer_text<R: AllocGlobal + Abort>(rt: &R, register: &Register, line: &str) -> String {
+    let answer = register.answer(&query_of(rt, line)).expect(rt, line);
+    format!(in rt.alloc(); "{answer:?}\n").expect(rt, line)
 }
 
-/// Adds the answer to the query of a line.
-fn push_answer(
-    alloc: Global,
+/// Adds a text of the state of a register.
+pub(crate) fn push_register<R: AllocGlobal + Abort>(
+    rt: &R,
     register: &Register,
-    line: &str,
     text: &mut String,
-) -> Result<(), Fail> {
-    let answer = register.answer(&query_of(alloc, line)?)?;
-    let told = format!(in alloc; "{answer:?}\n")?;
-    Ok(text.push_str(told.as_str())?)
-}
-
-/// Returns a text of the state of a register.
-pub(crate) fn register_text(alloc: Global, register: &Register) -> Result<String, Fail> {
-    let mut text = String::new(alloc);
+) {
     for line in TELLING {
-        push_answer(alloc, register, line, &mut text)?;
+        let answer = answer_text(rt, register, line);
+        text.push_str(answer.as_str()).expect(rt, line);
     }
-    Ok(text)
 }
 
 /// Returns a text of the state of an object.
-pub(crate) fn object_text(alloc: Global, object: &Object) -> Result<String, Fail> {
-    let mut text = journal_text(alloc, object)?;
-    text.push_str(register_text(alloc, object.register())?.as_str())?;
-    Ok(text)
+pub(crate) fn object_text<R: AllocGlobal + Abort>(rt: &R, object: &Object) -> String {
+    let mut text = journal_text(rt.alloc(), object).expect(rt, "there is memory");
+    push_register(rt, object.register(), &mut text);
+    text
 }

@@ -1,9 +1,9 @@
 //! The call that applies an edit to a register.
-use crate::register_lines::{EDITS, begun_register, edit_of, register_text};
-use crate::scarce::{Change, is_sound_change};
+use crate::register_lines::{EDITS, JOURNAL, edit_of, loaded, push_register};
+use crate::scarce::{Change, is_sound};
 use osn_register::{Edit, Refusal, Register};
-use std::alloc::Global;
-use std::test::Fail;
+use std::process::Abort;
+use std::sync::Wait;
 
 #[derive(Drop)]
 struct Apply<'a> {
@@ -15,34 +15,40 @@ impl Change for Apply<'_> {
 
     type Answer = Result<(), Refusal>;
 
-    fn on(&self, alloc: Global) -> Result<Register, Fail> {
-        begun_register(alloc)
+    fn on<R: Wait + AllocGlobal + Abort>(&self, rt: &R) -> Register {
+        let object = loaded(rt, JOURNAL);
+        object.register().copy().expect(rt, "there is memory")
     }
 
-    fn make(&self, _alloc: Global, on: &mut Register) -> Option<Result<(), Refusal>> {
+    fn make<R: Wait + AllocGlobal + Abort>(
+        &self,
+        _rt: &R,
+        on: &mut Register,
+    ) -> Option<Result<(), Refusal>> {
         match on.apply(self.edit) {
             Err(Refusal::NoMemory) => None,
             answer => Some(answer),
         }
     }
 
-    fn standing(&self, alloc: Global, on: &mut Register) -> Result<String, Fail> {
-        register_text(alloc, on)
+    fn text<R: Wait + AllocGlobal + Abort>(&self, rt: &R, on: &mut Register) -> String {
+        let mut text = String::new(rt.alloc());
+        push_register(rt, on, &mut text);
+        text
     }
 
-    fn end(&self, _on: Register) {}
+    fn end<R: Wait + AllocGlobal + Abort>(&self, _rt: &R, _on: Register) {}
 }
 
-/// Checks the edit of a line, applied to a register.
-fn is_applied(alloc: Global, line: &str) -> Result<(), Fail> {
-    let edit = edit_of(alloc, line)?;
-    is_sound_change(alloc, &Apply { edit: &edit })
+/// Checks the edits of lines, each applied to a register.
+fn are_applied<R: Wait + AllocGlobal + Abort>(rt: &R, lines: &[&str]) {
+    for line in lines {
+        let edit = edit_of(rt, line);
+        is_sound(rt, &Apply { edit: &edit });
+    }
 }
 
 #[test]
-fn an_edit_is_applied(rt: HostRuntime) -> Result<(), Fail> {
-    for line in &EDITS[..4] {
-        is_applied(rt.alloc(), line)?;
-    }
-    Ok(())
+fn an_edit_is_applied(rt: HostRuntime) {
+    are_applied(&rt, &EDITS[..4]);
 }

@@ -3,10 +3,10 @@
 //! access, as under `rt try`, keeps some of its own, and then the tests say that a call was never
 //! refused.
 mod change;
-mod reading;
 mod scarce_memory;
 mod trials;
 
 pub use change::Change;
-pub use reading::{Reading, is_sound_reading};
-pub use trials::{Ample, is_sound_change};
+pub use trials::{
+    ANSWERS_OTHERWISE, Ample, CHANGES_FIRST, NEVER_REFUSED, STAYS_REFUSED, Wrong, is_sound, tried,
+};

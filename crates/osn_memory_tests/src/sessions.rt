@@ -1,13 +1,14 @@
 //! Sessions of the service.
-use crate::register_lines::{begun_object, object_text};
-use crate::scarce::{Ample, Change, is_sound_change};
+use crate::register_lines::{JOURNAL, loaded, object_text};
+use crate::scarce::{Ample, Change, is_sound};
 use osn_core::Object;
 use osn_lines::{Interrupted, Plain};
 use osn_register::Limits;
 use osn_service::{ServeFault, serve, serve_from};
 use osn_test_texts::joined;
 use std::alloc::Global;
-use std::test::Fail;
+use std::process::Abort;
+use std::sync::Wait;
 use std::{mem, str};
 
 /// How many readers there are.
@@ -36,24 +37,38 @@ no request
 {"op":"publish"}
 "#;
 
-/// The replies that a service has written, and to how many lines.
+type Served = Result<u64, Interrupted<ServeFault>>;
+
+/// An object, the replies that a service has written, and to how many lines.
 #[derive(Drop)]
-struct Told {
+struct Session {
+    object: Object,
     replies: Vec<u8>,
     lines: u64,
 }
 
-type Served = Result<u64, Interrupted<ServeFault>>;
+impl Session {
+    /// Serves all requests from an empty object, which is dropped.
+    fn begin(&mut self, alloc: Global, requests: &str) -> Served {
+        let mut source = Plain::new(requests.as_bytes());
+        let mut replies = mem::replace(&mut self.replies, Vec::new(alloc));
+        replies.clear();
+        let mut sink = Plain::new(replies);
+        let served = serve(alloc, Limits::standard(), READERS, &mut source, &mut sink);
+        self.replies = sink.into_inner();
+        self.lines = 0;
+        served
+    }
 
-/// Returns no replies, with room for some.
-fn nothing_told(alloc: Global) -> Result<Told, Fail> {
-    Ok(Told {
-        replies: Vec::with_capacity(alloc, ROOM)?,
-        lines: 0,
-    })
-}
+    /// Serves the requests that were not answered, from the object.
+    fn go_on(&mut self, alloc: Global, requests: &str) -> Served {
+        let mut source = Plain::new(after_lines(requests, self.lines).as_bytes());
+        let mut sink = Plain::new(mem::replace(&mut self.replies, Vec::new(alloc)));
+        let served = serve_from(alloc, &mut self.object, READERS, &mut source, &mut sink);
+        self.replies = sink.into_inner();
+        served
+    }
 
-impl Told {
     /// Counts the lines to which a service replied. Returns `None` if it lacks memory.
     fn note(&mut self, served: Served) -> Option<Served> {
         match served {
@@ -74,18 +89,13 @@ impl Told {
         }
     }
 
-    /// Checks that the replies are whole, as many as the lines that were counted, and the first of
-    /// all replies.
-    fn are_first(&self, all: &str) -> Result<(), Fail> {
-        let replies = str::from_utf8(&self.replies)?;
+    /// Returns whether the replies are whole, as many as the lines that were counted, and the first
+    /// of all replies.
+    fn are_first(&self, rt: &impl Abort, all: &str) -> bool {
+        let replies = str::from_utf8(&self.replies).expect(rt, "it is UTF-8");
         let is_whole = replies.is_empty() || replies.ends_with('\n');
-        if !is_whole || !all.starts_with(replies) {
-            return Err(Fail::new("the replies are others"));
-        }
-        if replies.lines().count() as u64 != self.lines {
-            return Err(Fail::new("the replies are to more lines, or to fewer"));
-        }
-        Ok(())
+        let count = replies.lines().count() as u64;
+        is_whole && all.starts_with(replies) && count == self.lines
     }
 }
 
@@ -101,99 +111,71 @@ fn after_lines(text: &str, lines: u64) -> &str {
     rest
 }
 
-/// A session from an empty object, which is dropped.
+/// A session from an empty object, which is dropped, or from an object that is kept. The latter
+/// continues after the lines that were answered.
 #[derive(Drop)]
 struct Serve<'a> {
     requests: &'a str,
+    keeps: bool,
 }
 
 impl Change for Serve<'_> {
-    type On = Told;
+    type On = Session;
 
     type Answer = Served;
 
-    fn on(&self, alloc: Global) -> Result<Told, Fail> {
-        nothing_told(alloc)
+    fn on<R: Wait + AllocGlobal + Abort>(&self, rt: &R) -> Session {
+        let replies = Vec::<u8>::with_capacity(rt.alloc(), ROOM);
+        Session {
+            object: loaded(rt, JOURNAL),
+            replies: replies.expect(rt, "there is memory"),
+            lines: 0,
+        }
     }
 
-    fn make(&self, alloc: Global, on: &mut Told) -> Option<Served> {
-        let mut source = Plain::new(self.requests.as_bytes());
-        let mut replies = mem::replace(&mut on.replies, Vec::new(alloc));
-        replies.clear();
-        let mut sink = Plain::new(replies);
-        let served = serve(alloc, Limits::standard(), READERS, &mut source, &mut sink);
-        on.replies = sink.into_inner();
-        on.lines = 0;
-        on.note(served)
+    fn make<R: Wait + AllocGlobal + Abort>(&self, rt: &R, on: &mut Session) -> Option<Served> {
+        if self.keeps {
+            let served = on.go_on(rt.alloc(), self.requests);
+            on.note(served)
+        } else {
+            let served = on.begin(rt.alloc(), self.requests);
+            on.note(served)
+        }
     }
 
-    fn standing(&self, alloc: Global, on: &mut Told) -> Result<String, Fail> {
-        Ok(String::from_str(alloc, str::from_utf8(&on.replies)?)?)
+    fn text<R: Wait + AllocGlobal + Abort>(&self, rt: &R, on: &mut Session) -> String {
+        let replies = str::from_utf8(&on.replies).expect(rt, "it is UTF-8");
+        let mut text = String::from_str(rt.alloc(), replies).expect(rt, "there is memory");
+        let object = object_text(rt, &on.object);
+        text.push_str(object.as_str()).expect(rt, "there is memory");
+        text
     }
 
-    fn end(&self, _on: Told) {}
+    fn end<R: Wait + AllocGlobal + Abort>(&self, _rt: &R, _on: Session) {}
 
-    fn stands(&self, _alloc: Global, on: &mut Told, ample: &Ample) -> Result<(), Fail> {
-        on.are_first(ample.after.as_str())
+    fn stands<R: Wait + AllocGlobal + Abort>(
+        &self,
+        rt: &R,
+        on: &mut Session,
+        ample: &Ample,
+    ) -> bool {
+        on.are_first(rt, ample.after.as_str())
     }
+}
+
+/// Checks a session from an object that is kept, or from none.
+fn is_served<R: Wait + AllocGlobal + Abort>(rt: &R, keeps: bool) {
+    let requests = joined(rt.alloc(), REQUESTS).expect(rt, "there is memory");
+    let requests = requests.as_str();
+    is_sound(rt, &Serve { requests, keeps });
 }
 
 #[test]
-fn a_session_is_served(rt: HostRuntime) -> Result<(), Fail> {
-    let requests = joined(rt.alloc(), REQUESTS)?;
-    is_sound_change(
-        rt.alloc(),
-        &Serve {
-            requests: &requests,
-        },
-    )
-}
-
-/// A session from an object, which continues after the lines that were answered.
-#[derive(Drop)]
-struct ServeFrom<'a> {
-    requests: &'a str,
-}
-
-impl Change for ServeFrom<'_> {
-    type On = (Object, Told);
-
-    type Answer = Served;
-
-    fn on(&self, alloc: Global) -> Result<(Object, Told), Fail> {
-        Ok((begun_object(alloc)?, nothing_told(alloc)?))
-    }
-
-    fn make(&self, alloc: Global, on: &mut (Object, Told)) -> Option<Served> {
-        let (object, told) = on;
-        let mut source = Plain::new(after_lines(self.requests, told.lines).as_bytes());
-        let mut sink = Plain::new(mem::replace(&mut told.replies, Vec::new(alloc)));
-        let served = serve_from(alloc, object, READERS, &mut source, &mut sink);
-        told.replies = sink.into_inner();
-        told.note(served)
-    }
-
-    fn standing(&self, alloc: Global, on: &mut (Object, Told)) -> Result<String, Fail> {
-        let (object, told) = on;
-        let mut text = String::from_str(alloc, str::from_utf8(&told.replies)?)?;
-        text.push_str(object_text(alloc, object)?.as_str())?;
-        Ok(text)
-    }
-
-    fn end(&self, _on: (Object, Told)) {}
-
-    fn stands(&self, _alloc: Global, on: &mut (Object, Told), ample: &Ample) -> Result<(), Fail> {
-        on.1.are_first(ample.after.as_str())
-    }
+fn a_session_is_served(rt: HostRuntime) {
+    is_served(&rt, false);
 }
 
 #[test]
-fn a_session_goes_on(rt: HostRuntime) -> Result<(), Fail> {
-    let requests = joined(rt.alloc(), REQUESTS)?;
-    is_sound_change(
-        rt.alloc(),
-        &ServeFrom {
-            requests: &requests,
-        },
-    )
+fn a_session_goes_on(rt: HostRuntime) {
+    is_served(&rt, true);
 }

@@ -1,13 +1,13 @@
 //! The steps of the machine of two copies.
-use crate::register_lines::register_text;
-use crate::scarce::{Change, is_sound_change};
+use crate::register_lines::push_register;
+use crate::scarce::{Change, is_sound};
 use osn_core::{Core, Out, Step};
 use osn_files::read_schedule;
 use osn_lines::Plain;
 use osn_register::Limits;
 use osn_test_texts::joined;
-use std::alloc::Global;
-use std::test::Fail;
+use std::process::Abort;
+use std::sync::Wait;
 
 /// A schedule of one reader.
 const STEPS: &str = r#"{"step":"stage","op":"add_land","code":"RM","name":"Rome",
@@ -34,17 +34,10 @@ const STEPS: &str = r#"{"step":"stage","op":"add_land","code":"RM","name":"Rome"
 const PLACES: [usize; 7] = [0, 1, 2, 5, 8, 10, 15];
 
 /// Returns the steps of the schedule.
-fn steps(alloc: Global) -> Result<Vec<Step>, Fail> {
-    let text = joined(alloc, STEPS)?;
-    Ok(read_schedule(alloc, 1, &mut Plain::new(text.as_bytes()))?)
-}
-
-/// Takes some steps, which must succeed.
-fn take(core: &mut Core, steps: &[Step]) -> Result<(), Fail> {
-    for step in steps {
-        core.step(step)?;
-    }
-    Ok(())
+fn steps<R: AllocGlobal + Abort>(rt: &R) -> Vec<Step> {
+    let text = joined(rt.alloc(), STEPS).expect(rt, "there is memory");
+    let mut source = Plain::new(text.as_bytes());
+    read_schedule(rt.alloc(), 1, &mut source).expect(rt, "a schedule")
 }
 
 /// The step at a place, after those before it.
@@ -59,36 +52,38 @@ impl Change for TakeStep<'_> {
 
     type Answer = Out;
 
-    fn on(&self, alloc: Global) -> Result<Core, Fail> {
-        let mut core = Core::new(alloc, Limits::standard(), 1)?;
-        take(&mut core, self.steps.get(..self.place).unwrap_or_default())?;
-        Ok(core)
+    fn on<R: Wait + AllocGlobal + Abort>(&self, rt: &R) -> Core {
+        let core = Core::new(rt.alloc(), Limits::standard(), 1);
+        let mut core = core.expect(rt, "there is memory");
+        for step in self.steps.iter().take(self.place) {
+            core.step(step).expect(rt, "there is memory");
+        }
+        core
     }
 
-    fn make(&self, _alloc: Global, on: &mut Core) -> Option<Out> {
+    fn make<R: Wait + AllocGlobal + Abort>(&self, _rt: &R, on: &mut Core) -> Option<Out> {
         on.step(self.steps.get(self.place)?).ok()
     }
 
-    fn standing(&self, alloc: Global, on: &mut Core) -> Result<String, Fail> {
-        let mut text = register_text(alloc, on.side(0))?;
-        text.push_str(register_text(alloc, on.side(1))?.as_str())?;
-        Ok(text)
+    fn text<R: Wait + AllocGlobal + Abort>(&self, rt: &R, on: &mut Core) -> String {
+        let mut text = String::new(rt.alloc());
+        push_register(rt, on.side(0), &mut text);
+        push_register(rt, on.side(1), &mut text);
+        text
     }
 
-    fn end(&self, _on: Core) {}
+    fn end<R: Wait + AllocGlobal + Abort>(&self, _rt: &R, _on: Core) {}
+}
+
+/// Checks the steps at these places.
+fn are_taken<R: Wait + AllocGlobal + Abort>(rt: &R, steps: &[Step], places: &[usize]) {
+    for place in places {
+        let place = *place;
+        is_sound(rt, &TakeStep { steps, place });
+    }
 }
 
 #[test]
-fn a_step_is_taken(rt: HostRuntime) -> Result<(), Fail> {
-    let steps = steps(rt.alloc())?;
-    for place in PLACES {
-        is_sound_change(
-            rt.alloc(),
-            &TakeStep {
-                steps: &steps,
-                place,
-            },
-        )?;
-    }
-    Ok(())
+fn a_step_is_taken(rt: HostRuntime) {
+    are_taken(&rt, &steps(&rt), &PLACES);
 }

@@ -1,11 +1,12 @@
 //! Calls that do wrong when memory is scarce, each of which is detected.
-use crate::scarce::{Change, is_sound_change};
-use std::alloc::Global;
-use std::process::{Abort, ExitCode, Termination};
-use std::test::Fail;
+use crate::scarce::{
+    ANSWERS_OTHERWISE, CHANGES_FIRST, Change, NEVER_REFUSED, STAYS_REFUSED, Wrong, tried,
+};
+use std::process::Abort;
+use std::sync::Wait;
 
 /// What a call does when memory is scarce.
-#[derive(Clone, Copy, Debug, PartialEq, Eq)]
+#[derive(Clone, Copy)]
 enum Manner {
     /// It does all that it must.
     Right,
@@ -33,56 +34,57 @@ impl Change for Append {
 
     type Answer = u32;
 
-    fn on(&self, alloc: Global) -> Result<(String, bool), Fail> {
-        Ok((String::from_str(alloc, "a text")?, false))
+    fn on<R: Wait + AllocGlobal + Abort>(&self, rt: &R) -> (String, bool) {
+        let text = String::from_str(rt.alloc(), "a text");
+        (text.expect(rt, "there is memory"), false)
     }
 
-    fn make(&self, _alloc: Global, on: &mut (String, bool)) -> Option<u32> {
+    fn make<R: Wait + AllocGlobal + Abort>(&self, _rt: &R, on: &mut (String, bool)) -> Option<u32> {
         let (text, was_refused) = on;
-        if self.manner == Manner::WantsNone {
+        if matches!(self.manner, Manner::WantsNone) {
             return Some(1);
         }
-        if self.manner == Manner::ChangesFirst {
+        if matches!(self.manner, Manner::ChangesFirst) {
             text.clear();
         }
-        if *was_refused && self.manner == Manner::StaysRefused {
+        if *was_refused && matches!(self.manner, Manner::StaysRefused) {
             return None;
         }
         if text.push_str(MORE).is_ok() {
             return Some(1);
         }
         *was_refused = true;
-        if self.manner == Manner::AnswersOtherwise {
+        if matches!(self.manner, Manner::AnswersOtherwise) {
             return Some(2);
         }
         None
     }
 
-    fn standing(&self, alloc: Global, on: &mut (String, bool)) -> Result<String, Fail> {
-        Ok(String::from_str(alloc, on.0.as_str())?)
+    fn text<R: Wait + AllocGlobal + Abort>(&self, rt: &R, on: &mut (String, bool)) -> String {
+        String::from_str(rt.alloc(), on.0.as_str()).expect(rt, "there is memory")
     }
 
-    fn end(&self, _on: (String, bool)) {}
+    fn end<R: Wait + AllocGlobal + Abort>(&self, _rt: &R, _on: (String, bool)) {}
 }
 
-/// Each manner, and whether a call of that manner passes.
-const MANNERS: [(Manner, bool); 5] = [
-    (Manner::Right, true),
-    (Manner::ChangesFirst, false),
-    (Manner::AnswersOtherwise, false),
-    (Manner::WantsNone, false),
-    (Manner::StaysRefused, false),
+/// Each manner, and what is wrong with a call of that manner.
+const MANNERS: [(Manner, Result<(), Wrong>); 5] = [
+    (Manner::Right, Ok(())),
+    (Manner::ChangesFirst, Err(CHANGES_FIRST)),
+    (Manner::AnswersOtherwise, Err(ANSWERS_OTHERWISE)),
+    (Manner::WantsNone, Err(NEVER_REFUSED)),
+    (Manner::StaysRefused, Err(STAYS_REFUSED)),
 ];
 
-/// Checks whether a call of that manner passes.
-fn passes<R: Abort + Eprint>(rt: &R, alloc: Global, manner: Manner, wanted: bool) {
-    let ended = is_sound_change(alloc, &Append { manner }).report(rt);
-    assert!(rt; (ended == ExitCode::SUCCESS) == wanted, "{manner:?}");
+/// Checks what is wrong with calls of each manner.
+fn are_found_out<R: Wait + AllocGlobal + Abort>(rt: &R, rows: &[(Manner, Result<(), Wrong>)]) {
+    for (manner, wanted) in rows {
+        let manner = *manner;
+        assert_eq!(rt; tried(rt, &Append { manner }), *wanted);
+    }
 }
 
 #[test]
 fn a_call_that_goes_wrong_is_found_out(rt: HostRuntime) {
-    for (manner, wanted) in MANNERS {
-        passes(&rt, rt.alloc(), manner, wanted);
-    }
+    are_found_out(&rt, &MANNERS);
 }

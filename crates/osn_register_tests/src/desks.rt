@@ -1,101 +1,101 @@
 //! Desks, at which an editor and readers work at the same time.
 use crate::compare::same;
-use crate::live::{NONE, ONE, ROME};
+use crate::live::{NONE, ONE};
+use crate::register_lines::line_of;
 use osn_core::{Command, Reply};
+use osn_files::read_script;
+use osn_lines::Plain;
 use osn_live::{DeskFault, Gate, OpenGate, run_desk};
 use osn_register::{Limits, Query};
-use osn_reply::{Outcome, reply_text};
-use osn_request::{Request, read_request};
-use std::alloc::{AllocError, Global};
+use osn_test_texts::joined;
+use std::alloc::Global;
 use std::process::Abort;
 use std::sync::Wait;
 use std::sync::atomic::AtomicU64;
 use std::sync::atomic::Ordering::SeqCst;
-use std::test::Fail;
 use std::thread;
 use std::thread::Threads;
 
-/// Returns a copy of a command, and drops the command.
-fn copy_of(command: Command) -> Result<Command, AllocError> {
-    command.copy()
+/// A script of one edition, whose refused command is ignored.
+const SCRIPT: &str = r#"{"journal":1}
+{"op":"add_land","code":"RM","name":"Rome","calendar":"julian","style":"january","rule":"julian"}
+{"op":"publish"}
+{"op":"publish"}
+"#;
+
+fn script(rt: &impl Abort, alloc: Global) -> Vec<Command> {
+    read_script(alloc, &mut Plain::new(SCRIPT.as_bytes())).expect(rt, "a script")
 }
 
-fn command_of(alloc: Global, line: &str) -> Result<Command, Fail> {
-    match read_request(alloc, 1, line.as_bytes())? {
-        Request::Stage(edit) => Ok(copy_of(Command::Stage(edit))?),
-        Request::Publish => Ok(copy_of(Command::Publish)?),
-        Request::Ask { .. } => Err(Fail::new("a query")),
+/// Returns that many questions for the territories.
+fn questions(rt: &impl Abort, alloc: Global, count: usize) -> Vec<Query> {
+    let mut list = Vec::new(alloc);
+    for _ in 0..count {
+        list.push(Query::Lands).expect(rt, "memory");
     }
+    list
 }
 
-fn script(alloc: Global, lines: &[&str]) -> Result<Vec<Command>, Fail> {
-    let mut commands = Vec::new(alloc);
-    for line in lines {
-        commands.push(command_of(alloc, line)?)?;
+/// Returns that many lists of that many questions.
+fn lists(rt: &impl Abort, alloc: Global, count: u32, each: usize) -> Vec<Vec<Query>> {
+    let mut lists = Vec::new(alloc);
+    for _ in 0..count {
+        lists.push(questions(rt, alloc, each)).expect(rt, "memory");
     }
-    Ok(commands)
+    lists
 }
-
-/// Returns that many lists of that many questions for the territories.
-fn questions(alloc: Global, lists: u32, each: u32) -> Result<Vec<Vec<Query>>, Fail> {
-    let mut all = Vec::new(alloc);
-    for _ in 0..lists {
-        let mut list = Vec::new(alloc);
-        for _ in 0..each {
-            list.push(Query::Lands)?;
-        }
-        all.push(list)?;
-    }
-    Ok(all)
-}
-
-/// The script of one edition, whose refused command is ignored.
-const SCRIPT: [&str; 3] = [ROME, r#"{"op":"publish"}"#, r#"{"op":"publish"}"#];
 
 pub type DeskReplies = Result<Vec<Vec<Reply>>, DeskFault>;
 
 /// Returns the replies of a desk to this many readers, who ask this many questions each.
-pub fn desk<R: Threads + Wait, G: Gate + Sync>(
+pub fn desk<R: Threads + Wait + Abort, G: Gate + Sync>(
     rt: &R,
     alloc: Global,
     gate: &G,
     readers: u32,
-    each: u32,
-) -> Result<DeskReplies, Fail> {
-    let commands = script(alloc, &SCRIPT)?;
-    let lists = questions(alloc, readers, each)?;
-    Ok(run_desk(rt, alloc, Limits::standard(), gate, &commands, &lists))
+    each: usize,
+) -> DeskReplies {
+    let commands = script(rt, alloc);
+    let lists = lists(rt, alloc, readers, each);
+    run_desk(rt, alloc, Limits::standard(), gate, &commands, &lists)
 }
 
 /// Checks that a reply is the one of its edition.
-fn is_possible(rt: &impl Abort, alloc: Global, reply: Reply) -> Result<(), Fail> {
+fn is_possible(rt: &impl Abort, alloc: Global, reply: Reply) {
     let wanted = if reply.edition == 0 { NONE } else { ONE };
-    let line = reply_text(alloc, &Outcome::Replied { reader: 1, reply })?;
-    same(rt, line.as_str().trim_end(), wanted);
-    Ok(())
+    same(rt, line_of(rt, alloc, reply).as_str(), wanted);
 }
 
-/// Checks that one reader's replies are the two possible ones, and no edition is below the one
-/// before it.
-fn are_possible(rt: &impl Abort, alloc: Global, replies: Vec<Reply>) -> Result<(), Fail> {
+/// Checks that one reader's replies are as many as its questions and the two possible ones, and no
+/// edition is below the one before it.
+fn are_possible(rt: &impl Abort, alloc: Global, replies: Vec<Reply>, each: usize) {
+    same(rt, replies.len(), each);
     let mut last = 0;
     for reply in replies {
         assert!(rt; last <= reply.edition);
         last = reply.edition;
-        is_possible(rt, alloc, reply)?;
+        is_possible(rt, alloc, reply);
     }
-    Ok(())
+}
+
+/// Checks a desk of that many readers, who ask that many questions each.
+fn works<R: Threads + Wait + Abort, G: Gate + Sync>(
+    rt: &R,
+    alloc: Global,
+    gate: &G,
+    readers: u32,
+    each: usize,
+) {
+    let all = desk(rt, alloc, gate, readers, each).expect(rt, "it works");
+    same(rt, all.len(), readers as usize);
+    for replies in all {
+        are_possible(rt, alloc, replies, each);
+    }
 }
 
 #[test]
-fn readers_work_while_the_editor_does(rt: HostRuntime) -> Result<(), Fail> {
-    let all = desk(&rt, rt.alloc(), &OpenGate, 64, 20)??;
-    same(&rt, all.len(), 64);
-    for replies in all {
-        same(&rt, replies.len(), 20);
-        are_possible(&rt, rt.alloc(), replies)?;
-    }
-    Ok(())
+fn readers_work_while_the_editor_does(rt: HostRuntime) {
+    works(&rt, rt.alloc(), &OpenGate, 64, 20);
 }
 
 /// Waits for a number to be reached, for at most 1,000,000,000 turns.
@@ -137,27 +137,26 @@ impl Gate for Turns {
     }
 }
 
-fn edition_at(replies: &[Reply], place: usize) -> Option<u32> {
-    match replies.get(place) {
-        Some(reply) => Some(reply.edition),
-        None => None,
+/// Checks that the replies of the only reader are of these editions.
+fn are_of<R: Threads + Wait + Abort>(rt: &R, alloc: Global, gate: &Turns, editions: &[u32]) {
+    let all = desk(rt, alloc, gate, 1, editions.len()).expect(rt, "it works");
+    same(rt, all.len(), 1);
+    for replies in all {
+        same(rt, replies.len(), editions.len());
+        for (reply, edition) in replies.into_iter().zip(editions.iter()) {
+            same(rt, reply.edition, *edition);
+            is_possible(rt, alloc, reply);
+        }
     }
 }
 
 #[test]
-fn later_questions_are_answered_from_later_editions(rt: HostRuntime) -> Result<(), Fail> {
+fn later_questions_are_answered_from_later_editions(rt: HostRuntime) {
     let gate = Turns {
         edited: AtomicU64::new(0),
         questions: AtomicU64::new(0),
     };
-    let all = desk(&rt, rt.alloc(), &gate, 1, 2)??;
-    same(&rt, all.len(), 1);
-    for replies in all {
-        let editions = (edition_at(&replies, 0), edition_at(&replies, 1));
-        same(&rt, editions, (Some(0), Some(1)));
-        are_possible(&rt, rt.alloc(), replies)?;
-    }
-    Ok(())
+    are_of(&rt, rt.alloc(), &gate, &[0, 1]);
 }
 
 /// Two items, each of which waits for the other one to begin.
@@ -195,17 +194,13 @@ fn meeting_of(one: (u32, usize), two: (u32, usize)) -> Meeting {
 }
 
 #[test]
-fn two_readers_meet(rt: HostRuntime) -> Result<(), Fail> {
-    let all = desk(&rt, rt.alloc(), &meeting_of((1, 1), (2, 1)), 2, 2)??;
-    same(&rt, all.len(), 2);
-    Ok(())
+fn two_readers_meet(rt: HostRuntime) {
+    works(&rt, rt.alloc(), &meeting_of((1, 1), (2, 1)), 2, 2);
 }
 
 #[test]
-fn the_editor_and_a_reader_meet(rt: HostRuntime) -> Result<(), Fail> {
-    let all = desk(&rt, rt.alloc(), &meeting_of((0, 0), (1, 0)), 1, 2)??;
-    same(&rt, all.len(), 1);
-    Ok(())
+fn the_editor_and_a_reader_meet(rt: HostRuntime) {
+    works(&rt, rt.alloc(), &meeting_of((0, 0), (1, 0)), 1, 2);
 }
 
 /// A gate that is closed to the first reader.
@@ -220,25 +215,22 @@ impl Gate for Closed {
     fn after(&self, _who: u32, _index: usize) {}
 }
 
-fn fault<R: Threads + Wait, G: Gate + Sync>(
+/// Checks the number and the name of the fault of a desk whose readers ask one question each.
+fn fails<R: Threads + Wait + Abort, G: Gate + Sync>(
     rt: &R,
     alloc: Global,
     gate: &G,
     readers: u32,
-) -> Result<DeskFault, Fail> {
-    match desk(rt, alloc, gate, readers, 1)? {
-        Ok(_) => Err(Fail::new("all was answered")),
-        Err(fault) => Ok(fault),
-    }
+    wanted: (u8, &'static str),
+) {
+    let fault = desk(rt, alloc, gate, readers, 1).err();
+    let found = fault.map(|fault| (fault.number(), fault.name()));
+    same(rt, found, Some(wanted));
 }
 
 #[test]
-fn a_desk_fails(rt: HostRuntime) -> Result<(), Fail> {
-    let none = fault(&rt, rt.alloc(), &OpenGate, 0)?;
-    let many = fault(&rt, rt.alloc(), &OpenGate, 65)?;
-    let closed = fault(&rt, rt.alloc(), &Closed, 1)?;
-    same(&rt, (none.number(), none.name()), (92, "BadCount"));
-    same(&rt, many, DeskFault::BadCount);
-    same(&rt, (closed.number(), closed.name()), (94, "GateClosed"));
-    Ok(())
+fn a_desk_fails(rt: HostRuntime) {
+    fails(&rt, rt.alloc(), &OpenGate, 0, (92, "BadCount"));
+    fails(&rt, rt.alloc(), &OpenGate, 65, (92, "BadCount"));
+    fails(&rt, rt.alloc(), &Closed, 1, (94, "GateClosed"));
 }

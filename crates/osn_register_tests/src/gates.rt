@@ -3,114 +3,94 @@
 use crate::compare::same;
 use crate::desks::desk;
 use osn_live::{DeskFault, Gate};
-use std::alloc::{AllocError, Global};
+use std::alloc::Global;
 use std::process::Abort;
 use std::sync::Wait;
 use std::sync::atomic::AtomicU64;
 use std::sync::atomic::Ordering::SeqCst;
-use std::test::Fail;
 use std::thread::Threads;
 
-/// How many readers there are, how many questions each has, and how many commands the editor.
+/// How many readers there are, and how many questions each has: as many as the editor has commands.
 const READERS: u32 = 2;
 
-const QUESTIONS: u32 = 3;
+const ITEMS: usize = 3;
 
-const COMMANDS: usize = 3;
-
-/// Returns a call of a gate as a number, which is never zero: whose item, which item, and 0 before
-/// it or 1 after it.
-fn call(who: u32, index: usize, side: u64) -> u64 {
-    let item = (index as u64).saturating_mul(2).saturating_add(side);
-    (who as u64)
-        .saturating_add(1)
-        .saturating_mul(1_000)
-        .saturating_add(item)
+/// The calls of one participant so far, and how many of them came out of order.
+#[derive(Drop)]
+struct Calls {
+    count: AtomicU64,
+    astray: AtomicU64,
 }
 
-/// Returns whose call it was.
-fn caller(call: u64) -> u64 {
-    (call / 1_000).saturating_sub(1)
+impl Calls {
+    fn none() -> Calls {
+        Calls {
+            count: AtomicU64::new(0),
+            astray: AtomicU64::new(0),
+        }
+    }
+
+    /// Counts a call before an item, with side 0, or after it, with side 1.
+    fn note(&self, index: usize, side: u64) {
+        let place = (index as u64).saturating_mul(2).saturating_add(side);
+        if self.count.fetch_add(1, SeqCst) != place {
+            self.astray.store(1, SeqCst);
+        }
+    }
+
+    /// Returns how many there were, and how many of them came out of order.
+    fn counted(&self) -> (u64, u64) {
+        (self.count.load(SeqCst), self.astray.load(SeqCst))
+    }
 }
 
-/// Notes every call, in the order in which they come, and is closed to one item.
+/// Counts every call of the editor and of two readers, and is closed to one item.
 #[derive(Drop)]
 struct Noting {
     closed: (u32, usize),
-    count: AtomicU64,
-    calls: Vec<AtomicU64>,
+    editor: Calls,
+    first: Calls,
+    second: Calls,
 }
 
 impl Noting {
-    fn new(alloc: Global, closed: (u32, usize)) -> Result<Noting, AllocError> {
-        let mut calls = Vec::new(alloc);
-        for _ in 0..100 {
-            calls.push(AtomicU64::new(0))?;
-        }
-        Ok(Noting {
+    fn new(closed: (u32, usize)) -> Noting {
+        Noting {
             closed,
-            count: AtomicU64::new(0),
-            calls,
-        })
-    }
-
-    fn note(&self, call: u64) {
-        let place = self.count.fetch_add(1, SeqCst);
-        if let Some(noted) = self.calls.get(place as usize) {
-            noted.store(call, SeqCst);
+            editor: Calls::none(),
+            first: Calls::none(),
+            second: Calls::none(),
         }
     }
 
-    /// Returns the calls of one participant, in order.
-    fn of(&self, alloc: Global, who: u32) -> Result<Vec<u64>, AllocError> {
-        let mut calls = Vec::new(alloc);
-        for noted in &self.calls {
-            let call = noted.load(SeqCst);
-            if call > 0 && caller(call) == who as u64 {
-                calls.push(call)?;
-            }
+    /// Returns the calls of one participant.
+    fn of(&self, who: u32) -> &Calls {
+        match who {
+            0 => &self.editor,
+            1 => &self.first,
+            _ => &self.second,
         }
-        Ok(calls)
     }
 }
 
 impl Gate for Noting {
     fn before(&self, who: u32, index: usize) -> bool {
-        self.note(call(who, index, 0));
+        self.of(who).note(index, 0);
         (who, index) != self.closed
     }
 
     fn after(&self, who: u32, index: usize) {
-        self.note(call(who, index, 1));
+        self.of(who).note(index, 1);
     }
 }
 
-/// Returns the calls that are due of a participant who has this many items: two of each item. After
-/// the first call of the item that the gate is closed to there are no more.
-fn due(
-    alloc: Global,
-    who: u32,
-    items: usize,
-    closed: (u32, usize),
-) -> Result<Vec<u64>, AllocError> {
-    let mut calls = Vec::new(alloc);
-    for index in 0..items {
-        calls.push(call(who, index, 0))?;
-        if (who, index) == closed {
-            break;
-        }
-        calls.push(call(who, index, 1))?;
-    }
-    Ok(calls)
-}
-
-/// Returns how many items a participant has.
-fn items_of(who: u32) -> usize {
-    if who == 0 {
-        COMMANDS
-    } else {
-        QUESTIONS as usize
-    }
+/// Returns how many calls are due of a participant: two for each item. After the first call for the
+/// item that the gate is closed to there are no more.
+fn due(who: u32, closed: (u32, usize)) -> u64 {
+    let (one, item) = closed;
+    let items = if who == one { item } else { ITEMS };
+    let last = if who == one { 1 } else { 0 };
+    (items as u64).saturating_mul(2).saturating_add(last)
 }
 
 /// Checks that a gate that is closed to one item, or to none, is given all items before that, and
@@ -120,28 +100,30 @@ fn is_told<R: Threads + Wait + Abort>(
     alloc: Global,
     closed: (u32, usize),
     wanted: Option<DeskFault>,
-) -> Result<(), Fail> {
-    let gate = Noting::new(alloc, closed)?;
-    let fault = desk(rt, alloc, &gate, READERS, QUESTIONS)?.err();
+) {
+    let gate = Noting::new(closed);
+    let fault = desk(rt, alloc, &gate, READERS, ITEMS).err();
     same(rt, (closed, fault), (closed, wanted));
     for who in 0..=READERS {
-        let calls = due(alloc, who, items_of(who), closed)?;
-        same(rt, (closed, gate.of(alloc, who)?), (closed, calls));
+        let calls = gate.of(who).counted();
+        same(
+            rt,
+            (closed, who, calls),
+            (closed, who, (due(who, closed), 0)),
+        );
     }
-    Ok(())
 }
 
 #[test]
-fn a_gate_is_told_of_every_item(rt: HostRuntime) -> Result<(), Fail> {
-    is_told(&rt, rt.alloc(), (u32::MAX, 0), None)
+fn a_gate_is_told_of_every_item(rt: HostRuntime) {
+    is_told(&rt, rt.alloc(), (u32::MAX, 0), None);
 }
 
 #[test]
-fn a_gate_is_closed_to_each_item_in_turn(rt: HostRuntime) -> Result<(), Fail> {
+fn a_gate_is_closed_to_each_item_in_turn(rt: HostRuntime) {
     for who in 0..=READERS {
-        for index in 0..items_of(who) {
-            is_told(&rt, rt.alloc(), (who, index), Some(DeskFault::GateClosed))?;
+        for index in 0..ITEMS {
+            is_told(&rt, rt.alloc(), (who, index), Some(DeskFault::GateClosed));
         }
     }
-    Ok(())
 }

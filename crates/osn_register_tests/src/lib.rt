@@ -1,6 +1,6 @@
-//! Tests of the register, of the objects that contain it, of desks and transcripts over their
-//! public calls. What a contract says is not tested again. Each public call is made once here with
-//! ample memory, and with values from outside.
+//! Tests of the register, of the running register and of desks over their public calls, of what
+//! neither a contract nor a case says: calls that the program does not make, with ample memory, and
+//! threads.
 #![tactic(auto)]
 
 #[cfg(test)]
@@ -16,14 +16,8 @@ mod live;
 #[cfg(test)]
 mod names;
 #[cfg(test)]
-mod objects;
+mod readers;
 #[cfg(test)]
 mod register;
 #[cfg(test)]
 mod register_lines;
-#[cfg(test)]
-mod schedules;
-#[cfg(test)]
-mod takers;
-#[cfg(test)]
-mod transcripts;

@@ -3,56 +3,61 @@ ghost use Rattle.std.specs.Prelude.{◌≡◌, IfOk, IfSome};
 ghost use Rattle.std.specs.List.{All};
 
 use crate::compare::same;
-use crate::register_lines::edit_of;
-use osn_live::{AskFault, Editor, Note, OpenFault, PublishFault, Reader, open};
+use crate::register_lines::{edit_of, line_of};
+use osn_live::{AskFault, Editor, Note, PublishFault, Reader, open};
 use osn_register::{Limits, Query};
-use osn_reply::{Outcome, reply_text};
 use osn_test_texts::joined;
 use std::alloc::Global;
 use std::process::Abort;
 use std::sync::Wait;
 use std::test::Fail;
 
-/// The addition of the first territory.
-pub const ROME: &str = r#"{"op":"add_land","code":"RM","name":"Rome","calendar":"julian",
+/// The additions of territories.
+const ROME: &str = r#"{"op":"add_land","code":"RM","name":"Rome","calendar":"julian",
   "style":"january","rule":"julian"}"#;
 
 const BRITAIN: &str = r#"{"op":"add_land","code":"GB","name":"Great Britain","calendar":"julian",
   "style":"january","rule":"julian"}"#;
 
 /// The replies to a reader about the territories before and after the editions.
-pub const NONE: &str = r#"{"answer":{"lands":[]},"edition":0,"reader":1}"#;
+pub const NONE: &str = "{\"answer\":{\"lands\":[]},\"edition\":0,\"reader\":1}\n";
 
-pub const ONE: &str =
-    r#"{"answer":{"lands":[{"code":"RM","name":"Rome"}]},"edition":1,"reader":1}"#;
+pub const ONE: &str = "{\"answer\":{\"lands\":[{\"code\":\"RM\",\"name\":\"Rome\"}]},\
+\"edition\":1,\"reader\":1}\n";
 
 const TWO: &str = r#"{"answer":{"lands":[{"code":"RM","name":"Rome"},{"code":"GB",
-  "name":"Great Britain"}]},"edition":2,"reader":1}"#;
+  "name":"Great Britain"}]},"edition":2,"reader":1}
+"#;
 
-/// Returns the line of the reply to a reader about the territories.
-fn lands_line(alloc: Global, reader: &mut Reader) -> Result<String, Fail>
+/// Checks the line of the reply to the reader about the territories.
+fn tells(rt: &impl Abort, alloc: Global, reader: &mut Reader, wanted: &str)
     ensures { reader.new.origin ≡ reader.old.origin }
 {
-    let reply = reader.ask(&Query::Lands)?;
-    Ok(reply_text(alloc, &Outcome::Replied { reader: 1, reply })?)
+    let reply = reader.ask(&Query::Lands).expect(rt, "memory");
+    let wanted = joined(alloc, wanted).expect(rt, "memory");
+    same(rt, line_of(rt, alloc, reply).as_str(), wanted.as_str());
 }
 
 /// Stages the edit of a line.
-fn staged(alloc: Global, editor: &mut Editor, line: &str) -> Result<(), Fail>
+fn staged(rt: &impl Abort, alloc: Global, editor: &mut Editor, line: &str)
     ensures { editor.new.origin ≡ editor.old.origin }
 {
-    let edit = edit_of(alloc, line)?;
-    editor.stage(&edit)?;
-    Ok(())
+    let edit = edit_of(rt, alloc, line);
+    editor.stage(&edit).expect(rt, line);
 }
 
 /// Stages the edit of a line and publishes it.
-fn published<R: Wait>(rt: &R, alloc: Global, editor: &mut Editor, line: &str) -> Result<Note, Fail>
+fn published<R: Wait + Abort>(
+    rt: &R,
+    alloc: Global,
+    editor: &mut Editor,
+    line: &str,
+) -> Result<Note, PublishFault>
     ensures same { editor.new.origin ≡ editor.old.origin }
     ensures note { IfOk result (λ n. n.origin ≡ editor.old.origin) }
 {
-    staged(alloc, editor, line)?;
-    Ok(editor.publish(rt)?)
+    staged(rt, alloc, editor, line);
+    editor.publish(rt)
 }
 
 /// Returns a reader of this editor.
@@ -74,15 +79,13 @@ fn in_turn<R: Wait + Abort>(
 ) -> Result<(), Fail>
     requires { reader.old.origin ≡ editor.old.origin }
 {
-    same(rt, lands_line(alloc, reader)?.as_str().trim_end(), NONE);
+    tells(rt, alloc, reader, NONE);
     let note = published(rt, alloc, editor, ROME)?;
     same(rt, note.edition(), 1);
     reader.learn(note);
-    same(rt, lands_line(alloc, reader)?.as_str().trim_end(), ONE);
-    let Err(fault) = editor.publish(rt) else {
-        return Err(Fail::new("nothing was pending"));
-    };
-    same(rt, fault, PublishFault::NothingPending);
+    tells(rt, alloc, reader, ONE);
+    let fault = editor.publish(rt).err();
+    same(rt, fault, Some(PublishFault::NothingPending));
     Ok(())
 }
 
@@ -95,12 +98,9 @@ fn one_reader<R: Wait + Abort>(rt: &R, alloc: Global) -> Result<(), Fail> {
     };
     let ended = in_turn(rt, alloc, &mut editor, &mut reader);
     editor.close(rt);
-    ended?;
-    let Err(fault) = reader.ask(&Query::Lands) else {
-        return Err(Fail::new("told by nobody"));
-    };
-    same(rt, fault, AskFault::NoPlace);
-    Ok(())
+    let fault = reader.ask(&Query::Lands).err();
+    same(rt, fault, Some(AskFault::NoPlace));
+    ended
 }
 
 #[test]
@@ -119,22 +119,13 @@ fn notes<R: Wait + Abort>(
     requires one { one.old.origin ≡ editor.old.origin }
     requires two { two.old.origin ≡ editor.old.origin }
 {
-    let two_lands = joined(alloc, TWO)?;
     let first = published(rt, alloc, editor, ROME)?;
     let again = editor.note();
     let second = published(rt, alloc, editor, BRITAIN)?;
     two.learn(second);
-    same(
-        rt,
-        lands_line(alloc, two)?.as_str().trim_end(),
-        two_lands.as_str(),
-    );
+    tells(rt, alloc, two, TWO);
     two.learn(first);
-    same(
-        rt,
-        lands_line(alloc, two)?.as_str().trim_end(),
-        two_lands.as_str(),
-    );
+    tells(rt, alloc, two, TWO);
     one.learn(again);
     let edition = one.ask(&Query::Lands)?.edition;
     assert!(rt; edition == 1 || edition == 2);
@@ -158,22 +149,4 @@ fn two_readers<R: Wait + Abort>(rt: &R, alloc: Global) -> Result<(), Fail> {
 #[test]
 fn notes_are_learnt_in_any_order(rt: HostRuntime) -> Result<(), Fail> {
     two_readers(&rt, rt.alloc())
-}
-
-fn refused<R: Wait>(rt: &R, alloc: Global, readers: u32) -> Option<OpenFault> {
-    match open(rt, alloc, Limits::standard(), readers) {
-        Ok((editor, _readers)) => {
-            editor.close(rt);
-            None
-        }
-        Err(fault) => Some(fault),
-    }
-}
-
-#[test]
-fn readers_are_1_to_64(rt: HostRuntime) -> Result<(), Fail> {
-    same(&rt, refused(&rt, rt.alloc(), 0), Some(OpenFault::BadCount));
-    same(&rt, refused(&rt, rt.alloc(), 64), None);
-    same(&rt, refused(&rt, rt.alloc(), 65), Some(OpenFault::BadCount));
-    Ok(())
 }

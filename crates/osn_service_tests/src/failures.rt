@@ -24,26 +24,8 @@ const WRITTEN: &str = r#"{"ok":"staged","pending":1}
 {"answer":{"lands":[{"code":"RM","name":"Rome"}]},"edition":1,"reader":1}
 "#;
 
-/// How the service ended, with the number of lines that it gave.
-#[derive(Clone, Copy, Debug, PartialEq, Eq)]
-enum End {
-    Answered(u64),
-    NoMemory(u64),
-    ReadFault(u64),
-    WriteFault(u64),
-}
-
-/// Returns how the result of the service ends.
-fn end_of(answered: Result<u64, Interrupted<ServeFault>>) -> End {
-    match answered {
-        Ok(lines) => End::Answered(lines),
-        Err(Interrupted { lines, cause }) => match cause {
-            ServeFault::NoMemory => End::NoMemory(lines),
-            ServeFault::ReadFault => End::ReadFault(lines),
-            ServeFault::WriteFault => End::WriteFault(lines),
-        },
-    }
-}
+/// How many lines the service answered, and why it ended before the end of the input.
+type End = Result<u64, (u64, ServeFault)>;
 
 /// How many bytes are read, or written, at a time at most.
 const STEPS: [usize; 3] = [1, 50, usize::MAX];
@@ -58,14 +40,8 @@ const LINES: [(usize, usize, (usize, usize)); 4] = [
 ];
 
 /// The result of a session: how it ended, how many batches and pending edits there are if the
-/// object is kept, and which side had failed.
-#[derive(Clone, Copy, Debug, PartialEq, Eq)]
-struct Came {
-    end: End,
-    stands: Option<(usize, usize)>,
-    input_failed: bool,
-    output_failed: bool,
-}
+/// object is kept, and whether the input and the output had failed.
+type Came = (End, Option<(usize, usize)>, bool, bool);
 
 /// Returns the result of the session over these streams, from an object that is kept, or from none.
 fn session(alloc: Global, keeps: bool, source: &mut FailingSource, sink: &mut FailingSink) -> Came {
@@ -76,12 +52,8 @@ fn session(alloc: Global, keeps: bool, source: &mut FailingSource, sink: &mut Fa
         serve(alloc, Limits::standard(), 8, source, sink)
     };
     let stands = (object.batches().len(), object.pending().len());
-    Came {
-        end: end_of(answered),
-        stands: keeps.then_some(stands),
-        input_failed: source.failed(),
-        output_failed: sink.failed(),
-    }
+    let end = answered.map_err(|Interrupted { lines, cause }| (lines, cause));
+    (end, keeps.then_some(stands), source.failed(), sink.failed())
 }
 
 /// Returns what there is after this many lines.
@@ -107,13 +79,13 @@ fn fails_in_reading(rt: &impl Abort, alloc: Global, keeps: bool, course: Course,
     let came = session(alloc, keeps, &mut source, &mut sink);
     let lines = lines_in(course.given(READ.len()));
     let (_end, replies, stands) = standing_after(lines);
-    let wanted = Came {
-        end: End::ReadFault(lines as u64),
-        stands: keeps.then_some(stands),
-        input_failed: true,
-        output_failed: false,
-    };
-    same(rt, (course, came), (course, wanted));
+    let end = Err((lines as u64, ServeFault::ReadFault));
+    let wanted = (end, keeps.then_some(stands), true, false);
+    same(
+        rt,
+        (course.step, course.sound, came),
+        (course.step, course.sound, wanted),
+    );
     same(rt, Some(sink.bytes()), WRITTEN.as_bytes().get(..replies));
     same(
         rt,
@@ -142,13 +114,7 @@ fn goes_well(rt: &impl Abort, alloc: Global, keeps: bool, read_step: usize, step
     let mut source = FailingSource::new(READ.as_bytes(), Course::sound(read_step));
     let mut sink = FailingSink::new(alloc, Course::sound(step));
     let came = session(alloc, keeps, &mut source, &mut sink);
-    let wanted = Came {
-        end: End::Answered(3),
-        stands: keeps.then_some((1, 0)),
-        input_failed: false,
-        output_failed: false,
-    };
-    same(rt, came, wanted);
+    same(rt, came, (Ok(3), keeps.then_some((1, 0)), false, false));
     same(
         rt,
         (sink.bytes(), sink.passed()),
@@ -164,14 +130,18 @@ fn goes_well(rt: &impl Abort, alloc: Global, keeps: bool, read_step: usize, step
 fn fails_in_writing(rt: &impl Abort, alloc: Global, keeps: bool, read_step: usize, course: Course) {
     let mut source = FailingSource::new(READ.as_bytes(), Course::sound(read_step));
     let mut sink = FailingSink::new(alloc, course);
-    let came = session(alloc, keeps, &mut source, &mut sink);
+    let (end, stands, input_failed, output_failed) = session(alloc, keeps, &mut source, &mut sink);
     let lines = replies_in(sink.bytes().len());
-    let failed = (came.end, came.input_failed, came.output_failed);
     same(
         rt,
-        (course, failed),
-        (course, (End::WriteFault(lines as u64), false, true)),
+        (course.step, course.sound, end),
+        (
+            course.step,
+            course.sound,
+            Err((lines as u64, ServeFault::WriteFault)),
+        ),
     );
+    same(rt, (input_failed, output_failed), (false, true));
     same(
         rt,
         Some(sink.bytes()),
@@ -182,8 +152,8 @@ fn fails_in_writing(rt: &impl Abort, alloc: Global, keeps: bool, read_step: usiz
         standing_after(lines).2,
         standing_after(lines.saturating_add(1)).2,
     ];
-    same(rt, came.stands.is_some(), keeps);
-    assert!(rt; came.stands.is_none_or(|stands| near.contains(&stands)));
+    same(rt, stands.is_some(), keeps);
+    assert!(rt; stands.is_none_or(|stands| near.contains(&stands)));
 }
 
 fn fail_at_each_write(rt: &impl Abort, alloc: Global, keeps: bool, read_step: usize) {

@@ -11,33 +11,30 @@ use std::process::Abort;
 /// How many bytes are read at a time at most.
 const STEPS: [usize; 3] = [1, 50, usize::MAX];
 
-/// How reading a file ends.
-#[derive(Clone, Copy, Debug, PartialEq, Eq)]
-enum End {
-    Read,
-    NoMemory,
-    ReadFault,
-    BadLine(Role, u64, u8),
-}
+/// How reading a file ends: at its end, at a line with a fault of this number, or at a read that
+/// fails, of which nothing more is said.
+type End = Result<(), Option<(Role, u64, u8)>>;
 
-fn end_of<T: Drop>(answered: Result<T, FileFault>) -> End {
+const READ_FAULT: End = Err(None);
+
+fn end_of<T: Drop>(rt: &impl Abort, answered: Result<T, FileFault>) -> End {
     match answered {
-        Ok(_) => End::Read,
-        Err(FileFault::NoMemory) => End::NoMemory,
-        Err(FileFault::ReadFault) => End::ReadFault,
-        Err(FileFault::BadLine { role, line, fault }) => End::BadLine(role, line, fault.number()),
+        Ok(_) => Ok(()),
+        Err(FileFault::NoMemory) => panic!(rt; "there is memory"),
+        Err(FileFault::ReadFault) => READ_FAULT,
+        Err(FileFault::BadLine { role, line, fault }) => Err(Some((role, line, fault.number()))),
     }
 }
 
-fn end_as(alloc: Global, role: Role, source: &mut FailingSource) -> End {
+fn end_as(rt: &impl Abort, alloc: Global, role: Role, source: &mut FailingSource) -> End {
     match role {
-        Role::Journal => end_of(load_journal(alloc, Limits::standard(), source)),
-        Role::Script => end_of(read_script(alloc, source)),
-        Role::Questions => end_of(read_questions(alloc, source)),
-        Role::Schedule => end_of(read_schedule(alloc, 1, source)),
+        Role::Journal => end_of(rt, load_journal(alloc, Limits::standard(), source)),
+        Role::Script => end_of(rt, read_script(alloc, source)),
+        Role::Questions => end_of(rt, read_questions(alloc, source)),
+        Role::Schedule => end_of(rt, read_schedule(alloc, 1, source)),
         Role::Transcript => {
             let journal = &mut FailingSource::new(JOURNAL.as_bytes(), Course::sound(1));
-            end_of(audit(alloc, Limits::standard(), journal, source))
+            end_of(rt, audit(alloc, Limits::standard(), journal, source))
         }
     }
 }
@@ -68,33 +65,33 @@ const TRANSCRIPT: &str = concat!(
 /// Files, each with its role, how it ends if no read fails, and how many bytes are read before it
 /// ends so. A file that is read must end, and one that is refused needs its first bad line.
 const FILES: [(Role, &str, End, usize); 9] = [
-    (Role::Journal, JOURNAL, End::Read, usize::MAX),
-    (Role::Script, JOURNAL, End::Read, usize::MAX),
-    (Role::Questions, QUESTIONS, End::Read, usize::MAX),
-    (Role::Schedule, SCHEDULE, End::Read, usize::MAX),
-    (Role::Transcript, TRANSCRIPT, End::Read, usize::MAX),
+    (Role::Journal, JOURNAL, Ok(()), usize::MAX),
+    (Role::Script, JOURNAL, Ok(()), usize::MAX),
+    (Role::Questions, QUESTIONS, Ok(()), usize::MAX),
+    (Role::Schedule, SCHEDULE, Ok(()), usize::MAX),
+    (Role::Transcript, TRANSCRIPT, Ok(()), usize::MAX),
     (
         Role::Journal,
         "{\"journal\":2}\n{\"op\":\"fly\"}\n\n",
-        End::BadLine(Role::Journal, 2, 35),
+        Err(Some((Role::Journal, 2, 35))),
         27,
     ),
     (
         Role::Script,
         "{\"journal\":2}\n[1]\n\n",
-        End::BadLine(Role::Script, 2, 33),
+        Err(Some((Role::Script, 2, 33))),
         18,
     ),
     (
         Role::Questions,
         "{\"op\":\"publish\"}\n\n",
-        End::BadLine(Role::Questions, 1, 41),
+        Err(Some((Role::Questions, 1, 41))),
         17,
     ),
     (
         Role::Schedule,
         "{\"step\":\"fly\"}\n\n",
-        End::BadLine(Role::Schedule, 1, 38),
+        Err(Some((Role::Schedule, 1, 38))),
         15,
     ),
 ];
@@ -103,13 +100,10 @@ const FILES: [(Role, &str, End, usize); 9] = [
 fn ends(rt: &impl Abort, alloc: Global, file: (Role, &str), course: Course, wanted: End) {
     let (role, text) = file;
     let mut source = FailingSource::new(text.as_bytes(), course);
-    let end = end_as(alloc, role, &mut source);
-    let failed = wanted == End::ReadFault;
-    same(
-        rt,
-        (file, course, end, source.failed()),
-        (file, course, wanted, failed),
-    );
+    let end = end_as(rt, alloc, role, &mut source);
+    let failed = wanted == READ_FAULT;
+    let row = (file, course.step, course.sound);
+    same(rt, (row, end, source.failed()), (row, wanted, failed));
 }
 
 /// Checks that a read that fails is reported, wherever it comes before the end of the file.
@@ -120,7 +114,7 @@ fn fail_at_each_read(rt: &impl Abort, alloc: Global, rows: &[(Role, &str, End, u
             for sound in 0..reads {
                 let course = Course { step, sound };
                 let comes = course.given(text.len()) >= *needed;
-                let wanted = if comes { *end } else { End::ReadFault };
+                let wanted = if comes { *end } else { READ_FAULT };
                 ends(rt, alloc, (*role, text), course, wanted);
             }
             ends(
@@ -144,12 +138,12 @@ fn each_read_of_a_file_fails_in_turn(rt: HostRuntime) {
 fn audit_fails(rt: &impl Abort, alloc: Global, course: Course) {
     let mut journal = FailingSource::new(JOURNAL.as_bytes(), course);
     let mut transcript = FailingSource::new(TRANSCRIPT.as_bytes(), Course::sound(1));
-    let end = end_of(audit(alloc, Limits::standard(), &mut journal, &mut transcript));
-    same(
+    let end = end_of(
         rt,
-        (course, end, journal.failed()),
-        (course, End::ReadFault, true),
+        audit(alloc, Limits::standard(), &mut journal, &mut transcript),
     );
+    let row = (course.step, course.sound);
+    same(rt, (row, end, journal.failed()), (row, READ_FAULT, true));
     same(rt, (transcript.calls(), transcript.failed()), (0, false));
 }
 

@@ -6,7 +6,8 @@ use osn_follower::{FollowerFault, follow};
 use osn_lines::{Interrupted, Plain};
 use osn_register::Limits;
 use osn_service::Served;
-use std::test::Fail;
+use std::alloc::Global;
+use std::str;
 
 const HEAD: &str = "{\"journal\":2}\n";
 
@@ -49,58 +50,47 @@ const TOLD: &str = "{\"answer\":{\"lands\":[]},\"edition\":0,\"reader\":1}
 {\"fault\":36,\"name\":\"UnknownReader\"}
 ";
 
-#[test]
-fn each_line_is_answered_from_the_newest_edition(rt: HostRuntime) -> Result<(), Fail> {
+/// Returns how a follower of these rounds ends, and what it writes.
+fn followed(
+    alloc: Global,
+    rounds: &[Round],
+    fault: Option<FollowFault>,
+) -> (Result<Served, Interrupted<FollowerFault>>, Vec<u8>) {
     let mut growing = Growing {
-        rounds: &ROUNDS,
+        rounds,
         place: 0,
-        fault: None,
+        fault,
     };
-    let mut sink = Plain::new(Vec::new(rt.alloc()));
-    let served = follow(
-        rt.alloc(),
-        Limits::standard(),
-        8,
-        false,
-        &mut growing,
-        &mut sink,
-    );
+    let mut sink = Plain::new(Vec::new(alloc));
+    let served = follow(alloc, Limits::standard(), 8, false, &mut growing, &mut sink);
+    (served, sink.into_inner())
+}
+
+#[test]
+fn each_line_is_answered_from_the_newest_edition(rt: HostRuntime) {
+    let (served, written) = followed(rt.alloc(), &ROUNDS, None);
     let wanted = Served {
         lines: 8,
         refused: false,
     };
     same(&rt, served.ok(), Some(wanted));
-    let written = sink.into_inner();
-    same(&rt, str::from_utf8(&written)?, TOLD);
-    Ok(())
+    same(&rt, str::from_utf8(&written).ok(), Some(TOLD));
 }
 
 /// The replies that were owed are written before a look fails.
 #[test]
-fn a_follower_ends_where_its_file_got_shorter(rt: HostRuntime) -> Result<(), Fail> {
-    let mut growing = Growing {
-        rounds: &ROUNDS[..4],
-        place: 0,
-        fault: Some(FollowFault::Shorter),
+fn a_follower_ends_where_its_file_got_shorter(rt: HostRuntime) {
+    let (served, written) = followed(rt.alloc(), &ROUNDS[..4], Some(FollowFault::Shorter));
+    let lines = match served {
+        Err(
+            Interrupted {
+                lines,
+                cause: FollowerFault::File(FollowFault::Shorter),
+            },
+        ) => Some(lines),
+        _ => None,
     };
-    let mut sink = Plain::new(Vec::new(rt.alloc()));
-    let served = follow(
-        rt.alloc(),
-        Limits::standard(),
-        8,
-        false,
-        &mut growing,
-        &mut sink,
-    );
-    let Err(Interrupted { lines, cause }) = served else {
-        return Err(Fail::new("the file got shorter"));
-    };
-    same(&rt, lines, 4);
-    same(
-        &rt,
-        matches!(cause, FollowerFault::File(FollowFault::Shorter)),
-        true,
-    );
-    same(&rt, str::from_utf8(&sink.into_inner())?.lines().count(), 4);
-    Ok(())
+    same(&rt, lines, Some(4));
+    let replies = str::from_utf8(&written).expect(&rt, "it is UTF-8");
+    same(&rt, replies.lines().count(), 4);
 }

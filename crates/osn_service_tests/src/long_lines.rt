@@ -4,17 +4,19 @@ use osn_lines::Plain;
 use osn_register::Limits;
 use osn_service::serve;
 use osn_wire::{FileFault, load_journal};
-use std::alloc::{AllocError, Global};
+use std::alloc::Global;
 use std::process::Abort;
-use std::test::Fail;
+use std::str;
 
-/// Returns a query for the territories, of this many bytes, with or without its line feed.
-fn line_of(alloc: Global, length: usize, feeds: bool) -> Result<Vec<u8>, AllocError> {
-    let mut line = Vec::from_slice(alloc, br#"{"op":"lands","reader":1,"x":""#)?;
-    line.resize(length.saturating_sub(2), b'a')?;
-    let end = if feeds { "\"}\n" } else { "\"}" };
-    line.extend_from_slice(end.as_bytes())?;
-    Ok(line)
+/// Returns a query for the territories, of this many bytes, and the end of its line.
+fn line_of(rt: &impl Abort, alloc: Global, length: usize, end: &str) -> String {
+    let rest = "a"
+        .repeat(alloc, length.saturating_sub(32))
+        .expect(rt, "there is memory");
+    format!(in alloc; "{{\"op\":\"lands\",\"reader\":1,\"x\":\"{rest}\"}}{end}").expect(
+        rt,
+        "there is memory",
+    )
 }
 
 const ANSWERED: &str = "{\"answer\":{\"lands\":[]},\"edition\":0,\"reader\":1}\n";
@@ -30,45 +32,38 @@ const LONG: [(usize, &str); 5] = [
     (200_000, TOO_LONG),
 ];
 
-fn are_long(
-    rt: &impl Abort,
-    alloc: Global,
-    rows: &[(usize, &str)],
-    feeds: bool,
-) -> Result<(), Fail> {
+fn are_long(rt: &impl Abort, alloc: Global, rows: &[(usize, &str)], end: &str) {
     for (length, wanted) in rows {
-        let line = line_of(alloc, *length, feeds)?;
-        same(rt, line.trim_ascii_end().len(), *length);
+        let line = line_of(rt, alloc, *length, end);
+        same(rt, line.len(), length.saturating_add(end.len()));
         let mut sink = Plain::new(Vec::new(alloc));
-        let mut source = Plain::new(line.as_slice());
-        let lines = serve(alloc, Limits::standard(), 8, &mut source, &mut sink)?;
-        let written = sink.into_inner();
-        same(rt, (str::from_utf8(&written)?, lines), (*wanted, 1));
-    }
-    Ok(())
-}
-
-#[test]
-fn long_lines(rt: HostRuntime) -> Result<(), Fail> {
-    are_long(&rt, rt.alloc(), &LONG, true)?;
-    are_long(&rt, rt.alloc(), &LONG, false)
-}
-
-/// Returns the line and the number of the fault of a journal with a line of 65,537 bytes after its
-/// head.
-fn fault_after(alloc: Global, head: &str) -> Result<(u64, u8), AllocError> {
-    let mut bytes = Vec::from_slice(alloc, head.as_bytes())?;
-    bytes.extend_from_slice(&vec![in alloc; b'x'; 65_537]?)?;
-    match load_journal(alloc, Limits::standard(), &mut Plain::new(bytes.as_slice())) {
-        Err(FileFault::BadLine { line, fault, .. }) => Ok((line, fault.number())),
-        _ => Ok((0, 0)),
+        let mut source = Plain::new(line.as_bytes());
+        let served = serve(alloc, Limits::standard(), 8, &mut source, &mut sink);
+        same(rt, served.ok(), Some(1));
+        same(rt, str::from_utf8(&sink.into_inner()).ok(), Some(*wanted));
     }
 }
 
 #[test]
-fn long_lines_of_a_journal(rt: HostRuntime) -> Result<(), AllocError> {
-    same(&rt, fault_after(rt.alloc(), "")?, (1, 31));
-    let head = "{\"journal\":1}\n";
-    same(&rt, fault_after(rt.alloc(), head)?, (2, 31));
-    Ok(())
+fn long_lines(rt: HostRuntime) {
+    are_long(&rt, rt.alloc(), &LONG, "\n");
+    are_long(&rt, rt.alloc(), &LONG, "");
+}
+
+/// Checks the line of a journal that is refused: a line of 65,537 bytes after its head.
+fn is_refused(rt: &impl Abort, alloc: Global, head: &str, wanted: u64) {
+    let rest = "x".repeat(alloc, 65_537).expect(rt, "there is memory");
+    let text = format!(in alloc; "{head}{rest}").expect(rt, "there is memory");
+    let mut source = Plain::new(text.as_bytes());
+    let found = match load_journal(alloc, Limits::standard(), &mut source) {
+        Err(FileFault::BadLine { line, fault, .. }) => Some((line, fault.number())),
+        _ => None,
+    };
+    same(rt, found, Some((wanted, 31)));
+}
+
+#[test]
+fn long_lines_of_a_journal(rt: HostRuntime) {
+    is_refused(&rt, rt.alloc(), "", 1);
+    is_refused(&rt, rt.alloc(), "{\"journal\":1}\n", 2);
 }

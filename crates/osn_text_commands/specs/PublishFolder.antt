@@ -1,5 +1,5 @@
 -- What the command `publish` has done over the files of a folder: the journal, and the text.
-use Rattle.std.specs.Prelude.{◌≡◌, ◌⊎◌, Bool, List, [], ◌∷◌, ℕ, Option, Some, None}
+use Rattle.std.specs.Prelude.{◌≡◌, ◌⊎◌, Bool, List, [], ◌∷◌, ℕ, Option, None}
 use Rattle.osn_folder.specs.Folder.{Changes, IsKeptAt, Keeps, Known}
 use Rattle.osn_folder.specs.Folder.{Leaves, Opens}
 use Rattle.osn_journal.specs.KeptJournal.{FileState}

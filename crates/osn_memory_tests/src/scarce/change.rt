@@ -1,9 +1,8 @@
 //! A call that may change what it is made on.
 use crate::scarce::trials::Ample;
-use osn_test_texts::is_text;
-use std::alloc::Global;
 use std::fmt::Debug;
-use std::test::Fail;
+use std::process::Abort;
+use std::sync::Wait;
 
 /// A call that may change what it is made on, and that may lack memory.
 pub trait Change {
@@ -14,31 +13,28 @@ pub trait Change {
     type Answer: Debug + Drop;
 
     /// Returns what it is made on, as it is before the call.
-    ///
-    /// # Errors
-    ///
-    /// Returns why it can't be made.
-    fn on(&self, alloc: Global) -> Result<Self::On, Fail>;
+    fn on<R: Wait + AllocGlobal + Abort>(&self, rt: &R) -> Self::On;
 
     /// Makes the call, and returns `None` if it lacks memory.
-    fn make(&self, alloc: Global, on: &mut Self::On) -> Option<Self::Answer>;
+    fn make<R: Wait + AllocGlobal + Abort>(
+        &self,
+        rt: &R,
+        on: &mut Self::On,
+    ) -> Option<Self::Answer>;
 
     /// Returns a text of the state of what it is made on.
-    ///
-    /// # Errors
-    ///
-    /// Returns why there is no such text.
-    fn standing(&self, alloc: Global, on: &mut Self::On) -> Result<String, Fail>;
+    fn text<R: Wait + AllocGlobal + Abort>(&self, rt: &R, on: &mut Self::On) -> String;
 
     /// Ends what it was made on.
-    fn end(&self, on: Self::On);
+    fn end<R: Wait + AllocGlobal + Abort>(&self, rt: &R, on: Self::On);
 
-    /// Checks the state after a refusal: it must be that before the call.
-    ///
-    /// # Errors
-    ///
-    /// Returns the first difference.
-    fn stands(&self, alloc: Global, on: &mut Self::On, ample: &Ample) -> Result<(), Fail> {
-        is_text(self.standing(alloc, on)?.as_str(), ample.before.as_str())
+    /// Returns whether the state after a refusal is as it must be: as before the call.
+    fn stands<R: Wait + AllocGlobal + Abort>(
+        &self,
+        rt: &R,
+        on: &mut Self::On,
+        ample: &Ample,
+    ) -> bool {
+        self.text(rt, on).as_str() == ample.before.as_str()
     }
 }

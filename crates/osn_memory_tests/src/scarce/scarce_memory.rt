@@ -1,5 +1,6 @@
 //! All memory that the process can have, of which a test leaves as much as it needs.
-use std::alloc::{AllocError, Global};
+use std::alloc::Global;
+use std::process::Abort;
 
 /// The largest blocks that are asked for: no process can have one.
 const LARGEST: usize = 0x4000_0000_0000;
@@ -55,21 +56,20 @@ fn take_all(alloc: Global, blocks: &mut Vec<Vec<u8>>, first: u32) {
 
 impl ScarceMemory {
     /// Takes all memory except what is left to the test.
-    ///
-    /// # Errors
-    ///
-    /// Returns `AllocError` if there is no memory for the list of what is taken.
-    pub fn new(alloc: Global) -> Result<ScarceMemory, AllocError> {
-        let mut for_good = Vec::with_capacity(alloc, MOST_BLOCKS)?;
-        let for_a_call = Vec::with_capacity(alloc, MOST_BLOCKS)?;
-        let own = Vec::<u8>::with_capacity(alloc, OWN)?;
+    pub fn new<R: AllocGlobal + Abort>(rt: &R) -> ScarceMemory {
+        let alloc = rt.alloc();
+        let for_good = Vec::<Vec<u8>>::with_capacity(alloc, MOST_BLOCKS);
+        let mut for_good = for_good.expect(rt, "there is memory");
+        let for_a_call = Vec::<Vec<u8>>::with_capacity(alloc, MOST_BLOCKS);
+        let for_a_call = for_a_call.expect(rt, "there is memory");
+        let own = Vec::<u8>::with_capacity(alloc, OWN).expect(rt, "there is memory");
         take_all(alloc, &mut for_good, 0);
         drop(own);
-        Ok(ScarceMemory {
+        ScarceMemory {
             alloc,
             _for_good: for_good,
             for_a_call,
-        })
+        }
     }
 
     /// Takes all memory except about that many bytes.

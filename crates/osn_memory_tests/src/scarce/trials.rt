@@ -1,9 +1,8 @@
 //! Calls with scarce memory, compared with the same calls with ample memory.
 use crate::scarce::change::Change;
 use crate::scarce::scarce_memory::ScarceMemory;
-use osn_test_texts::is_text;
-use std::alloc::Global;
-use std::test::Fail;
+use std::process::Abort;
+use std::sync::Wait;
 
 /// How many bytes more are left to a call than to the one before: as few as the smallest block that
 /// an allocator gives.
@@ -23,103 +22,121 @@ pub struct Ample {
     pub after: String,
 }
 
-/// Returns what a call does with ample memory, on this.
-fn ample_on<C: Change>(alloc: Global, call: &C, on: &mut C::On) -> Result<Ample, Fail> {
-    let before = call.standing(alloc, on)?;
-    let Some(answer) = call.make(alloc, on) else {
-        return Err(Fail::new("it wants memory where there is enough"));
-    };
-    let answer = format!(in alloc; "{answer:?}")?;
-    let after = call.standing(alloc, on)?;
-    Ok(Ample {
+/// What is wrong with a call, in words.
+pub type Wrong = &'static str;
+
+pub const ANSWERS_OTHERWISE: Wrong = "it returns another result than with ample memory";
+
+pub const CHANGES_OTHERWISE: Wrong = "it leaves another state than with ample memory";
+
+pub const CHANGES_FIRST: Wrong = "it was refused, and has changed something";
+
+pub const STAYS_REFUSED: Wrong = "it was refused, and is again with ample memory";
+
+pub const NEVER_REFUSED: Wrong = "it never was refused";
+
+pub const ALWAYS_REFUSED: Wrong = "it is refused however much memory is left";
+
+/// Returns what a call does with ample memory.
+fn ample_of<R: Wait + AllocGlobal + Abort, C: Change>(rt: &R, call: &C) -> Ample {
+    let mut on = call.on(rt);
+    let before = call.text(rt, &mut on);
+    let answer = call.make(rt, &mut on).expect(rt, "there is memory");
+    let answer = format!(in rt.alloc(); "{answer:?}").expect(rt, "there is memory");
+    let after = call.text(rt, &mut on);
+    call.end(rt, on);
+    Ample {
         before,
         answer,
         after,
-    })
-}
-
-/// Returns what a call does with ample memory.
-fn made_ample<C: Change>(alloc: Global, call: &C) -> Result<Ample, Fail> {
-    let mut on = call.on(alloc)?;
-    let ample = ample_on(alloc, call, &mut on);
-    call.end(on);
-    ample
+    }
 }
 
 /// Checks that a call returned and did what it does with ample memory.
-fn is_ample<C: Change>(
-    alloc: Global,
+fn is_ample<R: Wait + AllocGlobal + Abort, C: Change>(
+    rt: &R,
     call: &C,
     on: &mut C::On,
     answer: C::Answer,
     ample: &Ample,
-) -> Result<(), Fail> {
-    let answer = format!(in alloc; "{answer:?}")?;
-    is_text(answer.as_str(), ample.answer.as_str())?;
-    is_text(call.standing(alloc, on)?.as_str(), ample.after.as_str())
+) -> Result<(), Wrong> {
+    let answer = format!(in rt.alloc(); "{answer:?}").expect(rt, "there is memory");
+    let is_same = answer.as_str() == ample.answer.as_str();
+    let stands = call.text(rt, on).as_str() == ample.after.as_str();
+    if !is_same {
+        Err(ANSWERS_OTHERWISE)
+    } else if !stands {
+        Err(CHANGES_OTHERWISE)
+    } else {
+        Ok(())
+    }
 }
 
 /// Checks the state after a refusal, and that the call does what it does with ample memory when it
 /// is made again.
-fn is_made_again<C: Change>(
-    alloc: Global,
+fn is_made_again<R: Wait + AllocGlobal + Abort, C: Change>(
+    rt: &R,
     call: &C,
     on: &mut C::On,
     ample: &Ample,
-) -> Result<(), Fail> {
-    call.stands(alloc, on, ample)?;
-    match call.make(alloc, on) {
-        Some(answer) => is_ample(alloc, call, on, answer, ample),
-        None => Err(Fail::new("made again it wants memory")),
+) -> Result<(), Wrong> {
+    if !call.stands(rt, on, ample) {
+        return Err(CHANGES_FIRST);
+    }
+    match call.make(rt, on) {
+        Some(answer) => is_ample(rt, call, on, answer, ample),
+        None => Err(STAYS_REFUSED),
     }
 }
 
 /// Returns whether a call on this is refused when about that many bytes are left.
-fn is_refused_on<C: Change>(
-    alloc: Global,
+fn is_refused_on<R: Wait + AllocGlobal + Abort, C: Change>(
+    rt: &R,
     call: &C,
     on: &mut C::On,
     (memory, room): (&mut ScarceMemory, usize),
     ample: &Ample,
-) -> Result<bool, Fail> {
+) -> Result<bool, Wrong> {
     memory.leave(room);
-    let answer = call.make(alloc, on);
+    let answer = call.make(rt, on);
     memory.give_back();
     match answer {
-        Some(answer) => {
-            is_ample(alloc, call, on, answer, ample)?;
-            Ok(false)
-        }
-        None => {
-            is_made_again(alloc, call, on, ample)?;
-            Ok(true)
-        }
+        Some(answer) => is_ample(rt, call, on, answer, ample).map(|()| false),
+        None => is_made_again(rt, call, on, ample).map(|()| true),
     }
 }
 
 /// Returns whether a call is refused when about that many bytes are left.
-fn is_refused<C: Change>(
-    alloc: Global,
+fn is_refused<R: Wait + AllocGlobal + Abort, C: Change>(
+    rt: &R,
     call: &C,
     memory: &mut ScarceMemory,
     room: usize,
     ample: &Ample,
-) -> Result<bool, Fail> {
-    let mut on = call.on(alloc)?;
-    let refused = is_refused_on(alloc, call, &mut on, (memory, room), ample);
-    call.end(on);
+) -> Result<bool, Wrong> {
+    let mut on = call.on(rt);
+    let refused = is_refused_on(rt, call, &mut on, (memory, room), ample);
+    call.end(rt, on);
     refused
 }
 
-/// Returns how often a call is refused before it succeeds.
-fn refusals<C: Change>(alloc: Global, call: &C, ample: &Ample) -> Result<usize, Fail> {
-    let mut memory = ScarceMemory::new(alloc)?;
+/// Makes a call with more and more memory until it is not refused.
+fn tried_in<R: Wait + AllocGlobal + Abort, C: Change>(
+    rt: &R,
+    call: &C,
+    memory: &mut ScarceMemory,
+    ample: &Ample,
+) -> Result<(), Wrong> {
     for trial in 0..MOST_TRIALS {
-        if !is_refused(alloc, call, &mut memory, trial * STEP, ample)? {
-            return Ok(trial);
+        if !is_refused(rt, call, memory, trial * STEP, ample)? {
+            return if trial == 0 {
+                Err(NEVER_REFUSED)
+            } else {
+                Ok(())
+            };
         }
     }
-    Err(Fail::new("it is refused however much memory is left"))
+    Err(ALWAYS_REFUSED)
 }
 
 /// Refuses the growths of memory of a call in turn, the first one first, until the call has enough:
@@ -129,13 +146,14 @@ fn refusals<C: Change>(alloc: Global, call: &C, ample: &Ample) -> Result<usize, 
 ///
 /// # Errors
 ///
-/// Returns an error for a call that returns another result than with ample memory and does not lack
-/// memory; for one that was refused and has changed something, or gives another result when it is
-/// made again; and for one that never was refused.
-pub fn is_sound_change<C: Change>(alloc: Global, call: &C) -> Result<(), Fail> {
-    let ample = made_ample(alloc, call)?;
-    match refusals(alloc, call, &ample)? {
-        0 => Err(Fail::new("it was never refused")),
-        _ => Ok(()),
-    }
+/// Returns what is wrong with the call.
+pub fn tried<R: Wait + AllocGlobal + Abort, C: Change>(rt: &R, call: &C) -> Result<(), Wrong> {
+    let ample = ample_of(rt, call);
+    let mut memory = ScarceMemory::new(rt);
+    tried_in(rt, call, &mut memory, &ample)
+}
+
+/// Checks that nothing is wrong with a call.
+pub fn is_sound<R: Wait + AllocGlobal + Abort, C: Change>(rt: &R, call: &C) {
+    assert_eq!(rt; tried(rt, call), Ok(()));
 }

@@ -7,7 +7,7 @@ use std::alloc::Global;
 
 /// The course of a stream: how many bytes a call gives or takes at most, and how many calls
 /// succeed.
-#[derive(Clone, Copy, Debug, PartialEq, Eq)]
+#[derive(Clone, Copy)]
 pub struct Course {
     pub step: usize,
     pub sound: usize,

@@ -1,11 +1,10 @@
 use Rattle.std.proofs.Common.{◌∙◌, rules, sym}
-use Rattle.osn_commands.proofs.LimitsLemmas.{first_set, none_set, only_set}
-use Rattle.osn_page_commands.proofs.PieceLemmas.{shorter}
+use Rattle.osn_commands.proofs.LimitsLemmas.{first_set, none_set, only_set, shorter}
 use Rattle.osn_commands.proofs.limits.limits_of.Goals as goal
 
 pub loop-first-smaller : goal.loop-first-smaller
 loop-first-smaller c =
-    shorter 44 c.loop-first.rest.now c.in-Some.first.now c.in-Some.further.now
+    shorter c.loop-first.rest.now c.in-Some.first.now c.in-Some.further.now
     (sym c.in-Some.ensures)
 
 pub loop-first-preserved : goal.loop-first-preserved

@@ -1,4 +1,4 @@
-use Rattle.std.proofs.Common.{Some, inl, inr, option_map, refl, string_bytes, subst}
+use Rattle.std.proofs.Common.{inl, inr, option_map, refl, string_bytes, subst}
 use Rattle.osn_lines.specs.Streams.{output_of}
 use Rattle.osn_serve_commands.specs.Keep.{TellsText}
 use Rattle.osn_serve_commands.specs.Upgrade.{CannotSaveAnew, SavesAnew}

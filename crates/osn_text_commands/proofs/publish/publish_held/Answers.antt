@@ -1,4 +1,4 @@
-use Rattle.std.proofs.Common.{◌≡◌, ◌==◌, ℕ, true, None, Some, inl, inr, refl, sym, ap, length, ◌∙◌}
+use Rattle.std.proofs.Common.{◌≡◌, ◌==◌, true, None, Some, inl, inr, refl, sym, ap, length, ◌∙◌}
 use Rattle.std.proofs.lemmas.Result.{IfErr-weaker, IfOk-weaker}
 use Rattle.osn_text_commands.proofs.PlanLemmas.{same_plan}
 use Rattle.osn_text_commands.proofs.PublishLemmas.{later_told, none_pending, pending_told, planned}
@@ -31,7 +31,8 @@ returns-in-Some-clause-ok g c = λ given part_of.
     let none : (length s.pending == 0) ≡ true =
     ap (λ l. length l == 0) (sym c.pending.ensures)
     ∙ (sym c.is_empty.ensures ∙ c.if-not-is_empty.false) in
-    let size : length s.batches ≡ c.len-editions.result = cc in
+    let size : length s.batches ≡ length c.batches-editions.result.now =
+    ap length (sym c.batches-editions.ensures.value) in
     let late : later_than asked.edition (length s.batches) ≡ Some c.in-Some.edition = cc in
     later_told (CanStay g.K.KeptFile.cut_back_may_fail) asked
     c.args.held.version s c.args.wanted.now _ _ given _ _ c.tell_line-in-Some.result s.pending
