@@ -38,7 +38,7 @@ PENDING = ("oldstyle: publish refuses a journal with 1 pending edit: publish wha
 NOT_KEPT = ("oldstyle: publish refuses a journal of version 1: serve --keep with --upgrade saves "
             "it anew as version 4\nhelp: run oldstyle serve --keep J --upgrade < /dev/null, then "
             "publish\n")
-NO_HEAD = ("oldstyle: journal line 1: 32 NotJson\nhelp: J is no journal: oldstyle publish FILE "
+NO_HEAD = ("oldstyle: journal line 1: 32 NotJson\nhelp: J is not a journal: oldstyle publish FILE "
            "TEXT begins one in a new or empty file\n")
 # What a plan prints for a journal that its publish saves again.
 ANEW = ("oldstyle: the journal is of version {}, which has no sources: publish saves it anew as "
