@@ -222,7 +222,7 @@ class Asked:
         if not found:
             line = (f"oldstyle: {text}: the {calendar} calendar has no such date "
                     "in the years 1 to 9999")
-            yield from differs(self.program, ["convert", calendar, text], [], 2, line)
+            yield from differs(self.program, ["convert", calendar, text], [], 2, [line])
             return
         words = ["convert", calendar, f"{weekday} {text}".strip()]
         yield from differs(self.program, words, conversion_page(found[0], weekday or None))

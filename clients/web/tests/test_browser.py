@@ -89,5 +89,5 @@ def test_the_keyboard_goes_to_a_row_that_is_seen(
     browser.switch_to.active_element.send_keys(Keys.TAB)
     browser.execute_async_script("setTimeout(arguments[0], 400)")
     assert before > 0 and abs(run(browser, "return view.scrollTop") - before) < 5
-    assert run(browser, "return document.activeElement.textContent") == "Mend"
+    assert run(browser, "return document.activeElement.textContent") == "Correct"
     assert not run(browser, "return document.querySelectorAll('#rows [inert]').length")

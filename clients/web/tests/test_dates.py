@@ -18,7 +18,7 @@ ANSWERED: dict[str, Any] = {"kind": "day", "reason": None, "weekday": None,
                             "other_calendar": False, "runs": [{}]}
 ALONE = ["11 February 1731", "Friday 11 February 1731", "1731", "March 1731", "[Feb. 1640?]",
          "1731-02", "1640-1645", "1640?", "0173?", "0045-05", "3.5.1640",
-         "[1640-05-03,1640-05-10]", "[1731-04-05..1731-04-11,1732-03-12..1732-04-04]"]
+         "[1640-05-03,1640-05-10]", "[1731-04-05..1731-04-11,1732-04-04]"]
 
 
 def found(reason: str | None, kind: str = "none", *notes: str) -> DateFound:
@@ -96,9 +96,9 @@ def test_the_page_says_no_more_where_it_is_not_printed(asking: Asking, date: str
     ("nothing", "malformed date"), ("1731/3", "not the year that follows"),
     ("11 February 10001", "no year from 0 to 10000"), ("1640-45", "no month from 1 to 12"),
     ("1731-02-32", "no day from 1 to 31"), ("n.d.", "no date"),
-    ("11 February 31", "year of one or two digits"), ("173?", "year with an open digit"),
+    ("11 February 31", "year of one or two digits"), ("173..", "year with an open digit"),
     ("11/2/1731", "open between day and month"), ("11/22 February 1731", "day by both calendars"),
-    ("Easter 1640", "a feast, not read"), ("xi February 1731", "a Roman numeral, not read")])
+    ("Easter 1640", "a feast, not read"), ("vi February 1731", "a Roman numeral, not read")])
 def test_the_advice_is_that_of_the_program(asking: Asking, date: str, reason: str) -> None:
     answered, = asking.answers([{"op": "written", "code": "GB", "date": date}])
     assert (answered["kind"], answered["reason"]) == ("none", reason)
@@ -115,7 +115,7 @@ def test_a_given_weekday_is_compared_as_by_the_program(
     register = Register(Settings(easter_style, program))
     asking, printer = Asking(register), Printer(register.settings)
     found = date_found(printer, asking, code, code, date, weekday, "")
-    assert not printer.kept
+    assert not printer.cache
     told = printed_date(printer, asking, code, code, date, weekday, "")
     register.close()
     assert told.agreeing

@@ -26,7 +26,7 @@ SENTENCES = {
 ADVICE = {
     "malformed date": N_('a date is written 1731-02-11, "11 February 1731" or "11 February 1731/2", '
                          "with a weekday before it or without"),
-    "not the year that follows": N_("after the / stands the year that follows, in full or its last "
+    "not the year that follows": N_("after the / comes the year that follows, in full or its last "
                                     "digits, as 1731/2, 1731/32 or 1731/1732"),
     "no year from 0 to 10000": N_("a year is 0 to 10000"),
     "no month from 1 to 12": N_("a month is 1 to 12: of a range of years write the later year in "
