@@ -170,7 +170,7 @@ def faults(register, program, folder):
         (lambda: register.read("GB", "x" * 70_000), "LineTooLong", "65536"),
         (lambda: register.read("GB", "\udc80"), "NotJson", "UTF-8"),
         (lambda: register.read("GB", "1640", "Freitag"), "BadField", "(Freitag) in GB: a"),
-        (lambda: register.read("GB", None), "TypeError", "no text"),
+        (lambda: register.read("GB", None), "TypeError", "not a text"),
         (lambda: register.ask("publish"), "ReadOnly", "only read"),
         (lambda: register.ask("easter", code="GB", year=0), "YearOffRange", "9999"),
         (lambda: register.ask("fly"), "UnknownOp", "newer"),
@@ -242,7 +242,7 @@ def followed(program, journal):
     register.close()
     with open(journal, "rb") as file:
         whole = file.read()
-    for text, reason in ((whole[:200], "got shorter"), (None, "none, stands"),
+    for text, reason in ((whole[:200], "got shorter"), (None, "replaced or removed"),
                          (whole + b"{}\n", "journal line")):
         put(journal, whole)
         register = oldstyle.Register(journal, program=program, follow=True)

@@ -163,6 +163,7 @@ class Dates:
         done = Run([self.program, "read", JOURNAL, one.code, *words, "--", one.text])
         why, kind = done.why_wrong(), json.loads(reply)["answer"]["kind"]
         is_refused = kind == "none" or TWO_WEEKDAYS in done.stderr
-        if not why and (done.status, done.stderr.count(b"\n")) != (2 * is_refused, int(is_refused)):
+        faults = [line for line in done.stderr.splitlines() if not line.startswith(b"help: ")]
+        if not why and (done.status, len(faults)) != (2 * is_refused, int(is_refused)):
             why = f"status {done.status}, {done.stderr!r}, but {reply!r}"
         return [(why, ["read", one.code, *words], one.text.encode())] if why else []
