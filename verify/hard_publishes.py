@@ -46,8 +46,8 @@ class Trial:
         with open(self.text, "w", encoding="utf-8") as file:
             file.write(register_text)
         lines = "".join(line + "\n" for line in [compact(land(1)), PUBLISH])
-        _, *lines = journal_lines(lands_of(register_text))
-        edition = "".join(compact(line) + "\n" for line in lines)
+        _, *edits = journal_lines(lands_of(register_text))
+        edition = "".join(compact(line) + "\n" for line in edits)
         self.before = f"{HEAD}\n{lines}"
         self.after = f"{HEAD_4 if source else HEAD}\n{lines}{edition}"
         self.begin()
