@@ -103,8 +103,8 @@ def test_the_advice_is_that_of_the_program(asking: Asking, date: str, reason: st
     answered, = asking.answers([{"op": "written", "code": "GB", "date": date}])
     assert (answered["kind"], answered["reason"]) == ("none", reason)
     printer = Printer(asking.register.settings)
-    told = printed_date(printer, asking, "GB", "Great Britain", date, "", "").notes
-    assert told == [ADVICE[reason]]
+    page = printed_date(printer, asking, "GB", "Great Britain", date, "", "").notes
+    assert page == [ADVICE[reason]]
 
 
 @pytest.mark.parametrize("code, date, weekday", [
@@ -116,8 +116,8 @@ def test_a_given_weekday_is_compared_as_by_the_program(
     asking, printer = Asking(register), Printer(register.settings)
     found = date_found(printer, asking, code, code, date, weekday, "")
     assert not printer.cache
-    told = printed_date(printer, asking, code, code, date, weekday, "")
+    page = printed_date(printer, asking, code, code, date, weekday, "")
     register.close()
-    assert told.agreeing
-    assert list(found.printed.agreeing.items()) == list(told.agreeing.items())
-    assert [day.found.day for day in found.days] == list(told.agreeing)
+    assert page.agreeing
+    assert list(found.printed.agreeing.items()) == list(page.agreeing.items())
+    assert [day.found.day for day in found.days] == list(page.agreeing)
