@@ -44,7 +44,7 @@ def create_app(settings: Settings) -> Page:
         NAME=NAME, WEEKDAYS=words.WEEKDAYS, MONTHS=words.MONTHS, ORDERS=words.ORDERS,
         KINDS=dates.KINDS, MONTH_CHOICES=list(enumerate(words.MONTHS, 1)),
         WEEKDAY_CHOICES=[("", words.N_("none given")), *((name, name) for name in words.WEEKDAYS)],
-        ORDER_CHOICES=[("", words.N_("as it is usual")), *words.ORDERS.items()],
+        ORDER_CHOICES=[("", words.N_("in the usual order")), *words.ORDERS.items()],
         LANGUAGES=languages.LANGUAGES, language=languages.language,
         other_language=languages.other_language, _=languages.in_template)
     filters: list[Callable[[Any], Any]] = [

@@ -71,7 +71,7 @@ class MonthFound:
         if len(self.runs) < 2:
             return ""
         if self.changes or len(self.styles) > 1:
-            return _("A change parted it: the year came to this month more than once.")
+            return _("A change divides it: the year reached this month more than once.")
         return _("Years went there from %(beginning)s, which is in this month: its days are at the "
                  "beginning of the year %(year)s and at its end.",
                  beginning=_(BEGINNINGS[self.styles[0]]), year=self.year)

@@ -118,7 +118,7 @@ export class Corrections {
 
     take(row, text) {
         const [, record] = new Records().take(text);
-        if (record === undefined) throw new Error(_("the row has a quote or a line end too many"));
+        if (record === undefined) throw new Error(_("the row has one quote or line end too many"));
         const {sheet} = this;
         if (!sheet.corrected.has(row)) sheet.corrected.set(row, sheet.records[row]);
         this.put(row, record);

@@ -47,7 +47,7 @@ async function send(event) {
         return fault(_("Choose a table first, drop one on the page, or paste its rows."));
     }
     if (chosen && pasted.trim()) {
-        return fault(_("A table is chosen and rows are pasted: take one of both away."));
+        return fault(_("A table is chosen and rows are pasted: remove one of the two."));
     }
     const most = Number(form.dataset.most);
     if (file.size > most) {
