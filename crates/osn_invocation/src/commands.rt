@@ -67,7 +67,7 @@ document, or both years are given. It may be a month, a year, a range or a bound
     },
     CommandRow {
         name: "convert",
-        about: "Prints the day of a calendar's date by every calendar and by its numbers",
+        about: "Converts a date of one calendar to every calendar and to day numbers",
         examples: "Examples:
   ./oldstyle convert julian \"2 September 1752\"
   ./oldstyle convert gregorian 1752-09-14
@@ -170,7 +170,7 @@ dated in it. The figures are of the year from 1 January, and the page says so.",
 pub(crate) const TABLES: [CommandRow; 5] = [
     CommandRow {
         name: "letters",
-        about: "Prints which day the date of each letter of a table on standard input means",
+        about: "Reads a table of letters on standard input, and adds the days that each date means",
         examples: "Examples:
   ./oldstyle letters examples/samples.journal < examples/letters.csv
   ./oldstyle letters examples/samples.journal --places examples/places.csv --summary \\
@@ -194,17 +194,17 @@ edtf, edition and remark.",
             Valued(
                 "year",
                 "NAME",
-                "In place of --date, the name of the column of years alone",
+                "In place of --date, the name of the column of years",
             ),
             Valued(
                 "month",
                 "NAME",
-                "Beside --year, the name of the column of months",
+                "With --year, the name of the column of months",
             ),
             Valued(
                 "day",
                 "NAME",
-                "Beside --month, the name of the column of days",
+                "With --month, the name of the column of days",
             ),
             Valued(
                 "weekday",
@@ -280,19 +280,15 @@ at all. With --follow, edits are refused, and FILE need not be there yet. With
     },
     CommandRow {
         name: "text",
-        about: "Prints the territories that a journal published as a text in TOML, to be edited",
+        about: "Prints, as a text in TOML to be edited, the territories that a journal published",
         examples: "Examples:
   ./oldstyle text examples/samples.journal > territories.toml
   ./oldstyle text examples/samples.journal GB
 
-A text that was not changed plans no edit. Its first line names the edition that it was made of.",
+A text that was not changed plans no edit. Its first line names the edition that it was made from.",
         arguments: &[
             JOURNAL,
-            Optional(
-                "code",
-                "CODE",
-                "The code of the one territory that is printed",
-            ),
+            Optional("code", "CODE", "The code of the only territory to print"),
             LIMITS,
         ],
     },
@@ -361,7 +357,7 @@ editions of the replies may differ from run to run.",
     },
     CommandRow {
         name: "almanac",
-        about: "Prints the almanac of a territory and year, as a journal published the territory",
+        about: "Prints the almanac of a year in a territory that a journal published",
         examples: "Example:
   ./oldstyle almanac examples/samples.journal GB 1752
 
@@ -394,7 +390,7 @@ The command year prints one year alone.",
     },
     CommandRow {
         name: "completions",
-        about: "Prints the text by which a shell completes the program's arguments",
+        about: "Prints the script that lets a shell complete the program's arguments",
         examples: "Example:
   source <(./oldstyle completions bash)",
         arguments: &[Required("shell", "SHELL", "The shell: bash, zsh or fish")],

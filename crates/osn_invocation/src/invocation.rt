@@ -149,7 +149,7 @@ pub enum CommandWords<'a> {
     Text {
         /// The file of the journal.
         journal: &'a str,
-        /// The code of the one territory that is printed, if one is named.
+        /// The code of the only territory to print, if one is named.
         code: Option<&'a str>,
     },
     /// To print the edits that change what a journal published into what a text says.
