@@ -178,15 +178,15 @@ def many(name, key, count, year=False):
 
 # Faults that random ones seldom meet, each with what is reported.
 SELDOM = [
-    (many("changes", "from", 41), "GB.changes.41: 13 TooManyChanges: the register has room for no "
-                                  "further change there (--limits changes=N allows more)"),
+    (many("changes", "from", 41), "GB.changes.41: 13 TooManyChanges: the register has no room for "
+                                  "another change there (--limits changes=N allows more)"),
     (many("easters", "date", 201, True), "GB.easters.201: 14 TooManyExceptions: the register has "
-                                         "room for no further listed Easter there "
+                                         "no room for another listed Easter there "
                                          "(--limits exceptions=N allows more)"),
     (many("easters", "date", 1, True) + ROW.format("easters", "date", 9, "year = 1\n"),
-     "GB.easters.2: 10 ExceptionExists: a year has one listed Easter"),
+     "GB.easters.2: 10 ExceptionExists: a year has at most one listed Easter"),
     ("".join(LAND.format(f"T{number:03}") for number in range(501)),
-     "T500: 12 TooManyLands: the register has room for no further territory "
+     "T500: 12 TooManyLands: the register has no room for another territory "
      "(--limits lands=N allows more)"),
     (LAND.format("GB") + ROW.format("changes", "from", 1, ""),
      "GB.changes.1: 8 OpeningPeriod: a change is later than day 1, on which the territory begins"),

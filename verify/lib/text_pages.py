@@ -34,15 +34,14 @@ REFUSED = {
     "DayOffLine": (5, "a day is 1 to 3652059"),
     "OpeningPeriod": (8, "a change is later than day 1, on which the territory begins"),
     "YearOffRange": (9, "a year is 1 to 9999"),
-    "ExceptionExists": (10, "a year has one listed Easter"),
-    "TooManyLands": (12, "the register has room for no further territory "
+    "ExceptionExists": (10, "a year has at most one listed Easter"),
+    "TooManyLands": (12, "the register has no room for another territory "
                          "(--limits lands=N allows more)"),
-    "TooManyChanges": (13, "the register has room for no further change there "
+    "TooManyChanges": (13, "the register has no room for another change there "
                            "(--limits changes=N allows more)"),
-    "TooManyExceptions": (14, "the register has room for no further listed Easter there "
+    "TooManyExceptions": (14, "the register has no room for another listed Easter there "
                               "(--limits exceptions=N allows more)"),
-    "StyleNeedsJulian": (19, "years from Easter go with the Julian calendar and the Julian rule "
-                             "alone"),
+    "StyleNeedsJulian": (19, "years from Easter require the Julian calendar and the Julian rule"),
 }
 
 
@@ -103,7 +102,7 @@ def parts_of(regime):
 def other_parts(before, regime):
     """What a regime has that the one before has not."""
     other = [part for part in parts_of(regime) if before is None or part not in parts_of(before)]
-    return ", ".join(other) or "no other regime"
+    return ", ".join(other) or "the same regime"
 
 
 def edit_lines(lands, expected, edit):
@@ -159,7 +158,7 @@ def edit_line(lands, expected, edit):
     if "source" in edit:
         return f"{line}; source: {edit['source']}"
     is_lost = edit["op"] == "alter_change" and edit["day"] in lands[edit["code"]].sources
-    return line + "; no source any more" * is_lost
+    return line + "; source removed" * is_lost
 
 
 def edit_words(lands, expected, edit):
@@ -175,11 +174,11 @@ def edit_words(lands, expected, edit):
         day = numbered(Territory(expected[code]), edit["day"])
         return f"{code}: from {day}: {other_parts(before, regime)}"
     if op == "drop_change":
-        return f"{code}: no change any more on {numbered(Territory(lands[code]), edit['day'])}"
+        return f"{code}: no longer a change on {numbered(Territory(lands[code]), edit['day'])}"
     if op == "add_exception":
         day = numbered(Territory(expected[code]), edit["day"])
         return f"{code}: Easter of {edit['year']} on {day}"
-    return f"{code}: no listed Easter of {edit['year']} any more"
+    return f"{code}: no longer a listed Easter of {edit['year']}"
 
 
 def absent_lines(lands, expected):
@@ -219,11 +218,11 @@ def fault_words(fault):
         "NotTable": lambda: "write a table",
         "NotLater": lambda: "not later than the change before it",
         "Missing": lambda: f"missing: {ALLOWED[key]}",
-        "Unquoted": lambda: 'put the date in quotes, as { gregorian = "1752-09-14" }',
+        "Unquoted": lambda: 'put the date in quotes, such as { gregorian = "1752-09-14" }',
         "NoSuchDate": lambda: f"no such day in the {fault.detail} calendar",
         "Refused": lambda: "{1} {0}: {2}".format(fault.detail, *REFUSED[fault.detail]),
     }
-    words |= {f"No{word.capitalize()}": lambda: f'"{fault.detail}" is no {key}: {ALLOWED[key]}'
+    words |= {f"No{word.capitalize()}": lambda: f'"{fault.detail}" is not a {key}: {ALLOWED[key]}'
               for word in WORDS}
     reason_text = words.get(fault.reason, lambda: ALLOWED[key])()
     return escaped(f"{fault.path}: {reason_text}")

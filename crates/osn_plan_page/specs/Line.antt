@@ -16,16 +16,16 @@ change_words code day regime =
 unfoldable pub opening_words : List ℕ → List ℕ → List ℕ
 opening_words code regime = code ++ (codes ": opening: " ++ regime)
 
--- GB: no change any more on Thursday 14 September 1752 (day 639797)
+-- GB: no longer a change on Thursday 14 September 1752 (day 639797)
 unfoldable pub drop_words : List ℕ → List ℕ → List ℕ
-drop_words code day = code ++ (codes ": no change any more on " ++ day)
+drop_words code day = code ++ (codes ": no longer a change on " ++ day)
 
 -- SE: Easter of 1802 on Sunday 25 April 1802 (day 657916)
 unfoldable pub easter_words : List ℕ → ℤ → List ℕ → List ℕ
 easter_words code year day =
     code ++ (codes ": Easter of " ++ (signed_decimal year ++ (codes " on " ++ day)))
 
--- SE: no listed Easter of 1802 any more
+-- SE: no longer a listed Easter of 1802
 unfoldable pub no_easter_words : List ℕ → ℤ → List ℕ
 no_easter_words code year =
-    code ++ (codes ": no listed Easter of " ++ (signed_decimal year ++ codes " any more"))
+    code ++ (codes ": no longer a listed Easter of " ++ signed_decimal year)

@@ -47,7 +47,7 @@ unfoldable pub further_part : Part → List ℕ
 further_part part = codes ", " ++ part_words part
 
 abbrev pub part_list : List Part → List ℕ
-part_list [] = codes "no other regime"
+part_list [] = codes "the same regime"
 part_list (first ∷ further) = part_words first ++ flat_map further_part further
 
 -- what differs from before, in words

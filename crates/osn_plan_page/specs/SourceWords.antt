@@ -24,5 +24,5 @@ source_part source = codes "; source: " ++ source
 -- the source that is given, or that there is no source any more
 abbrev pub source_words : Option (List ℕ) → Option (List ℕ) → List ℕ
 source_words (Some source) before = source_part source
-source_words None (Some source) = codes "; no source any more"
+source_words None (Some source) = codes "; source removed"
 source_words None None = []

@@ -50,7 +50,7 @@ pub(crate) fn push_drop(out: &mut String, code: &str, day: EditDay) -> Result<()
     ensures { OnOk result (string_bytes out.new ≡ string_bytes out.old
         ++ spec.drop_words code.now (day_words day.dated day.number)) }
 {
-    write!(out, "{code}: no change any more on {day}")
+    write!(out, "{code}: no longer a change on {day}")
 }
 
 /// Appends that an Easter is listed.
@@ -73,5 +73,5 @@ pub(crate) fn push_no_easter(out: &mut String, code: &str, year: i64) -> Result<
     ensures { OnOk result (string_bytes out.new
         ≡ string_bytes out.old ++ spec.no_easter_words code.now year) }
 {
-    write!(out, "{code}: no listed Easter of {year} any more")
+    write!(out, "{code}: no longer a listed Easter of {year}")
 }

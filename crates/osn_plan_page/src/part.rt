@@ -113,7 +113,7 @@ fn push_list(out: &mut String, parts: &[Part]) -> Result<(), AllocError>
         ≡ string_bytes out.old ++ spec.part_list parts.now) }
 {
     match parts {
-        [] => out.push_str("no other regime"),
+        [] => out.push_str("the same regime"),
         [first, further @ ..] => {
             write!(out, "{}", *first)?;
             push_further_parts(out, further)

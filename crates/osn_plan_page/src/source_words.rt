@@ -51,7 +51,7 @@ pub(crate) fn push_source_words(
 {
     match (given, before) {
         (Some(source), _) => push_source_part(out, source),
-        (None, Some(_)) => out.push_str("; no source any more"),
+        (None, Some(_)) => out.push_str("; source removed"),
         (None, None) => Ok(()),
     }
 }

@@ -23,9 +23,9 @@ value_text key values.Missing = codes "missing: " ++ allowed_at key
 value_text key values.Form = allowed_at key
 value_text key (values.UnknownWord word) =
     codes "\""
-    ++ (shown word ++ (codes "\" is no " ++ (key_name key ++ (codes ": " ++ allowed_at key))))
+    ++ (shown word ++ (codes "\" is not a " ++ (key_name key ++ (codes ": " ++ allowed_at key))))
 value_text key values.Unquoted = codes
-    "put the date in quotes, as { gregorian = \"1752-09-14\" }"
+    "put the date in quotes, such as { gregorian = \"1752-09-14\" }"
 value_text key (values.NoSuchDate calendar) =
     codes "no such day in the " ++ (calendar_word calendar ++ codes " calendar")
 
@@ -37,7 +37,7 @@ reason_text part (reasons.UnknownKey name) =
 reason_text part (reasons.Value key fault) =
     codes "." ++ (key_name key ++ (codes ": " ++ value_text key fault))
 reason_text part reasons.NotEdition =
-    codes ": write the number of the edition that the text was made of, as 3"
+    codes ": write the number of the edition that the text was made from, such as 3"
 reason_text part reasons.NotLater = codes ": not later than the change before it"
 reason_text part (reasons.Refused refusal) =
     codes ": " ++ (decimal (refusal_number refusal)

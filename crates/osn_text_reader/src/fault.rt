@@ -102,13 +102,13 @@ impl<'a> fmt::Display for ValueText<'a> {
             ValueFault::UnknownWord(word) => {
                 write!(
                     f,
-                    "\"{}\" is no {}: {allowed}",
+                    "\"{}\" is not a {}: {allowed}",
                     Shown(word.as_str()),
                     self.key.name()
                 )
             }
             ValueFault::Unquoted => {
-                f.write_str("put the date in quotes, as { gregorian = \"1752-09-14\" }")
+                f.write_str("put the date in quotes, such as { gregorian = \"1752-09-14\" }")
             }
             ValueFault::NoSuchDate(calendar) => {
                 write!(f, "no such day in the {} calendar", calendar.word())
@@ -144,9 +144,9 @@ impl<'a> fmt::Display for ReasonText<'a> {
                 let text = ValueText { key: *key, fault };
                 write!(f, ".{}: {text}", key.name())
             }
-            Reason::NotEdition => {
-                f.write_str(": write the number of the edition that the text was made of, as 3")
-            }
+            Reason::NotEdition => f.write_str(
+                ": write the number of the edition that the text was made from, such as 3",
+            ),
             Reason::NotLater => f.write_str(": not later than the change before it"),
             Reason::Refused(refusal) => {
                 let allowed = refusal_words(*refusal);

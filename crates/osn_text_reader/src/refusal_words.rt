@@ -11,31 +11,31 @@ pub(crate) fn refusal_words(refusal: Refusal) -> &'static str
     match refusal {
         Refusal::BadCode => "a code has 2 to 8 capital letters or digits, the first a letter",
         Refusal::BadName => "a name has 1 to 64 bytes, and no control character",
-        Refusal::UnknownLand => "an edit is of a territory that the register has",
-        Refusal::LandExists => "a code has one territory",
+        Refusal::UnknownLand => "an edit names a territory that the register has",
+        Refusal::LandExists => "a code belongs to one territory",
         Refusal::DayOffLine => "a day is 1 to 3652059",
-        Refusal::ChangeExists => "a territory has one change on a day",
+        Refusal::ChangeExists => "a territory has at most one change on a day",
         Refusal::NoSuchChange => "a change is on a day on which a period starts",
         Refusal::OpeningPeriod => "a change is later than day 1, on which the territory begins",
         Refusal::YearOffRange => "a year is 1 to 9999",
-        Refusal::ExceptionExists => "a year has one listed Easter",
-        Refusal::NoSuchException => "a listed Easter is of a year that has one",
+        Refusal::ExceptionExists => "a year has at most one listed Easter",
+        Refusal::NoSuchException => "only a year with a listed Easter can lose it",
         Refusal::TooManyLands => {
-            "the register has room for no further territory (--limits lands=N allows more)"
+            "the register has no room for another territory (--limits lands=N allows more)"
         }
         Refusal::TooManyChanges => {
-            "the register has room for no further change there (--limits changes=N allows more)"
+            "the register has no room for another change there (--limits changes=N allows more)"
         }
         Refusal::TooManyExceptions => {
-            "the register has room for no further listed Easter there \
+            "the register has no room for another listed Easter there \
 (--limits exceptions=N allows more)"
         }
-        Refusal::NothingPending => "an edition has an edit",
-        Refusal::JournalFull => "the journal has room for no further edit",
-        Refusal::EditionsFull => "the journal has room for no further edition",
+        Refusal::NothingPending => "an edition has at least one edit",
+        Refusal::JournalFull => "the journal has no room for another edit",
+        Refusal::EditionsFull => "the journal has no room for another edition",
         Refusal::BadDate => "a month is 1 to 12 and a day 1 to 31",
         Refusal::StyleNeedsJulian => {
-            "years from Easter go with the Julian calendar and the Julian rule alone"
+            "years from Easter require the Julian calendar and the Julian rule"
         }
         Refusal::NoMemory => "the call may be tried again",
         Refusal::BadCount => "there are 1 to 64 readers",
