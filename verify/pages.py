@@ -30,22 +30,23 @@ CALENDARS = ["gregorian", "julian", "swedish"]
 WRONG_WORDS = {
     "form": 'a date is written 1731-02-11, "11 February 1731" or "11 February 1731/2", '
             "with a weekday before it or without",
-    "short year": "a year of one or two digits needs its zeros, as 0045",
+    "short year": "a year of one or two digits needs its zeros, such as 0045",
     "later year": "after the / comes the year that follows, in full or its last digits, "
-                  "as 1731/2, 1731/32 or 1731/1732",
+                  "such as 1731/2, 1731/32 or 1731/1732",
     "year": "a year is 0 to 10000",
-    "month": "a month is 1 to 12: of a range of years write the later year in full, as 1640-1645",
+    "month": "a month is 1 to 12: in a range of years write the later year in full, such as "
+             "1640-1645",
     "day": "a day of a month is 1 to 31",
 }
-WEEKDAY = "a weekday is written by its English name, as Friday"
+WEEKDAY = "a weekday is written by its English name, such as Friday"
 CALENDAR = "a calendar is gregorian, julian or swedish; after the word day or jdn, write a number"
 DAY_NUMBER = "a day number is 1 to 3652059"
-JULIAN_NUMBER = 'a Julian day number is 1721426 to 5373484, as "JDN 2353712"'
+JULIAN_NUMBER = 'a Julian day number is 1721426 to 5373484, such as "JDN 2353712"'
 EITHER = "{0} may be a day number or a Julian day number: write "
 EITHER_NUMBER = EITHER + '"day {0}" or "JDN {0}" in its place, with the quotes'
 CONVERSION = EITHER + 'oldstyle convert jdn {0}, or oldstyle convert day "day {0}"'
 MONTH = "a month is 1 to 12 or its name, such as September or Sept"
-YEAR = "a year is 1 to 9999 as the place counted it: of 1731/2 write 1731"
+YEAR = "a year is 1 to 9999 as the place counted it: for 1731/2 write 1731"
 # Wrong arguments, of which the last one is reported, and what is reported. FILE is the journal.
 MISTAKES = [
     ("read FILE XX 1700-01-01 --weekday Fryday", WEEKDAY),

@@ -8,7 +8,7 @@ DAY = re.compile(r"(from |to   )?(\w+day) (.+?)    (.+) Gregorian    (.+) Julian
 COUNT = re.compile(r"(\d+) days?$")
 WAITING = re.compile(r"\d+ edits? (is|are) not published yet")
 FLAGS = {"approximate", "in doubt", "supplied by an editor"}
-ORDER = ", or say --order dmy or mdy"
+ORDER = ", or use --order dmy or mdy"
 DAY_FACTS = ["As dated there", "Weekday", "Gregorian", "Julian", "Day number",
              "Julian day number"]
 # `read` refuses a date with two weekdays; the query answers that its days don't have both.

@@ -59,7 +59,7 @@ def test_days_of_a_given_weekday_come_first() -> None:
 
 def test_a_text_that_is_not_read_has_advice() -> None:
     assert found("year of one or two digits").advice == (
-        "A year of one or two digits needs its zeros, as 0045.")
+        "A year of one or two digits needs its zeros, such as 0045.")
     assert found("year of one or two digits", "none", "a note").advice == ""
     assert found("skipped", "day").advice == found(None, "year").advice == ""
 

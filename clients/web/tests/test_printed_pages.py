@@ -51,7 +51,7 @@ def test_days_and_counts_are_no_notes() -> None:
 
 
 def test_a_report_of_a_date_lacks_the_date() -> None:
-    stderr = "oldstyle: 11/2/1731: open between day and month, or say --order dmy or mdy\nmore"
+    stderr = "oldstyle: 11/2/1731: open between day and month, or use --order dmy or mdy\nmore"
     found = printed_pages.date_on(Page([], stderr), "A", "AA", "11/2/1731")
     assert found.notes == ["open between day and month"]
 

@@ -108,7 +108,7 @@ bad_line role line why =
 abbrev pub older_line : Version → List ℕ
 older_line version = codes "oldstyle: a journal of version "
     ++ (decimal (version_number version)
-    ++ (codes " is not kept: serve --keep with --upgrade saves it " ++ codes "anew as version 4\n"))
+    ++ codes " is not kept: serve --keep with --upgrade saves it as version 4\n")
 
 -- the line on a refused line that the service ended at
 abbrev pub refused_line : ℕ → List ℕ

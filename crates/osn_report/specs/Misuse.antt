@@ -23,19 +23,21 @@ date_text faults.Malformed =
     ++ codes "with a weekday before it or without"
 date_text faults.LaterYear =
     codes "after the / comes the year that follows, in full or its last digits, "
-    ++ codes "as 1731/2, 1731/32 or 1731/1732"
+    ++ codes "such as 1731/2, 1731/32 or 1731/1732"
 date_text faults.Year = codes "a year is 0 to 10000"
 date_text faults.Month =
-    codes "a month is 1 to 12: of a range of years write the later year in full, as 1640-1645"
+    codes "a month is 1 to 12: in a range of years write the later year in full, "
+    ++ codes "such as 1640-1645"
 date_text faults.Day = codes "a day of a month is 1 to 31"
-date_text faults.NoDate = codes "it says no date: write a day, as \"11 February 1731\""
+date_text faults.NoDate = codes
+    "it says that there is no date: write a day, such as \"11 February 1731\""
 date_text faults.NotOneDay = codes
-    "a month, a year or a range is not one day: write the day, as \"11 February 1731\""
+    "a month, a year or a range is not one day: write the day, such as \"11 February 1731\""
 date_text faults.Qualifier = codes
-    "about, ?, [ ], O.S. and their like say more than the day: write the day alone"
-date_text faults.ShortYear = codes "a year of one or two digits needs its zeros, as 0045"
+    "about, ?, [ ], O.S. and the like say more than the day: write only the day"
+date_text faults.ShortYear = codes "a year of one or two digits needs its zeros, such as 0045"
 date_text faults.OpenYear = codes
-    "173? may be any year of a decade: write the year in four digits, as 1731 or 0173"
+    "173? may be any year of a decade: write the year in four digits, such as 1731 or 0173"
 date_text faults.DayOrMonth = codes
     "11/2/1731 may be 11 February or 2 November: write the month by its name"
 date_text faults.TwoDays = codes
@@ -46,14 +48,14 @@ date_text faults.RomanNumeral = codes "a Roman numeral is not read: write the nu
 -- what the place of the word asks for
 abbrev pub misuse_text : Misuse → List ℕ
 misuse_text (Date fault) = date_text fault
-misuse_text Weekday = codes "a weekday is written by its English name, as Friday"
+misuse_text Weekday = codes "a weekday is written by its English name, such as Friday"
 misuse_text (OtherWeekday named) = codes "the date names "
     ++ (weekday_name named ++ codes ": write one weekday, or the same one twice")
 misuse_text Calendar = codes
     "a calendar is gregorian, julian or swedish; after the word day or jdn, write a number"
 misuse_text DayNumber = codes "a day number is 1 to 3652059"
 misuse_text JulianDayNumber = codes
-    "a Julian day number is 1721426 to 5373484, as \"JDN 2353712\""
+    "a Julian day number is 1721426 to 5373484, such as \"JDN 2353712\""
 misuse_text (WhichDayNumber number) =
     decimal number
     ++ (codes " may be a day number or a Julian day number: write \"day "
@@ -64,17 +66,17 @@ misuse_text (WhichConversion number) =
     ++ (codes " may be a day number or a Julian day number: write oldstyle convert jdn "
     ++ (decimal number
     ++ (codes ", or oldstyle convert day \"day " ++ (decimal number ++ codes "\""))))
-misuse_text DoubleDate = codes "a date with both years is a territory's: use oldstyle read"
+misuse_text DoubleDate = codes "a date with both years depends on a territory: use oldstyle read"
 misuse_text (NoSuchDate calendar) = codes "the "
     ++ (calendar_word calendar ++ codes " calendar has no such date in the years 1 to 9999")
 misuse_text Month = codes "a month is 1 to 12 or its name, such as September or Sept"
-misuse_text Year = codes "a year is 1 to 9999 as the place counted it: of 1731/2 write 1731"
+misuse_text Year = codes "a year is 1 to 9999 as the place counted it: for 1731/2 write 1731"
 misuse_text Limits = codes
     "limits are some of lands=N,changes=N,exceptions=N,edits=N,editions=N, with a comma between"
 misuse_text Separator = codes "a separator is comma, semicolon or tab"
 misuse_text Order = codes "an order is dmy, for 11/2/1731 as 11 February, or mdy, for 2/11/1731"
 misuse_text OpenOrder = codes "11/2/1731 may be 11 February or 2 November: "
-    ++ codes "write the month by its name, or say --order dmy or mdy"
+    ++ codes "write the month by its name, or use --order dmy or mdy"
 misuse_text DateAndParts = codes
     "it can't be used with --year, --month or --day: leave it out, or leave them out"
 misuse_text PartWithoutYear = codes "it requires --year: name the column of years too"

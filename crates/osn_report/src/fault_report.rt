@@ -124,7 +124,7 @@ fn older_version(alloc: Global, version: Version) -> Result<String, AllocError>
     let number = version.number();
     format!(in alloc;
         "oldstyle: a journal of version {number} is not kept: serve --keep with --upgrade saves it \
-anew as version 4\n"
+as version 4\n"
     )
 }
 

@@ -68,24 +68,27 @@ fn date_text(fault: DateFault) -> &'static str
 with a weekday before it or without"
         }
         DateFault::LaterYear => {
-            "after the / comes the year that follows, in full or its last digits, as 1731/2, \
-1731/32 or 1731/1732"
+            "after the / comes the year that follows, in full or its last digits, \
+such as 1731/2, 1731/32 or 1731/1732"
         }
         DateFault::Year => "a year is 0 to 10000",
         DateFault::Month => {
-            "a month is 1 to 12: of a range of years write the later year in full, as 1640-1645"
+            "a month is 1 to 12: in a range of years write the later year in full, \
+such as 1640-1645"
         }
         DateFault::Day => "a day of a month is 1 to 31",
-        DateFault::NoDate => "it says no date: write a day, as \"11 February 1731\"",
+        DateFault::NoDate => {
+            "it says that there is no date: write a day, such as \"11 February 1731\""
+        }
         DateFault::NotOneDay => {
-            "a month, a year or a range is not one day: write the day, as \"11 February 1731\""
+            "a month, a year or a range is not one day: write the day, such as \"11 February 1731\""
         }
         DateFault::Qualifier => {
-            "about, ?, [ ], O.S. and their like say more than the day: write the day alone"
+            "about, ?, [ ], O.S. and the like say more than the day: write only the day"
         }
-        DateFault::ShortYear => "a year of one or two digits needs its zeros, as 0045",
+        DateFault::ShortYear => "a year of one or two digits needs its zeros, such as 0045",
         DateFault::OpenYear => {
-            "173? may be any year of a decade: write the year in four digits, as 1731 or 0173"
+            "173? may be any year of a decade: write the year in four digits, such as 1731 or 0173"
         }
         DateFault::DayOrMonth => {
             "11/2/1731 may be 11 February or 2 November: write the month by its name"
@@ -104,7 +107,9 @@ impl fmt::Display for Misuse {
     fn fmt<W: fmt::Write>(&self, f: &mut fmt::Formatter<W>) -> fmt::Result {
         match *self {
             Misuse::Date(fault) => f.write_str(date_text(fault)),
-            Misuse::Weekday => f.write_str("a weekday is written by its English name, as Friday"),
+            Misuse::Weekday => f.write_str(
+                "a weekday is written by its English name, such as Friday",
+            ),
             Misuse::OtherWeekday(named) => write!(
                 f,
                 "the date names {}: write one weekday, or the same one twice",
@@ -116,7 +121,7 @@ number",
             ),
             Misuse::DayNumber => f.write_str("a day number is 1 to 3652059"),
             Misuse::JulianDayNumber => {
-                f.write_str("a Julian day number is 1721426 to 5373484, as \"JDN 2353712\"")
+                f.write_str("a Julian day number is 1721426 to 5373484, such as \"JDN 2353712\"")
             }
             Misuse::WhichDayNumber(number) => write!(
                 f,
@@ -129,7 +134,7 @@ number",
 {number}, or oldstyle convert day \"day {number}\"",
             ),
             Misuse::DoubleDate => f.write_str(
-                "a date with both years is a territory's: use oldstyle read",
+                "a date with both years depends on a territory: use oldstyle read",
             ),
             Misuse::NoSuchDate(calendar) => write!(
                 f,
@@ -140,7 +145,7 @@ number",
                 "a month is 1 to 12 or its name, such as September or Sept",
             ),
             Misuse::Year => f.write_str(
-                "a year is 1 to 9999 as the place counted it: of 1731/2 write 1731",
+                "a year is 1 to 9999 as the place counted it: for 1731/2 write 1731",
             ),
             Misuse::Limits => f.write_str(
                 "limits are some of lands=N,changes=N,exceptions=N,edits=N,editions=N, \
@@ -151,7 +156,7 @@ with a comma between",
                 "an order is dmy, for 11/2/1731 as 11 February, or mdy, for 2/11/1731",
             ),
             Misuse::OpenOrder => f.write_str(
-                "11/2/1731 may be 11 February or 2 November: write the month by its name, or say \
+                "11/2/1731 may be 11 February or 2 November: write the month by its name, or use \
 --order dmy or mdy",
             ),
             Misuse::DateAndParts => f.write_str(

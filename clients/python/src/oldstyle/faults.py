@@ -84,7 +84,7 @@ class BadField(Fault):
 
     def __init__(self, reply: Mapping[str, Any], question: str):
         if reply.get("field") == "weekday":
-            self.advice = "a weekday is its English name, as Friday"
+            self.advice = "a weekday is its English name, such as Friday"
         super().__init__(reply, question)
 
 

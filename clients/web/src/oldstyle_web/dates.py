@@ -27,15 +27,15 @@ ADVICE = {
     "malformed date": N_('a date is written 1731-02-11, "11 February 1731" or "11 February 1731/2", '
                          "with a weekday before it or without"),
     "not the year that follows": N_("after the / comes the year that follows, in full or its last "
-                                    "digits, as 1731/2, 1731/32 or 1731/1732"),
+                                    "digits, such as 1731/2, 1731/32 or 1731/1732"),
     "no year from 0 to 10000": N_("a year is 0 to 10000"),
-    "no month from 1 to 12": N_("a month is 1 to 12: of a range of years write the later year in "
-                                "full, as 1640-1645"),
+    "no month from 1 to 12": N_("a month is 1 to 12: in a range of years write the later year in "
+                                "full, such as 1640-1645"),
     "no day from 1 to 31": N_("a day of a month is 1 to 31"),
-    "no date": N_('it says no date: write a day, as "11 February 1731"'),
-    "year of one or two digits": N_("a year of one or two digits needs its zeros, as 0045"),
+    "no date": N_('it says that there is no date: write a day, such as "11 February 1731"'),
+    "year of one or two digits": N_("a year of one or two digits needs its zeros, such as 0045"),
     "year with an open digit": N_("173? may be any year of a decade: write the year in four "
-                                  "digits, as 1731 or 0173"),
+                                  "digits, such as 1731 or 0173"),
     "open between day and month": N_("11/2/1731 may be 11 February or 2 November: write the month "
                                      "by its name"),
     "day by both calendars": N_("11/22 February 1731 is a day by two calendars: write it by one of "
