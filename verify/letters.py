@@ -30,9 +30,10 @@ SPACES = ["", "", "", " ", "\t", "  "]
 LONGEST = 65_536
 
 # What is reported of a table, after `oldstyle: letters line <n>: `.
-LACKS = "no column {name}: the columns are {found}: name yours by --{role}"
-IS_THERE = "the column {name} is there already: take it out or rename it"
-OTHER_NUMBER = "another number of fields than the header"
+LACKS = "no column {name}: the columns are {found}: name yours with --{role}"
+IN_UTF_16 = "the table is in UTF-16: save it as CSV in UTF-8"
+IS_THERE = "the column {name} is already there: remove it or rename it"
+OTHER_NUMBER = "a different number of fields than the header"
 TOO_LONG = "a record of more than 65536 bytes"
 OPEN_QUOTE = "a quote that opens in this record is never closed"
 TEXT_AFTER = "text follows a closing quote"

@@ -10,8 +10,8 @@ import re
 
 from lib.common import TOP
 from lib.letter_rows import COLUMNS, letter_fields
-from letters import (IS_THERE, LACKS, LONGEST, OPEN_QUOTE, OTHER_NUMBER, SEPARATORS, TEXT_AFTER,
-                     TOO_LONG, line_ends)
+from letters import (IN_UTF_16, IS_THERE, LACKS, LONGEST, OPEN_QUOTE, OTHER_NUMBER, SEPARATORS,
+                     TEXT_AFTER, TOO_LONG, line_ends)
 from lib.mutations import Run, mutated
 from lib.text_pages import escaped
 from reference import REGIME, Service
@@ -136,6 +136,8 @@ def bad_header(columns):
             return IS_THERE.format(name=name).encode()
     for role in ROLES[:2]:
         if role.encode() not in columns:
+            if any(b"\0" in name for name in columns):
+                return IN_UTF_16.encode()
             found = escaped(b", ".join(columns).decode("utf-8", "replace"))
             return LACKS.format(name=role, found=found, role=role).encode()
     return None

@@ -101,7 +101,7 @@ def test_a_missing_program_is_reported_without_its_path() -> None:
 
 def test_a_fault_of_the_table_is_reported_in_terms_of_the_page(
         script: Callable[[str], str]) -> None:
-    program = script("echo 'oldstyle: line 1: no column date: name yours by --date' >&2; exit 1")
+    program = script("echo 'oldstyle: line 1: no column date: name yours with --date' >&2; exit 1")
     with pytest.raises(Problem) as why:
         Tables(Settings(SAMPLES, program)).rows({}, table_of(b"x\n"), None)
     assert why.value.code == 422

@@ -1,8 +1,10 @@
 -- What a command has written of a table of letters when it ends.
-use Rattle.std.specs.Prelude.{◌≡◌, ◌⊎◌, ◌≤◌, ◌++◌, ◌&&◌, ℕ, Bool, true, false, if◌then◌else◌}
+use Rattle.std.specs.Prelude.{◌≡◌, ◌==◌, ◌⊎◌, ◌≤◌, ◌++◌, ◌&&◌, ℕ, Bool, true, false}
+use Rattle.std.specs.Prelude.{if◌then◌else◌}
 use Rattle.std.specs.Prelude.{List, [], length, codes}
 use Rattle.std.specs.Prelude.{Option, IfSome, option_map, unwrap_or}
 use Rattle.std.specs.Fmt.{decimal}
+use Rattle.std.specs.List.{list_any}
 use Rattle.osn_days.specs.Profile.{newest_rules}
 use Rattle.osn_grammar.specs.declared.written.DateOrder.{DateOrder}
 use Rattle.osn_register.specs.declared.limits.Limits.{Limits}
@@ -81,14 +83,27 @@ option_of column.Month = codes "--month"
 option_of column.Day = codes "--day"
 option_of column.Weekday = codes "--weekday"
 
+-- a header has a zero byte, as in UTF-16
+abbrev pub is_wide : List ℕ → Bool
+is_wide = list_any (λ byte. byte == 0)
+
+-- the text on a table in UTF-16
+abbrev pub wide_text : List ℕ
+wide_text = codes "the table is in UTF-16: save it as CSV in UTF-8"
+
 -- the line on a header that lacks a column and has these
-abbrev pub lacks_line : NameTexts → Column → ℕ → List ℕ → List ℕ
-lacks_line names missing line found = codes "oldstyle: letters line "
+abbrev pub columns_line : NameTexts → Column → ℕ → List ℕ → List ℕ
+columns_line names missing line found = codes "oldstyle: letters line "
     ++ (decimal line
     ++ (codes ": no column "
     ++ (shown (name_of names missing)
     ++ (codes ": the columns are "
-    ++ (shown found ++ (codes ": name yours by " ++ (option_of missing ++ codes "\n")))))))
+    ++ (shown found ++ (codes ": name yours with " ++ (option_of missing ++ codes "\n")))))))
+
+-- the line on a header that lacks a column
+abbrev pub lacks_line : NameTexts → Column → ℕ → List ℕ → List ℕ
+lacks_line names missing line found =
+    if is_wide found then record_line line wide_text else columns_line names missing line found
 
 -- the line on a column of a header
 abbrev pub column_line : ℕ → List ℕ → List ℕ → List ℕ
@@ -99,7 +114,7 @@ column_line line name text = codes "oldstyle: letters line "
 -- the line on a header that has one of the added columns already
 abbrev pub has_line : ℕ → AddedColumn → List ℕ
 has_line line added =
-    column_line line (added_name added) (codes "is there already: take it out or rename it")
+    column_line line (added_name added) (codes "is already there: remove it or rename it")
 
 -- it was reported why the table ended early; nothing is reported about an output that failed
 abbrev pub TellsTable : NameTexts → Output → LettersFault → Status → Type 0
@@ -110,7 +125,7 @@ TellsTable names e (ends.LacksColumn missing line found) status =
 TellsTable names e (ends.HasColumn line added) status =
     TellsIfMade e statuses.Refused (has_line line added) status
 TellsTable names e (ends.BadRecord line) status = TellsIfMade e statuses.Refused
-    (record_line line (codes "another number of fields than the header")) status
+    (record_line line (codes "a different number of fields than the header")) status
 TellsTable names e (ends.TooLong line) status = TellsIfMade e statuses.Refused
     (record_line line (codes "a record of more than 65536 bytes")) status
 TellsTable names e (ends.OpenQuote line) status = TellsIfMade e statuses.Refused

@@ -1,5 +1,6 @@
 -- Why a table of places was not read, and how that is reported. This project's profile.
-use Rattle.std.specs.Prelude.{◌≡◌, ◌≤◌, ℕ, true, List, ◌++◌, length, IfSome, Err, codes}
+use Rattle.std.specs.Prelude.{◌≡◌, ◌≤◌, ℕ, true, if◌then◌else◌, List, ◌++◌, length, IfSome}
+use Rattle.std.specs.Prelude.{Err, codes}
 use Rattle.std.specs.Fmt.{decimal}
 use Rattle.osn_folder.specs.declared.fault.OpenFailed.TheVariants.{Other}
 use Rattle.osn_letters.specs.Faults.{EndsStream}
@@ -9,6 +10,7 @@ use Rattle.osn_letters.specs.declared.places_fault.PlacesColumn.{PlacesColumn}
 use Rattle.osn_letters.specs.declared.places_fault.PlacesFault.{PlacesFault}
 use Rattle.osn_letters.specs.declared.places_fault.PlacesFault.TheVariants as faults
 use Rattle.osn_lines.specs.Streams.{Input, Output}
+use Rattle.osn_page_commands.specs.Letters.{is_wide, wide_text}
 use Rattle.osn_report.specs.Messages.{EndsBy, TellsIfMade}
 use Rattle.osn_report.specs.Unopened.{unopened_line}
 use Rattle.osn_shown.specs.Shown.{shown}
@@ -30,8 +32,8 @@ places_line path line text = codes "oldstyle: "
     ++ (shown path ++ (codes " line " ++ (decimal line ++ (codes ": " ++ (text ++ codes "\n")))))
 
 -- the line on a header that lacks a column and has these
-abbrev pub lacks_line : List ℕ → PlacesColumn → ℕ → List ℕ → List ℕ
-lacks_line path missing line found = codes "oldstyle: "
+abbrev pub columns_line : List ℕ → PlacesColumn → ℕ → List ℕ → List ℕ
+columns_line path missing line found = codes "oldstyle: "
     ++ (shown path
     ++ (codes " line "
     ++ (decimal line
@@ -39,6 +41,11 @@ lacks_line path missing line found = codes "oldstyle: "
     ++ (column_name missing
     ++ (codes ": the columns are "
     ++ (shown found ++ (codes ": name one " ++ (column_name missing ++ codes "\n")))))))))
+
+-- the line on a header that lacks a column
+abbrev pub lacks_line : List ℕ → PlacesColumn → ℕ → List ℕ → List ℕ
+lacks_line path missing line found =
+    if is_wide found then places_line path line wide_text else columns_line path missing line found
 
 -- the line on a place that has two codes
 abbrev pub codes_line : List ℕ → ℕ → List ℕ → List ℕ
@@ -58,7 +65,7 @@ TellsPlaces path e (faults.LacksColumn missing line found) status =
 TellsPlaces path e (faults.TwoCodes line place) status =
     TellsIfMade e statuses.Refused (codes_line path line place) status
 TellsPlaces path e (faults.BadRecord line) status = TellsIfMade e statuses.Refused (places_line
-    path line (codes "another number of fields than the header: give each row as many")) status
+    path line (codes "a different number of fields than the header: give each row as many")) status
 TellsPlaces path e (faults.TooLong line) status = TellsIfMade e statuses.Refused (places_line
     path line (codes "a record of more than 65536 bytes: look for a quote that is not closed"))
     status

@@ -5,6 +5,7 @@ ghost use Rattle.osn_page_commands.specs.Places as spec;
 ghost use Rattle.osn_report.specs.Messages.{TellsIfMade};
 ghost use Rattle.osn_report.specs.declared.status.Status.{Status};
 
+use crate::table_faults::{WIDE, is_wide};
 use osn_folder::OpenFailed;
 use osn_letters::{PlacesColumn, PlacesFault};
 use osn_lines::Sink;
@@ -14,7 +15,7 @@ use std::alloc::{AllocError, Global};
 
 const NO_HEADER: &str = "no header: the first line names the columns place and code";
 
-const BAD_RECORD: &str = "another number of fields than the header: give each row as many";
+const BAD_RECORD: &str = "a different number of fields than the header: give each row as many";
 
 const TOO_LONG: &str = "a record of more than 65536 bytes: look for a quote that is not closed";
 
@@ -31,16 +32,16 @@ fn places_line(alloc: Global, path: &str, line: u64, text: &str) -> Result<Strin
     format!(in alloc; "oldstyle: {} line {line}: {text}\n", Shown(path))
 }
 
-/// Returns the line on a header that lacks a column and has these.
-fn lacks_line(
+/// Returns the line on a header that lacks a column, with the names that it has.
+fn columns_line(
     alloc: Global,
     path: &str,
     column: PlacesColumn,
     line: u64,
     header: &str,
 ) -> Result<String, AllocError>
-    ensures { IfOk result (λ told. string_bytes told
-        ≡ spec.lacks_line path.now column line header.now) }
+    ensures { IfOk result (λ text. string_bytes text
+        ≡ spec.columns_line path.now column line header.now) }
 {
     let name = column.name();
     format!(in alloc;
@@ -48,6 +49,23 @@ fn lacks_line(
         Shown(path),
         Shown(header)
     )
+}
+
+/// Returns the line on a header that lacks a column.
+fn lacks_line(
+    alloc: Global,
+    path: &str,
+    column: PlacesColumn,
+    line: u64,
+    header: &str,
+) -> Result<String, AllocError>
+    ensures { IfOk result (λ text. string_bytes text
+        ≡ spec.lacks_line path.now column line header.now) }
+{
+    if is_wide(header) {
+        return places_line(alloc, path, line, WIDE);
+    }
+    columns_line(alloc, path, column, line, header)
 }
 
 /// Returns the line on a place that has two codes.

@@ -15,13 +15,16 @@ use std::alloc::{AllocError, Global};
 
 const NO_HEADER: &str = "no header: the first line has the names of the columns";
 
-const BAD_RECORD: &str = "another number of fields than the header";
+const BAD_RECORD: &str = "a different number of fields than the header";
 
 const TOO_LONG: &str = "a record of more than 65536 bytes";
 
 const OPEN_QUOTE: &str = "a quote that opens in this record is never closed";
 
 const AFTER_QUOTE: &str = "text follows a closing quote";
+
+/// The text on a table in UTF-16.
+pub(crate) const WIDE: &str = "the table is in UTF-16: save it as CSV in UTF-8";
 
 /// Returns the name by which a column of the date was looked for, or an empty text if it was not.
 fn date_name_of<'a>(names: DateNames<'a>, column: Column) -> &'a str
@@ -78,6 +81,34 @@ fn record_line(alloc: Global, line: u64, text: &str) -> Result<String, AllocErro
     format!(in alloc; "oldstyle: letters line {line}: {text}\n")
 }
 
+/// Returns whether a header has a zero byte, as in UTF-16.
+pub(crate) fn is_wide(header: &str) -> bool
+    ensures { result ≡ spec.is_wide header.now }
+{
+    header.as_bytes().iter().any(|byte| *byte == 0)
+}
+
+/// Returns the line on a header that lacks a column, with the names that it has.
+fn columns_line(
+    alloc: Global,
+    names: ColumnNames<'_>,
+    column: Column,
+    line: u64,
+    header: &str,
+) -> Result<String, AllocError>
+    ensures { IfOk result (λ text. string_bytes text
+        ≡ spec.columns_line (names_of names.entry) column line header.now) }
+{
+    let name = name_of(names, column);
+    let option = option_of(column);
+    format!(in alloc;
+        "oldstyle: letters line {line}: no column {}: the columns are {}: \
+name yours with {option}\n",
+        Shown(name),
+        Shown(header)
+    )
+}
+
 /// Returns the line on a header that lacks a column.
 fn lacks_line(
     alloc: Global,
@@ -86,16 +117,13 @@ fn lacks_line(
     line: u64,
     header: &str,
 ) -> Result<String, AllocError>
-    ensures { IfOk result (λ told. string_bytes told
+    ensures { IfOk result (λ text. string_bytes text
         ≡ spec.lacks_line (names_of names.entry) column line header.now) }
 {
-    let name = name_of(names, column);
-    let option = option_of(column);
-    format!(in alloc;
-        "oldstyle: letters line {line}: no column {}: the columns are {}: name yours by {option}\n",
-        Shown(name),
-        Shown(header)
-    )
+    if is_wide(header) {
+        return record_line(alloc, line, WIDE);
+    }
+    columns_line(alloc, names, column, line, header)
 }
 
 /// Returns the line on a column of a header.
@@ -114,7 +142,7 @@ fn has_line(alloc: Global, line: u64, column: AddedColumn) -> Result<String, All
         alloc,
         line,
         name,
-        "is there already: take it out or rename it",
+        "is already there: remove it or rename it",
     )
 }
 

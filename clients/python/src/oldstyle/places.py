@@ -68,8 +68,8 @@ def records(path: str, text: str) -> Iterator[Tuple[int, str, str]]:
         at = [column(path, header, name) for name in COLUMNS]
         for record in reader:
             if record and len(record) != len(header):
-                raise wrong(path, reader.line_num, "another number of fields than the header: give "
-                                                   "each row as many")
+                raise wrong(path, reader.line_num, "a different number of fields than the header: "
+                                                   "give each row as many")
             if record:
                 place, code = (record[place].strip() for place in at)
                 yield reader.line_num, place, code

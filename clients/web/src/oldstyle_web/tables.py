@@ -24,7 +24,7 @@ SEPARATORS = ["comma", "semicolon", "tab"]
 LONGEST_NAME = 200
 # The fault of a line of the journal that is just being written, and the seconds to wait for it.
 OF_JOURNAL, AWAITED = "journal line ", 1
-NAME_YOURS = re.compile(r"name yours by --(\w+)$")
+NAME_YOURS = re.compile(r"name yours with --(\w+)$")
 YOUR_NAME = r"name yours in the field “Column of \1s” (column_\1)"
 PLACES_FILE = re.compile(r"/dev/fd/\d+")
 

@@ -5,5 +5,5 @@ use Rattle.osn_page_commands.proofs.table_faults.has_line.Goals as goal
 pub returns : goal.returns
 returns c =
     subst (λ name. IfOk c.column_line.result (λ told. string_bytes told
-    ≡ column_line c.args.line name (codes "is there already: take it out or rename it")))
+    ≡ column_line c.args.line name (codes "is already there: remove it or rename it")))
     c.name-name.ensures c.column_line.ensures
