@@ -32,16 +32,16 @@ def result_of(files, command, journal, text):
     return done.returncode, done.stderr.replace(journal, "J").replace(text, "T"), before == after_it
 
 
-PENDING = ("oldstyle: publish refuses a journal with 1 pending edit: publish what is pending by "
-           'serve --keep with {"op":"publish"}, or take the lines after the last publish out of '
-           "the journal\n")
+PENDING = ("oldstyle: publish refuses a journal with 1 pending edit: publish all that is pending "
+           'by serve --keep with {"op":"publish"}, or remove the lines after the last publish from the '
+           "journal\n")
 NOT_KEPT = ("oldstyle: publish refuses a journal of version 1: serve --keep with --upgrade saves "
-            "it anew as version 4\nhelp: run oldstyle serve --keep J --upgrade < /dev/null, then "
+            "it as version 4\nhelp: run oldstyle serve --keep J --upgrade < /dev/null, then "
             "publish\n")
 NO_HEAD = ("oldstyle: journal line 1: 32 NotJson\nhelp: J is not a journal: oldstyle publish FILE "
            "TEXT begins one in a new or empty file\n")
 # What a plan prints for a journal that its publish saves again.
-ANEW = ("oldstyle: the journal is of version {}, which has no sources: publish saves it anew as "
+ANEW = ("oldstyle: the journal is of version {}, which has no sources: publish saves it as "
         "version 4\n")
 FULL = "oldstyle: {}17 EditionsFull (--limits editions=N allows more)\n"
 

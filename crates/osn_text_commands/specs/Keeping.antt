@@ -90,10 +90,10 @@ cause_words causes.NoFile = codes "it is a folder or a pipe, not a file"
 cause_words causes.Denied = codes "permission denied"
 cause_words causes.NotRead = codes "read fault"
 cause_words causes.NotWritten =
-    codes "permission denied: publish writes to it, or its disk is read-only"
+    codes "permission denied, or its disk is read-only: publish writes to it"
 cause_words causes.NoFolder = codes "there is no such folder"
 cause_words causes.NotMade =
-    codes "permission denied: publish makes it in its folder, or the disk is read-only"
+    codes "permission denied, or the disk is read-only: publish creates it in its folder"
 
 unfoldable pub no_folder_line : List ℕ → List ℕ → List ℕ
 no_folder_line path folder = codes "oldstyle: "

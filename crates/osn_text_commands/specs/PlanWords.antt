@@ -42,8 +42,8 @@ edits_word edits = if edits == 1 then codes "edit" else codes "edits"
 
 -- what to do with pending edits
 abbrev pub advice : List ℕ
-advice = codes ": publish what is pending by serve --keep with {\"op\":\"publish\"}, "
-    ++ codes "or take the lines after the last publish out of the journal\n"
+advice = codes ": publish all that is pending by serve --keep with {\"op\":\"publish\"}, "
+    ++ codes "or remove the lines after the last publish from the journal\n"
 
 -- the line on a journal with this many pending edits, which are so called
 unfoldable pub pending_text : ℕ → List ℕ → List ℕ → List ℕ
@@ -63,12 +63,12 @@ refused_edits_line refusal = codes "oldstyle: publish refuses the edits: "
 abbrev pub anew_line : Version → List ℕ
 anew_line version = codes "oldstyle: the journal is of version "
     ++ (decimal (version_number version)
-    ++ codes ", which has no sources: publish saves it anew as version 4\n")
+    ++ codes ", which has no sources: publish saves it as version 4\n")
 
 -- the lines on a journal of this path and version that a publish refuses
 abbrev pub not_kept_line : List ℕ → Version → List ℕ
 not_kept_line path version = codes "oldstyle: publish refuses a journal of version "
     ++ (decimal (version_number version)
-    ++ (codes ": serve --keep with --upgrade saves it anew as version 4\n"
+    ++ (codes ": serve --keep with --upgrade saves it as version 4\n"
     ++ (codes "help: run oldstyle serve --keep "
     ++ (shown path ++ codes " --upgrade < /dev/null, then publish\n"))))

@@ -91,7 +91,7 @@ later_lines text journal edition editions = codes "oldstyle: "
     ++ (shown journal
     ++ (codes ", which is "
     ++ (decimal editions
-    ++ codes "\nhelp: write the edition that the text was made of, or leave the line out\n")))))))
+    ++ codes "\nhelp: write the edition that the text was made from, or leave the line out\n")))))))
 
 -- what an edition changed, in the words of a plan
 abbrev pub edition_lines : List LandModel → ℕ → List Edit → List ℕ

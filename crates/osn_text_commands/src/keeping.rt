@@ -129,11 +129,11 @@ fn cause_words(cause: KeepCause) -> &'static str
         KeepCause::Denied => "permission denied",
         KeepCause::NotRead => "read fault",
         KeepCause::NotWritten => {
-            "permission denied: publish writes to it, or its disk is read-only"
+            "permission denied, or its disk is read-only: publish writes to it"
         }
         KeepCause::NoFolder => "there is no such folder",
         KeepCause::NotMade => {
-            "permission denied: publish makes it in its folder, or the disk is read-only"
+            "permission denied, or the disk is read-only: publish creates it in its folder"
         }
     }
 }

@@ -60,8 +60,8 @@ fn edits_word(edits: usize) -> &'static str
 }
 
 /// What to do with pending edits.
-const ADVICE: &str = ": publish what is pending by serve --keep with {\"op\":\"publish\"}, \
-or take the lines after the last publish out of the journal\n";
+const ADVICE: &str = ": publish all that is pending by serve --keep with {\"op\":\"publish\"}, \
+or remove the lines after the last publish from the journal\n";
 
 /// Returns the line on a journal with this many pending edits, which are so called.
 #[tactic(auto, unfolding(crate::specs::PlanWords::pending_text))]
@@ -108,7 +108,7 @@ pub(crate) fn anew_line(alloc: Global, version: Version) -> Result<String, Alloc
 {
     let number = version.number();
     format!(in alloc;
-        "oldstyle: the journal is of version {number}, which has no sources: publish saves it anew \
+        "oldstyle: the journal is of version {number}, which has no sources: publish saves it \
 as version 4\n"
     )
 }
@@ -125,7 +125,7 @@ pub(crate) fn not_kept_line(
     let path = Shown(path);
     format!(in alloc;
         "oldstyle: publish refuses a journal of version {number}: serve --keep with --upgrade \
-saves it anew as version 4\nhelp: run oldstyle serve --keep {path} --upgrade < /dev/null, \
+saves it as version 4\nhelp: run oldstyle serve --keep {path} --upgrade < /dev/null, \
 then publish\n"
     )
 }

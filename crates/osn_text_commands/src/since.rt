@@ -144,7 +144,7 @@ pub(crate) fn later_lines(
     let journal = Shown(journal);
     format!(in alloc;
         "oldstyle: {text}: edition: {edition} is later than the newest edition of {journal}, \
-which is {editions}\nhelp: write the edition that the text was made of, or leave the line out\n"
+which is {editions}\nhelp: write the edition that the text was made from, or leave the line out\n"
     )
 }
 
