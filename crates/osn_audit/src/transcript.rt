@@ -64,9 +64,9 @@ pub fn audit<R: Source, S: Source>(
 
     // As a law: each line's reply is what the journal gives, and no reader's editions fall.
     ensures agrees { IfOk result (λ n. IfSome (R.remaining journal.old) (λ edits.
-        IfSome (S.remaining transcript.old) (λ told. (n ≡ length (lines told))
+        IfSome (S.remaining transcript.old) (λ replies. (n ≡ length (lines replies))
         × (object : ObjectState) × (load newest_rules limits (lines edits) ≡ Ok object)
-        × Agrees object (lines told)))) }
+        × Agrees object (lines replies)))) }
 {
     let object = load_journal(alloc, limits, journal)?;
     audit_lines(alloc, object, transcript)
