@@ -8,14 +8,13 @@ changed, and the audit must name that line. In the end a transcript of over 128 
 which must say on a terminal how far it is, and only there.
 """
 import os
-import pty
 import random
 import re
 import subprocess
 import tempfile
 
 from lib.checks import check, verdict
-from lib.common import JULIAN, CommandLine, compact, end, run
+from lib.common import JULIAN, CommandLine, compact, end, run, run_at_terminal
 
 CODES = ["RM", "GB", "FR", "DE"]
 AGREE = b" replies agree\n"
@@ -87,15 +86,11 @@ def long_audit(oldstyle, journal, transcript, line):
         for _ in range((128 << 20) // len(text) + 1):
             file.write(text)
     command = [oldstyle, "audit", journal, transcript]
-    terminal, ours = pty.openpty()
-    shown = subprocess.run(command, stdout=subprocess.PIPE, stderr=ours, check=True).stdout
-    os.close(ours)
-    output = os.read(terminal, 4096)
-    os.close(terminal)
+    done, shown = run_at_terminal(command)
     unseen = subprocess.run(command, capture_output=True, check=True)
-    check("a terminal is sent other output", shown == unseen.stdout)
-    check("the audit does not agree", shown.endswith(AGREE))
-    return output.decode().splitlines(), unseen.stderr.decode().splitlines()
+    check("a terminal is sent other output", done.stdout == unseen.stdout)
+    check("the audit does not agree", done.stdout.endswith(AGREE))
+    return shown.decode().splitlines(), unseen.stderr.decode().splitlines()
 
 
 def try_transcript(oldstyle, chance, journal, transcript, lines):

@@ -1,11 +1,11 @@
 #!/usr/bin/env python3
 """Runs the cases of the program over folders of the system, in place of folders in memory.
 
-The cases are those of crates/osn_cases/data, or the files that are named; README.md beside that
-folder has their form. The gate runs them by the code of the program over a folder in memory, which
-proves nothing about its main function, its files and the streams of the system. A command that
-names a path in `private/`, `broken/` or `full/`, or `a.folder/`, is left out: only the memory has
-them. Prints each stream and each status that is not as its case says.
+The cases are those of crates/osn_cases/data and of system.cases here, or the files that are named;
+README.md beside that folder has their form. The gate runs the first by the code of the program over
+a folder in memory, which proves nothing about its main function, its files and the streams of the
+system. A command that names a path in `private/`, `broken/` or `full/`, or `a.folder/`, is left
+out: only the memory has them. Prints each stream and each status that is not as its case says.
 """
 import glob
 import os
@@ -17,9 +17,10 @@ from dataclasses import dataclass, field
 from itertools import zip_longest
 
 from lib.checks import check, verdict
-from lib.common import TOP, CommandLine, end, file_at
+from lib.common import TOP, CommandLine, end, file_at, run_at_terminal
 
 FILES = os.path.join(TOP, "crates", "osn_cases", "data", "*.cases")
+OF_SYSTEM = os.path.join(TOP, "verify", "system.cases")
 LETTERS = {b"t": b"\t", b"r": b"\r", b"n": b"\n", b"0": b"\0", b"e": b"\x1b", b"\\": b"\\"}
 ESCAPE = re.compile(rb"\\(?:x([0-9a-f]{2})|([trn0e\\]))")
 WORD = re.compile(rb"""(?:"[^"]*"|'[^']*'|[^ "'])+""")
@@ -108,6 +109,10 @@ def left(program, folder, step):
                 stdin = file.read()
         words = words[:-2]
     match words:
+        case [b"oldstyle" | b"./oldstyle" as name, *rest, b"2>", b"/dev/tty"]:
+            done, shown = run_at_terminal([name, *rest], executable=program, input=stdin,
+                                          cwd=folder, timeout=60)
+            return done.stdout, shown, done.returncode
         case [b"oldstyle" | b"./oldstyle" as name, *rest]:
             done = subprocess.run([name, *rest], executable=program, input=stdin, cwd=folder,
                                   capture_output=True, timeout=60, check=False)
@@ -123,6 +128,9 @@ def left(program, folder, step):
         case [b"ls"]:
             names = sorted(os.listdir(folder))
             return b"".join(name + b"\n" for name in names), b"", 0
+        case [b"chmod" | b"ln" | b"mkdir" | b"readlink" | b"stat", *_]:
+            done = subprocess.run(words, cwd=folder, capture_output=True, check=False)
+            return done.stdout, done.stderr, done.returncode
     raise ValueError(f"line {step.line} is not a command")
 
 
@@ -158,7 +166,7 @@ def main():
                       help="a file of cases; by default all of the gate")
     options = line.read()
     cases = commands = 0
-    for path in options.files or sorted(glob.glob(FILES)):
+    for path in options.files or [*sorted(glob.glob(FILES)), OF_SYSTEM]:
         with open(path, "rb") as file:
             head, *rest = read_cases(file.read())
         with ThreadPoolExecutor(2) as pool:

@@ -9,7 +9,8 @@ the next run or the end of the block. For '$ cat FILE' these lines make the file
 and each run that differs.
 
 Compares the manual too: its synopsis has the arguments and options of each command in help.cases,
-with the same values, and its statuses are those of docs/ERRORS.md.
+with the same values, and its statuses are those of docs/ERRORS.md. The completions of each shell
+have all these commands and options.
 """
 import itertools
 import os
@@ -22,6 +23,7 @@ from lib.common import TOP, CommandLine, end, file_at, run
 RUN, FILE = "$ ./oldstyle ", "$ cat "
 HELP, MANUAL, ERRORS = "crates/osn_cases/data/help.cases", "docs/oldstyle.1", "docs/ERRORS.md"
 VALUE = "[A-Z]+"
+SHELLS = "bash", "zsh", "fish"
 
 
 def marked(lines, mark):
@@ -122,13 +124,24 @@ def differences_of_manual():
         yield f"{MANUAL}: statuses\n  shown {named}\n  {ERRORS} {listed}"
 
 
+def differences_of_completions(program):
+    """The commands and options of the help that the completions of a shell lack."""
+    helped = {name for command, _, options in in_help()
+              for name in (command, *(option.split()[0].strip("-") for option in options))}
+    for shell in SHELLS:
+        done = run(program, ["completions", shell])
+        lacking = helped - {"", *re.findall("[a-z]+(?:-[a-z]+)*", done.stdout)}
+        if lacking or done.returncode or done.stderr:
+            yield f"completions {shell}: {done.stderr}\n  lacking {sorted(lacking)}"
+
+
 def main():
     line = CommandLine(__doc__)
     line.add_argument("files", nargs="+", type=file_at, metavar="FILE", help="a document")
     line.add_program()
     options = line.read()
     requests = all_runs = differ = 0
-    for difference in differences_of_manual():
+    for difference in [*differences_of_manual(), *differences_of_completions(options.program)]:
         differ += 1
         print(difference)
     for path in options.files:

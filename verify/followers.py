@@ -13,6 +13,9 @@ In each connection the edition never falls, and whoever was given an edition of 
 or a later one by any follower of the file that is asked after that. An edit is refused by 45
 ReadOnly. A follower whose copy is made again says so, and no other one ends early. In the end each
 one is at the last edition. Each connection's replies are audited against the journal by `audit`.
+
+Then a follower's file is cut, removed, moved or replaced after a reply: it says so, and answers
+nothing more.
 """
 import json
 import os
@@ -30,7 +33,8 @@ from contextlib import contextmanager
 
 from lib.checks import check, verdict
 from lib.common import CommandLine, compact, end, run
-from lib.keeper import FOLLOWED_REPLACED, PUBLISH, journal_lines, land
+from lib.keeper import (FOLLOWED_REPLACED, FOLLOWED_SHORTER, HEAD, PUBLISH, journal_lines,
+                        land)
 from lib.keeper_rounds import TOWNS, keep_all
 
 READ_ONLY = {"fault": 45, "name": "ReadOnly"}
@@ -304,6 +308,34 @@ def follow_all(options, folder):
     return journal, followers, stops
 
 
+def copy_over(path):
+    shutil.copy(path, path + ".new")
+    os.replace(path + ".new", path)
+
+
+# What is done to a file after a reply, and what its follower says.
+CHANGES = [(lambda path: os.truncate(path, len(HEAD) + 1), FOLLOWED_SHORTER),
+           (os.remove, FOLLOWED_REPLACED),
+           (lambda path: os.rename(path, path + ".moved"), FOLLOWED_REPLACED),
+           (copy_over, FOLLOWED_REPLACED)]
+
+
+def try_changed(program, folder, change, expected):
+    """A follower whose file is changed after a reply."""
+    path, lands = os.path.join(folder, "changed"), b'{"op":"lands","reader":1}\n'
+    with open(path, "w", encoding="utf-8") as file:
+        file.write("".join(line + "\n" for line in (HEAD, compact(land(0)), PUBLISH)))
+    with subprocess.Popen([program, "serve", "--follow", path], stdin=subprocess.PIPE,
+                          stdout=subprocess.PIPE, stderr=subprocess.PIPE) as follower:
+        follower.stdin.write(lands)
+        follower.stdin.flush()
+        check("a follower is not answered", b'"edition":1' in follower.stdout.readline())
+        change(path)
+        out, errors = follower.communicate(lands)
+    found = follower.returncode, out.decode(), errors.decode()
+    check(f"a follower of a changed file: {found}", found == (1, "", expected))
+
+
 def audited(program, journal, folder, number, connection):
     """How many replies of a connection the audit agrees to."""
     path = os.path.join(folder, f"{number}.transcript")
@@ -332,6 +364,8 @@ def main():
         with ThreadPoolExecutor(4) as pool:
             counts = list(pool.map(lambda item: audited(options.program, journal, folder, *item),
                                    enumerate(every)))
+        for change, expected in CHANGES:
+            try_changed(options.program, folder, change, expected)
     given_up = sum(follower.given_up for follower in followers)
     print(f"{stops} stops of the keeper, {len(every)} connections of {len(followers)} followers; "
           f"{given_up} times a copy was made again meanwhile", flush=True)

@@ -7,13 +7,15 @@ in names and texts, members twice, nested, of other types and in any number, num
 exponents and many digits, spaces, bytes that are not text, lines cut off. It is sent twice: as it
 is, and with another member that no op has and whose value is a list, which is never read the first
 way and asks for the same. Both replies must be the same. A line that is not an object has no second
-form.
+form. Some lines have about 65,536 bytes, or more: exactly those that have more are too long, in a
+journal too.
 
 If an older program is named, which must know the same ops and members, files of the lines are
 sent to both, and they must write the same bytes.
 """
 import random
 import subprocess
+import tempfile
 
 from lib.common import CommandLine, end
 
@@ -25,6 +27,9 @@ LINE.add_seed()
 OPTIONS = LINE.read()
 CHANCE = random.Random(OPTIONS.seed)
 LINES_A_FILE = 32
+LONGEST = 65_536
+LENGTHS = [LONGEST - 1, LONGEST, LONGEST + 1, 2 * LONGEST + 1, 200_000]
+TOO_LONG = b'{"fault":31,"name":"LineTooLong"}'
 
 OPS = ["add_land", "add_change", "alter_change", "drop_change", "add_exception", "drop_exception",
        "publish", "read", "day", "periods", "lands", "easter", "figures", "written", "fly"]
@@ -130,7 +135,7 @@ def lines():
     if kind < 0.85:
         return one, other
     if kind < 0.86:
-        return one + b" " * (65_536 - len(one) + CHANCE.randrange(3) - 1), None
+        return one + b" " * (CHANCE.choice(LENGTHS) - len(one)), None
     return broken(one).replace(b"\n", b" "), None
 
 
@@ -141,8 +146,23 @@ def replies(program, asked):
     return [*stdout.splitlines(), *[None] * len(asked)][:len(asked)]
 
 
+def differs_in_journal(number, *lines):
+    """Whether a journal is not refused for its line of this number, which is too long."""
+    with tempfile.NamedTemporaryFile() as journal:
+        journal.write(b"\n".join([*lines, b"x" * (LONGEST + 1)]))
+        journal.flush()
+        done = subprocess.run([OPTIONS.program, "serve", "--journal", journal.name],
+                              stdin=subprocess.DEVNULL, capture_output=True, check=False)
+    expected = b"oldstyle: journal line %d: 31 LineTooLong\n" % number
+    if done.returncode == 1 and done.stderr.startswith(expected):
+        return False
+    print(f"a journal with a line that is too long: {done}")
+    return True
+
+
 def main():
-    differ = files = 0
+    files = 0
+    differ = differs_in_journal(1) + differs_in_journal(2, b'{"journal":2}')
     for _ in range(0, OPTIONS.count, LINES_A_FILE):
         pairs = [lines() for _ in range(LINES_A_FILE)]
         ones = [one for one, _ in pairs]
@@ -151,7 +171,8 @@ def main():
         before = replies(OPTIONS.older, ones) if OPTIONS.older else first
         files += 1
         for line, reply, other, old in zip(ones, first, again, before):
-            if reply is None or reply != other or reply != old:
+            is_wrong = (reply == TOO_LONG) != (len(line) > LONGEST)
+            if reply is None or reply != other or reply != old or is_wrong:
                 differ += 1
                 print(line, reply, other, old, sep="\n    ")
     beside = f", {files} files by both programs" if OPTIONS.older else ""

@@ -4,9 +4,10 @@
 Each table is about a random territory, and has up to 60 rows. Its fields are separated by commas,
 semicolons or tabs, in quotes or not, with line ends in them; its lines end by LF, CR or CRLF, and
 some are empty. Its dates are of all forms, its places and weekdays are wrong now and then, and some
-have spaces around them. Many tables have a fault in the header or in a row: what comes before it
-must be written, and the fault must be reported with the line on which the record begins, and
-status 1.
+have spaces around them. Some records have the most bytes that a record may have. Many tables have a
+fault in the header or in a row: what comes before it must be written, and the fault must be
+reported with the line on which the record begins, and status 1. In the end tables of over 128 MiB
+are read, which must show on a terminal how far they are.
 """
 import os
 import random
@@ -14,7 +15,7 @@ import subprocess
 import tempfile
 
 from lib.calendars import WEEKDAYS
-from lib.common import CommandLine, end
+from lib.common import CommandLine, end, run_at_terminal
 from lib.date_draws import (MALFORMED, any_case, date_text, journal_lines, label_near, middle_day,
                             write_journal)
 from lib.date_meaning import Territory
@@ -133,6 +134,15 @@ def bad_header(chance, form):
     return columns, LACKS.format(name=form.names[role], found=", ".join(columns), role=role)
 
 
+def lengthened(form, fields, place, length):
+    """A record of that length in bytes, with x's in one of its fields, and the fields then."""
+    texts = [form.field_text(field) for field in fields]
+    texts[place] = ""
+    filled = "x" * (length - len(form.separator.join(texts).encode()))
+    texts[place] = filled
+    return form.separator.join(texts), [*fields[:place], filled, *fields[place + 1:]]
+
+
 def bad_record(chance, form, fields):
     """A record that ends the table, and why."""
     kind = chance.randrange(4)
@@ -140,7 +150,7 @@ def bad_record(chance, form, fields):
         more = fields[:-1] if len(fields) > 2 and chance.random() < 0.5 else [*fields, "x"]
         return form.record(more), OTHER_NUMBER
     if kind == 1:
-        return form.record(["x" * LONGEST, *fields]), TOO_LONG
+        return lengthened(form, fields, 0, LONGEST + 1)[0], TOO_LONG
     front = form.record(fields[:-1]) + form.separator
     if kind == 2:
         return f'{front}"never closed{form.line_end}', OPEN_QUOTE
@@ -166,7 +176,10 @@ def table_of(chance, form, territories, edition, middle):
             table.fault = table.fault_line(why)
             table.add(record)
             return table
-        table.add(form.record(fields), last=place == rows - 1 and chance.random() < 0.5)
+        record = form.record(fields)
+        if "text" in form.columns and chance.random() < 0.02:
+            record, fields = lengthened(form, fields, form.columns.index("text"), LONGEST)
+        table.add(record, last=place == rows - 1 and chance.random() < 0.5)
         weekday = read["weekday"] if form.has_weekday else ""
         found = letter_fields(territories, edition, read["place"], read["date"], weekday)
         table.out += written_row(fields + found, form.separator)
@@ -194,6 +207,18 @@ def differs(program, journal, form, table):
             f"{expected[1][at - 60:at + 90]!r}"]
 
 
+def long_table(program, journal, *words):
+    """What a table of over 128 MiB shows on a terminal, if that or its output is something else."""
+    table = b"place,date\n" + b"\n" * (128 << 20)
+    done, shown = run_at_terminal([program, "letters", journal, *words], input=table)
+    header = ",".join(["place", "date", *COLUMNS]) + "\n"
+    lines = [f"oldstyle: {read} MiB of the letters read" for read in (64, 128)]
+    if (done.returncode, done.stdout.decode(), shown.decode().splitlines()) == (0, header, lines):
+        return []
+    return [f"{words}: a table of 128 MiB: status {done.returncode}, {done.stdout[:200]!r} and "
+            f"{shown!r}"]
+
+
 def main():
     line = CommandLine(__doc__)
     line.add_program()
@@ -211,6 +236,13 @@ def main():
             table = table_of(chance, form, lands, service.edition, middle)
             faults += table.fault != ""
             for difference in differs(options.program, journal, form, table):
+                differ += 1
+                print(difference, flush=True)
+        places = os.path.join(folder, "places.csv")
+        with open(places, "w", encoding="utf-8") as file:
+            file.write("place,code\n")
+        for words in ((), ("--places", places)):
+            for difference in long_table(options.program, journal, *words):
                 differ += 1
                 print(difference, flush=True)
     print(f"{options.count} tables, {faults} of them with a fault: {differ} differ")

@@ -1,6 +1,7 @@
 """What the scripts here share: the program's words and lines, two regimes, and a disk in memory."""
 import json
 import os
+import pty
 import subprocess
 import sys
 from contextlib import contextmanager
@@ -25,6 +26,19 @@ def run(program, words=(), lines=(), folder=None):
     text = "".join(line + "\n" for line in lines)
     return subprocess.run([program, *words], input=text, capture_output=True, text=True,
                           check=False, cwd=folder)
+
+
+def run_at_terminal(command, **streams):
+    """A run whose standard error is a terminal, and what this shows."""
+    terminal, errors = pty.openpty()
+    done = subprocess.run(command, stdout=subprocess.PIPE, stderr=errors, check=False, **streams)
+    os.close(errors)
+    try:
+        shown = os.read(terminal, 4_096)
+    except OSError:  # it was closed, and nothing was written
+        shown = b""
+    os.close(terminal)
+    return done, shown.replace(b"\r\n", b"\n")
 
 
 def replies(program, lines):

@@ -12,7 +12,9 @@ HEAD_4 = compact({"journal": 4})
 LOCKED = (3, "", "oldstyle: another run of the program keeps that journal\n")
 REPLACED = ("oldstyle: another program moved, replaced or changed the journal: "
             "no more is kept in it\n")
-# The same of a journal that is followed.
+# What is said of a journal that is followed.
+FOLLOWED_SHORTER = ("oldstyle: the journal that is followed got shorter: "
+                    "no further line is answered\n")
 FOLLOWED_REPLACED = ("oldstyle: the journal that is followed was replaced or removed: "
                      "no further line is answered\n")
 

@@ -1,18 +1,15 @@
-//! Tests of the service over its public calls, of what neither a contract nor a case says: long
-//! lines, followers, and streams that fail.
+//! Tests of the service that neither a contract nor a case can show: streams that fail midway, how
+//! often it writes, files that other programs change meanwhile, and what a terminal shows. What a
+//! contract says is not tested again.
 #![tactic(auto)]
 
 #[cfg(test)]
-mod failures;
+mod changed_files;
 #[cfg(test)]
-mod file_failures;
+mod failing_streams;
 #[cfg(test)]
-mod followers;
-#[cfg(test)]
-mod long_lines;
-#[cfg(test)]
-mod streams;
+mod progress;
 #[cfg(test)]
 mod support;
 #[cfg(test)]
-mod whole_writes;
+mod writes;

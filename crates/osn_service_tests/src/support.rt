@@ -1,4 +1,11 @@
-//! What the tests share: values compared, a file that grows, and streams that fail.
+//! What the tests share: values compared, texts, and streams that fail.
 pub mod compare;
 pub mod failing;
-pub mod growing;
+
+use std::process::Abort;
+use std::str;
+
+/// Returns the text of bytes, which must be one.
+pub fn text_of<'a>(rt: &impl Abort, bytes: &'a [u8]) -> &'a str {
+    str::from_utf8(bytes).expect(rt, "it is UTF-8")
+}

@@ -5,43 +5,22 @@ ghost use Rattle.std.specs.Prelude.{None};
 use osn_lines::{ReadFailed, Sink, Source, WriteFailed};
 use std::alloc::Global;
 
-/// The course of a stream: how many bytes a call gives or takes at most, and how many calls
-/// succeed.
-#[derive(Clone, Copy)]
-pub struct Course {
-    pub step: usize,
-    pub sound: usize,
-}
+/// The course of a stream: how many reads or writes succeed, and how many bytes each of them gives
+/// or takes at most. Each call after them fails.
+pub type Course = (usize, usize);
 
-impl Course {
-    /// Returns a course on which every call succeeds.
-    pub fn sound(step: usize) -> Course {
-        Course {
-            step,
-            sound: usize::MAX,
+/// A course on which every call succeeds, with all bytes at once.
+pub const SOUND: Course = (usize::MAX, usize::MAX);
+
+/// Returns whether the next read or write succeeds, and counts it if so.
+fn goes_on(course: &mut Course) -> bool {
+    match course.0.checked_sub(1) {
+        Some(sound) => {
+            course.0 = sound;
+            true
         }
+        None => false,
     }
-
-    /// Returns how many of this many bytes are given before a call fails.
-    pub fn given(self, length: usize) -> usize {
-        self.step.saturating_mul(self.sound).min(length)
-    }
-
-    /// Returns whether the next call succeeds, and counts it if so.
-    fn goes_on(&mut self) -> bool {
-        match self.sound.checked_sub(1) {
-            Some(sound) => {
-                self.sound = sound;
-                true
-            }
-            None => false,
-        }
-    }
-}
-
-/// Returns how many reads it takes to the end of this many bytes, with the read of the end.
-pub fn reads_of(length: usize, step: usize) -> usize {
-    length.div_ceil(step.max(1)).saturating_add(1)
 }
 
 /// Gives bytes.
@@ -49,7 +28,6 @@ pub fn reads_of(length: usize, step: usize) -> usize {
 pub struct FailingSource<'a> {
     left: &'a [u8],
     course: Course,
-    calls: usize,
     failed: bool,
 }
 
@@ -58,29 +36,22 @@ impl<'a> FailingSource<'a> {
         FailingSource {
             left: bytes,
             course,
-            calls: 0,
             failed: false,
         }
     }
-
-    /// Returns how many reads there were, with the failed ones.
-    pub fn calls(&self) -> usize {
-        self.calls
-    }
 }
 
-impl<'a> Source for FailingSource<'a> {
+impl Source for FailingSource<'_> {
     ghost remaining = { λ _. None };
 
     ghost has_failed = { λ s. s.failed };
 
     fn read(&mut self, buffer: &mut [u8]) -> Result<usize, ReadFailed> {
-        self.calls = self.calls.saturating_add(1);
-        if !self.course.goes_on() {
+        if !goes_on(&mut self.course) {
             self.failed = true;
             return Err(ReadFailed);
         }
-        let count = self.course.step.min(self.left.len()).min(buffer.len());
+        let count = self.course.1.min(self.left.len()).min(buffer.len());
         buffer[..count].copy_from_slice(&self.left[..count]);
         self.left = &self.left[count..];
         Ok(count)
@@ -94,11 +65,10 @@ impl<'a> Source for FailingSource<'a> {
 /// Takes bytes, and notes how many of them were passed on.
 #[derive(Drop)]
 pub struct FailingSink {
-    bytes: Vec<u8>,
-    passed: usize,
+    pub bytes: Vec<u8>,
+    pub passed: usize,
+    pub writes: usize,
     course: Course,
-    calls: usize,
-    writes: usize,
     failed: bool,
 }
 
@@ -107,31 +77,10 @@ impl FailingSink {
         FailingSink {
             bytes: Vec::new(alloc),
             passed: 0,
-            course,
-            calls: 0,
             writes: 0,
+            course,
             failed: false,
         }
-    }
-
-    /// Returns how many writes and flushes there were, with the failed ones.
-    pub fn calls(&self) -> usize {
-        self.calls
-    }
-
-    /// Returns how many of them were writes.
-    pub fn writes(&self) -> usize {
-        self.writes
-    }
-
-    /// Returns the bytes that it took.
-    pub fn bytes(&self) -> &[u8] {
-        &self.bytes
-    }
-
-    /// Returns how many of the bytes that were taken were passed on.
-    pub fn passed(&self) -> usize {
-        self.passed
     }
 }
 
@@ -141,12 +90,11 @@ impl Sink for FailingSink {
     ghost has_failed = { λ s. s.failed };
 
     fn write(&mut self, bytes: &[u8]) -> Result<usize, WriteFailed> {
-        self.calls = self.calls.saturating_add(1);
         self.writes = self.writes.saturating_add(1);
-        let count = self.course.step.min(bytes.len());
+        let count = self.course.1.min(bytes.len());
         let takes_nothing = count == 0 && !bytes.is_empty();
         if takes_nothing
-            || !self.course.goes_on()
+            || !goes_on(&mut self.course)
             || self.bytes.extend_from_slice(&bytes[..count]).is_err()
         {
             self.failed = true;
@@ -156,8 +104,7 @@ impl Sink for FailingSink {
     }
 
     fn flush(&mut self) -> Result<(), WriteFailed> {
-        self.calls = self.calls.saturating_add(1);
-        if !self.course.goes_on() {
+        if self.course.0 == 0 {
             self.failed = true;
             return Err(WriteFailed);
         }
