@@ -27,10 +27,10 @@ use Rattle.osn_format.specs.declared.version.Version.{Version}
 use Rattle.osn_format.specs.declared.version.Version.TheVariants.{First, Second, Fourth}
 use Rattle.osn_format.specs.Version.{newest_version, version_number}
 use Rattle.osn_files.specs.Commands.{command_in}
-use Rattle.osn_files.specs.JournalText.{edit_data, publish_data}
+use Rattle.osn_files.specs.JournalText.{change_data, edit_data, publish_data}
 use Rattle.osn_files.specs.Loaded.{HasEdit}
 use Rattle.osn_files.specs.Version.{head_data, version_of}
-use Rattle.osn_files.proofs.TextFacts.{Fits-number, Fit-none, Fit-member}
+use Rattle.osn_files.proofs.TextFacts.{Fits, Fits-number, Fit-none, Fit-member}
 use Rattle.osn_files.proofs.EditFacts.{regime_of-words, Fits-word, Fits-calendar, Fits-style}
 use Rattle.osn_files.proofs.EditFacts.{Fits-rule, Fits-code, Fits-name, Fit-source}
 use Rattle.osn_files.proofs.CommandFacts.{IsLine, IsLine-fit, Says, lawful_in}
@@ -86,10 +86,26 @@ Says-add_land code name r source c n given =
       command = land_read code name r source given;
     }
 
-add_back : (code : List ℕ) (n : ℕ) (r : Regime) (source : Option (List ℕ)) → n < 10 ^ 8
-    → IsReadBack (AddChange code (pos n) r source)
-add_back code n r None small = rw (number_of-decimal n (omega arith)) refl
-add_back code n r (Some source) small = rw (number_of-decimal n (omega arith)) refl
+-- a change of a regime, by its op: its line, and the line is read back
+change_back : (op code : List ℕ) (n : ℕ) (r : Regime) (source : Option (List ℕ)) → n < 10 ^ 8
+    → of_json (outline (change_data op code (pos n) r source))
+    ≡ Some (change_data op code (pos n) r source)
+change_back op code n r None small = rw (number_of-decimal n (omega arith)) refl
+change_back op code n r (Some source) small = rw (number_of-decimal n (omega arith)) refl
+
+change_line : (op code : List ℕ) (n : ℕ) (r : Regime) (source : Option (List ℕ))
+    → Fits (string op) 90 → is_code code ≡ true → n < 10 ^ 8 → IsGiven source
+    → IsLine (change_data op code (pos n) r source)
+change_line op code n r source o c small given =
+    let fit = Fit-member (codes "calendar") _ _ _ _ refl (Fits-calendar r.calendar)
+    (Fit-member (codes "code") _ _ _ _ refl (Fits-code code c)
+    (Fit-member (codes "day") _ _ _ _ refl (Fits-number n small)
+    (Fit-member (codes "op") _ _ _ _ refl o
+    (Fit-member (codes "rule") _ _ _ _ refl (Fits-rule r.rule)
+    (Fit-source source _ _ given
+    (Fit-member (codes "style") _ _ _ _ refl (Fits-style r.style)
+    Fit-none)))))) in
+    IsLine-fit _ _ fit (omega arith) (change_back op code n r source small)
 
 add_read : (code : List ℕ) (n : ℕ) (r : Regime) (source : Option (List ℕ)) → n < 10 ^ 8
     → IsGiven source → IsReadAs (AddChange code (pos n) r source)
@@ -108,24 +124,11 @@ Says-add_change : (code : List ℕ) (n : ℕ) (r : Regime) (source : Option (Lis
     → is_code code ≡ true → n < 10 ^ 8 → IsGiven source
     → Says newest_version (edit_data (AddChange code (pos n) r source))
     (Stage (AddChange code (pos n) r source))
-Says-add_change code n r source c small given =
-    let fit = Fit-member (codes "calendar") _ _ _ _ refl (Fits-calendar r.calendar)
-    (Fit-member (codes "code") _ _ _ _ refl (Fits-code code c)
-    (Fit-member (codes "day") _ _ _ _ refl (Fits-number n small)
-    (Fit-member (codes "op") _ _ _ _ refl (Fits-word (codes "add_change") refl (omega arith))
-    (Fit-member (codes "rule") _ _ _ _ refl (Fits-rule r.rule)
-    (Fit-source source _ _ given
-    (Fit-member (codes "style") _ _ _ _ refl (Fits-style r.style)
-    Fit-none)))))) in
-    record {
-      line = IsLine-fit _ _ fit (omega arith) (add_back code n r source small);
-      command = add_read code n r source small given;
-    }
-
-alter_back : (code : List ℕ) (n : ℕ) (r : Regime) (source : Option (List ℕ)) → n < 10 ^ 8
-    → IsReadBack (AlterChange code (pos n) r source)
-alter_back code n r None small = rw (number_of-decimal n (omega arith)) refl
-alter_back code n r (Some source) small = rw (number_of-decimal n (omega arith)) refl
+Says-add_change code n r source c small given = record {
+  line = change_line (codes "add_change") code n r source
+      (Fits-word (codes "add_change") refl (omega arith)) c small given;
+  command = add_read code n r source small given;
+}
 
 alter_read : (code : List ℕ) (n : ℕ) (r : Regime) (source : Option (List ℕ)) → n < 10 ^ 8
     → IsGiven source → IsReadAs (AlterChange code (pos n) r source)
@@ -144,19 +147,11 @@ Says-alter_change : (code : List ℕ) (n : ℕ) (r : Regime) (source : Option (L
     → is_code code ≡ true → n < 10 ^ 8 → IsGiven source
     → Says newest_version (edit_data (AlterChange code (pos n) r source))
     (Stage (AlterChange code (pos n) r source))
-Says-alter_change code n r source c small given =
-    let fit = Fit-member (codes "calendar") _ _ _ _ refl (Fits-calendar r.calendar)
-    (Fit-member (codes "code") _ _ _ _ refl (Fits-code code c)
-    (Fit-member (codes "day") _ _ _ _ refl (Fits-number n small)
-    (Fit-member (codes "op") _ _ _ _ refl (Fits-word (codes "alter_change") refl (omega arith))
-    (Fit-member (codes "rule") _ _ _ _ refl (Fits-rule r.rule)
-    (Fit-source source _ _ given
-    (Fit-member (codes "style") _ _ _ _ refl (Fits-style r.style)
-    Fit-none)))))) in
-    record {
-      line = IsLine-fit _ _ fit (omega arith) (alter_back code n r source small);
-      command = alter_read code n r source small given;
-    }
+Says-alter_change code n r source c small given = record {
+  line = change_line (codes "alter_change") code n r source
+      (Fits-word (codes "alter_change") refl (omega arith)) c small given;
+  command = alter_read code n r source small given;
+}
 
 Says-drop_change : (code : List ℕ) (n : ℕ) → is_code code ≡ true → n < 10 ^ 8
     → Says newest_version (edit_data (DropChange code (pos n))) (Stage (DropChange code (pos n)))

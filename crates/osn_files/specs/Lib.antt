@@ -18,3 +18,4 @@ pub mod LastLine
 pub mod LastLineInside
 pub mod WholePart
 pub mod WholePartInside
+pub mod WrittenInside

@@ -1,22 +1,23 @@
 //! Writes a journal.
 ghost use Rattle.std.specs.Prelude.{◌≡◌, ◌++◌, Ok, IfOk, OnOk, string_bytes, codes};
 ghost use Rattle.std.specs.List.{list_any};
-ghost use Rattle.serde_json.specs.Data.{Data};
+ghost use Rattle.serde_json.specs.Data.{Data, Members};
 ghost use Rattle.osn_days.specs.Profile.{newest_rules};
 ghost use Rattle.osn_lines.specs.Lines.{lines};
 ghost use Rattle.osn_core.specs.Sequential.{IsSound};
 ghost use Rattle.osn_register.specs.declared.edit.Edit.TheVariants as edits;
-ghost use Rattle.osn_format.specs.Json.{value_tokens, member_tokens, source_tokens};
+ghost use Rattle.osn_format.specs.Json.{value_tokens};
 ghost use Rattle.osn_format.specs.Version.{plain_version};
 ghost use Rattle.osn_files.specs.Journal.{load};
 ghost use Rattle.osn_files.specs.JournalText as spec;
 ghost use Rattle.osn_files.specs.Loaded.{HasEdits};
 ghost use Rattle.osn_files.specs.Version.{head_data};
+ghost use Rattle.osn_files.specs.WrittenInside.{object_of, rest_tokens, with_field};
 
 use json::Writer;
 use osn_core::{Batch, Object};
 use osn_days::Keyword;
-use osn_format::{Member, Version, write_number, write_signed, write_text};
+use osn_format::{Member, Version, write_signed, write_text};
 use osn_lands::Regime;
 use osn_register::{Edit, Source, Text};
 use std::alloc::{AllocError, Global};
@@ -24,61 +25,96 @@ use std::alloc::{AllocError, Global};
 /// The room that a journal gets at first.
 const ROOM: usize = 65_536;
 
-/// Writes the member of a source, if one is given.
-fn write_source(out: &mut Writer, source: &Option<Source>) -> Result<(), AllocError>
-    ensures tokens { OnOk result (out.new.tokens ≡ out.old.tokens ++ source_tokens source.now) }
+/// A member of the object of a line.
+#[derive(Clone, Copy)]
+enum Field<'a> {
+    /// A text of this name.
+    Text(&'static str, &'a str),
+    /// A number of this name.
+    Signed(&'static str, i64),
+    /// A source, which has a member if one is given.
+    Source(&'a Option<Source>),
+}
+
+/// Writes a member before the others that are left.
+fn write_field(out: &mut Writer, field: Field<'_>) -> Result<(), AllocError>
+    ensures tokens { OnOk result ((rest : Members) → out.new.tokens ++ rest_tokens rest
+        ≡ out.old.tokens ++ rest_tokens (with_field field.entry rest)) }
     ensures before { out.new.before ≡ out.old.before }
 {
-    match source {
-        Some(source) => write_text(out, "source", source.as_str()),
-        None => Ok(()),
+    match field {
+        Field::Text(name, text) => write_text(out, name, text),
+        Field::Signed(name, number) => write_signed(out, name, number),
+        Field::Source(source) => match source {
+            Some(source) => write_text(out, "source", source.as_str()),
+            None => Ok(()),
+        },
     }
 }
 
-fn write_add_land(
+/// Writes an object of these members.
+fn write_object(out: &mut Writer, fields: &[Field<'_>]) -> Result<(), AllocError>
+    ensures tokens { OnOk result (out.new.tokens ≡ out.old.tokens
+        ++ value_tokens (object_of fields.now)) }
+    ensures before { out.new.before ≡ out.old.before }
+{
+    out.begin_object()?;
+    for field in fields {
+        write_field(out, *field)?;
+    }
+    out.end_object()
+}
+
+fn write_add_land<'a>(
     out: &mut Writer,
-    code: &Text,
-    name: &Text,
+    code: &'a Text,
+    name: &'a Text,
     regime: Regime,
-    source: &Option<Source>,
+    source: &'a Option<Source>,
 ) -> Result<(), AllocError>
     ensures tokens { OnOk result (out.new.tokens ≡ out.old.tokens
         ++ value_tokens (spec.edit_data (edits.AddLand code.now name.now regime source.now))) }
     ensures before { out.new.before ≡ out.old.before }
 {
-    out.begin_object()?;
-    write_text(out, "calendar", regime.calendar.word())?;
-    write_text(out, "code", code.as_str())?;
-    write_text(out, "name", name.as_str())?;
-    write_text(out, "op", "add_land")?;
-    write_text(out, "rule", regime.rule.word())?;
-    write_source(out, source)?;
-    write_text(out, "style", regime.style.word())?;
-    out.end_object()
+    write_object(
+        out,
+        &[
+            Field::Text("calendar", regime.calendar.word()),
+            Field::Text("code", code.as_str()),
+            Field::Text("name", name.as_str()),
+            Field::Text("op", "add_land"),
+            Field::Text("rule", regime.rule.word()),
+            Field::Source(source),
+            Field::Text("style", regime.style.word()),
+        ],
+    )
 }
 
 /// Writes an edit of this op that changes a regime from a day on.
-fn write_change(
+fn write_change<'a>(
     out: &mut Writer,
-    op: &str,
-    code: &Text,
+    op: &'a str,
+    code: &'a Text,
     day: i64,
     regime: Regime,
-    source: &Option<Source>,
+    source: &'a Option<Source>,
 ) -> Result<(), AllocError>
     ensures tokens { OnOk result (out.new.tokens ≡ out.old.tokens
         ++ value_tokens (spec.change_data op.now code.now day regime source.now)) }
     ensures before { out.new.before ≡ out.old.before }
 {
-    out.begin_object()?;
-    write_text(out, "calendar", regime.calendar.word())?;
-    write_text(out, "code", code.as_str())?;
-    write_signed(out, "day", day)?;
-    write_text(out, "op", op)?;
-    write_text(out, "rule", regime.rule.word())?;
-    write_source(out, source)?;
-    write_text(out, "style", regime.style.word())?;
-    out.end_object()
+    write_object(
+        out,
+        &[
+            Field::Text("calendar", regime.calendar.word()),
+            Field::Text("code", code.as_str()),
+            Field::Signed("day", day),
+            Field::Text("op", op),
+            Field::Text("rule", regime.rule.word()),
+            Field::Source(source),
+            Field::Text("style", regime.style.word()),
+        ],
+    )
 }
 
 fn write_drop_change(out: &mut Writer, code: &Text, day: i64) -> Result<(), AllocError>
@@ -86,31 +122,37 @@ fn write_drop_change(out: &mut Writer, code: &Text, day: i64) -> Result<(), Allo
         ++ value_tokens (spec.edit_data (edits.DropChange code.now day))) }
     ensures before { out.new.before ≡ out.old.before }
 {
-    out.begin_object()?;
-    write_text(out, "code", code.as_str())?;
-    write_signed(out, "day", day)?;
-    write_text(out, "op", "drop_change")?;
-    out.end_object()
+    write_object(
+        out,
+        &[
+            Field::Text("code", code.as_str()),
+            Field::Signed("day", day),
+            Field::Text("op", "drop_change"),
+        ],
+    )
 }
 
-fn write_add_exception(
+fn write_add_exception<'a>(
     out: &mut Writer,
-    code: &Text,
+    code: &'a Text,
     year: i64,
     day: i64,
-    source: &Option<Source>,
+    source: &'a Option<Source>,
 ) -> Result<(), AllocError>
     ensures tokens { OnOk result (out.new.tokens ≡ out.old.tokens
         ++ value_tokens (spec.edit_data (edits.AddException code.now year day source.now))) }
     ensures before { out.new.before ≡ out.old.before }
 {
-    out.begin_object()?;
-    write_text(out, "code", code.as_str())?;
-    write_signed(out, "day", day)?;
-    write_text(out, "op", "add_exception")?;
-    write_source(out, source)?;
-    write_signed(out, "year", year)?;
-    out.end_object()
+    write_object(
+        out,
+        &[
+            Field::Text("code", code.as_str()),
+            Field::Signed("day", day),
+            Field::Text("op", "add_exception"),
+            Field::Source(source),
+            Field::Signed("year", year),
+        ],
+    )
 }
 
 fn write_drop_exception(out: &mut Writer, code: &Text, year: i64) -> Result<(), AllocError>
@@ -118,11 +160,14 @@ fn write_drop_exception(out: &mut Writer, code: &Text, year: i64) -> Result<(), 
         ++ value_tokens (spec.edit_data (edits.DropException code.now year))) }
     ensures before { out.new.before ≡ out.old.before }
 {
-    out.begin_object()?;
-    write_text(out, "code", code.as_str())?;
-    write_text(out, "op", "drop_exception")?;
-    write_signed(out, "year", year)?;
-    out.end_object()
+    write_object(
+        out,
+        &[
+            Field::Text("code", code.as_str()),
+            Field::Text("op", "drop_exception"),
+            Field::Signed("year", year),
+        ],
+    )
 }
 
 fn write_edit(out: &mut Writer, edit: &Edit) -> Result<(), AllocError>
@@ -165,9 +210,7 @@ fn write_publish(out: &mut Writer) -> Result<(), AllocError>
         ++ value_tokens spec.publish_data) }
     ensures before { out.new.before ≡ out.old.before }
 {
-    out.begin_object()?;
-    write_text(out, "op", "publish")?;
-    out.end_object()
+    write_object(out, &[Field::Text("op", "publish")])
 }
 
 fn write_head(out: &mut Writer, version: Version) -> Result<(), AllocError>
@@ -175,9 +218,8 @@ fn write_head(out: &mut Writer, version: Version) -> Result<(), AllocError>
         ++ value_tokens (head_data version)) }
     ensures before { out.new.before ≡ out.old.before }
 {
-    out.begin_object()?;
-    write_number(out, Member::Journal.name(), version.number())?;
-    out.end_object()
+    let number = i64::from(version.number());
+    write_object(out, &[Field::Signed(Member::Journal.name(), number)])
 }
 
 /// Ends the line of a value that was written after other bytes.

@@ -29,7 +29,7 @@ const ROOM: usize = 64;
 
 /// What the fields say of a date as a whole: from when to when it may be, of what kind it is, and
 /// by which edition it is read.
-#[derive(Clone, Copy, Debug, PartialEq, Eq)]
+#[derive(Clone, Copy, Debug)]
 pub(crate) struct Summary {
     pub(crate) span: Span,
     pub(crate) kind: Option<Kind>,

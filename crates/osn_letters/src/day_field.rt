@@ -11,7 +11,7 @@ use osn_lands::DatedDay;
 use std::alloc::{AllocError, Global};
 
 /// What a field says of a day.
-#[derive(Clone, Copy, Debug, PartialEq, Eq)]
+#[derive(Clone, Copy)]
 pub(crate) enum DayField {
     /// Its number.
     Number,

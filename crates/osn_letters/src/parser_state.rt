@@ -9,7 +9,7 @@ ghost use Rattle.osn_letters.specs.Separators.{config_by};
 use crate::separator::{Separator, separator_at};
 
 /// The state of a reading of CSV.
-#[derive(Clone, Copy, Debug, PartialEq, Eq)]
+#[derive(Clone, Copy, PartialEq, Eq)]
 pub(crate) enum ParserState {
     /// Before a record.
     StartRecord,
@@ -26,7 +26,7 @@ pub(crate) enum ParserState {
 }
 
 /// What a byte does to the current record.
-#[derive(Clone, Copy, Debug, PartialEq, Eq)]
+#[derive(Clone, Copy, PartialEq, Eq)]
 pub(crate) enum Effect {
     /// Nothing.
     Skip,
@@ -39,7 +39,7 @@ pub(crate) enum Effect {
 }
 
 /// The state of the reading after a byte, and what the byte does.
-#[derive(Clone, Copy, Debug)]
+#[derive(Clone, Copy)]
 pub(crate) struct Step {
     pub(crate) state: ParserState,
     pub(crate) effect: Effect,

@@ -10,7 +10,7 @@ use csv::ByteRecord;
 use std::alloc::{AllocError, Global};
 
 /// The columns that are read, counted from 0, and how many fields a record has.
-#[derive(Clone, Copy, Debug, PartialEq, Eq)]
+#[derive(Clone, Copy)]
 pub(crate) struct PlaceColumns {
     pub(crate) place: usize,
     pub(crate) code: usize,

@@ -8,7 +8,7 @@ use osn_written::{Extent, first_of, last_of};
 
 /// The first and the last day that a date may mean. A bound has one of them, and a date that means
 /// no day has none.
-#[derive(Clone, Copy, Debug, PartialEq, Eq)]
+#[derive(Clone, Copy, Debug)]
 pub(crate) struct Span {
     pub(crate) earliest: Option<Day>,
     pub(crate) latest: Option<Day>,

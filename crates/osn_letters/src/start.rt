@@ -6,7 +6,7 @@ ghost use Rattle.osn_letters.specs.Start as spec;
 pub(crate) const MARK: [u8; 2] = [0xef, 0xbb];
 
 /// How much of a byte order mark a text has begun with. These bytes are held back.
-#[derive(Clone, Copy, Debug, PartialEq, Eq)]
+#[derive(Clone, Copy, PartialEq, Eq)]
 pub(crate) enum Start {
     /// Nothing of it: no byte has come.
     Nothing,

@@ -24,7 +24,7 @@ use std::alloc::{AllocError, Global};
 use std::mem;
 
 /// What the header says of the records after it.
-#[derive(Clone, Copy, Debug, PartialEq, Eq)]
+#[derive(Clone, Copy)]
 pub(crate) struct Rows {
     /// The columns that are read.
     pub(crate) columns: Columns,

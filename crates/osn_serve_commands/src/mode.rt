@@ -6,7 +6,7 @@ use osn_invocation::ServeOptions;
 use osn_report::CommandFault;
 
 /// Which service is run. Files are named by their paths.
-#[derive(Clone, Copy, Debug, PartialEq, Eq)]
+#[derive(Clone, Copy)]
 pub(crate) enum Mode<'a> {
     /// One in memory.
     Load {

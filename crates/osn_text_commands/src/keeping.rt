@@ -12,7 +12,7 @@ use std::alloc::{AllocError, Global};
 use std::path::Path;
 
 /// Why the file of a journal is not kept.
-#[derive(Clone, Copy, Debug, PartialEq, Eq)]
+#[derive(Clone, Copy)]
 pub(crate) enum KeepCause {
     /// Another run of the program keeps it.
     Held,

@@ -16,7 +16,7 @@ use osn_serve_commands::check_kept;
 use std::alloc::Global;
 
 /// The note beside a plan.
-#[derive(Clone, Copy, Debug, PartialEq, Eq)]
+#[derive(Clone, Copy)]
 pub(crate) enum Note {
     /// Nothing.
     Nothing,

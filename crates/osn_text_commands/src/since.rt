@@ -26,7 +26,7 @@ pub struct PublishRequest<'a> {
 }
 
 /// What an edit changes of a territory.
-#[derive(Clone, Copy, Debug)]
+#[derive(Clone, Copy)]
 pub(crate) enum Item {
     /// The period that begins on the day of this number.
     Period(i64),

@@ -14,7 +14,7 @@ use std::alloc::{AllocError, Global};
 use std::str;
 
 /// Why the file of a text says no register.
-#[derive(Debug, Drop)]
+#[derive(Drop)]
 pub(crate) enum TextFileFault {
     /// Memory ran out.
     NoMemory,

@@ -1,17 +1,7 @@
-use Rattle.std.proofs.Common.{◌≡◌, append_assoc, rules, to_z, of_z, w64}
-use Rattle.osn_format.proofs.WriteLemmas.{at_last}
+use Rattle.std.proofs.Common.{◌≡◌, rules, to_z, of_z, w64}
 use Rattle.osn_files.proofs.written.write_drop_exception.Goals as goal
 
 pub returns-clause-tokens : goal.returns-clause-tokens
 returns-clause-tokens c =
     let year : to_z w64 (of_z w64 c.args.year) ≡ c.args.year = search rules in
-    at_last c.end_object.result c.end_object.ensures.ok
-    (λ e. rw (
-      e,
-      c.in_ok-write_signed.ensures.tokens,
-      c.in_ok-write_text-2.ensures.tokens,
-      c.in_ok-write_text.ensures.tokens,
-      c.in_ok-begin_object.ensures.ok,
-      c.as_str.ensures.value,
-      year,
-    ) (simp append_assoc))
+    rw (c.as_str.ensures.value, year) at c.write_object.ensures.tokens
