@@ -16,7 +16,8 @@ use Rattle.osn_written.specs.declared.any_date.SimpleDate.TheVariants as date
 use Rattle.osn_written.specs.declared.any_date.Year.{Year}
 use Rattle.osn_grammar.specs.Extent.{date_or_range, extent_of, first_read}
 use Rattle.osn_grammar.specs.Reading.{is_undated}
-use Rattle.osn_grammar.specs.Simple.{◌>>=◌, simple_date, is_long, year_of}
+use Rattle.osn_grammar.specs.Forms.{simple_date}
+use Rattle.osn_grammar.specs.Simple.{◌>>=◌, is_long, year_of}
 use Rattle.osn_grammar.specs.Simple.{month_in, day_in}
 use Rattle.osn_grammar.proofs.PartFacts.{Say, Adds, part_adds}
 

@@ -24,14 +24,16 @@ use Rattle.osn_grammar.specs.Extent.{beginning_of, dashed_range, date_or_range, 
 use Rattle.osn_grammar.specs.Extent.{first_date, first_read}
 use Rattle.osn_grammar.specs.Extent.{range_after, range_of}
 use Rattle.osn_grammar.specs.Parts.{tells_time}
-use Rattle.osn_grammar.specs.BothCalendars.{day_by_both}
+use Rattle.osn_grammar.specs.BothCalendars.{are_named, day_by_both}
 use Rattle.osn_grammar.specs.declared.reading.Told.{Told}
 use Rattle.osn_grammar.specs.Reading.{after_estimated, date_of, is_undated, or_other, or_reason}
 use Rattle.osn_grammar.specs.Reading.{reading_of_parts, unless_open, is_about, is_feast}
 use Rattle.osn_grammar.specs.Reading.{is_doubt, is_bracket, weekday_after, reckoning_after}
+use Rattle.osn_grammar.specs.Reading.{told_by_both, told_in}
 use Rattle.osn_grammar.specs.Roman.{roman_date}
 use Rattle.osn_grammar.specs.SetsInDigits.{Days}
-use Rattle.osn_grammar.specs.Simple.{◌>>=◌, simple_date}
+use Rattle.osn_grammar.specs.Forms.{simple_date}
+use Rattle.osn_grammar.specs.Simple.{◌>>=◌}
 use Rattle.osn_grammar.specs.Years.{years_in}
 use Rattle.osn_grammar.proofs.DigitLaw.{parts_of}
 
@@ -149,15 +151,11 @@ pub dated : (days : Days) (rest : List Days) → is_undated (timed (days ∷ res
 dated (d, None) rest = refl
 dated (d, Some e) rest = refl
 
-date_refused : (weekday : Result (Option Weekday) DateFault)
-    (reckoning : Result (Option Reckoning) DateFault)
-    (time : Option Reckoning → Result Told DateFault)
-    (f : Option Weekday → Told → Result AnyDate DateFault)
-    → ((r : Option Reckoning) → is_err (time r) ≡ true)
-    → is_err (weekday >>= (λ w. reckoning >>= (λ r. time r >>= f w))) ≡ true
-date_refused (Err fault) reckoning time f wrong = refl
-date_refused (Ok w) (Err fault) time f wrong = refl
-date_refused (Ok w) (Ok r) time f wrong = bind_err (time r) (f w) (wrong r)
+date_refused : (weekday : Result (Option Weekday) DateFault) (time : Result Told DateFault)
+    (f : Option Weekday → Told → Result AnyDate DateFault) → is_err time ≡ true
+    → is_err (weekday >>= (λ w. time >>= f w)) ≡ true
+date_refused (Err fault) time f wrong = refl
+date_refused (Ok w) time f wrong = bind_err time (f w) wrong
 
 reason_refused : (parts ts : List Part) (date : Result AnyDate DateFault) → is_err date ≡ true
     → is_err (or_reason parts ts date) ≡ true
@@ -170,16 +168,29 @@ pub record HaveNoOtherForm (ts : List Part) : Type 0 where
       → after_estimated o parts ts ≡ Err faults.Malformed
   pub years : years_in ts ≡ None
   pub roman : roman_date ts ≡ Err faults.Malformed
-  pub both : day_by_both newest_rules ts ≡ Err faults.Malformed
+  pub both : (parts : List Part) → day_by_both newest_rules parts ts ≡ Err faults.Malformed
 
 time_refused : (o : DateOrder) (parts ts : List Part) (r : Option Reckoning)
     (read : Result Extent DateFault) → HaveNoOtherForm ts → is_err read ≡ true
     → is_err (or_other o parts ts r read) ≡ true
 time_refused o parts ts r (Ok e) other wrong = absurd (cc)
 time_refused o parts ts None (Err fault) other wrong =
-    rw (other.estimated o parts, other.years, other.roman, other.both) refl
+    rw (other.estimated o parts, other.years, other.roman, other.both parts) refl
 time_refused o parts ts (Some r) (Err fault) other wrong =
-    rw (other.estimated o parts, other.years, other.roman, other.both) refl
+    rw (other.estimated o parts, other.years, other.roman, other.both parts) refl
+
+named_refused : (named : Bool) (fault : DateFault) (day : Result SimpleDate DateFault)
+    → day ≡ Err faults.Malformed
+    → is_err (told_by_both None fault (if named then day else Err faults.Malformed)) ≡ true
+named_refused true fault day none = rw none refl
+named_refused false fault day none = refl
+
+told_refused : (o : DateOrder) (parts ts : List Part)
+    (named : Result (Option Reckoning) DateFault) → HaveNoOtherForm ts
+    → is_err (extent_of o ts) ≡ true → is_err (told_in o parts ts named) ≡ true
+told_refused o parts ts (Ok r) other wrong = time_refused o parts ts r (extent_of o ts) other wrong
+told_refused o parts ts (Err fault) other wrong =
+    named_refused (are_named parts) fault (day_by_both newest_rules parts ts) (other.both parts)
 
 unless_refused : (feast : Bool) (o : DateOrder) (parts ts : List Part) → HaveNoOtherForm ts
     → is_err (extent_of o ts) ≡ true
@@ -187,8 +198,7 @@ unless_refused : (feast : Bool) (o : DateOrder) (parts ts : List Part) → HaveN
 unless_refused true o parts ts other wrong = refl
 unless_refused false o parts ts other wrong =
     reason_refused parts ts (date_of o parts ts)
-    (date_refused (weekday_after None parts) (reckoning_after None parts)
-    (λ r. or_other o parts ts r (extent_of o ts))
+    (date_refused (weekday_after None parts) (told_in o parts ts (reckoning_after None parts))
     (λ w time. unless_open (record {
       extent = time.extent;
       weekday = w;
@@ -196,7 +206,7 @@ unless_refused false o parts ts other wrong =
       is_approximate = list_any is_about parts;
       is_uncertain = list_any is_doubt parts;
       is_supplied = list_any is_bracket parts;
-    })) (λ r. time_refused o parts ts r (extent_of o ts) other wrong))
+    })) (told_refused o parts ts (reckoning_after None parts) other wrong))
 
 pub other_refused : (first next : Days) (rest : List Days)
     → HaveNoOtherForm (timed (first ∷ next ∷ rest))
@@ -204,19 +214,19 @@ other_refused (d, None) (e, None) rest = record {
   estimated = λ o parts. refl;
   years = refl;
   roman = refl;
-  both = refl;
+  both = λ parts. refl;
 }
 other_refused (d, None) (e, Some f) rest = record {
   estimated = λ o parts. refl;
   years = refl;
   roman = refl;
-  both = refl;
+  both = λ parts. refl;
 }
 other_refused (d, Some e) next rest = record {
   estimated = λ o parts. refl;
   years = refl;
   roman = refl;
-  both = refl;
+  both = λ parts. refl;
 }
 
 pub said_refused : (o : DateOrder) (p : Part) (ps ts : List Part) → filter tells_time (p ∷ ps) ≡ ts

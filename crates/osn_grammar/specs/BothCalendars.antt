@@ -1,7 +1,7 @@
 -- A day by both calendars, such as 3/13 June 1675: its Julian date and its Gregorian one. This
 -- project's profile.
 use Rattle.std.specs.Prelude.{ℕ, Bool, true, false, not, ◌&&◌, ◌||◌, nat_lt, ◌==◌, ◌+◌, pos, ◌+ℤ◌}
-use Rattle.std.specs.Prelude.{if◌then◌else◌, List, [], ◌∷◌, map, Option, Some, None}
+use Rattle.std.specs.Prelude.{if◌then◌else◌, List, [], ◌∷◌, map, Option, Some, None, is_some}
 use Rattle.std.specs.Prelude.{Result, Ok, Err}
 use Rattle.std.specs.List.{list_any}
 use Rattle.std.specs.Ordering.{int_eq}
@@ -17,9 +17,12 @@ use Rattle.osn_grammar.specs.declared.both_calendars.WrittenYears.{WrittenYears}
 use Rattle.osn_grammar.specs.declared.both_calendars.WrittenYears.TheVariants as years
 use Rattle.osn_grammar.specs.declared.part.Numeral.{Numeral}
 use Rattle.osn_grammar.specs.declared.part.Part.{Part}
-use Rattle.osn_grammar.specs.declared.part.Part.TheVariants.{Number, Month, Slash}
+use Rattle.osn_grammar.specs.declared.part.Part.TheVariants.{Number, Month, Slash, Round, Weekday}
+use Rattle.osn_grammar.specs.declared.part.Part.TheVariants.{Reckoning as By}
+use Rattle.osn_written.specs.declared.any_date.Reckoning.TheVariants.{OldStyle, NewStyle}
 use Rattle.osn_grammar.specs.declared.simple.YearNumbers.{YearNumbers}
-use Rattle.osn_grammar.specs.Simple.{is_long, one, two, year_of}
+use Rattle.osn_grammar.specs.Forms.{year_numbers}
+use Rattle.osn_grammar.specs.Simple.{is_long, one, year_of}
 use Rattle.osn_written.specs.declared.any_date.SimpleDate.{SimpleDate}
 use Rattle.osn_written.specs.declared.any_date.SimpleDate.TheVariants as date
 use Rattle.osn_written.specs.declared.any_date.Year.{Year}
@@ -34,32 +37,85 @@ month_day m d =
     if is_long d || (nat_lt d.value 1 || nat_lt 31 d.value) then None
     else Some (record { month = m; day = d.value })
 
-abbrev pub two_dates : Option MonthDay → Option MonthDay → WrittenYears → Option TwoDates
+-- a day and its month: 3 June
+abbrev pub day_and_month : Part → Part → Option MonthDay
+day_and_month (Number d) (Month m) = month_day m d
+day_and_month day month = None
+
+abbrev pub two_dates : Option MonthDay → Option MonthDay → Option WrittenYears → Option TwoDates
 two_dates None new written = None
 two_dates (Some old) None written = None
-two_dates (Some old) (Some new) written =
+two_dates (Some old) (Some new) None = None
+two_dates (Some old) (Some new) (Some written) =
     Some (record { old = old; new = new; years = written })
 
-abbrev pub in_one_month : ℕ → Numeral → Numeral → YearNumbers → Option TwoDates
-in_one_month m a b written =
-    two_dates (month_day m a) (month_day m b) (years.Shared written)
+-- one year for both dates: 1675, 1674/5
+abbrev pub shared_by : Option YearNumbers → Option WrittenYears
+shared_by None = None
+shared_by (Some written) = Some (years.Shared written)
 
--- 3/13 June 1675, June 3/13 1675, 28 May/7 June 1675, each with a double year too, and 27 Dec.
--- 1675/6 Jan. 1676
-abbrev pub dates_in : List Part → Option TwoDates
-dates_in (Number a ∷ Slash ∷ Number b ∷ Month m ∷ Number y ∷ []) = in_one_month m a b (one y)
-dates_in (Month m ∷ Number a ∷ Slash ∷ Number b ∷ Number y ∷ []) = in_one_month m a b (one y)
-dates_in (Number a ∷ Slash ∷ Number b ∷ Month m ∷ Number y ∷ Slash ∷ Number l ∷ []) =
-    in_one_month m a b (two y l)
-dates_in (Month m ∷ Number a ∷ Slash ∷ Number b ∷ Number y ∷ Slash ∷ Number l ∷ []) =
-    in_one_month m a b (two y l)
-dates_in (Number a ∷ Month m ∷ Slash ∷ Number b ∷ Month n ∷ Number y ∷ []) =
-    two_dates (month_day m a) (month_day n b) (years.Shared (one y))
-dates_in (Number a ∷ Month m ∷ Slash ∷ Number b ∷ Month n ∷ Number y ∷ Slash ∷ Number l ∷ []) =
-    two_dates (month_day m a) (month_day n b) (years.Shared (two y l))
-dates_in (Number a ∷ Month m ∷ Number y ∷ Slash ∷ Number b ∷ Month n ∷ Number v ∷ []) =
-    two_dates (month_day m a) (month_day n b) (years.Each y v)
-dates_in _ = None
+abbrev pub shared_by_both : List Part → Option WrittenYears
+shared_by_both parts = shared_by (year_numbers parts)
+
+-- 3/13 June 1675
+abbrev pub before_their_month : List Part → Option TwoDates
+before_their_month (old ∷ Slash ∷ new ∷ month ∷ year) =
+    two_dates (day_and_month old month) (day_and_month new month) (shared_by_both year)
+before_their_month _ = None
+
+-- June 3/13, 1675
+abbrev pub after_their_month : List Part → Option TwoDates
+after_their_month (month ∷ old ∷ Slash ∷ new ∷ year) =
+    two_dates (day_and_month old month) (day_and_month new month) (shared_by_both year)
+after_their_month _ = None
+
+-- 28 May/7 June 1675
+abbrev pub with_months : List Part → Option TwoDates
+with_months (old ∷ month ∷ Slash ∷ new ∷ other ∷ year) =
+    two_dates (day_and_month old month) (day_and_month new other) (shared_by_both year)
+with_months _ = None
+
+-- 27 Dec. 1675/6 Jan. 1676
+abbrev pub year_of_each : Part → Part → Option WrittenYears
+year_of_each (Number first) (Number last) = Some (years.Each first last)
+year_of_each first last = None
+
+abbrev pub with_years : List Part → Option TwoDates
+with_years (old ∷ month ∷ first ∷ Slash ∷ new ∷ other ∷ last ∷ []) =
+    two_dates (day_and_month old month) (day_and_month new other) (year_of_each first last)
+with_years _ = None
+
+abbrev pub or_dates : Option TwoDates → Option TwoDates → Option TwoDates
+or_dates (Some dates) other = Some dates
+or_dates None other = other
+
+abbrev pub slashed_dates : List Part → Option TwoDates
+slashed_dates parts =
+    or_dates (or_dates (before_their_month parts) (after_their_month parts))
+    (or_dates (with_months parts) (with_years parts))
+
+-- 3 (13) June 1675, June 3 (13), 1675: a number is before the one in round brackets, after a weekday
+-- or the month or after nothing
+abbrev pub begin_round : List Part → Bool
+begin_round (Number a ∷ Round ∷ rest) = true
+begin_round (Month m ∷ Number a ∷ Round ∷ rest) = true
+begin_round (Weekday w ∷ Number a ∷ Round ∷ rest) = true
+begin_round _ = false
+
+abbrev pub beside : List Part → Option TwoDates
+beside (Month m ∷ old ∷ new ∷ year) =
+    two_dates (day_and_month old (Month m)) (day_and_month new (Month m)) (shared_by_both year)
+beside (old ∷ new ∷ month ∷ year) =
+    two_dates (day_and_month old month) (day_and_month new month) (shared_by_both year)
+beside _ = None
+
+abbrev pub if_round : List Part → Option TwoDates → Option TwoDates
+if_round parts None = None
+if_round parts (Some dates) = if begin_round parts then Some dates else None
+
+-- all parts, and those that say which day is meant
+abbrev pub dates_in : List Part → List Part → Option TwoDates
+dates_in parts timed = or_dates (slashed_dates timed) (if_round parts (beside timed))
 
 -- ---- the Gregorian year
 
@@ -132,5 +188,32 @@ abbrev pub day_if_two : Profile → Option TwoDates → Result SimpleDate DateFa
 day_if_two p None = Err faults.Malformed
 day_if_two p (Some dates) = day_of_both p dates
 
-abbrev pub day_by_both : Profile → List Part → Result SimpleDate DateFault
-day_by_both p parts = day_if_two p (dates_in parts)
+abbrev pub day_by_both : Profile → List Part → List Part → Result SimpleDate DateFault
+day_by_both p parts timed = day_if_two p (dates_in parts timed)
+
+-- ---- with the names of both calendars
+
+-- 3 June O.S./13 June N.S. 1675, 3 June 1675 O.S./13 June 1675 N.S., with a double year too
+abbrev pub are_new_and_year : List Part → Bool
+are_new_and_year (By NewStyle ∷ year) = is_some (year_numbers year)
+are_new_and_year (Number y ∷ By NewStyle ∷ []) = true
+are_new_and_year (Number y ∷ Slash ∷ Number l ∷ By NewStyle ∷ []) = true
+are_new_and_year _ = false
+
+abbrev pub is_new_last : List Part → Bool
+is_new_last (Number b ∷ Month n ∷ rest) = are_new_and_year rest
+is_new_last _ = false
+
+abbrev pub is_old_first : List Part → Bool
+is_old_first (By OldStyle ∷ Slash ∷ last) = is_new_last last
+is_old_first (Number y ∷ By OldStyle ∷ Slash ∷ last) = is_new_last last
+is_old_first _ = false
+
+abbrev pub are_named : List Part → Bool
+are_named (Number a ∷ Month m ∷ rest) = is_old_first rest
+are_named (Weekday w ∷ Number a ∷ Month m ∷ rest) = is_old_first rest
+are_named _ = false
+
+abbrev pub named_day : Profile → List Part → List Part → Result SimpleDate DateFault
+named_day p parts timed =
+    if are_named parts then day_by_both p parts timed else Err faults.Malformed

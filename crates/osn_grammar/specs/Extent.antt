@@ -20,7 +20,8 @@ use Rattle.osn_written.specs.declared.any_date.Extent.TheVariants as extent
 use Rattle.osn_written.specs.declared.any_date.SimpleDate.{SimpleDate}
 use Rattle.osn_written.specs.declared.any_date.SimpleDate.TheVariants as date
 use Rattle.osn_written.specs.AnyDate.{has_three_digits}
-use Rattle.osn_grammar.specs.Simple.{◌>>=◌, is_long, month_in, day_in, date_in_digits, simple_date}
+use Rattle.osn_grammar.specs.Forms.{date_in_digits, simple_date}
+use Rattle.osn_grammar.specs.Simple.{◌>>=◌, is_long, month_in, day_in}
 
 -- ---- ranges
 

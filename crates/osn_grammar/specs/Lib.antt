@@ -3,6 +3,7 @@ pub mod RomanYear
 pub mod Parts
 pub mod Scan
 pub mod Simple
+pub mod Forms
 pub mod Extent
 pub mod Sets
 pub mod Years

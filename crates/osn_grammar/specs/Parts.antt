@@ -20,6 +20,7 @@ tells_time part.About = false
 tells_time part.Doubt = false
 tells_time part.AboutAndDoubt = false
 tells_time part.Bracket = false
+tells_time part.Round = false
 tells_time part.Filler = false
 tells_time _ = true
 

@@ -28,7 +28,7 @@ use Rattle.osn_grammar.specs.Parts.{tells_time}
 use Rattle.osn_grammar.specs.Scan.{parts_in}
 use Rattle.osn_grammar.specs.Sets.{inside_brackets, between_commas, is_sign, days_in_digits}
 use Rattle.osn_grammar.specs.Simple.{◌>>=◌, lacks_digit}
-use Rattle.osn_grammar.specs.BothCalendars.{day_by_both}
+use Rattle.osn_grammar.specs.BothCalendars.{day_by_both, named_day}
 use Rattle.osn_grammar.specs.Roman.{roman_date}
 use Rattle.osn_grammar.specs.Years.{range_of, years_in, years_of_text}
 
@@ -113,26 +113,34 @@ after_estimated o parts (part.Estimated ∷ date) =
     else Err faults.Malformed
 after_estimated o parts _ = Err faults.Malformed
 
-abbrev pub told_by : List Part → Option Reckoning → DateFault → Result Extent DateFault
-    → Option Years → Result SimpleDate DateFault → Result Told DateFault
-told_by timed reckoning fault (Ok e) years roman = Ok (told reckoning e)
-told_by timed reckoning fault (Err other) (Some years) roman = Ok (told reckoning (range_of years))
-told_by timed reckoning fault (Err other) None (Ok d) = Ok (told reckoning (extent.On d))
-told_by timed reckoning fault (Err other) None (Err another) =
-    told_by_both reckoning fault (day_by_both newest_rules timed)
+abbrev pub told_by : List Part → List Part → Option Reckoning → DateFault
+    → Result Extent DateFault → Option Years → Result SimpleDate DateFault → Result Told DateFault
+told_by parts timed reckoning fault (Ok e) years roman = Ok (told reckoning e)
+told_by parts timed reckoning fault (Err other) (Some years) roman =
+    Ok (told reckoning (range_of years))
+told_by parts timed reckoning fault (Err other) None (Ok d) = Ok (told reckoning (extent.On d))
+told_by parts timed reckoning fault (Err other) None (Err another) =
+    told_by_both reckoning fault (day_by_both newest_rules parts timed)
 
 -- what has none of the usual forms may be an estimated date, a decade, a century, a day with a
 -- Roman numeral or a day by both calendars
 abbrev pub told_otherwise : DateOrder → List Part → List Part → Option Reckoning → DateFault
     → Result Told DateFault
 told_otherwise o parts timed reckoning fault =
-    told_by timed reckoning fault (after_estimated o parts timed) (years_in timed)
+    told_by parts timed reckoning fault (after_estimated o parts timed) (years_in timed)
     (roman_date timed)
 
 abbrev pub or_other : DateOrder → List Part → List Part → Option Reckoning
     → Result Extent DateFault → Result Told DateFault
 or_other o parts timed reckoning (Ok e) = Ok (told reckoning e)
 or_other o parts timed reckoning (Err fault) = told_otherwise o parts timed reckoning fault
+
+-- no two calendars may be named, unless they are beside the two dates of a day
+abbrev pub told_in : DateOrder → List Part → List Part → Result (Option Reckoning) DateFault
+    → Result Told DateFault
+told_in o parts timed (Ok reckoning) = or_other o parts timed reckoning (extent_of o timed)
+told_in o parts timed (Err fault) =
+    told_by_both None fault (named_day newest_rules parts timed)
 
 -- a year of three digits may lack its last one, if it is in doubt or in brackets
 abbrev pub unless_open : AnyDate → Result AnyDate DateFault
@@ -144,8 +152,7 @@ unless_open w =
 abbrev pub date_of : DateOrder → List Part → List Part → Result AnyDate DateFault
 date_of o parts timed = do
   weekday ← weekday_after None parts
-  reckoning ← reckoning_after None parts
-  time ← or_other o parts timed reckoning (extent_of o timed)
+  time ← told_in o parts timed (reckoning_after None parts)
   unless_open (record {
     extent = time.extent;
     weekday = weekday;

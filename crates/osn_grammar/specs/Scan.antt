@@ -71,6 +71,19 @@ mark_of_stop word rest =
     if next_is (λ c. c == 46) (first_of rest) then Some part.Open
     else (if is_number word && is_number_next rest then Some part.Dot else None)
 
+-- a round bracket before one or two digits and another one, as in `3 (13) June`, is a mark
+abbrev pub ends_round : ℕ → ℕ → List ℕ → Bool
+ends_round a b [] = false
+ends_round a b (c ∷ rest) = c == 41 && (is_digit a && is_digit b)
+
+abbrev pub is_in_round : List ℕ → Bool
+is_in_round [] = false
+is_in_round (a ∷ []) = false
+is_in_round (a ∷ b ∷ rest) = if b == 41 then is_digit a else ends_round a b rest
+
+abbrev pub mark_of_round : List ℕ → Option Part
+mark_of_round rest = if is_in_round rest then Some part.Round else None
+
 -- the name of a month
 abbrev pub is_month : Option Part → Bool
 is_month (Some (part.Month m)) = true
@@ -79,8 +92,8 @@ is_month _ = false
 abbrev pub is_month_name : List ℕ → Bool
 is_month_name word = is_month (part_named word)
 
--- the mark that a character is, after a word and before the rest of the text. Blanks, commas, round
--- brackets and a colon after the name of a month, `Feb:`, are not marks
+-- the mark that a character is, after a word and before the rest of the text. Blanks, commas, other
+-- round brackets and a colon after the name of a month, `Feb:`, are not marks
 abbrev pub mark_of : List ℕ → ℕ → List ℕ → Option Part
 mark_of word c rest =
     if is_dash c then Some part.Dash
@@ -90,9 +103,10 @@ mark_of word c rest =
     else (if c == 37 then Some part.AboutAndDoubt
     else (if c == 91 || c == 93 then Some part.Bracket
     else (if c == 46 then mark_of_stop word rest
-    else (if is_blank c || (c == 44 || (c == 40 || c == 41)) then None
+    else (if c == 40 then mark_of_round rest
+    else (if is_blank c || (c == 44 || c == 41) then None
     else (if c == 58 && is_month_name word then None
-    else Some part.Unknown))))))))
+    else Some part.Unknown)))))))))
 
 -- the part of a word, which may be empty
 abbrev pub part_of_run : List ℕ → Option Part

@@ -12,6 +12,7 @@ use Rattle.osn_written.specs.declared.written_date.DateFault.{DateFault}
 use Rattle.osn_written.specs.declared.written_date.DateFault.TheVariants as faults
 use Rattle.osn_written.specs.declared.any_date.Extent.{Extent}
 use Rattle.osn_written.specs.declared.any_date.Extent.TheVariants as extent
+use Rattle.osn_written.specs.declared.any_date.SimpleDate.{SimpleDate}
 use Rattle.osn_grammar.specs.Simple.{◌>>=◌, one, day_in_digits}
 
 -- ---- the text between the brackets
@@ -43,15 +44,19 @@ is_sign part.Doubt = true
 is_sign part.AboutAndDoubt = true
 is_sign _ = false
 
+-- a day, or the days from it to the one after `..`
+abbrev pub from_day : Result SimpleDate DateFault → List Part → Result Extent DateFault
+from_day first [] = do
+  day ← first
+  Ok (extent.On day)
+from_day first (Open ∷ Number y ∷ Dash ∷ Number m ∷ Dash ∷ Number d ∷ []) = do
+  start ← first
+  end ← day_in_digits (one y) m d
+  Ok (extent.FromTo start end)
+from_day first _ = Err faults.Malformed
+
 -- a day in digits, or the first and the last one with `..` between them
 abbrev pub days_in_digits : List Part → Result Extent DateFault
-days_in_digits (Number y ∷ Dash ∷ Number m ∷ Dash ∷ Number d ∷ []) = do
-  day ← day_in_digits (one y) m d
-  Ok (extent.On day)
-days_in_digits
-    (Number y ∷ Dash ∷ Number m ∷ Dash ∷ Number d ∷ Open
-    ∷ Number v ∷ Dash ∷ Number n ∷ Dash ∷ Number e ∷ []) = do
-      first ← day_in_digits (one y) m d
-      last ← day_in_digits (one v) n e
-      Ok (extent.FromTo first last)
+days_in_digits (Number y ∷ Dash ∷ Number m ∷ Dash ∷ Number d ∷ rest) =
+    from_day (day_in_digits (one y) m d) rest
 days_in_digits _ = Err faults.Malformed

@@ -1,11 +1,9 @@
--- Simple dates, a day, a month or a year, and the forms in which they are written. This project's
+-- Simple dates, a day, a month or a year, of the numbers with which they are written. This project's
 -- profile.
 use Rattle.std.specs.Prelude.{ℕ, Bool, true, ◌&&◌, ◌||◌, not, nat_le, nat_lt, ◌==◌, ◌+◌, ◌%◌, ◌^◌}
-use Rattle.std.specs.Prelude.{if◌then◌else◌, List, [], ◌∷◌, Option, Some, None, is_some}
+use Rattle.std.specs.Prelude.{if◌then◌else◌, Option, Some, None, is_some}
 use Rattle.std.specs.Prelude.{Result, Ok, Err}
 use Rattle.osn_grammar.specs.declared.part.Numeral.{Numeral}
-use Rattle.osn_grammar.specs.declared.part.Part.{Part}
-use Rattle.osn_grammar.specs.declared.part.Part.TheVariants.{Number, Month, Dash, Slash, Dot, Blank}
 use Rattle.osn_grammar.specs.declared.simple.YearNumbers.{YearNumbers}
 use Rattle.osn_written.specs.declared.written_date.DateFault.{DateFault}
 use Rattle.osn_written.specs.declared.written_date.DateFault.TheVariants as faults
@@ -169,69 +167,3 @@ double_year_or_days a b month c =
 abbrev pub month_or_double_year : Numeral → Numeral → Result SimpleDate DateFault
 month_or_double_year a b =
     if not (is_long a) && is_long b then month_of (one b) a.value else whole_year (two a b)
-
--- ---- the forms
-
--- a day in numbers: 1731-02-11, 1731/2-02-11, 11.2.1731, 11.2.1731/2, 11/2/1731, 11/2 1731,
--- 11 2 1731. With full stops the day is before the month
-abbrev pub day_in_numbers : DateOrder → List Part → Result SimpleDate DateFault
-day_in_numbers o (Number a ∷ Dash ∷ Number b ∷ Dash ∷ Number c ∷ []) = three_numbers o a b c
-day_in_numbers o (Number a ∷ Slash ∷ Number b ∷ Slash ∷ Number c ∷ []) = three_numbers o a b c
-day_in_numbers o (Number a ∷ Number b ∷ Number c ∷ []) = three_numbers o a b c
-day_in_numbers o (Number a ∷ Dot ∷ Number b ∷ Dot ∷ Number c ∷ []) =
-    in_order order.DayMonth a b c
-day_in_numbers o (Number a ∷ Slash ∷ Number b ∷ Number y ∷ []) = year_last o a b y
-day_in_numbers o (Number y ∷ Slash ∷ Number l ∷ Dash ∷ Number m ∷ Dash ∷ Number d ∷ []) =
-    day_in_digits (two y l) m d
-day_in_numbers o (Number d ∷ Dot ∷ Number m ∷ Dot ∷ Number y ∷ Slash ∷ Number l ∷ []) =
-    day_in_digits (two y l) m d
-day_in_numbers o _ = Err faults.Malformed
-
--- a day with its month's name: 11 February 1731, 11-Feb-1731, 11/Feb/1731, 1731 February 11, 1731
--- 11 February, February 11 1731, February 11. 1731, and with 1731/2
-abbrev pub day_in_words : List Part → Result SimpleDate DateFault
-day_in_words (Number a ∷ Month m ∷ Number b ∷ []) = around_month a m b
-day_in_words (Number a ∷ Dash ∷ Month m ∷ Dash ∷ Number b ∷ []) = around_month a m b
-day_in_words (Number a ∷ Slash ∷ Month m ∷ Slash ∷ Number b ∷ []) = around_month a m b
-day_in_words (Number d ∷ Month m ∷ Number y ∷ Slash ∷ Number l ∷ []) = day_of_month (two y l) m d
-day_in_words (Number a ∷ Slash ∷ Number b ∷ Month m ∷ Number c ∷ []) = double_year_or_days a b m c
-day_in_words (Number y ∷ Number d ∷ Month m ∷ []) = year_and_day y d m
-day_in_words (Month m ∷ Number d ∷ Number y ∷ []) = day_of_month (one y) m d
-day_in_words (Month m ∷ Number d ∷ Number y ∷ Slash ∷ Number l ∷ []) = day_of_month (two y l) m d
-day_in_words (Month m ∷ Number d ∷ Dot ∷ Number y ∷ []) = day_of_month (one y) m d
-day_in_words (Month m ∷ Number d ∷ Dot ∷ Number y ∷ Slash ∷ Number l ∷ []) =
-    day_of_month (two y l) m d
-day_in_words _ = Err faults.Malformed
-
--- a month or a year: February 1731, 1731 February, 1731-02, 2/1731, 1731-02-XX, 1731-XX-XX, 1731,
--- and with 1731/2
-abbrev pub month_or_year : List Part → Result SimpleDate DateFault
-month_or_year (Month m ∷ Number y ∷ []) = month_of (one y) m
-month_or_year (Month m ∷ Number y ∷ Slash ∷ Number l ∷ []) = month_of (two y l) m
-month_or_year (Number y ∷ Month m ∷ []) = year_and_name y m
-month_or_year (Number y ∷ Slash ∷ Number l ∷ Month m ∷ []) = month_of (two y l) m
-month_or_year (Number y ∷ Dash ∷ Number m ∷ []) = year_and_month y m
-month_or_year (Number y ∷ Slash ∷ Number l ∷ Dash ∷ Number m ∷ []) = month_in_digits (two y l) m
-month_or_year (Number y ∷ Dash ∷ Number m ∷ Dash ∷ Blank ∷ []) = month_in_digits (one y) m
-month_or_year (Number y ∷ Dash ∷ Blank ∷ Dash ∷ Blank ∷ []) = whole_year (one y)
-month_or_year (Number y ∷ []) = whole_year (one y)
-month_or_year (Number a ∷ Slash ∷ Number b ∷ []) = month_or_double_year a b
-month_or_year _ = Err faults.Malformed
-
--- a day, a month or a year in digits with its year first: 1731-02-11, 1731-02, 1731
-abbrev pub date_in_digits : List Part → Result SimpleDate DateFault
-date_in_digits (Number y ∷ Dash ∷ Number m ∷ Dash ∷ Number d ∷ []) = day_in_digits (one y) m d
-date_in_digits (Number y ∷ Dash ∷ Number m ∷ []) = year_and_month y m
-date_in_digits (Number y ∷ []) = whole_year (one y)
-date_in_digits _ = Err faults.Malformed
-
--- a reading, or another one if it has no form
-abbrev pub or_else : Result SimpleDate DateFault → Result SimpleDate DateFault
-    → Result SimpleDate DateFault
-or_else (Err faults.Malformed) other = other
-or_else read other = read
-
--- a date in one of the forms
-abbrev pub simple_date : DateOrder → List Part → Result SimpleDate DateFault
-simple_date o parts =
-    or_else (day_in_numbers o parts) (or_else (day_in_words parts) (month_or_year parts))

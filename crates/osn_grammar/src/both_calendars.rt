@@ -8,21 +8,22 @@ ghost use Rattle.osn_days.specs.Profile.{newest_rules};
 ghost use Rattle.osn_lands.specs.Style as style;
 ghost use Rattle.osn_grammar.specs.BothCalendars as spec;
 
+use crate::forms::year_numbers;
 use crate::part::Numeral;
-use crate::part::Part::{self, Month, Number, Slash};
-use crate::simple::{YearNumbers, is_long, one, two, year_of};
+use crate::part::Part::{self, Month, Number, Reckoning as By, Round, Slash, Weekday};
+use crate::simple::{YearNumbers, is_long, one, year_of};
 use osn_days::{Calendar, Date, date_of, day_of};
-use osn_written::{DateFault, SimpleDate, Year};
+use osn_written::{DateFault, Reckoning, SimpleDate, Year};
 
 /// A day of a month.
-#[derive(Clone, Copy, Debug, PartialEq, Eq)]
+#[derive(Clone, Copy)]
 struct MonthDay {
     month: u8,
     day: u8,
 }
 
 /// The years that are written with two dates.
-#[derive(Clone, Copy, Debug, PartialEq, Eq)]
+#[derive(Clone, Copy)]
 enum WrittenYears {
     /// One for both of them, which may be a double year.
     Shared(YearNumbers),
@@ -31,7 +32,7 @@ enum WrittenYears {
 }
 
 /// Two dates with a `/` between them.
-#[derive(Clone, Copy, Debug, PartialEq, Eq)]
+#[derive(Clone, Copy)]
 struct TwoDates {
     old: MonthDay,
     new: MonthDay,
@@ -52,87 +53,165 @@ fn month_day(month: u8, day: Numeral) -> Option<MonthDay>
     }
 }
 
+/// Returns the day of a month that a number and the name of a month are, if they are one.
+fn day_and_month(day: Part, month: Part) -> Option<MonthDay>
+    ensures { result ≡ spec.day_and_month day month }
+{
+    match (day, month) {
+        (Number(day), Month(month)) => month_day(month, day),
+        _ => None,
+    }
+}
+
 /// Returns two dates of these days and years.
-fn two_dates(old: Option<MonthDay>, new: Option<MonthDay>, years: WrittenYears) -> Option<TwoDates>
+fn two_dates(
+    old: Option<MonthDay>,
+    new: Option<MonthDay>,
+    years: Option<WrittenYears>,
+) -> Option<TwoDates>
     ensures { result ≡ spec.two_dates old new years }
 {
     Some(TwoDates {
         old: old?,
         new: new?,
-        years,
+        years: years?,
     })
 }
 
-/// Returns two days of one month and year.
-fn in_one_month(month: u8, old: Numeral, new: Numeral, years: YearNumbers) -> Option<TwoDates>
-    ensures { result ≡ spec.in_one_month month old new years }
+/// Returns the one year of two dates that parts are, if they are a year.
+fn shared_by_both(years: &[Part]) -> Option<WrittenYears>
+    ensures { result ≡ spec.shared_by_both years.now }
 {
-    two_dates(
-        month_day(month, old),
-        month_day(month, new),
-        WrittenYears::Shared(years),
-    )
+    Some(WrittenYears::Shared(year_numbers(years)?))
 }
 
-/// Returns the two dates that parts are, if they are two with a `/` between them.
-fn dates_in(parts: &[Part]) -> Option<TwoDates>
-    ensures { result ≡ spec.dates_in parts.now }
+/// Returns the two dates of parts that are two days and then their month: `3/13 June 1675`.
+fn before_their_month(parts: &[Part]) -> Option<TwoDates>
+    ensures { result ≡ spec.before_their_month parts.now }
 {
     match parts {
-        [Number(a), Slash, Number(b), Month(m), Number(y)]
-        | [Month(m), Number(a), Slash, Number(b), Number(y)] => in_one_month(*m, *a, *b, one(*y)),
-        [
-            Number(a),
-            Slash,
-            Number(b),
-            Month(m),
-            Number(y),
-            Slash,
-            Number(l),
-        ]
-        | [
-            Month(m),
-            Number(a),
-            Slash,
-            Number(b),
-            Number(y),
-            Slash,
-            Number(l),
-        ] => in_one_month(*m, *a, *b, two(*y, *l)),
-        [Number(a), Month(m), Slash, Number(b), Month(n), Number(y)] => two_dates(
-            month_day(*m, *a),
-            month_day(*n, *b),
-            WrittenYears::Shared(one(*y)),
-        ),
-        [
-            Number(a),
-            Month(m),
-            Slash,
-            Number(b),
-            Month(n),
-            Number(y),
-            Slash,
-            Number(l),
-        ] => two_dates(
-            month_day(*m, *a),
-            month_day(*n, *b),
-            WrittenYears::Shared(two(*y, *l)),
-        ),
-        [
-            Number(a),
-            Month(m),
-            Number(y),
-            Slash,
-            Number(b),
-            Month(n),
-            Number(v),
-        ] => two_dates(
-            month_day(*m, *a),
-            month_day(*n, *b),
-            WrittenYears::Each(*y, *v),
+        [old, Slash, new, month, years @ ..] => two_dates(
+            day_and_month(*old, *month),
+            day_and_month(*new, *month),
+            shared_by_both(years),
         ),
         _ => None,
     }
+}
+
+/// Returns the two dates of parts that are a month and then its two days: `June 3/13, 1675`.
+fn after_their_month(parts: &[Part]) -> Option<TwoDates>
+    ensures { result ≡ spec.after_their_month parts.now }
+{
+    match parts {
+        [month, old, Slash, new, years @ ..] => two_dates(
+            day_and_month(*old, *month),
+            day_and_month(*new, *month),
+            shared_by_both(years),
+        ),
+        _ => None,
+    }
+}
+
+/// Returns the two dates of parts that are two days with their months: `28 May/7 June 1675`.
+fn with_months(parts: &[Part]) -> Option<TwoDates>
+    ensures { result ≡ spec.with_months parts.now }
+{
+    match parts {
+        [old, month, Slash, new, other, years @ ..] => two_dates(
+            day_and_month(*old, *month),
+            day_and_month(*new, *other),
+            shared_by_both(years),
+        ),
+        _ => None,
+    }
+}
+
+/// Returns the years of two dates that parts are, if each one is a number.
+fn year_of_each(first: Part, last: Part) -> Option<WrittenYears>
+    ensures { result ≡ spec.year_of_each first last }
+{
+    match (first, last) {
+        (Number(first), Number(last)) => Some(WrittenYears::Each(first, last)),
+        _ => None,
+    }
+}
+
+/// Returns the two dates of parts that are two days with their years:
+/// `27 Dec. 1675/6 Jan. 1676`.
+fn with_years(parts: &[Part]) -> Option<TwoDates>
+    ensures { result ≡ spec.with_years parts.now }
+{
+    match parts {
+        [old, month, first, Slash, new, other, last] => two_dates(
+            day_and_month(*old, *month),
+            day_and_month(*new, *other),
+            year_of_each(*first, *last),
+        ),
+        _ => None,
+    }
+}
+
+/// Returns the first of two.
+fn or_dates(first: Option<TwoDates>, other: Option<TwoDates>) -> Option<TwoDates>
+    ensures { result ≡ spec.or_dates first other }
+{
+    match first {
+        Some(dates) => Some(dates),
+        None => other,
+    }
+}
+
+/// Returns whether parts begin with a number before one in round brackets, after a weekday or a
+/// month or after nothing.
+fn begin_round(parts: &[Part]) -> bool
+    ensures { result ≡ spec.begin_round parts.now }
+{
+    match parts {
+        [Number(_), Round, ..] => true,
+        [Month(_), Number(_), Round, ..] => true,
+        [Weekday(_), Number(_), Round, ..] => true,
+        _ => false,
+    }
+}
+
+/// Returns the two dates of parts that are two numbers beside their month: `3 (13) June 1675`.
+fn beside(parts: &[Part]) -> Option<TwoDates>
+    ensures { result ≡ spec.beside parts.now }
+{
+    match parts {
+        [Month(month), old, new, years @ ..] => two_dates(
+            day_and_month(*old, Month(*month)),
+            day_and_month(*new, Month(*month)),
+            shared_by_both(years),
+        ),
+        [old, new, month, years @ ..] => two_dates(
+            day_and_month(*old, *month),
+            day_and_month(*new, *month),
+            shared_by_both(years),
+        ),
+        _ => None,
+    }
+}
+
+/// Returns two dates, if the second one is in round brackets.
+fn if_round(parts: &[Part], dates: Option<TwoDates>) -> Option<TwoDates>
+    ensures { result ≡ spec.if_round parts.now dates }
+{
+    match dates {
+        Some(dates) if begin_round(parts) => Some(dates),
+        _ => None,
+    }
+}
+
+/// Returns the two dates that parts are, if they are two with a `/` between them.
+fn slashed_dates(parts: &[Part]) -> Option<TwoDates>
+    ensures { result ≡ spec.slashed_dates parts.now }
+{
+    or_dates(
+        or_dates(before_their_month(parts), after_their_month(parts)),
+        or_dates(with_months(parts), with_years(parts)),
+    )
 }
 
 /// Returns whether a day is from 1 January to 24 March, so that two years may be written for it.
@@ -241,13 +320,79 @@ fn day_of_both(dates: TwoDates) -> Result<SimpleDate, DateFault>
     }
 }
 
-/// Returns the Gregorian date of the day that parts are by both calendars, or why it is not sure.
-/// Parts of another form are `Malformed`.
-pub fn day_by_both(parts: &[Part]) -> Result<SimpleDate, DateFault>
-    ensures { result ≡ spec.day_by_both newest_rules parts.now }
+/// Returns the two dates that parts are, if they are two with a `/` between them or with the second
+/// one in round brackets. The parts `timed` are those that say which day is meant.
+fn dates_in(parts: &[Part], timed: &[Part]) -> Option<TwoDates>
+    ensures { result ≡ spec.dates_in parts.now timed.now }
 {
-    match dates_in(parts) {
+    or_dates(slashed_dates(timed), if_round(parts, beside(timed)))
+}
+
+/// Returns the Gregorian date of the day that parts are by both calendars, or why it is not sure.
+/// Parts of another form are `Malformed`. The parts `timed` are those that say which day is meant.
+pub fn day_by_both(parts: &[Part], timed: &[Part]) -> Result<SimpleDate, DateFault>
+    ensures { result ≡ spec.day_by_both newest_rules parts.now timed.now }
+{
+    match dates_in(parts, timed) {
         Some(dates) => day_of_both(dates),
         None => Err(DateFault::Malformed),
+    }
+}
+
+/// Returns whether parts are `N.S.` and a year, in this order or the other one.
+fn are_new_and_year(parts: &[Part]) -> bool
+    ensures { result ≡ spec.are_new_and_year parts.now }
+{
+    match parts {
+        [By(Reckoning::NewStyle), year @ ..] => year_numbers(year).is_some(),
+        [Number(_), By(Reckoning::NewStyle)] => true,
+        [Number(_), Slash, Number(_), By(Reckoning::NewStyle)] => true,
+        _ => false,
+    }
+}
+
+/// Returns whether parts are the second of two dates, with `N.S.` beside it.
+fn is_new_last(parts: &[Part]) -> bool
+    ensures { result ≡ spec.is_new_last parts.now }
+{
+    match parts {
+        [Number(_), Month(_), rest @ ..] => are_new_and_year(rest),
+        _ => false,
+    }
+}
+
+/// Returns whether parts are the rest of two dates after the month of the first one, with `O.S.`
+/// beside the first one and `N.S.` beside the second one.
+fn is_old_first(rest: &[Part]) -> bool
+    ensures { result ≡ spec.is_old_first rest.now }
+{
+    match rest {
+        [By(Reckoning::OldStyle), Slash, last @ ..] => is_new_last(last),
+        [Number(_), By(Reckoning::OldStyle), Slash, last @ ..] => is_new_last(last),
+        _ => false,
+    }
+}
+
+/// Returns whether parts are two dates by name, `O.S.` beside the first one and `N.S.` beside the
+/// second one.
+fn are_named(parts: &[Part]) -> bool
+    ensures { result ≡ spec.are_named parts.now }
+{
+    match parts {
+        [Number(_), Month(_), rest @ ..] => is_old_first(rest),
+        [Weekday(_), Number(_), Month(_), rest @ ..] => is_old_first(rest),
+        _ => false,
+    }
+}
+
+/// Returns the Gregorian date of the day that parts are by both calendars, each of which is named
+/// beside its date: `3 June O.S./13 June N.S. 1675`.
+pub fn named_day(parts: &[Part], timed: &[Part]) -> Result<SimpleDate, DateFault>
+    ensures { result ≡ spec.named_day newest_rules parts.now timed.now }
+{
+    if are_named(parts) {
+        day_by_both(parts, timed)
+    } else {
+        Err(DateFault::Malformed)
     }
 }

@@ -2,16 +2,17 @@
 ghost use Rattle.std.specs.Prelude.{◌≡◌, []};
 ghost use Rattle.osn_grammar.specs.Extent as spec;
 
+use crate::forms::{date_in_digits, simple_date};
 use crate::part::Numeral;
 use crate::part::Part::{
     self, After, And, Before, Between, By, Dash, Dot, From, Month, Not, Number, Open, Or, Slash, To,
 };
-use crate::simple::{date_in_digits, day_in, is_long, month_in, simple_date};
+use crate::simple::{day_in, is_long, month_in};
 use crate::written::DateOrder;
 use osn_written::{DateFault, Extent, SimpleDate};
 
 /// By which parts the two dates of a range are joined.
-#[derive(Clone, Copy, Debug, PartialEq, Eq)]
+#[derive(Clone, Copy)]
 enum Joining {
     /// By `to`, `or`, a dash or a `/`.
     Any,
@@ -22,7 +23,7 @@ enum Joining {
 }
 
 /// What the first date of a range says on its own.
-#[derive(Clone, Copy, Debug, PartialEq, Eq)]
+#[derive(Clone, Copy)]
 enum Beginning {
     Day(u32),
     DayOfMonth { month: u32, day: u32 },

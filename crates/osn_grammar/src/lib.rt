@@ -5,6 +5,7 @@
 mod both_calendars;
 mod date_in_text;
 mod extent;
+mod forms;
 mod names;
 mod order;
 mod other_names;

@@ -10,21 +10,21 @@ use osn_days::Weekday;
 use osn_written::Reckoning;
 
 /// A number with the count of its digits.
-#[derive(Clone, Copy, Debug, PartialEq, Eq)]
+#[derive(Clone, Copy)]
 pub struct Numeral {
     pub value: u32,
     pub digits: u8,
 }
 
 /// The years from a first one to a last one.
-#[derive(Clone, Copy, Debug, PartialEq, Eq)]
+#[derive(Clone, Copy)]
 pub struct Years {
     pub first: u16,
     pub last: u16,
 }
 
 /// A part of a text.
-#[derive(Clone, Copy, Debug, PartialEq, Eq)]
+#[derive(Clone, Copy)]
 pub enum Part {
     Number(Numeral),
     Month(u8),
@@ -56,6 +56,8 @@ pub enum Part {
     AboutAndDoubt,
     /// A square bracket, of what an editor supplied.
     Bracket,
+    /// The opening round bracket before a number of one or two digits alone, as in `3 (13) June`.
+    Round,
     /// A word that says nothing of the day, such as `of`.
     Filler,
     Undated,
@@ -86,6 +88,7 @@ impl Part {
                 | Part::Doubt
                 | Part::AboutAndDoubt
                 | Part::Bracket
+                | Part::Round
                 | Part::Filler
         )
     }

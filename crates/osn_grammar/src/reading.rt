@@ -8,7 +8,7 @@ ghost use Rattle.osn_grammar.specs.Names.{AreNamesDistinct};
 ghost use Rattle.osn_grammar.specs.Reading as spec;
 ghost use Rattle.osn_grammar.specs.SetsInDigits.{AreSetsRead};
 
-use crate::both_calendars::day_by_both;
+use crate::both_calendars::{day_by_both, named_day};
 use crate::extent::extent_of;
 use crate::part::Part;
 use crate::roman::roman_date;
@@ -114,7 +114,7 @@ fn has_open_year(parts: &[Part]) -> bool
 }
 
 /// What parts say of the time, by which calendar.
-#[derive(Clone, Copy, Debug, PartialEq, Eq)]
+#[derive(Clone, Copy)]
 struct Told {
     extent: Extent,
     reckoning: Option<Reckoning>,
@@ -190,7 +190,7 @@ fn told_otherwise(
             extent: Extent::On(date),
             reckoning,
         }),
-        Err(_) => told_by_both(reckoning, fault, day_by_both(timed)),
+        Err(_) => told_by_both(reckoning, fault, day_by_both(parts, timed)),
     }
 }
 
@@ -207,6 +207,21 @@ fn or_other(
     match read {
         Ok(extent) => Ok(Told { extent, reckoning }),
         Err(fault) => told_otherwise(order, parts, timed, reckoning, fault),
+    }
+}
+
+/// Returns what parts say of the time by the calendar that they name, or by both of them.
+fn told_in(
+    order: DateOrder,
+    parts: &[Part],
+    timed: &[Part],
+    named: Result<Option<Reckoning>, DateFault>,
+) -> Result<Told, DateFault>
+    ensures { result ≡ spec.told_in order parts.now timed.now named }
+{
+    match named {
+        Ok(reckoning) => or_other(order, parts, timed, reckoning, extent_of(order, timed)),
+        Err(fault) => told_by_both(None, fault, named_day(parts, timed)),
     }
 }
 
@@ -227,8 +242,7 @@ fn date_of(order: DateOrder, parts: &[Part], timed: &[Part]) -> Result<AnyDate, 
     ensures { result ≡ spec.date_of order parts.now timed.now }
 {
     let weekday = weekday_of(parts)?;
-    let reckoning = reckoning_of(parts)?;
-    let told = or_other(order, parts, timed, reckoning, extent_of(order, timed))?;
+    let told = told_in(order, parts, timed, reckoning_of(parts))?;
     unless_open(AnyDate {
         extent: told.extent,
         weekday,

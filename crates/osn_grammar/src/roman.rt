@@ -2,9 +2,10 @@
 ghost use Rattle.std.specs.Prelude.{◌≡◌};
 ghost use Rattle.osn_grammar.specs.Roman as spec;
 
+use crate::forms::year_numbers;
 use crate::part::Numeral;
 use crate::part::Part::{self, Dash, Month, Number, Roman, Slash};
-use crate::simple::{YearNumbers, around_month, day_of_month, is_long, one, two};
+use crate::simple::{YearNumbers, around_month, day_of_month, is_long, one};
 use osn_written::{DateFault, SimpleDate};
 
 /// Returns the day of a Roman numeral in a month.
@@ -43,21 +44,38 @@ fn around_roman(first: Numeral, month: u8, last: Numeral) -> Result<SimpleDate, 
     }
 }
 
+/// Returns the day of a Roman numeral and a month in a year, if there is a year.
+fn in_year(years: Option<YearNumbers>, month: u8, day: u8) -> Result<SimpleDate, DateFault>
+    ensures { result ≡ spec.in_year years month day }
+{
+    match years {
+        Some(years) => roman_day(years, month, day),
+        None => Err(DateFault::Malformed),
+    }
+}
+
+/// Returns the day of a number and these parts after it.
+fn after_number(first: Numeral, rest: &[Part]) -> Result<SimpleDate, DateFault>
+    ensures { result ≡ spec.after_number first rest.now }
+{
+    match rest {
+        [Month(m), Roman(d)] => year_first(first, *m, *d),
+        [Roman(m), Number(b)] => around_roman(first, *m, *b),
+        [Dash, Roman(m), Dash, Number(b)] => around_roman(first, *m, *b),
+        [Slash, Roman(m), Slash, Number(b)] => around_roman(first, *m, *b),
+        _ => Err(DateFault::Malformed),
+    }
+}
+
 /// Returns the day of parts with one Roman numeral, which is the day beside the name of a month, and
 /// the month between two numbers.
 pub fn roman_date(parts: &[Part]) -> Result<SimpleDate, DateFault>
     ensures { result ≡ spec.roman_date parts.now }
 {
     match parts {
-        [Roman(d), Month(m), Number(y)] | [Month(m), Roman(d), Number(y)] => {
-            roman_day(one(*y), *m, *d)
-        }
-        [Roman(d), Month(m), Number(y), Slash, Number(l)]
-        | [Month(m), Roman(d), Number(y), Slash, Number(l)] => roman_day(two(*y, *l), *m, *d),
-        [Number(y), Month(m), Roman(d)] => year_first(*y, *m, *d),
-        [Number(a), Roman(m), Number(b)]
-        | [Number(a), Dash, Roman(m), Dash, Number(b)]
-        | [Number(a), Slash, Roman(m), Slash, Number(b)] => around_roman(*a, *m, *b),
+        [Roman(d), Month(m), year @ ..] => in_year(year_numbers(year), *m, *d),
+        [Month(m), Roman(d), year @ ..] => in_year(year_numbers(year), *m, *d),
+        [Number(a), rest @ ..] => after_number(*a, rest),
         _ => Err(DateFault::Malformed),
     }
 }

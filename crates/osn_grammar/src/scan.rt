@@ -126,6 +126,28 @@ fn is_number_next(rest: &[char]) -> bool
     false
 }
 
+/// Returns whether a number of one or two digits comes next, with a closing round bracket after it.
+fn is_in_round(rest: &[char]) -> bool
+    ensures { result ≡ spec.is_in_round rest.now }
+{
+    match rest {
+        [a, b, ..] if *b == ')' => is_digit(*a),
+        [a, b, c, ..] if *c == ')' => is_digit(*a) && is_digit(*b),
+        _ => false,
+    }
+}
+
+/// Returns the mark that an opening round bracket is, before the rest of the text.
+fn mark_of_round(rest: &[char]) -> Option<Part>
+    ensures { result ≡ spec.mark_of_round rest.now }
+{
+    if is_in_round(rest) {
+        Some(Part::Round)
+    } else {
+        None
+    }
+}
+
 /// Returns whether a word is the name of a month, as in `Feb:`.
 fn is_month_name(word: &str) -> bool
     ensures { result ≡ spec.is_month_name word.now }
@@ -163,7 +185,8 @@ fn mark_of(word: &str, character: char, rest: &[char]) -> Option<Part>
         '%' => Some(Part::AboutAndDoubt),
         '[' | ']' => Some(Part::Bracket),
         '.' => mark_of_stop(word, rest),
-        ',' | '(' | ')' => None,
+        '(' => mark_of_round(rest),
+        ',' | ')' => None,
         ':' if is_month_name(word) => None,
         _ => Some(Part::Unknown),
     }

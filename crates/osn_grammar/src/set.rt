@@ -8,7 +8,7 @@ use crate::part::Part::{self, About, AboutAndDoubt, Dash, Doubt, Number, Open};
 use crate::reading::{is_approximate, is_uncertain};
 use crate::scan::parts_in;
 use crate::simple::{day_in_digits, one};
-use osn_written::{AnyDate, DateFault, Extent};
+use osn_written::{AnyDate, DateFault, Extent, SimpleDate};
 use std::alloc::{AllocError, Global};
 
 /// Returns what comes after the opening bracket of a text, if it begins with one.
@@ -32,29 +32,27 @@ pub fn inside_brackets(text: &str) -> Option<&str>
     before_bracket(after_bracket(text)?)
 }
 
+/// Returns a day, or the days from it to the one that these parts are after it.
+fn from_day(first: Result<SimpleDate, DateFault>, rest: &[Part]) -> Result<Extent, DateFault>
+    ensures { result ≡ spec.from_day first rest.now }
+{
+    match rest {
+        [] => Ok(Extent::On(first?)),
+        [Open, Number(y), Dash, Number(m), Dash, Number(d)] => {
+            let first = first?;
+            Ok(Extent::FromTo(first, day_in_digits(one(*y), *m, *d)?))
+        }
+        _ => Err(DateFault::Malformed),
+    }
+}
+
 /// Returns a day in digits, or the first and the last one with `..` between them.
 fn days_in_digits(parts: &[Part]) -> Result<Extent, DateFault>
     ensures { result ≡ spec.days_in_digits parts.now }
 {
     match parts {
-        [Number(y), Dash, Number(m), Dash, Number(d)] => {
-            Ok(Extent::On(day_in_digits(one(*y), *m, *d)?))
-        }
-        [
-            Number(y),
-            Dash,
-            Number(m),
-            Dash,
-            Number(d),
-            Open,
-            Number(v),
-            Dash,
-            Number(n),
-            Dash,
-            Number(e),
-        ] => {
-            let first = day_in_digits(one(*y), *m, *d)?;
-            Ok(Extent::FromTo(first, day_in_digits(one(*v), *n, *e)?))
+        [Number(y), Dash, Number(m), Dash, Number(d), rest @ ..] => {
+            from_day(day_in_digits(one(*y), *m, *d), rest)
         }
         _ => Err(DateFault::Malformed),
     }

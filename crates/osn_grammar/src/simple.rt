@@ -4,12 +4,11 @@ ghost use Rattle.osn_grammar.specs.Simple as spec;
 
 use crate::order::{is_month, order_of};
 use crate::part::Numeral;
-use crate::part::Part::{self, Blank, Dash, Dot, Month, Number, Slash};
 use crate::written::DateOrder;
 use osn_written::{DateFault, SimpleDate, Year};
 
 /// The numbers of a year: its own, and the one after a `/`.
-#[derive(Clone, Copy, Debug, PartialEq, Eq)]
+#[derive(Clone, Copy)]
 pub struct YearNumbers {
     first: Numeral,
     later: Option<Numeral>,
@@ -118,14 +117,14 @@ pub fn day_in(year: Year, month: u32, day: u32) -> Result<SimpleDate, DateFault>
 }
 
 /// Returns the date that is a year.
-fn whole_year(years: YearNumbers) -> Result<SimpleDate, DateFault>
+pub fn whole_year(years: YearNumbers) -> Result<SimpleDate, DateFault>
     ensures { result ≡ spec.whole_year years }
 {
     Ok(SimpleDate::Year(year_of(years)?))
 }
 
 /// Returns the date that is a month.
-fn month_of(years: YearNumbers, month: u32) -> Result<SimpleDate, DateFault>
+pub fn month_of(years: YearNumbers, month: u32) -> Result<SimpleDate, DateFault>
     ensures { result ≡ spec.month_of years month }
 {
     month_in(year_of(years)?, month)
@@ -150,7 +149,7 @@ pub fn day_of_month(years: YearNumbers, month: u8, day: Numeral) -> Result<Simpl
 }
 
 /// Returns the month of a number in digits, if it has one or two of them.
-fn month_in_digits(years: YearNumbers, month: Numeral) -> Result<SimpleDate, DateFault>
+pub fn month_in_digits(years: YearNumbers, month: Numeral) -> Result<SimpleDate, DateFault>
     ensures { result ≡ spec.month_in_digits years month }
 {
     if is_long(month) {
@@ -192,7 +191,7 @@ fn by_order(
 }
 
 /// Returns the date of three numbers, which begins with its year or ends with it.
-fn in_order(
+pub fn in_order(
     order: DateOrder,
     first: Numeral,
     second: Numeral,
@@ -208,7 +207,7 @@ fn in_order(
 }
 
 /// Returns the date of three numbers with dashes, slashes or blanks between them.
-fn three_numbers(
+pub fn three_numbers(
     order: DateOrder,
     first: Numeral,
     second: Numeral,
@@ -225,7 +224,7 @@ fn three_numbers(
 }
 
 /// Returns the date of two numbers with a `/` between them and a year after them.
-fn year_last(
+pub fn year_last(
     order: DateOrder,
     first: Numeral,
     second: Numeral,
@@ -252,7 +251,7 @@ pub fn around_month(first: Numeral, month: u8, last: Numeral) -> Result<SimpleDa
 }
 
 /// Returns the month of a year, if the month has two digits.
-fn year_and_month(year: Numeral, month: Numeral) -> Result<SimpleDate, DateFault>
+pub fn year_and_month(year: Numeral, month: Numeral) -> Result<SimpleDate, DateFault>
     ensures { result ≡ spec.year_and_month year month }
 {
     if month.digits == 2 {
@@ -263,7 +262,7 @@ fn year_and_month(year: Numeral, month: Numeral) -> Result<SimpleDate, DateFault
 }
 
 /// Returns the date of a year and the name of a month after it.
-fn year_and_name(year: Numeral, month: u8) -> Result<SimpleDate, DateFault>
+pub fn year_and_name(year: Numeral, month: u8) -> Result<SimpleDate, DateFault>
     ensures { result ≡ spec.year_and_name year month }
 {
     if is_long(year) {
@@ -274,7 +273,7 @@ fn year_and_name(year: Numeral, month: u8) -> Result<SimpleDate, DateFault>
 }
 
 /// Returns the date of two numbers with a `/` between them: a month and its year, or a double year.
-fn month_or_double_year(first: Numeral, second: Numeral) -> Result<SimpleDate, DateFault>
+pub fn month_or_double_year(first: Numeral, second: Numeral) -> Result<SimpleDate, DateFault>
     ensures { result ≡ spec.month_or_double_year first second }
 {
     if !is_long(first) && is_long(second) {
@@ -285,7 +284,7 @@ fn month_or_double_year(first: Numeral, second: Numeral) -> Result<SimpleDate, D
 }
 
 /// Returns the date of a year, a day and the name of a month after them.
-fn year_and_day(year: Numeral, day: Numeral, month: u8) -> Result<SimpleDate, DateFault>
+pub fn year_and_day(year: Numeral, day: Numeral, month: u8) -> Result<SimpleDate, DateFault>
     ensures { result ≡ spec.year_and_day year day month }
 {
     if is_long(year) {
@@ -297,7 +296,7 @@ fn year_and_day(year: Numeral, day: Numeral, month: u8) -> Result<SimpleDate, Da
 
 /// Returns the date of two numbers with a `/` between them before a month: they are a double year,
 /// or two days.
-fn double_year_or_days(
+pub fn double_year_or_days(
     first: Numeral,
     second: Numeral,
     month: u8,
@@ -309,100 +308,5 @@ fn double_year_or_days(
         day_of_month(two(first, second), month, day)
     } else {
         Err(DateFault::TwoDays)
-    }
-}
-
-/// Returns a day in a form of numbers alone.
-fn day_in_numbers(order: DateOrder, parts: &[Part]) -> Result<SimpleDate, DateFault>
-    ensures { result ≡ spec.day_in_numbers order parts.now }
-{
-    match parts {
-        [Number(a), Dash, Number(b), Dash, Number(c)]
-        | [Number(a), Slash, Number(b), Slash, Number(c)]
-        | [Number(a), Number(b), Number(c)] => three_numbers(order, *a, *b, *c),
-        [Number(a), Dot, Number(b), Dot, Number(c)] => in_order(DateOrder::DayMonth, *a, *b, *c),
-        [Number(a), Slash, Number(b), Number(y)] => year_last(order, *a, *b, *y),
-        [
-            Number(y),
-            Slash,
-            Number(l),
-            Dash,
-            Number(m),
-            Dash,
-            Number(d),
-        ] => { day_in_digits(two(*y, *l), *m, *d) }
-        [Number(d), Dot, Number(m), Dot, Number(y), Slash, Number(l)] => {
-            day_in_digits(two(*y, *l), *m, *d)
-        }
-        _ => Err(DateFault::Malformed),
-    }
-}
-
-/// Returns a day in a form with the name of its month.
-fn day_in_words(parts: &[Part]) -> Result<SimpleDate, DateFault>
-    ensures { result ≡ spec.day_in_words parts.now }
-{
-    match parts {
-        [Number(a), Month(m), Number(b)]
-        | [Number(a), Dash, Month(m), Dash, Number(b)]
-        | [Number(a), Slash, Month(m), Slash, Number(b)] => around_month(*a, *m, *b),
-        [Number(d), Month(m), Number(y), Slash, Number(l)] => day_of_month(two(*y, *l), *m, *d),
-        [Number(a), Slash, Number(b), Month(m), Number(c)] => {
-            double_year_or_days(*a, *b, *m, *c)
-        }
-        [Number(y), Number(d), Month(m)] => year_and_day(*y, *d, *m),
-        [Month(m), Number(d), Number(y)] | [Month(m), Number(d), Dot, Number(y)] => {
-            day_of_month(one(*y), *m, *d)
-        }
-        [Month(m), Number(d), Number(y), Slash, Number(l)]
-        | [Month(m), Number(d), Dot, Number(y), Slash, Number(l)] => {
-            day_of_month(two(*y, *l), *m, *d)
-        }
-        _ => Err(DateFault::Malformed),
-    }
-}
-
-/// Returns a month or a year.
-fn month_or_year(parts: &[Part]) -> Result<SimpleDate, DateFault>
-    ensures { result ≡ spec.month_or_year parts.now }
-{
-    match parts {
-        [Month(m), Number(y)] => month_of(one(*y), u32::from(*m)),
-        [Month(m), Number(y), Slash, Number(l)] => month_of(two(*y, *l), u32::from(*m)),
-        [Number(y), Month(m)] => year_and_name(*y, *m),
-        [Number(y), Slash, Number(l), Month(m)] => month_of(two(*y, *l), u32::from(*m)),
-        [Number(y), Dash, Number(m)] => year_and_month(*y, *m),
-        [Number(y), Slash, Number(l), Dash, Number(m)] => month_in_digits(two(*y, *l), *m),
-        [Number(y), Dash, Number(m), Dash, Blank] => month_in_digits(one(*y), *m),
-        [Number(y), Dash, Blank, Dash, Blank] => whole_year(one(*y)),
-        [Number(y)] => whole_year(one(*y)),
-        [Number(a), Slash, Number(b)] => month_or_double_year(*a, *b),
-        _ => Err(DateFault::Malformed),
-    }
-}
-
-/// Returns a date in digits with its year first: a day, a month or a year.
-pub fn date_in_digits(parts: &[Part]) -> Result<SimpleDate, DateFault>
-    ensures { result ≡ spec.date_in_digits parts.now }
-{
-    match parts {
-        [Number(y), Dash, Number(m), Dash, Number(d)] => day_in_digits(one(*y), *m, *d),
-        [Number(y), Dash, Number(m)] => year_and_month(*y, *m),
-        [Number(y)] => whole_year(one(*y)),
-        _ => Err(DateFault::Malformed),
-    }
-}
-
-/// Returns the date of parts that are one date.
-pub fn simple_date(order: DateOrder, parts: &[Part]) -> Result<SimpleDate, DateFault>
-    ensures { result ≡ spec.simple_date order parts.now }
-{
-    match day_in_numbers(order, parts) {
-        Err(DateFault::Malformed) => {}
-        read => return read,
-    }
-    match day_in_words(parts) {
-        Err(DateFault::Malformed) => month_or_year(parts),
-        read => read,
     }
 }

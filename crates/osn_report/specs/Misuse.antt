@@ -40,10 +40,14 @@ date_text faults.OpenYear = codes
     "173? may be any year of a decade: write the year in four digits, such as 1731 or 0173"
 date_text faults.DayOrMonth = codes
     "11/2/1731 may be 11 February or 2 November: write the month by its name"
-date_text faults.TwoDays = codes
-    "11/22 February 1731 is a day by two calendars: write it by one of them"
+date_text faults.TwoDays =
+    codes "a day by both calendars has the two dates of one day, as 3/13 June 1675, and from "
+    ++ codes "1 January to 24 March a double year, as 3/13 Feb. 1674/5"
 date_text faults.Feast = codes "a feast is not read: write its day"
-date_text faults.RomanNumeral = codes "a Roman numeral is not read: write the number in digits"
+date_text faults.RomanNumeral =
+    codes "a Roman numeral is read as the day beside a month's name, as xi February 1731, or as "
+    ++ codes "the month between two numbers, but vi, xx and single letters are other words too: "
+    ++ codes "write it in digits"
 
 -- what the place of the word asks for
 abbrev pub misuse_text : Misuse → List ℕ

@@ -94,10 +94,15 @@ such as 1640-1645"
             "11/2/1731 may be 11 February or 2 November: write the month by its name"
         }
         DateFault::TwoDays => {
-            "11/22 February 1731 is a day by two calendars: write it by one of them"
+            "a day by both calendars has the two dates of one day, as 3/13 June 1675, and from \
+1 January to 24 March a double year, as 3/13 Feb. 1674/5"
         }
         DateFault::Feast => "a feast is not read: write its day",
-        DateFault::RomanNumeral => "a Roman numeral is not read: write the number in digits",
+        DateFault::RomanNumeral => {
+            "a Roman numeral is read as the day beside a month's name, as xi February 1731, or as \
+the month between two numbers, but vi, xx and single letters are other words too: \
+write it in digits"
+        }
     }
 }
 

@@ -38,10 +38,14 @@ ADVICE = {
                                   "digits, such as 1731 or 0173"),
     "open between day and month": N_("11/2/1731 may be 11 February or 2 November: write the month "
                                      "by its name"),
-    "day by both calendars": N_("11/22 February 1731 is a day by two calendars: write it by one of "
-                                "them"),
+    "day by both calendars": N_("a day by both calendars has the two dates of one day, as 3/13 "
+                                "June 1675, and from 1 January to 24 March a double year, as 3/13 "
+                                "Feb. 1674/5"),
     "a feast, not read": N_("a feast is not read: write its day"),
-    "a Roman numeral, not read": N_("a Roman numeral is not read: write the number in digits"),
+    "a Roman numeral, not read": N_("a Roman numeral is read as the day beside a month's name, as "
+                                    "xi February 1731, or as the month between two numbers, but "
+                                    "vi, xx and single letters are other words too: write it in "
+                                    "digits"),
 }
 FLAGS = [("approximate", N_("approximate")), ("uncertain", N_("in doubt")),
          ("supplied", N_("supplied by an editor"))]
