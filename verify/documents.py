@@ -5,8 +5,8 @@ A session is the lines of one document that begin with '> ', its requests, and w
 replies. A run is a line that begins with '$ ./oldstyle ', in a folder that has all that is at the
 top of the repository, and what earlier runs of the document made. It may end with '< FILE', its
 input. What it prints, on standard output and then on standard error, are the lines after it, up to
-the next run or the end of the block. For '$ cat FILE' these lines make the file. Prints each reply
-and each run that differs.
+the next run or the end of the block. After '$ cat > FILE << END', as in the cases, the lines up to
+END make a file. Prints each reply and each run that differs.
 
 Compares the manual too: its synopsis has the arguments and options of each command in help.cases,
 with the same values, and its statuses are those of docs/ERRORS.md. The completions of each shell
@@ -20,7 +20,7 @@ import tempfile
 
 from lib.common import TOP, CommandLine, end, file_at, run
 
-RUN, FILE = "$ ./oldstyle ", "$ cat "
+RUN, FILE = "$ ./oldstyle ", "$ cat > "
 HELP, MANUAL, ERRORS = "crates/osn_cases/data/help.cases", "docs/oldstyle.1", "docs/ERRORS.md"
 VALUE = "[A-Z]+"
 SHELLS = "bash", "zsh", "fish"
@@ -43,9 +43,10 @@ def folder_of(lines, folder):
     """Makes a folder that has what is at the top, and the files that a document shows."""
     for name in os.listdir(TOP):
         os.symlink(os.path.join(TOP, name), os.path.join(folder, name))
-    for (path,), shown in runs(lines, FILE):
+    for (path, _, closing), shown in runs(lines, FILE):
         with open(os.path.join(folder, path), "w", encoding="utf-8") as file:
-            file.write("".join(line + "\n" for line in shown))
+            for line in itertools.takewhile(closing.__ne__, shown):
+                file.write(line + "\n")
 
 
 def printed_by(program, words, folder):

@@ -3,12 +3,13 @@
 
 The conditions are: standard output that is full, closed or a pipe that nobody reads, and standard
 error full as well; standard input that is closed or a folder; a folder in the place of each file
-that is read or saved; a file that grows shorter while it is read; a full disk under `--save`, and
-a limit on the length of files; and 6 MB of addresses. Under each one every command that it concerns
-is run. The status and what is written are compared with docs/PAGES.md and docs/SERVING.md.
-The files of the folder must be as they were, their permissions too, with none beside them. Once
-the condition is over, the same command must save what it should. A row is written for each
-condition. What went otherwise is printed above the rows; so is what could not be tried.
+that is read or saved; a file that can't be read, one whose first line is longer than any line, one
+that grows shorter while it is read; a full disk under `--save`, and a limit on the length of files;
+and 6 MB of addresses. Under each one every command that it concerns is run. The status and what is
+written are compared with docs/PAGES.md and docs/SERVING.md. The files of the folder must be as they
+were, their permissions too, with none beside them. Once the condition is over, the same command
+must save what it should. A row is written for each condition. What went otherwise is printed above
+the rows; so is what could not be tried.
 
 A disk that is full is one in memory, which only root may mount.
 """
@@ -156,6 +157,20 @@ def try_folders():
             got = (status, errors, stdout, contents_of(folder))
             noted = f"{WRITE_FAULT[1]}note: {place}: {cause}\n"
             compare(condition, words, got, (3, noted, run(folder, "", INPUT)[1], before))
+
+
+def try_unread():
+    """A file of which no byte can be read, and one whose first line is longer than any line is."""
+    unread = "/proc/self/mem"
+    for words in f"audit a.journal {unread}", f"audit {unread} a.transcript", f"text {unread}":
+        with filled() as folder:
+            compare("a file that can't be read", words, run(folder, words),
+                    (3, "", f"{READ_FAULT[2]}note: {unread}: read fault\n"))
+    errors = ("oldstyle: journal line 1: 31 LineTooLong\nhelp: a.long is not a journal: "
+              "oldstyle publish FILE TEXT begins one in a new or empty file\n")
+    for words in "read a.long GB 1752-09-05", "audit a.long a.transcript":
+        with filled({"a.long": ["x" * 65_537]}) as folder:
+            compare("a first line that is too long", words, run(folder, words), (1, "", errors))
 
 
 def padded(line):
@@ -343,6 +358,7 @@ def main():
     try_outputs()
     try_input()
     try_folders()
+    try_unread()
     for words, name in SHORTENED:
         try_shortened(words, name, lambda place: place // 2)
         try_shortened(words, name, lambda place: place + 10_000)

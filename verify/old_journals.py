@@ -7,7 +7,8 @@ whatever it is. Some journals have a line that is refused or no request, so that
 is loaded. Both programs load each journal, answer queries of all six kinds, make some more
 edits, and save. They must agree in their statuses and messages, their replies, and what they
 save, except the head: the newer one writes {"journal":2}, and the older one may write
-{"journal":1}. If the older one knows no version 2, all journals are of version 1.
+{"journal":1}. Lines of a message that begin with `help: ` or `note: ` are not compared. If the
+older one knows no version 2, all journals are of version 1.
 
 By the older program's rules the line ends on 31 December 2999, and by the newer one's on that of
 9999; the journals and queries are of days and years that both have, or neither. In a reply of the
@@ -242,12 +243,17 @@ def on_shorter_line(request, reply):
     return compact(value)
 
 
+def faults_in(message):
+    """The lines of a message, without those that explain it."""
+    return [line for line in message.splitlines() if not line.startswith((b"help: ", b"note: "))]
+
+
 def compared(requests, done):
     """What a run is compared by, its replies being those of the shorter line."""
     replies = done[2].decode().splitlines()
     if len(replies) == len(requests):
         replies = [on_shorter_line(*pair) for pair in zip(requests, replies)]
-    return done[0], done[1], replies, done[3]
+    return done[0], faults_in(done[1]), replies, done[3]
 
 
 def difference(old, new):

@@ -113,6 +113,8 @@ COMMANDS = [
     ("convert julian 1752-09-31", []),
     ("day a.journal GB 639797", []),
     ("month a.journal GB 1752 9", []),
+    ("year a.journal GB 1752", []),
+    ("year a.journal ZZ 1752", []),
     ("territory a.journal", []),
     ("territory a.journal GB", []),
     ("letters a.journal", ["place,date", "GB,1731/32-02-11", "FR,1543-04-01", "GB,1752-09-05"]),

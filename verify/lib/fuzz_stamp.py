@@ -63,8 +63,17 @@ def drawn(chance):
     return Tree(list(LIST), ["rattle-kit-1 logic 1", "rattle-kit-2"], files, links)
 
 
+def crate_of(path):
+    return path.split(b"/")[:2]
+
+
+def is_only_one(files, path):
+    """Returns whether the crate of a file has no other: without files it has no sum."""
+    return [crate_of(other) for other in files].count(crate_of(path)) == 1
+
+
 def changed(chance, tree):
-    """A tree with one change of its contents, and which one it is."""
+    """A tree with one change of its contents, and which one it is. Each crate keeps a file."""
     files, sources = dict(tree.files), sorted(tree.files)
     path, other = chance.choice(sources), chance.choice(sources)
     kind = chance.choice(["byte", "name", "none", "more", "swap", "kit", "list", "move"])
@@ -72,7 +81,7 @@ def changed(chance, tree):
         files[path] += chance.choice([b"\n", b"\0", b" ", b"x"])
     elif kind == "name" and path != b"HANDLES":
         files[path + b"2"] = files.pop(path)
-    elif kind == "none" and path != b"HANDLES":
+    elif kind == "none" and not is_only_one(files, path):
         del files[path]
     elif kind == "more":
         files[b"crates/osn_two/src/new.rt"] = chance.choice(TEXTS)
@@ -82,7 +91,7 @@ def changed(chance, tree):
         return tree._replace(kits=[*tree.kits, chance.choice(["more", ""])]), kind
     elif kind == "list":
         return tree._replace(crates=[*LIST[:-1], LIST[-1] + " itoa"]), kind
-    elif kind == "move" and path != b"HANDLES":
+    elif kind == "move" and not is_only_one(files, path):
         files[b"crates/osn_one/moved/" + os.path.basename(path)] = files.pop(path)
     links = frozenset(link for link in tree.links if link in files)
     return tree._replace(files=files, links=links), kind

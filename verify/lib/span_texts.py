@@ -21,13 +21,13 @@ RANGES = [r"from (.+) to (.+)", r"between (.+) and (.+)", r"(.+) to (.+)",
           r"(?!\d+/\d+ ?[-\u2013])([^-]+?) ?[-\u2013] ?(.+)"]
 BOUND = r"(before|not after|by|after|not before) (.+)"
 
-# A number that may be a day or a month.
-MAY_BE_MONTH = "([1-9]|1[0-2])"
+# A number that may be a day or a month, and one that is a day.
+MAY_BE_MONTH, ONE_DAY = "([1-9]|1[0-2])", r"(?:0?[1-9]|[12]\d|3[01])"
 # Texts that are not dates, and why.
 NONE = {r" *|n\.d\.|s\.d\.|undated|no date": "no date",
         rf"{MAY_BE_MONTH}([/-])(?!\1\2){MAY_BE_MONTH}\2\d{{3,4}}": "open between day and month",
-        rf"(?:{DAY} {NAME} )?\d{{1,2}}": "year of one or two digits",
-        rf"{DAY} {NAME} [1-9]\d\d(?: ?[?%-]| ?\.\.|[x_])|[1-9]\d\d(?: [?-]| ?%| ?\.\.)":
+        rf"(?:{ONE_DAY} {NAME} )?\d{{1,2}}": "year of one or two digits",
+        rf"{ONE_DAY} {NAME} [1-9]\d\d(?: ?[?%-]| ?\.\.|[x_])|[1-9]\d\d(?: [?-]| ?%| ?\.\.)":
             "year with an open digit"}
 
 # Years of which the last digits are open, and centuries by their number.

@@ -133,7 +133,8 @@ def test_a_table_is_sent_by_a_form_or_as_it_is(client: Any) -> None:
 @pytest.mark.parametrize("data, kind, status", [
     (b"place,date\n\xff", "text/csv", 422), (b"x\n", "text/csv", 422),
     ({"order": "dmy"}, "multipart/form-data", 400),
-    (b"x", "multipart/form-data; boundary=b", 400)])
+    (b"x", "multipart/form-data; boundary=b", 400),
+    (b"x", "multipart/form-data; boundary b=c", 400), (b"x", "multipart/form-data", 400)])
 def test_a_wrong_table_is_refused(client: Any, data: Any, kind: str, status: int) -> None:
     assert client.post("/letters", data=data, content_type=kind).status_code == status
 

@@ -74,9 +74,12 @@ def test_each_request_has_a_line_and_a_fault_its_traceback(served: Callable[...,
     one = served()
     one.ask("/?code=GB")
     one.ask("/nowhere", Host="example.org")
+    with one.connect(b"PU\x1b / HTTP/1.0\r\nHost: localhost\r\n\r\n") as connection:
+        assert connection.recv(100)
     errors = one.end()
     assert re.search(r'127\.0\.0\.1 - - \[.*\] "GET /\?code=GB HTTP/1\.1" 200 \d+', errors), errors
     assert re.search(r'"GET /nowhere HTTP/1\.1" 421 \d+', errors), errors
+    assert '"PU<U+001B> / HTTP/1.0" 405' in errors, errors
 
 
 @pytest.mark.parametrize("number", [signal.SIGTERM, signal.SIGINT])

@@ -43,7 +43,7 @@ test_that("a journal that is missing or refused is an error that says what to do
   expect_error(oldstyle_read("none.journal", "GB", "1640"), "none.journal: no such file")
   in_folder({
     writeLines(c("{\"journal\":2}", "nothing"), "wrong.journal")
-    expect_error(oldstyle_read("wrong.journal", "GB", "1640"), "line 2.*wrong.journal: mend")
+    expect_error(oldstyle_read("wrong.journal", "GB", "1640"), "line 2.*wrong.journal: correct")
   })
 })
 

@@ -134,7 +134,8 @@ def finish(response: Response) -> Response:
     response.headers.setdefault("Cache-Control", "no-store")
     response.vary.add("Accept-Language")
     access.info('%s - - [%s] "%s %s %s" %s %s', request.remote_addr or "-",
-                datetime.now(timezone.utc).strftime("%d/%b/%Y:%H:%M:%S %z"), request.method,
+                datetime.now(timezone.utc).strftime("%d/%b/%Y:%H:%M:%S %z"),
+                words.visible(request.method),
                 words.visible(request.environ.get("RAW_URI") or request_target()),
                 request.environ.get("SERVER_PROTOCOL", ""), response.status_code,
                 response.content_length if response.content_length is not None else "-")

@@ -60,6 +60,9 @@ def receive() -> SentTable:
         abort(413)
     fields = request.args.to_dict()
     if request.mimetype == "multipart/form-data":
+        if not request.mimetype_params.get("boundary"):
+            raise Problem(400, "The parts of the form can't be told apart: name their boundary in "
+                               "Content-Type.")
         table, places = request.files.get("table"), request.files.get("places")
         return without_workbooks(SentTable(
             request.form.to_dict() | fields,
