@@ -10,10 +10,10 @@ use Rattle.osn_register.specs.declared.limits.Limits.{Limits}
 use Rattle.osn_register.specs.declared.edit.Edit.{Edit}
 use Rattle.osn_register.specs.Lawful.{AreLawful}
 use Rattle.osn_register.specs.Plain.{LandModel, RegisterModel, refusal, effect, applied_all}
-use Rattle.osn_core.specs.Sequential.{joined, last_batch, lands_of, without_last, HasLawfulSource}
+use Rattle.osn_core.specs.Sequential.{joined, last_batch, without_last, HasLawfulSource}
 use Rattle.osn_core.specs.Draft.{DraftState, object_of, edit_refusal, edition_refusal}
 use Rattle.osn_core.specs.Draft.{draft_with_edit, draft_with_edition}
-use Rattle.osn_core.specs.LiveAndStandbyInside.{AreInStep, lagging_lands}
+use Rattle.osn_core.specs.LiveAndStandbyInside.{AreInStep}
 use Rattle.osn_core.proofs.Batches.{joined-push, last_batch-push, NoneEmpty-push, without_none}
 use Rattle.osn_core.proofs.Batches.{without_part, split_last}
 use Rattle.osn_core.proofs.DraftFacts.{lawful_in_draft, edits_with, edits_published, edit_refused}
@@ -28,45 +28,6 @@ pub none_lacked : (d : DraftState) (bs : List (List Edit)) (lag : ℕ) (other : 
     AreInStep d bs lag other → 0 < length d.pending → lag ≡ 0
 none_lacked d bs lag other h some = elim h.caught_up
     [ inl nothing ↦ absurd (omega (arith, some, ap length nothing)) | inr all ↦ all ]
-
--- the draft is the live register if nothing is pending
-pub draft_live : (d : DraftState) (bs : List (List Edit)) (lag : ℕ) (other : RegisterModel) →
-    AreInStep d bs lag other → d.pending ≡ [] →
-    d.register.lands ≡ lands_of newest_rules d.register.limits bs
-draft_live d bs lag other h none = h.draft.lands
-    ∙ ap (applied_all newest_rules d.register.limits [])
-    (ap (λ es. joined bs ++ es) none ∙ append-nil (joined bs))
-
--- and the other one if the standby lacks nothing
-pub other_live : (d : DraftState) (bs : List (List Edit)) (lag : ℕ) (other : RegisterModel) →
-    AreInStep d bs lag other → lag ≡ 0 →
-    other.lands ≡ lands_of newest_rules d.register.limits bs
-other_live d bs lag other h none = ap (λ (r : RegisterModel). r.lands) h.other_is
-    ∙ ap (applied_all newest_rules d.register.limits []) (without_none (joined bs) lag none)
-
--- so they are equal if both is so
-pub are_equal : (d : DraftState) (bs : List (List Edit)) (lag : ℕ) (other : RegisterModel) →
-    AreInStep d bs lag other → lag ≡ 0 → d.pending ≡ [] → other ≡ d.register
-are_equal d bs lag other h all none = h.other_is
-    ∙ ap (register_of d.register.limits) (without_none (joined bs) lag all)
-    ∙ ap (λ (ls : List LandModel). record { limits = d.register.limits; lands = ls })
-    (sym (draft_live d bs lag other h none))
-
--- the draft is the standby if that lacks nothing
-pub draft_standby : (d : DraftState) (bs : List (List Edit)) (lag : ℕ) (other : RegisterModel) →
-    AreInStep d bs lag other → lag ≡ 0 →
-    d.register.lands ≡ lagging_lands newest_rules (record { object = object_of d bs; lag = lag })
-draft_standby d bs lag other h none = h.draft.lands
-    ∙ ap (applied_all newest_rules d.register.limits [])
-    (sym (without_none (joined bs ++ d.pending) lag none))
-
--- and the other one if nothing is pending
-pub other_standby : (d : DraftState) (bs : List (List Edit)) (lag : ℕ) (other : RegisterModel) →
-    AreInStep d bs lag other → d.pending ≡ [] →
-    other.lands ≡ lagging_lands newest_rules (record { object = object_of d bs; lag = lag })
-other_standby d bs lag other h none = ap (λ (r : RegisterModel). r.lands) h.other_is
-    ∙ ap (λ es. applied_all newest_rules d.register.limits [] (without_last lag es))
-    (sym (ap (λ es. joined bs ++ es) none ∙ append-nil (joined bs)))
 
 -- an edit is staged in a standby that lacks nothing
 pub one_staged : (d : DraftState) (bs : List (List Edit)) (lag : ℕ) (other : RegisterModel)

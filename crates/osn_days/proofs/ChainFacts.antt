@@ -46,6 +46,17 @@ pub record IsSmall (n : ℕ) (d : Date) : Type 0 where
   pub day_low : 1 ≤ d.day
   pub day_high : d.day ≤ 31
 
+is_small : (n : ℕ) (d : Date) → pos 1 ≤ℤ d.year → d.year ≤ℤ pos (n + 1) → 1 ≤ d.month
+    → d.month ≤ 12 → 1 ≤ d.day → d.day ≤ 31 → IsSmall n d
+is_small n d from year low month first day = record {
+  year_low = from;
+  year_high = year;
+  month_low = low;
+  month_high = month;
+  day_low = first;
+  day_high = day;
+}
+
 -- one of three, as `next` chooses
 pub cases_of_three : {X : Type 0} (P : X → Type 0) (a b : Bool) (x y z : X) → (a ≡ true → P x)
     → (a ≡ false → b ≡ true → P y) → (a ≡ false → b ≡ false → P z)
@@ -91,32 +102,13 @@ months_small c d n s =
       day = 1;
     }) (record { year = d.year +ℤ pos 1; month = 1; day = 1 })
     (λ lt. let day = ltb-true _ _ lt in let bound = month_length_bounds c d.year d.month in
-    record {
-      year_low = s.year_low;
-      year_high = omega (arith, ints);
-      month_low = s.month_low;
-      month_high = s.month_high;
-      day_low = omega arith;
-      day_high = omega arith;
-    })
+    is_small _ _ s.year_low (omega (arith, ints)) s.month_low s.month_high (omega arith)
+    (omega arith))
     (λ _ lt. let month = ltb-true _ _ lt in
-    record {
-      year_low = s.year_low;
-      year_high = omega (arith, ints);
-      month_low = omega arith;
-      month_high = omega arith;
-      day_low = omega arith;
-      day_high = omega arith;
-    })
-    (λ _ _. record {
-      year_low = omega (arith, ints);
-      year_high = omega (arith, ints);
-      month_low = omega arith;
-      month_high = omega arith;
-      day_low = omega arith;
-      day_high =
-          omega arith;
-    })
+    is_small _ _ s.year_low (omega (arith, ints)) (omega arith) (omega arith) (omega arith)
+    (omega arith))
+    (λ _ _. is_small _ _ (omega (arith, ints)) (omega (arith, ints)) (omega arith) (omega arith)
+    (omega arith) (omega arith))
 
 -- one of four, as `next` chooses in Sweden
 cases_in_sweden : (P : Date → Type 0) (d : Date) → (d ≡ february 1700 28 → P (march_1 1700))
@@ -137,65 +129,23 @@ next_small Gregorian d n s = months_small Gregorian d n s
 next_small Swedish d n s =
     cases_in_sweden (IsSmall (suc n)) d
     (λ is. let year : d.year ≡ pos 1700 = ap (λ (e : Date). e.year) is in
-    record {
-      year_low = search arith;
-      year_high = omega (arith, ints, s.year_high);
-      month_low = omega arith;
-      month_high = omega arith;
-      day_low = omega arith;
-      day_high =
-          omega arith;
-    })
+    is_small _ _ (search arith) (omega (arith, ints, s.year_high)) (omega arith) (omega arith)
+    (omega arith) (omega arith))
     (λ is. let year : d.year ≡ pos 1712 = ap (λ (e : Date). e.year) is in
-    record {
-      year_low = search arith;
-      year_high = omega (arith, ints, s.year_high);
-      month_low = omega arith;
-      month_high = omega arith;
-      day_low = omega arith;
-      day_high =
-          omega arith;
-    })
+    is_small _ _ (search arith) (omega (arith, ints, s.year_high)) (omega arith) (omega arith)
+    (omega arith) (omega arith))
     (λ is. let year : d.year ≡ pos 1712 = ap (λ (e : Date). e.year) is in
-    record {
-      year_low = search arith;
-      year_high = omega (arith, ints, s.year_high);
-      month_low = omega arith;
-      month_high = omega arith;
-      day_low = omega arith;
-      day_high =
-          omega arith;
-    })
+    is_small _ _ (search arith) (omega (arith, ints, s.year_high)) (omega arith) (omega arith)
+    (omega arith) (omega arith))
     (months_small Julian d n s)
 
 first_small : (c : Calendar) → IsSmall 0 (first_date c)
-first_small Julian = record {
-  year_low = search arith;
-  year_high = search arith;
-  month_low = omega arith;
-  month_high = omega arith;
-  day_low = omega arith;
-  day_high =
-      omega arith;
-}
-first_small Gregorian = record {
-  year_low = search arith;
-  year_high = search arith;
-  month_low = omega arith;
-  month_high = omega arith;
-  day_low = omega arith;
-  day_high =
-      omega arith;
-}
-first_small Swedish = record {
-  year_low = search arith;
-  year_high = search arith;
-  month_low = omega arith;
-  month_high = omega arith;
-  day_low = omega arith;
-  day_high =
-      omega arith;
-}
+first_small Julian = is_small _ _ (search arith) (search arith) (omega arith) (omega arith)
+    (omega arith) (omega arith)
+first_small Gregorian = is_small _ _ (search arith) (search arith) (omega arith) (omega arith)
+    (omega arith) (omega arith)
+first_small Swedish = is_small _ _ (search arith) (search arith) (omega arith) (omega arith)
+    (omega arith) (omega arith)
 
 pub chain_small : (c : Calendar) (n : ℕ) → IsSmall n (chain c n)
 chain_small c zero = rw chain-zero (first_small c)

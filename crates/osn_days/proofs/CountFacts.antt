@@ -29,28 +29,23 @@ pub record IsReal (c : Calendar) (d : Date) : Type 0 where
   pub day_low : 1 ≤ d.day
   pub day_high : d.day ≤ month_length c d.year d.month
 
+pub is_real : (c : Calendar) (d : Date) → pos 1 ≤ℤ d.year → 1 ≤ d.month → d.month ≤ 12 → 1 ≤ d.day
+    → d.day ≤ month_length c d.year d.month → IsReal c d
+is_real c d from low month first day = record {
+  year_low = from;
+  month_low = low;
+  month_high = month;
+  day_low = first;
+  day_high = day;
+}
+
 first_real : (c : Calendar) → IsReal c (first_date c)
-first_real Julian = record {
-  year_low = search arith;
-  month_low = omega arith;
-  month_high = omega arith;
-  day_low = omega arith;
-  day_high = omega arith;
-}
-first_real Gregorian = record {
-  year_low = search arith;
-  month_low = omega arith;
-  month_high = omega arith;
-  day_low = omega arith;
-  day_high = omega arith;
-}
-first_real Swedish = record {
-  year_low = search arith;
-  month_low = omega arith;
-  month_high = omega arith;
-  day_low = omega arith;
-  day_high = omega arith;
-}
+first_real Julian = is_real _ _ (search arith) (omega arith) (omega arith) (omega arith)
+    (omega arith)
+first_real Gregorian = is_real _ _ (search arith) (omega arith) (omega arith) (omega arith)
+    (omega arith)
+first_real Swedish = is_real _ _ (search arith) (omega arith) (omega arith) (omega arith)
+    (omega arith)
 
 next_real : (c : Calendar) (d : Date) → IsReal c d → IsReal c (next_by_months c d)
 next_real c d s =
@@ -61,30 +56,13 @@ next_real c d s =
       day = 1;
     }) (record { year = d.year +ℤ pos 1; month = 1; day = 1 })
     (λ lt. let day = ltb-true _ _ lt in
-    record {
-      year_low = s.year_low;
-      month_low = s.month_low;
-      month_high = s.month_high;
-      day_low = omega arith;
-      day_high = omega arith;
-    })
+    is_real _ _ s.year_low s.month_low s.month_high (omega arith) (omega arith))
     (λ _ lt. let month = ltb-true _ _ lt in
     let bound = month_length_bounds c d.year (d.month + 1) in
-    record {
-      year_low = s.year_low;
-      month_low = omega arith;
-      month_high = omega arith;
-      day_low = omega arith;
-      day_high = omega arith;
-    })
+    is_real _ _ s.year_low (omega arith) (omega arith) (omega arith) (omega arith))
     (λ _ _. let bound = month_length_bounds c (d.year +ℤ pos 1) 1 in
-    record {
-      year_low = omega (arith, ints, s.year_low);
-      month_low = omega arith;
-      month_high = omega arith;
-      day_low = omega arith;
-      day_high = omega arith;
-    })
+    is_real _ _ (omega (arith, ints, s.year_low)) (omega arith) (omega arith) (omega arith)
+    (omega arith))
 
 -- each date of the chain is real
 pub chain_real : (c : Calendar) (n : ℕ) → c ≢ Swedish → IsReal c (chain c n)

@@ -15,7 +15,7 @@ use Rattle.osn_days.specs.declared.date.Date.{Date}
 use Rattle.osn_days.specs.declared.calendar.Calendar.TheVariants.{Gregorian}
 use Rattle.osn_days.specs.Chain.{month_length, next, date_of}
 use Rattle.osn_days.proofs.ChainFacts.{gregorian_by_months, cases_of_three, month_length_bounds}
-use Rattle.osn_days.proofs.CountFacts.{IsReal, IsCount, count_chain}
+use Rattle.osn_days.proofs.CountFacts.{IsReal, is_real, IsCount, count_chain}
 
 -- the days from 1 January of the year -10000 to a date
 abbrev pub gregorian_count : Date → ℕ
@@ -103,13 +103,7 @@ gregorian_real d h low =
           h (omega arith) lt,
     )))
     (λ le. le) in
-    record {
-      year_low = year;
-      month_low = h.1.0;
-      month_high = h.1.1;
-      day_low = h.2.0;
-      day_high = h.2.1;
-    }
+    is_real _ _ year h.1.0 h.1.1 h.2.0 h.2.1
 
 -- the days that `jiff_core` counts from 1 January of the year -9999
 pub gregorian_days : (made : Made) (d : Date) (days : ℕ)

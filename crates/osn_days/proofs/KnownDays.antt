@@ -8,7 +8,7 @@ use Rattle.osn_days.specs.declared.calendar.Calendar.{Calendar}
 use Rattle.osn_days.specs.declared.calendar.Calendar.TheVariants.{Julian, Gregorian}
 use Rattle.osn_days.specs.Line.{weekday, julian_day}
 use Rattle.osn_days.specs.Chain.{month_length, first_date, date_of}
-use Rattle.osn_days.proofs.CountFacts.{IsReal, date_of_count}
+use Rattle.osn_days.proofs.CountFacts.{IsReal, is_real, date_of_count}
 use Rattle.osn_days.proofs.GregorianFacts.{gregorian_count, gregorian_is, gregorian_first}
 use Rattle.osn_days.proofs.GregorianFacts.{gregorian_last}
 use Rattle.osn_days.proofs.JulianFacts.{julian_count, julian_is}
@@ -20,14 +20,7 @@ abbrev IsIn : Calendar → ℕ → ℕ → ℕ → Type 0
 IsIn c y m d = (1 ≤ y) × (1 ≤ m) × (m ≤ 12) × (1 ≤ d) × (d ≤ month_length c (pos y) m)
 
 real : (c : Calendar) (y m d : ℕ) → IsIn c y m d → IsReal c (date y m d)
-real c y m d is =
-    record {
-      year_low = omega (arith, ints, is.0);
-      month_low = is.1;
-      month_high = is.2;
-      day_low = is.3;
-      day_high = is.4;
-    }
+real c y m d is = is_real _ _ (omega (arith, ints, is.0)) is.1 is.2 is.3 is.4
 
 julian : (y m d n : ℕ) → IsIn Julian y m d → 1 ≤ n
     → julian_count (date y m d) + 1 ≡ n + julian_count (first_date Julian)

@@ -9,7 +9,7 @@ use Rattle.osn_days.specs.declared.calendar.Calendar.TheVariants.{Julian, Swedis
 use Rattle.osn_days.specs.Chain.{next, february, march_1, first_date, chain, date_of, same_date}
 use Rattle.osn_days.proofs.ChainFacts.{chain-zero, chain-suc, julian_by_months, chain_apart}
 use Rattle.osn_days.proofs.ChainFacts.{same_date_is}
-use Rattle.osn_days.proofs.CountFacts.{IsReal, chain_real, date_of_count}
+use Rattle.osn_days.proofs.CountFacts.{IsReal, is_real, chain_real, date_of_count}
 use Rattle.osn_days.proofs.JulianFacts.{julian_count, julian_is}
 
 -- the Julian dates of the days around the changes
@@ -21,25 +21,13 @@ julian_february y d n s low e = date_of_count Julian julian_count julian_is (feb
 february_28 : chain Julian 620615 ≡ february 1700 28
 february_28 =
     julian_february 1700 28 620616
-    (record {
-      year_low = search arith;
-      month_low = omega arith;
-      month_high = omega arith;
-      day_low = omega arith;
-      day_high = omega arith;
-    })
+    (is_real _ _ (search arith) (omega arith) (omega arith) (omega arith) (omega arith))
     (omega arith) (omega arith)
 
 february_29 : chain Julian 624999 ≡ february 1712 29
 february_29 =
     julian_february 1712 29 625000
-    (record {
-      year_low = search arith;
-      month_low = omega arith;
-      month_high = omega arith;
-      day_low = omega arith;
-      day_high = omega arith;
-    })
+    (is_real _ _ (search arith) (omega arith) (omega arith) (omega arith) (omega arith))
     (omega arith) (omega arith)
 
 julian_march : (y n : ℕ) → IsReal Julian (march_1 y) → 1 ≤ n
@@ -50,25 +38,13 @@ julian_march y n s low e = date_of_count Julian julian_count julian_is (march_1 
 march_1_1700 : chain Julian 620617 ≡ march_1 1700
 march_1_1700 =
     julian_march 1700 620618
-    (record {
-      year_low = search arith;
-      month_low = omega arith;
-      month_high = omega arith;
-      day_low = omega arith;
-      day_high = omega arith;
-    })
+    (is_real _ _ (search arith) (omega arith) (omega arith) (omega arith) (omega arith))
     (omega arith) (omega arith)
 
 march_1_1712 : chain Julian 625000 ≡ march_1 1712
 march_1_1712 =
     julian_march 1712 625001
-    (record {
-      year_low = search arith;
-      month_low = omega arith;
-      month_high = omega arith;
-      day_low = omega arith;
-      day_high = omega arith;
-    })
+    (is_real _ _ (search arith) (omega arith) (omega arith) (omega arith) (omega arith))
     (omega arith) (omega arith)
 
 -- a day has another date than a day before or after it

@@ -56,14 +56,7 @@ not_earlier_key m n a b small_a small_b is =
               | inl same ↦ absurd (both_ways (a.month == b.month) other
                   ((Decides-eqb a.month b.month).1 same))
               | inr (inl less) ↦ absurd (omega (arith, less, month))
-              | inr (inr more) ↦ omega (
-                arith,
-                ints,
-                year,
-                more,
-                small_b.day_high,
-                small_b.month_high,
-              )
+              | inr (inr more) ↦ omega (arith, ints)
             ]
             | inr not_less ↦
                 let day = ltb-false a.day b.day not_less in

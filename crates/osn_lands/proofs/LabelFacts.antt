@@ -143,20 +143,7 @@ later_year c d e low_d low_e later =
           let rises = chain_rises c (e - 1) (d - 1) (omega arith) in
           let small_d = chain_small c (d - 1) in
           let small_e = chain_small c (e - 1) in
-          absurd (omega (
-            arith,
-            ints,
-            rises,
-            later,
-            small_d.month_low,
-            small_d.month_high,
-            small_d.day_low,
-            small_d.day_high,
-            small_e.month_low,
-            small_e.month_high,
-            small_e.day_low,
-            small_e.day_high,
-          ))
+          absurd (omega (arith, ints))
     ]
 
 -- a day has the label if its date is in one of three years

@@ -16,7 +16,7 @@ use Rattle.osn_days.specs.Line.{line, IsDay}
 use Rattle.osn_days.specs.Chain.{is_leap, month_length, date_of, days_with_date}
 use Rattle.osn_days.proofs.ChainFacts.{julian_by_months, gregorian_by_months}
 use Rattle.osn_days.proofs.ChainFacts.{month_length_bounds}
-use Rattle.osn_days.proofs.CountFacts.{IsReal, chain_real, on_chain, date_of_count}
+use Rattle.osn_days.proofs.CountFacts.{IsReal, is_real, chain_real, on_chain, date_of_count}
 use Rattle.osn_days.proofs.GregorianFacts.{gregorian_count, gregorian_is, gregorian_first}
 use Rattle.osn_days.proofs.GregorianFacts.{gregorian_last}
 use Rattle.osn_days.proofs.JulianFacts.{julian_place, julian_count-early, julian_count-late}
@@ -49,13 +49,8 @@ real_1712 : (c : Calendar) (e : Date) → is_leap c (pos 1712) ≡ true → IsRe
     IsReal c (in_1712 e.month e.day)
 real_1712 c e leap s =
     let bound = longest c e.year e.month leap in
-    record {
-      year_low = search arith;
-      month_low = s.month_low;
-      month_high = s.month_high;
-      day_low = s.day_low;
-      day_high = omega (arith, s.day_high, bound);
-    }
+    is_real _ _ (search arith) s.month_low s.month_high s.day_low
+    (omega (arith, s.day_high, bound))
 
 -- if the Julian calendar has the date of a year, it has the month and day in 1712
 julian_day : (e : Date) → IsReal Julian e →
@@ -92,13 +87,7 @@ december_31 = record { year = pos 9999; month = 12; day = 31 }
 gregorian_end : date_of Gregorian newest_rules.high ≡ december_31
 gregorian_end =
     date_of_count Gregorian gregorian_count gregorian_is december_31 newest_rules.high
-    (record {
-      year_low = search arith;
-      month_low = omega arith;
-      month_high = omega arith;
-      day_low = omega arith;
-      day_high = omega arith;
-    })
+    (is_real _ _ (search arith) (omega arith) (omega arith) (omega arith) (omega arith))
     (omega arith) (omega (arith, gregorian_last, gregorian_first))
 
 -- and so has the Gregorian

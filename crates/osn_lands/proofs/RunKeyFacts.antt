@@ -37,28 +37,8 @@ IsInOrder a b =
 
 key_order : (m n : ℕ) (a b : Date) → IsSmall m a → IsSmall n b → key a <ℤ key b → IsInOrder a b
 key_order m n a b small_a small_b less =
-    by_lt_z a.year b.year (λ before. inl before) (λ not_before. inr (
-      omega (
-        arith,
-        ints,
-        small_a.month_low,
-        small_a.month_high,
-        small_a.day_low,
-        small_a.day_high,
-        small_b.month_high,
-        small_b.day_high,
-      ),
-      omega (
-        arith,
-        ints,
-        small_a.month_low,
-        small_a.month_high,
-        small_a.day_low,
-        small_a.day_high,
-        small_b.month_high,
-        small_b.day_high,
-      ),
-    ))
+    by_lt_z a.year b.year (λ before. inl before)
+    (λ not_before. inr (omega (arith, ints), omega (arith, ints)))
 
 -- years of dates in order, of which a style subtracts one or adds one if a test passes
 abbrev InOrder : ℤ → ℤ → Type 0 → Type 0
@@ -114,6 +94,11 @@ easter_falls : (d e : ℕ) (easter : Option ℕ) → d ≤ e → is_before e eas
 easter_falls d e None less before = before
 easter_falls d e (Some f) less before = grind (arith, nat_tests)
 
+in_order : {Same : Type 0} (a b : Date) → IsInOrder a b →
+    (a.month * 32 + a.day ≤ b.month * 32 + b.day → Same) → InOrder a.year b.year Same
+in_order a b (inl less) same = inl less
+in_order a b (inr at) same = inr (at.0, same at.1)
+
 -- so the style's year of the later date is not below that of the earlier one
 style_rises : (m n : ℕ) (s : Style) (a b : Date) (ea eb : Bool) → IsSmall m a → IsSmall n b →
     IsInOrder a b → (a.year ≡ b.year → eb ≡ true → ea ≡ true) →
@@ -125,49 +110,23 @@ style_rises m n January a b ea eb small_a small_b order easter =
     ]
 style_rises m n Annunciation a b ea eb small_a small_b order easter =
     less_rises (is_before_25_march a.month a.day) (is_before_25_march b.month b.day) a.year b.year
-    (elim order [
-      | inl less ↦ inl less
-      | inr same ↦ inr (
-        same.0,
-        march_falls a.month b.month a.day b.day same.1 small_a.day_low
-            small_a.day_high small_b.day_high,
-      )
-    ])
+    (in_order a b order (λ at. march_falls a.month b.month a.day b.day at
+    small_a.day_low small_a.day_high small_b.day_high))
 style_rises m n Nativity a b ea eb small_a small_b order easter =
     more_rises (is_from_25_december a.month a.day) (is_from_25_december b.month b.day) a.year b.year
-    (elim order [
-      | inl less ↦ inl less
-      | inr same ↦ inr (
-        same.0,
-        december_rises a.month b.month a.day b.day same.1 small_a.day_low
-            small_a.day_high small_b.day_high small_b.month_high,
-      )
-    ])
+    (in_order a b order (λ at. december_rises a.month b.month a.day b.day at
+    small_a.day_low small_a.day_high small_b.day_high small_b.month_high))
 style_rises m n September a b ea eb small_a small_b order easter =
     more_rises (is_from_september a.month) (is_from_september b.month) a.year b.year
-    (elim order [
-      | inl less ↦ inl less
-      | inr same ↦ inr (
-        same.0,
-        september_rises a.month b.month a.day b.day same.1 small_a.day_low
-            small_a.day_high small_b.day_high,
-      )
-    ])
+    (in_order a b order (λ at. september_rises a.month b.month a.day b.day at
+    small_a.day_low small_a.day_high small_b.day_high))
 style_rises m n Pisan a b ea eb small_a small_b order easter =
     unless_rises (is_before_25_march a.month a.day) (is_before_25_march b.month b.day) a.year b.year
-    (elim order [
-      | inl less ↦ inl less
-      | inr same ↦ inr (
-        same.0,
-        march_falls a.month b.month a.day b.day same.1 small_a.day_low
-            small_a.day_high small_b.day_high,
-      )
-    ])
+    (in_order a b order (λ at. march_falls a.month b.month a.day b.day at
+    small_a.day_low small_a.day_high small_b.day_high))
 style_rises m n Easter a b ea eb small_a small_b order easter =
-    less_rises ea eb a.year b.year (elim order [
-      | inl less ↦ inl less
-      | inr same ↦ inr (same.0, easter same.0)
-    ])
+    less_rises ea eb a.year b.year
+    (elim order [ inl less ↦ inl less | inr same ↦ inr (same.0, easter same.0) ])
 
 month_rises : (m n : ℕ) (a b : Date) → IsSmall m a → IsSmall n b → IsInOrder a b →
     month_number a ≤ℤ month_number b

@@ -6,7 +6,7 @@ use Rattle.osn_days.specs.Profile.{newest_rules}
 use Rattle.osn_days.specs.declared.calendar.Calendar.TheVariants.{Julian}
 use Rattle.osn_days.specs.Chain.{month_length}
 use Rattle.osn_days.proofs.ChainFacts.{julian_by_months}
-use Rattle.osn_days.proofs.CountFacts.{IsReal, days_at_count, days_not}
+use Rattle.osn_days.proofs.CountFacts.{IsReal, is_real, days_at_count, days_not}
 use Rattle.osn_days.proofs.JulianFacts.{julian_count, julian_is, julian_place, julian_last_year}
 use Rattle.osn_days.proofs.JulianFacts.{julian_count-late, julian_count-early}
 use Rattle.osn_days.proofs.julian.day_of.Goals as goal
@@ -46,14 +46,8 @@ returns c =
     let d = c.args.date in
     let year : pos c.in_ok-year.year ≡ d.year = omega (arith, ints, c.in_ok-year.ensures.value) in
     let length = c.month_length.ensures ∙ ap (λ (y : ℤ). month_length Julian y d.month) year in
-    let s : IsReal Julian d =
-    record {
-      year_low = omega (arith, ints);
-      month_low = omega arith;
-      month_high = omega arith;
-      day_low = omega arith;
-      day_high = omega arith;
-    } in
+    let s : IsReal Julian d = is_real _ _ (omega (arith, ints)) (omega arith) (omega arith)
+    (omega arith) (omega arith) in
     days_at_count newest_rules Julian julian_count julian_is d _ (λ low. s)
     (elim c.if-date-gt2.branch [
       | then-date-gt2 w ↦ let count = julian_count-late d (omega arith) in grind (arith, ints)

@@ -25,6 +25,3 @@ returns-clause-value c =
     ∙ ap (λ found. c.args.days.now.items ++ found)
     (held_days newest_rules c.args.search.now.label p c.requires.line.0 c.requires.line.1
     c.requires.line.2)
-
-pub returns-clause-tested : goal.returns-clause-tested
-returns-clause-tested c = search rules

@@ -9,6 +9,3 @@ returns-clause-ascending c =
     subst HasAscendingYears c.self.view_is
     (IsStrictlyIncreasing-from_sorted (keys_of c.self.inside.exceptions.entries)
     c.len.ensures.ordered)
-
-pub returns-clause-value : goal.returns-clause-value
-returns-clause-value c = search rules

@@ -9,9 +9,3 @@ returns-clause-others c other apart =
     ∙ c.in_ok-insert.ensures.updates.2 other (is_elsewhere c.args.year other apart)
     ∙ sym (same_lookup other c.self.inside.exceptions.entries)
     ∙ ap (λ t. exception_of t other) c.self.view_is
-
-pub returns-clause-ok : goal.returns-clause-ok
-returns-clause-ok c = search rules
-
-pub returns-clause-listed : goal.returns-clause-listed
-returns-clause-listed c = search rules

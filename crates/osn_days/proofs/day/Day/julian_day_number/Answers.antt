@@ -1,5 +1,0 @@
-use Rattle.std.proofs.Common.{rules}
-use Rattle.osn_days.proofs.day.Day.julian_day_number.Goals as goal
-
-pub returns : goal.returns
-returns c = search rules
