@@ -5,16 +5,57 @@ use osn_commands::{run, tell_no_words};
 use osn_folder::Disk;
 use osn_lines::Plain;
 use osn_report::{StandardOutput, end_output};
+use std::env::VarError;
 use std::fs::{File, OpenOptions};
 use std::io::IsTerminal;
 use std::os::fd::{AsRawFd, RawFd};
 use std::process::ExitCode;
-use std::rt::Env;
+use std::rt::{Env, Files};
 use std::{env, fs, io};
 
 /// Returns the arguments, of which the first is the program's name.
 fn given_args(rt: &(impl Env + AllocGlobal)) -> io::Result<Vec<String>> {
     Ok(env::args(rt)?.collect(rt.alloc())?)
+}
+
+/// Returns the value of a variable of the environment, if it is set and not empty.
+fn variable(rt: &(impl Env + AllocGlobal), name: &str) -> Option<String> {
+    env::var(rt, name).ok().filter(|value| !value.is_empty())
+}
+
+/// Returns the path of the user's own journal, as the environment says it.
+fn own_journal(rt: &(impl Env + AllocGlobal)) -> Option<String> {
+    let alloc = rt.alloc();
+    match variable(rt, "XDG_DATA_HOME") {
+        Some(folder) => format!(in alloc; "{folder}/oldstyle/register.journal").ok(),
+        None => {
+            let home = variable(rt, "HOME")?;
+            format!(in alloc; "{home}/.local/share/oldstyle/register.journal").ok()
+        }
+    }
+}
+
+/// Returns whether there is a file at a path.
+fn is_there(rt: &impl Files, path: &str) -> bool {
+    fs::exists(rt, path).unwrap_or(false)
+}
+
+/// Returns the path of the journal of a command line that names none: what `OLDSTYLE_JOURNAL` says,
+/// or else the user's own journal, if there is one. If the first word after the command names a
+/// file, it is the journal, and there is no default.
+fn default_journal(rt: &(impl Env + Files + AllocGlobal), args: &[String]) -> Option<String> {
+    if let Some(first) = args.get(2)
+        && is_there(rt, first.as_str())
+    {
+        return None;
+    }
+    match env::var(rt, "OLDSTYLE_JOURNAL") {
+        Ok(path) if !path.is_empty() => Some(path),
+        Ok(_) | Err(VarError::NotPresent) => {
+            own_journal(rt).filter(|path| is_there(rt, path.as_str()))
+        }
+        Err(_) => None,
+    }
 }
 
 /// Returns a file that was opened in the place of a closed standard stream: it has that stream's
@@ -39,15 +80,19 @@ fn main(rt: HostRuntime) -> ExitCode {
     let terminal = rt.stderr().is_terminal().then(|| Plain::new(rt.stderr()));
     let mut disk = Disk::new(&rt);
     let status = match given_args(&rt) {
-        Ok(args) => run(
-            &rt,
-            &mut disk,
-            &args,
-            &mut input,
-            &mut output,
-            &mut errors,
-            terminal,
-        ),
+        Ok(args) => {
+            let journal = default_journal(&rt, &args);
+            run(
+                &rt,
+                &mut disk,
+                &args,
+                journal.as_deref(),
+                &mut input,
+                &mut output,
+                &mut errors,
+                terminal,
+            )
+        }
         Err(why) => tell_no_words(&why, &mut errors),
     };
     let status = end_output(&mut errors, status, output.cause());

@@ -15,11 +15,15 @@ pub(crate) struct Actual {
     pub status: u8,
 }
 
-/// Returns what a run of the program leaves.
+/// The variable of the environment that names the journal of a command line without one.
+const JOURNAL_VARIABLE: &str = "OLDSTYLE_JOURNAL=";
+
+/// Returns what a run of the program leaves, with this journal if its words name none.
 fn run_program<R: Threads + Wait + AllocGlobal>(
     rt: &R,
     folder: &mut MemoryFolder,
     words: &[String],
+    journal: Option<&str>,
     input: &[u8],
 ) -> Actual {
     let mut output = Plain::new(Vec::new(rt.alloc()));
@@ -30,6 +34,7 @@ fn run_program<R: Threads + Wait + AllocGlobal>(
         rt,
         folder,
         words,
+        journal,
         &mut input,
         &mut output,
         &mut errors,
@@ -83,7 +88,11 @@ pub(crate) fn do_step<R: Threads + Wait + AllocGlobal>(
     };
     match words {
         [program, ..] if matches!(program.as_str(), "oldstyle" | "./oldstyle") => {
-            Ok(run_program(rt, folder, words, &input))
+            Ok(run_program(rt, folder, words, None, &input))
+        }
+        [setting, words @ ..] if setting.as_str().starts_with(JOURNAL_VARIABLE) => {
+            let journal = setting.as_str().strip_prefix(JOURNAL_VARIABLE);
+            Ok(run_program(rt, folder, words, journal, &input))
         }
         [cat, to, name] if cat.as_str() == "cat" && to.as_str() == ">" => {
             folder.put(name.as_str(), &input)?;

@@ -1,2 +1,4 @@
 pub mod RunLemmas
 pub mod LimitsLemmas
+pub mod TypedLemmas
+pub mod JournalLemmas

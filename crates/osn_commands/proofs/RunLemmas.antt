@@ -15,6 +15,7 @@ use Rattle.osn_report.specs.Folders.{Folders, ReadsOne, ReadsTwo}
 use Rattle.osn_report.specs.Printing.{PrintsIfMade, PrintsOrReports}
 use Rattle.osn_report.specs.declared.fault.CommandFault.{CommandFault}
 use Rattle.osn_report.specs.declared.status.Status.{Status}
+use Rattle.osn_commands.specs.Help.{help_on}
 use Rattle.osn_commands.specs.Run.{Fails, IsHelp, PrintsSuch, Runs, RunsArgs, ShowsOrEnds}
 
 -- what was run is what these words ask for
@@ -31,19 +32,20 @@ help_is_no_fault kind (inl help) e = cc
 help_is_no_fault kind (inr version) e = cc
 
 -- help was shown
-pub shows_help : (kind given : ErrorKind) (o e : Output) (status : Status) (text : List ℕ)
+pub shows_help : (kind given : ErrorKind) (more : List ℕ) (o e : Output) (status : Status)
+    (text : List ℕ)
     → given ≡ kind → IsHelp given → PrintsIfMade text o e status
-    → ShowsOrEnds kind o e status
-shows_help kind given o e status text is help (inl printed) =
+    → ShowsOrEnds kind more o e status
+shows_help kind given more o e status text is help (inl printed) =
     let asked = subst IsHelp is help in
     inr (help_is_no_fault kind asked, (text, inl (asked, printed)))
-shows_help kind given o e status text is help (inr memory) = inl memory
+shows_help kind given more o e status text is help (inr memory) = inl memory
 
 -- what the grammar refuses was shown
 pub show_runs : (args : List (List ℕ)) (error : Error) (CanFail : Bool → Type 0)
     (CanStay : Type 0) (d : Folders) (i : Input) (o e : Output) (status : Status)
     → HasKind (fault_of command_line args) error → d.after ≡ d.before
-    → ShowsOrEnds (kind_of error) o e status
+    → ShowsOrEnds (kind_of error) (help_on (kind_of error) args) o e status
     → RunsArgs args CanFail CanStay d i o e status
 show_runs args error CanFail CanStay d i o e status kind same (inl first) = inr (same, inl first)
 show_runs args error CanFail CanStay d i o e status (inl memory) same (inr shown) =
@@ -93,3 +95,14 @@ if_done done status Did is h = subst (λ r. IfOk r Did) is h
 pub not_done : {T F : Type 0} (done : Result T F) (cause : F) (Why : Type 0)
     → done ≡ Err cause → OnErr done Why → Why
 not_done done cause Why is h = subst (λ r. OnErr r Why) is h
+
+-- it was shown with the help on the words that were typed
+pub show_typed : (args : List (List ℕ)) (error : Error) (help : List ℕ)
+    (CanFail : Bool → Type 0) (CanStay : Type 0) (d : Folders) (i : Input) (o e : Output)
+    (status : Status)
+    → HasKind (fault_of command_line args) error → d.after ≡ d.before
+    → help ≡ help_on (kind_of error) args → ShowsOrEnds (kind_of error) help o e status
+    → RunsArgs args CanFail CanStay d i o e status
+show_typed args error help CanFail CanStay d i o e status kind same is shown =
+    show_runs args error CanFail CanStay d i o e status kind same
+    (subst (λ help. ShowsOrEnds (kind_of error) help o e status) is shown)

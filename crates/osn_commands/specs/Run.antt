@@ -1,5 +1,5 @@
 -- What a run of the program does, with the files of a folder.
-use Rattle.std.specs.Prelude.{◌≡◌, ◌≢◌, ◌⊎◌, Bool, List, [], ◌∷◌, ℕ}
+use Rattle.std.specs.Prelude.{◌≡◌, ◌≢◌, ◌⊎◌, Bool, List, [], ◌∷◌, ◌++◌, ℕ}
 use Rattle.std.specs.Prelude.{MatchResult, unwrap_or}
 use Rattle.clap.specs.Words.{Text, fault_of, IsAmong}
 use Rattle.clap.specs.declared.error.kind.ErrorKind.{ErrorKind}
@@ -35,6 +35,7 @@ use Rattle.osn_text_commands.specs.InFolder.{PlansInFolder}
 use Rattle.osn_text_commands.specs.PublishFolder.{PublishesInFolder}
 use Rattle.osn_text_commands.specs.Text.{PrintsText}
 use Rattle.osn_commands.specs.Completions.{PrintsCompletions}
+use Rattle.osn_commands.specs.Help.{help_on}
 use Rattle.osn_commands.specs.Limits.{limits_of_words}
 
 -- ---- each command
@@ -113,17 +114,17 @@ abbrev pub HasNoMemory : Output → Output → Status → Type 0
 HasNoMemory o e status = (o.new ≡ o.old) × EndsBy e NoMemory status
 
 -- a text was shown in place of a command: help or the version on standard output, or on standard
--- error what is wrong with the arguments
-abbrev pub Shows : ErrorKind → Output → Output → Status → Type 0
-Shows kind o e status =
+-- error what is wrong with the arguments, with this help after it
+abbrev pub Shows : ErrorKind → List ℕ → Output → Output → Status → Type 0
+Shows kind help o e status =
     (text : List ℕ)
     × ((IsHelp kind × Prints text o e status)
-    ⊎ ((IsHelp kind → ⊥) × (o.new ≡ o.old) × TellsLine e statuses.Misused text status))
+    ⊎ ((IsHelp kind → ⊥) × (o.new ≡ o.old) × TellsLine e statuses.Misused (text ++ help) status))
 
 -- that, or memory ran out first
-abbrev pub ShowsOrEnds : ErrorKind → Output → Output → Status → Type 0
-ShowsOrEnds kind o e status =
-    HasNoMemory o e status ⊎ ((kind ≢ OutOfMemory) × Shows kind o e status)
+abbrev pub ShowsOrEnds : ErrorKind → List ℕ → Output → Output → Status → Type 0
+ShowsOrEnds kind help o e status =
+    HasNoMemory o e status ⊎ ((kind ≢ OutOfMemory) × Shows kind help o e status)
 
 -- what is asked for was done under its limits; or it ended early, and it was reported why and at
 -- which file
@@ -143,11 +144,13 @@ RunsInvocation asked CanFail CanStay d i o e status = MatchResult (limits_of_wor
     × TellsMisuse e misuse (unwrap_or asked.limits []) status)
 
 -- what a run does with these arguments. If the grammar takes them it does what they ask for.
--- Otherwise it shows what is wrong, or help, by a kind that the grammar gives
+-- Otherwise it shows what is wrong, with the help for a common mistake, or help that was asked for,
+-- by a kind that the grammar gives
 abbrev pub RunsArgs : List (List ℕ) → (Bool → Type 0) → Type 0 → Folders → Input → Output → Output
     → Status → Type 0
 RunsArgs args CanFail CanStay d i o e status =
     ((fault_of command_line args ≡ [])
     × RunsInvocation (invocation_in args) CanFail CanStay d i o e status)
     ⊎ ((d.after ≡ d.before) × (HasNoMemory o e status
-    ⊎ ((kind : ErrorKind) × IsAmong kind (fault_of command_line args) × Shows kind o e status)))
+    ⊎ ((kind : ErrorKind) × IsAmong kind (fault_of command_line args)
+    × Shows kind (help_on kind args) o e status)))

@@ -1,4 +1,5 @@
 //! What is shown in place of a command.
+ghost use Rattle.std.specs.Prelude.{◌≡◌, ◌++◌, IfOk, string_bytes};
 ghost use Rattle.std.specs.IoError.{error_kind};
 ghost use Rattle.clap.specs.Words.{kind_of};
 ghost use Rattle.osn_commands.specs.Run.{ShowsOrEnds};
@@ -10,17 +11,28 @@ use clap::error::ErrorKind;
 use osn_lines::Sink;
 use osn_report::{Status, print, tell_no_memory, write_line};
 use osn_shown::ShownLines;
-use std::alloc::Global;
+use std::alloc::{AllocError, Global};
 use std::io;
 
-/// Shows help or the version if they were asked for, or else what is wrong with the arguments.
+/// Returns what is wrong with the arguments, followed by the help.
+fn with_help(shown: String, help: &str) -> Result<String, AllocError>
+    ensures { IfOk result (λ text. string_bytes text ≡ string_bytes shown ++ help.now) }
+{
+    let mut text = shown;
+    text.push_str(help)?;
+    Ok(text)
+}
+
+/// Shows help or the version if they were asked for, or else what is wrong with the arguments, with
+/// this help after it.
 pub(crate) fn show<W: Sink, E: Sink>(
     alloc: Global,
     error: &Error,
+    help: &str,
     output: &mut W,
     errors: &mut E,
 ) -> Status
-    ensures { ShowsOrEnds (kind_of error.now)
+    ensures { ShowsOrEnds (kind_of error.now) help.now
         (output_of W.contents W.has_failed W.holds_back output.old output.new)
         (output_of E.contents E.has_failed E.holds_back errors.old errors.new) result }
 {
@@ -37,7 +49,10 @@ pub(crate) fn show<W: Sink, E: Sink>(
             let Ok(shown) = format!(in alloc; "{}", ShownLines(text.as_str())) else {
                 return tell_no_memory(errors);
             };
-            write_line(errors, shown.as_str());
+            let Ok(text) = with_help(shown, help) else {
+                return tell_no_memory(errors);
+            };
+            write_line(errors, text.as_str());
             Status::Misused
         }
     }

@@ -5,8 +5,11 @@
 
 mod completing;
 mod display;
+mod help;
+mod journal;
 mod limits;
 mod program;
+mod typed;
 
 pub use display::tell_no_words;
 pub use program::run;

@@ -10,10 +10,13 @@ ghost use Rattle.osn_report.specs.Folders.{folders_of};
 ghost use Rattle.osn_report.specs.Printing.{PrintsOrReports};
 ghost use Rattle.osn_report.specs.declared.fault.CommandFault.{CommandFault};
 ghost use Rattle.osn_text_commands.specs.PublishInside.{CanStay};
+ghost use Rattle.osn_commands.specs.Journal.{with_journal};
 ghost use Rattle.osn_commands.specs.Run.{Fails, Runs, RunsArgs, RunsInvocation};
 
 use crate::completing::completions_command;
 use crate::display::show;
+use crate::help::help_on;
+use crate::journal::with_journal;
 use crate::limits::limits_of_words;
 use osn_file_commands::{audit_in_folder, desk_in_folder, replay_in_folder};
 use osn_folder::{Folder, OpenFailed};
@@ -21,7 +24,9 @@ use osn_invocation::{CommandWords, Invocation, parse_args};
 use osn_lines::{Sink, Source};
 use osn_page_commands::{convert_command, letters_in_folder, page_in_folder};
 use osn_register::Limits;
-use osn_report::{CommandFault, Failure, Status, print_or_report, report_at, tell_misuse};
+use osn_report::{
+    CommandFault, Failure, Status, print_or_report, report_at, tell_misuse, tell_no_memory,
+};
 use osn_serve_commands::serve_in_folder;
 use osn_text_commands::{plan_in_folder, publish_in_folder, text_in_folder};
 use std::convert::AsStr;
@@ -32,12 +37,16 @@ use std::thread::Threads;
 /// returns how that ended. Files that are read are opened before the command begins, in the order
 /// of the arguments. The journal is saved only if the service ended well.
 ///
+/// If the arguments leave out the file of the journal, and there is a default for it, they mean the
+/// same as with that file. So do arguments that name it by the option `--journal`.
+///
 /// A terminal, if there is one, shows how far a long audit or table of letters is. For a service
 /// that neither saves nor keeps a journal it shows how many editions were published.
 pub fn run<F, D: Folder, S: AsStr, R: Source, W: Sink, E: Sink, T: Sink + Drop>(
     rt: &F,
     folder: &mut D,
     args: &[S],
+    default_journal: Option<&str>,
     input: &mut R,
     output: &mut W,
     errors: &mut E,
@@ -45,7 +54,33 @@ pub fn run<F, D: Folder, S: AsStr, R: Source, W: Sink, E: Sink, T: Sink + Drop>(
 ) -> Status
 where
     F: Threads + Wait + AllocGlobal,
-    ensures { RunsArgs (map S.text args.now) (MayFail D.File.has_failed)
+    ensures { RunsArgs (with_journal (option_map (λ path. path.now) default_journal.entry)
+        (map S.text args.now)) (MayFail D.File.has_failed)
+        (CanStay D.Keeper.cut_back_may_fail)
+        (folders_of D.known folder.old folder.new)
+        (input_of R.remaining R.has_failed input.old input.new)
+        (output_of W.contents W.has_failed W.holds_back output.old output.new)
+        (output_of E.contents E.has_failed E.holds_back errors.old errors.new) result }
+{
+    match with_journal(rt.alloc(), args, default_journal) {
+        Ok(words) => run_words(rt, folder, &words, input, output, errors, terminal),
+        Err(_) => tell_no_memory(errors),
+    }
+}
+
+/// Does what words ask for that have the file of the journal, if their command begins with it.
+fn run_words<F, D: Folder, R: Source, W: Sink, E: Sink, T: Sink + Drop>(
+    rt: &F,
+    folder: &mut D,
+    words: &[&str],
+    input: &mut R,
+    output: &mut W,
+    errors: &mut E,
+    terminal: Option<T>,
+) -> Status
+where
+    F: Threads + Wait + AllocGlobal,
+    ensures { RunsArgs (map (λ word. word.now) words.now) (MayFail D.File.has_failed)
         (CanStay D.Keeper.cut_back_may_fail)
         (folders_of D.known folder.old folder.new)
         (input_of R.remaining R.has_failed input.old input.new)
@@ -53,9 +88,12 @@ where
         (output_of E.contents E.has_failed E.holds_back errors.old errors.new) result }
 {
     let alloc = rt.alloc();
-    match parse_args(alloc, args) {
+    match parse_args(alloc, words) {
         Ok(invocation) => run_invocation(rt, folder, invocation, input, output, errors, terminal),
-        Err(error) => show(alloc, &error, output, errors),
+        Err(error) => {
+            let help = help_on(&error, words);
+            show(alloc, &error, help, output, errors)
+        }
     }
 }
 

@@ -19,7 +19,12 @@ const STATUSES: &str = "Statuses:
   2  an argument is wrong
   3  a file could not be opened, or a read or a write failed
   4  memory ran out
-If the status is not 0, standard error says what was refused or failed.";
+If the status is not 0, standard error says what was refused or failed.
+
+JOURNAL may be left out. After a command that begins with it, --journal FILE names it. The commands
+read, day, month, year, territory, almanac, letters and text have a default, if options come last:
+the file that OLDSTYLE_JOURNAL names, or else the user's own journal, if there is one, which is
+oldstyle/register.journal in XDG_DATA_HOME or ~/.local/share.";
 
 /// Returns a command with these arguments added.
 fn with_arguments<'a>(

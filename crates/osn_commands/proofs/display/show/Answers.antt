@@ -9,5 +9,5 @@ returns-in-DisplayHelp g c =
     c.args.output.now c.print.new.output in
     let told = output_of g.E.Sink.contents g.E.Sink.has_failed g.E.Sink.holds_back
     c.args.errors.now c.print.new.errors in
-    shows_help _ c.kind-kind.result wrote told _ (string_bytes c.in-Ok.text) c.kind-kind.ensures
-    c.in-DisplayHelp.is (c.print.ensures (string_bytes c.in-Ok.text) refl)
+    shows_help _ c.kind-kind.result c.args.help.now wrote told _ (string_bytes c.in-Ok.text)
+    c.kind-kind.ensures c.in-DisplayHelp.is (c.print.ensures (string_bytes c.in-Ok.text) refl)

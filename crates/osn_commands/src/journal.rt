@@ -1,0 +1,157 @@
+//! The file of the journal, in a command line that names it by the option `--journal` or leaves it
+//! out.
+ghost use Rattle.std.specs.Prelude.{◌≡◌, ◌<◌, IfOk, codes, length, map, option_map};
+ghost use Rattle.std.specs.List.{position};
+ghost use Rattle.std.specs.Str.{bytes_eq};
+ghost use Rattle.osn_commands.specs.Journal as spec;
+
+use crate::typed::{begins_with_journal, command_in, has_words};
+use std::alloc::{AllocError, Global};
+use std::convert::AsStr;
+
+/// Returns how many words come before the options of a command that has a default journal, if the
+/// file of the journal is left out.
+pub(crate) fn words_without(command: &str) -> Option<usize>
+    ensures { result ≡ spec.words_without command.now }
+{
+    match command {
+        "territory" => Some(0),
+        "letters" => Some(0),
+        "text" => Some(0),
+        "read" => Some(2),
+        "day" => Some(2),
+        "year" => Some(2),
+        "almanac" => Some(2),
+        "month" => Some(3),
+        _ => None,
+    }
+}
+
+/// Returns whether so many words and no more come before the options.
+fn has_just(count: usize, words: &[&str]) -> bool
+    ensures { result ≡ spec.has_just count (map (λ word. word.now) words.now) }
+{
+    match count.checked_add(1) {
+        Some(more) => has_words(count, words) && !has_words(more, words),
+        None => false,
+    }
+}
+
+/// Returns whether the words leave out the file of the journal.
+fn leaves_out_journal(words: &[&str]) -> bool
+    ensures { result ≡ spec.leaves_out_journal (map (λ word. word.now) words.now) }
+{
+    match words_without(command_in(words)) {
+        Some(count) => has_just(count, words),
+        None => false,
+    }
+}
+
+/// Returns whether a word is the option `--journal`.
+fn is_journal_option(word: &str) -> bool
+    ensures { result ≡ bytes_eq word.now (codes "--journal") }
+{
+    word == "--journal"
+}
+
+/// Returns where the first of these words is that is the option `--journal`.
+fn place_of_option(words: &[&str]) -> Option<usize>
+    ensures { result ≡ position (λ word. bytes_eq word.now (codes "--journal")) words.now }
+{
+    words.iter().position(|word| is_journal_option(*word))
+}
+
+/// The same, by the texts of the words.
+fn option_at(words: &[&str]) -> Option<usize>
+    ensures { result ≡ spec.option_at (map (λ word. word.now) words.now) }
+{
+    place_of_option(words)
+}
+
+/// Returns the words, if they have a command, with one more after it.
+fn with_path<'a>(words: Vec<&'a str>, path: &'a str) -> Result<Vec<&'a str>, AllocError>
+    ensures { IfOk result (λ new. new.items ≡ spec.with_path path.entry words.entry.items) }
+{
+    let mut words = words;
+    if words.len() < 2 {
+        return Ok(words);
+    }
+    words.insert(2, path)?;
+    Ok(words)
+}
+
+/// Returns the words with the one that follows the option at its place after the command, if there
+/// is one.
+fn with_named<'a>(words: Vec<&'a str>, at: usize) -> Result<Vec<&'a str>, AllocError>
+    requires { at < length words.items }
+    ensures { IfOk result (λ new. new.items ≡ spec.with_named at words.entry.items) }
+{
+    let mut words = words;
+    let path = match words.get(at + 1) {
+        Some(path) => *path,
+        None => return Ok(words),
+    };
+    if at < 2 {
+        return Ok(words);
+    }
+    words.remove(at + 1);
+    words.remove(at);
+    with_path(words, path)
+}
+
+/// Returns the words with this default, if they leave out the file of the journal.
+fn with_default<'a>(
+    words: Vec<&'a str>,
+    default: Option<&'a str>,
+) -> Result<Vec<&'a str>, AllocError>
+    ensures { IfOk result (λ new. new.items
+        ≡ spec.with_default (map (λ word. word.now) words.entry.items) default.entry
+        words.entry.items) }
+{
+    match default {
+        Some(path) if leaves_out_journal(&words) => with_path(words, path),
+        _ => Ok(words),
+    }
+}
+
+/// Returns the words with the file of the journal after the command.
+fn with_journal_by<'a>(
+    words: Vec<&'a str>,
+    default: Option<&'a str>,
+) -> Result<Vec<&'a str>, AllocError>
+    ensures { IfOk result (λ new. new.items ≡ spec.with_journal_by
+        (map (λ word. word.now) words.entry.items) default.entry words.entry.items) }
+{
+    if !begins_with_journal(command_in(&words)) {
+        return Ok(words);
+    }
+    match option_at(&words) {
+        Some(at) => with_named(words, at),
+        None => with_default(words, default),
+    }
+}
+
+/// Returns the words as texts.
+fn texts_of<'a, S: AsStr>(alloc: Global, words: &'a [S]) -> Result<Vec<&'a str>, AllocError>
+    ensures { IfOk result (λ texts. map (λ text. text.now) texts.items ≡ map S.text words.now) }
+{
+    let mut texts = Vec::new(alloc);
+    for word in words {
+        texts.push(word.as_str())?;
+    }
+    Ok(texts)
+}
+
+/// Returns what a command line means in which the file of the journal is left out, or named by the
+/// option `--journal`, with this default: the words with the file after the command.
+pub(crate) fn with_journal<'a, S: AsStr>(
+    alloc: Global,
+    words: &'a [S],
+    default: Option<&'a str>,
+) -> Result<Vec<&'a str>, AllocError>
+    ensures { IfOk result (λ new. map (λ word. word.now) new.items
+        ≡ spec.with_journal (option_map (λ path. path.now) default.entry) (map S.text words.now)) }
+{
+    let texts = texts_of(alloc, words)?;
+    with_journal_by(texts, default)
+}
