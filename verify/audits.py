@@ -33,6 +33,7 @@ def edit(chance):
 def query(chance):
     code = chance.choice(CODES)
     return chance.choice([{"op": "lands"}, {"op": "periods", "code": code},
+                          {"op": "exceptions", "code": code}, {"op": "changes", "code": code},
                           {"op": "figures", "year": 1724},
                           {"op": "easter", "code": code, "year": 1724},
                           {"op": "day", "code": code, "day": 577_736},

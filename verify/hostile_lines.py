@@ -32,7 +32,8 @@ LENGTHS = [LONGEST - 1, LONGEST, LONGEST + 1, 2 * LONGEST + 1, 200_000]
 TOO_LONG = b'{"fault":31,"name":"LineTooLong"}'
 
 OPS = ["add_land", "add_change", "alter_change", "drop_change", "add_exception", "drop_exception",
-       "publish", "read", "day", "periods", "lands", "easter", "figures", "written", "fly"]
+       "publish", "read", "day", "periods", "exceptions", "changes", "lands", "easter", "figures",
+       "written", "fly"]
 NAMES = ["op", "reader", "code", "name", "year", "month", "day", "calendar", "style", "rule",
          "date", "weekday", "source", "step", "ask", "journal", "Op", "op ", "", "~", "é",
          "o\\u0070", "\\u006fp", "co\\u0064e", "\\n"]
@@ -55,7 +56,8 @@ USUAL = {
     "alter_change": ["code", "day", "calendar", "style", "rule", "source"],
     "drop_change": ["code", "day"], "add_exception": ["code", "year", "day", "source"],
     "drop_exception": ["code", "year"], "read": ["reader", "code", "year", "month", "day"],
-    "day": ["reader", "code", "day"], "periods": ["reader", "code"], "lands": ["reader"],
+    "day": ["reader", "code", "day"], "periods": ["reader", "code"],
+    "exceptions": ["reader", "code"], "changes": ["reader", "code"], "lands": ["reader"],
     "easter": ["reader", "code", "year"], "figures": ["reader", "year"],
     "written": ["reader", "code", "date", "weekday"],
 }

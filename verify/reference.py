@@ -12,7 +12,8 @@ import json
 import re
 import sys
 
-from lib.calendars import HIGH, LAST_LABEL_YEAR, LAST_YEAR, WEEKDAYS, Land, figures, key_of
+from lib.calendars import (HIGH, LAST_LABEL_YEAR, LAST_YEAR, WEEKDAYS, Land, dates, figures,
+                           key_of)
 from lib.common import SCRIPT, CommandLine, compact, end
 from lib.date_meaning import Malformed, Territory, has_weekday, parse
 from lib.span_texts import Unread, span_of, why_none
@@ -45,6 +46,8 @@ MEMBERS = {
     "figures": "reader year",
     "lands": "reader",
     "periods": "reader code",
+    "exceptions": "reader code",
+    "changes": "reader code",
     "written": "reader code date weekday",
 }
 
@@ -214,6 +217,12 @@ class Service:
             return {"periods": [
                 {"first": first, "last": last, **regime_of(regime), **cited(land.sources, first)}
                 for first, last, regime in land.periods()]}
+        if op == "exceptions":
+            return {"exceptions": [
+                {"found": land.found(day), "year": year, **cited(land.easter_sources, year)}
+                for year, day in sorted(land.exceptions.items())]}
+        if op == "changes":
+            return {"changes": changes_of(land)}
         if op == "written":
             return written_answer(land, value["date"], value.get("weekday"))
         if op == "day":
@@ -255,6 +264,20 @@ def written_answer(land, text, weekday):
         "supplied": False, "uncertain": False,
         "weekday": is_on if date.weekday or weekday else None,
     }
+
+
+def changes_of(land):
+    """The changes of a territory, each with the days about it and the dates that it leaves out."""
+    found, periods = [], land.periods()
+    for (_, before, old), (first, _, new) in zip(periods, periods[1:]):
+        same = [day for day, date in enumerate(dates(old[0])) if date == dates(new[0])[first]]
+        found.append({
+            "before": land.found(before), "found": land.found(first),
+            "left_out": max(0, same[0] - first) if same else None,
+            "regime": regime_of(new), "regime_before": regime_of(old),
+            **cited(land.sources, first), "twice": max(0, first - same[0]) if same else None,
+        })
+    return found
 
 
 def cited(sources, of):

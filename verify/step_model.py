@@ -136,6 +136,7 @@ def query(chance):
     code = chance.choice(CODES)
     day = chance.choice([0, 1, 547_226, 563_670, 577_736])
     return chance.choice([{"op": "lands"}, {"op": "periods", "code": code},
+                          {"op": "exceptions", "code": code}, {"op": "changes", "code": code},
                           {"op": "day", "code": code, "day": day},
                           {"op": "easter", "code": code, "year": 1582}])
 

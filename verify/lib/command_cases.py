@@ -38,6 +38,8 @@ QUERIES = [
     '{"op":"figures","reader":1,"year":1954}',
     '{"op":"lands","reader":1}',
     '{"op":"periods","reader":1,"code":"GB"}',
+    '{"op":"exceptions","reader":1,"code":"GB"}',
+    '{"op":"changes","reader":1,"code":"GB"}',
     '{"op":"written","reader":1,"code":"GB","date":"11 February 1731/2","weekday":"Friday"}',
 ]
 LEFT = [

@@ -20,6 +20,8 @@ ASKED: list[tuple[str, dict[str, str], int]] = [
     ("territories", {}, 200), ("territories", {"place": "GB"}, 400),
     ("periods", {"place": "GB"}, 200), ("periods", {"place": "ZZ"}, 404),
     ("periods", {"place": "gb"}, 404), ("periods", {}, 400), ("periods", {"code": "GB"}, 400),
+    ("exceptions", {"place": "RM"}, 200), ("exceptions", {"place": "ZZ"}, 404),
+    ("changes", {"place": "GB"}, 200), ("changes", {"place": "ZZ"}, 404),
     ("read", {"place": "GB", "date": "1731-02-11"}, 200),
     ("read", {"place": "GB", "date": "1752-09-05"}, 200),
     ("read", {"place": "GB", "date": "1731-13-11"}, 400),

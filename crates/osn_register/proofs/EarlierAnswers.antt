@@ -39,7 +39,8 @@ use Rattle.osn_register.specs.Sources.{SourcesModel}
 use Rattle.osn_register.specs.Answer.{and_source, period_source, easter_source}
 use Rattle.osn_register.specs.Answer.{answer, unless, found_under, found_on, period_on}
 use Rattle.osn_register.specs.Answer.{on_day, day_answer, reading_answer, easters_answer}
-use Rattle.osn_register.specs.Answer.{figures_of, periods_answer, label_from}
+use Rattle.osn_register.specs.Answer.{figures_of, periods_answer, exceptions_answer, label_from}
+use Rattle.osn_register.specs.Answer.{changes_answer}
 use Rattle.osn_register.specs.Answer.{read_refusal, day_refusal, year_refusal, easter_refusal}
 use Rattle.osn_written.specs.declared.date_reading.DateReading.{DateReading}
 use Rattle.osn_register.specs.Answer.{date_refusal, written_answer, refusal_in}
@@ -296,6 +297,22 @@ same_unless : (now_refused refused : Option Refusal) (now before : Answer) → n
 same_unless now_refused refused now before same kept = ap (λ r. unless r now) same
     ∙ ap (unless refused) kept
 
+-- listed Easters
+
+keeps_exceptions : (t : Option TerritoryModel) (sources : Option SourcesModel)
+    → refusal_in (exceptions_answer newest_rules t sources)
+    ≡ refusal_in (exceptions_answer first_rules t sources)
+keeps_exceptions None sources = refl
+keeps_exceptions (Some t) sources = refl
+
+-- changes
+
+keeps_changes : (t : Option TerritoryModel) (sources : Option SourcesModel)
+    → refusal_in (changes_answer newest_rules t sources)
+    ≡ refusal_in (changes_answer first_rules t sources)
+keeps_changes None sources = refl
+keeps_changes (Some t) sources = refl
+
 -- a date as it is written
 
 keeps_written : (t : Option TerritoryModel) (date : DateReading) (given : Option Weekday)
@@ -348,6 +365,16 @@ keeps_answer lands (queries.Periods code) =
     (periods_answer newest_rules (territory_of code lands) (sources_of code lands))
     (periods_answer first_rules (territory_of code lands) (sources_of code lands)) refl
     (keeps_periods (territory_of code lands) (sources_of code lands))
+keeps_answer lands (queries.Exceptions code) =
+    refused_unless (code_refusal lands code)
+    (exceptions_answer newest_rules (territory_of code lands) (sources_of code lands))
+    (exceptions_answer first_rules (territory_of code lands) (sources_of code lands))
+    (keeps_exceptions (territory_of code lands) (sources_of code lands))
+keeps_answer lands (queries.Changes code) =
+    refused_unless (code_refusal lands code)
+    (changes_answer newest_rules (territory_of code lands) (sources_of code lands))
+    (changes_answer first_rules (territory_of code lands) (sources_of code lands))
+    (keeps_changes (territory_of code lands) (sources_of code lands))
 keeps_answer lands (queries.Written code text date weekday) =
     refused_unless (code_refusal lands code)
     (written_answer newest_rules (territory_of code lands) date weekday)

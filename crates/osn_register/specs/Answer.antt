@@ -1,11 +1,13 @@
 -- What the register answers to a query: this project's profile.
 use Rattle.std.specs.Prelude.{ℕ, Bool, true, false, not, ◌&&◌, ◌||◌, if◌then◌else◌, nat_le, ℤ, pos}
+use Rattle.std.specs.Prelude.{nat_lt, ◌-◌}
 use Rattle.std.specs.Prelude.{unsigned_abs, List, [], ◌∷◌, map, find, Option, Some, None, is_some}
 use Rattle.std.specs.Prelude.{option_map, option_and_then, Result, Ok, Err}
-use Rattle.std.specs.List.{list_any}
+use Rattle.std.specs.List.{list_any, flat_map}
 use Rattle.osn_days.specs.Profile.{Profile}
 use Rattle.osn_days.specs.declared.calendar.Calendar.TheVariants as calendar
 use Rattle.osn_days.specs.declared.weekday.Weekday.{Weekday}
+use Rattle.osn_days.specs.Chain.{date_of, days_with_date}
 use Rattle.osn_computus.specs.declared.rule.Rule.TheVariants as rule
 use Rattle.osn_computus.specs.declared.letters.Letters.{Letters}
 use Rattle.osn_computus.specs.Figures.{golden_number, indiction, julian_epact, gregorian_epact}
@@ -37,8 +39,11 @@ use Rattle.osn_register.specs.declared.query.Query.{Query}
 use Rattle.osn_register.specs.declared.query.Query.TheVariants as queries
 use Rattle.osn_register.specs.declared.answer.Answer.{Answer}
 use Rattle.osn_register.specs.declared.answer.Answer.TheVariants.{Reading, OnDay, Easters, Figures}
-use Rattle.osn_register.specs.declared.answer.Answer.TheVariants.{Lands, Periods, Written, Refused}
+use Rattle.osn_register.specs.declared.answer.Answer.TheVariants.{Lands, Periods, Exceptions, Changes}
+use Rattle.osn_register.specs.declared.answer.Answer.TheVariants.{Written, Refused}
+use Rattle.osn_register.specs.declared.answer.Exception.{Exception}
 use Rattle.osn_register.specs.declared.answer.Found.{Found}
+use Rattle.osn_register.specs.declared.answer.FoundChange.{FoundChange}
 use Rattle.osn_register.specs.declared.answer.FoundRun.{FoundRun}
 use Rattle.osn_register.specs.declared.answer.Land.{Land}
 use Rattle.osn_register.specs.declared.answer.PeriodAndSource.{PeriodAndSource}
@@ -86,6 +91,8 @@ query_refusal p lands (queries.Easter code year) = easter_refusal p lands code y
 query_refusal p lands (queries.YearFigures year) = year_refusal p year
 query_refusal p lands queries.Lands = None
 query_refusal p lands (queries.Periods code) = code_refusal lands code
+query_refusal p lands (queries.Exceptions code) = code_refusal lands code
+query_refusal p lands (queries.Changes code) = code_refusal lands code
 query_refusal p lands (queries.Written code text date weekday) = code_refusal lands code
 
 -- a day as a regime names it
@@ -159,6 +166,55 @@ figures_of p y = figures_with y
 abbrev pub periods_answer : Profile → Option TerritoryModel → Option SourcesModel → Answer
 periods_answer p None sources = Refused UnknownLand
 periods_answer p (Some t) sources = Periods (map (and_source sources) (periods_of p t))
+
+-- a year with a listed Easter: the day as the territory names it, and the source
+abbrev pub exception_on : Profile → TerritoryModel → Option SourcesModel → ℕ × ℕ → Exception
+exception_on p t sources listed = record {
+  year = listed.0;
+  found = found_on p t listed.1;
+  source = easter_source sources listed.0;
+}
+
+abbrev pub exceptions_answer : Profile → Option TerritoryModel → Option SourcesModel → Answer
+exceptions_answer p None sources = Refused UnknownLand
+exceptions_answer p (Some t) sources = Exceptions (map (exception_on p t sources) t.exceptions)
+
+-- How many dates a change leaves out. By the calendar before, the date of its first day is that of
+-- a later day: the dates of the days up to that one are left out. No number if no day has the date
+abbrev pub left_out : List ℕ → ℕ → Option ℕ
+left_out [] first = None
+left_out (same ∷ others) first = Some (same - first)
+
+-- how many dates come twice: those of an earlier day with the same date, and of the days after it
+abbrev pub twice : List ℕ → ℕ → Option ℕ
+twice [] first = None
+twice (same ∷ others) first = Some (first - same)
+
+-- the days that have, by the calendar before a change, the date of its first day
+abbrev pub same_date : Profile → Regime → Regime → ℕ → List ℕ
+same_date p before after first =
+    days_with_date p before.calendar (date_of after.calendar first)
+
+-- the change on a day
+abbrev pub change_on : Profile → TerritoryModel → Option SourcesModel → ℕ → FoundChange
+change_on p t sources first = record {
+  before = found_on p t (first - 1);
+  found = found_on p t first;
+  left_out = left_out (same_date p (regime_at t (first - 1)) (regime_at t first) first) first;
+  twice = twice (same_date p (regime_at t (first - 1)) (regime_at t first) first) first;
+  regime_before = regime_at t (first - 1);
+  regime = regime_at t first;
+  source = period_source sources first;
+}
+
+-- the change with which a period begins. The opening period, from day 1, begins with none
+abbrev pub change_if : Profile → TerritoryModel → Option SourcesModel → Period → List FoundChange
+change_if p t sources period =
+    if nat_lt 1 period.first then change_on p t sources period.first ∷ [] else []
+
+abbrev pub changes_answer : Profile → Option TerritoryModel → Option SourcesModel → Answer
+changes_answer p None sources = Refused UnknownLand
+changes_answer p (Some t) sources = Changes (flat_map (change_if p t sources) (periods_of p t))
 
 -- ---- a date as it is written
 
@@ -277,6 +333,16 @@ periods_in_answer p lands code =
     unless (code_refusal lands code)
     (periods_answer p (territory_of code lands) (sources_of code lands))
 
+abbrev pub exceptions_in_answer : Profile → List LandModel → List ℕ → Answer
+exceptions_in_answer p lands code =
+    unless (code_refusal lands code)
+    (exceptions_answer p (territory_of code lands) (sources_of code lands))
+
+abbrev pub changes_in_answer : Profile → List LandModel → List ℕ → Answer
+changes_in_answer p lands code =
+    unless (code_refusal lands code)
+    (changes_answer p (territory_of code lands) (sources_of code lands))
+
 abbrev pub written_in_answer : Profile → List LandModel → List ℕ → DateReading → Option Weekday
     → Answer
 written_in_answer p lands code date given =
@@ -290,6 +356,8 @@ answer p lands (queries.Easter code year) = easter_answer p lands code year
 answer p lands (queries.YearFigures year) = figures_answer p year
 answer p lands queries.Lands = Lands (map listed lands)
 answer p lands (queries.Periods code) = periods_in_answer p lands code
+answer p lands (queries.Exceptions code) = exceptions_in_answer p lands code
+answer p lands (queries.Changes code) = changes_in_answer p lands code
 answer p lands (queries.Written code text date weekday) = written_in_answer p lands code date
     weekday
 

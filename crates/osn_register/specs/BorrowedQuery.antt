@@ -11,5 +11,7 @@ as_query (borrowed.Easter code year) = queries.Easter code.now year
 as_query (borrowed.YearFigures year) = queries.YearFigures year
 as_query borrowed.Lands = queries.Lands
 as_query (borrowed.Periods code) = queries.Periods code.now
+as_query (borrowed.Exceptions code) = queries.Exceptions code.now
+as_query (borrowed.Changes code) = queries.Changes code.now
 as_query (borrowed.Written code text date weekday) =
     queries.Written code.now text.now date.now weekday

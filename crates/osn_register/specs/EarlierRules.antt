@@ -59,8 +59,9 @@ KeepsDay before now =
 
 -- what an answer keeps of the answer of these rules to the same query, if they have its year or its
 -- day. The Easters and the figures of a year and the territories are the same. A reading and a day
--- keep what the rules' own line has, and periods keep their starts. A date as it is written is
--- refused alike, and nothing more is said of it
+-- keep what the rules' own line has, and periods keep their starts. The listed Easters and
+-- the changes of a territory and a date as it is written are refused alike, and nothing more is said
+-- of them
 abbrev pub KeepsAnswer : Profile → List LandModel → Query → Answer → Type 0
 KeepsAnswer p lands (queries.Read code year month day) now =
     IsLabelYear p year
@@ -75,5 +76,9 @@ KeepsAnswer p lands (queries.YearFigures year) now =
 KeepsAnswer p lands queries.Lands now = now ≡ answer p lands queries.Lands
 KeepsAnswer p lands (queries.Periods code) now =
     KeepsDay (answer p lands (queries.Periods code)) now
+KeepsAnswer p lands (queries.Exceptions code) now =
+    refusal_in now ≡ refusal_in (answer p lands (queries.Exceptions code))
+KeepsAnswer p lands (queries.Changes code) now =
+    refusal_in now ≡ refusal_in (answer p lands (queries.Changes code))
 KeepsAnswer p lands (queries.Written code text date weekday) now =
     refusal_in now ≡ refusal_in (answer p lands (queries.Written code text date weekday))

@@ -4,7 +4,7 @@ use crate::source::Source;
 use crate::text::Text;
 use osn_computus::{Epact, Letters};
 use osn_days::{Day, Year};
-use osn_lands::{Label, Period};
+use osn_lands::{Label, Period, Regime};
 use osn_written::{DateFault, Kind, Listing, NoDay};
 
 /// A day as a territory names it: its label and its dual text, under the regime in force on it.
@@ -40,6 +40,39 @@ pub struct PeriodAndSource {
 
 /// The periods of a territory, in ascending order.
 pub type PeriodList = Listing<PeriodAndSource>;
+
+/// A year whose Easter a territory lists, the day that is listed, and the source that states it, if
+/// one is given.
+#[derive(Debug, Drop)]
+pub struct Exception {
+    pub year: Year,
+    pub found: Found,
+    pub source: Option<Source>,
+}
+
+/// The listed Easters of a territory, in ascending order of their years.
+pub type ExceptionList = Listing<Exception>;
+
+/// A change: the day before it and its first day, each as the territory names it.
+#[derive(Debug, Drop)]
+pub struct FoundChange {
+    pub before: Found,
+    pub found: Found,
+    /// How many dates it leaves out. If by the calendar before no day has the date of the first
+    /// day, that is not known.
+    pub left_out: Option<u32>,
+    /// How many dates come twice, unless that is not known for the same reason.
+    pub twice: Option<u32>,
+    /// The regime that ended.
+    pub regime_before: Regime,
+    /// The regime that began.
+    pub regime: Regime,
+    /// The source that states it, if one is given.
+    pub source: Option<Source>,
+}
+
+/// The changes of a territory, in ascending order.
+pub type ChangeList = Listing<FoundChange>;
 
 /// Days that follow one another, by the first and the last of them.
 #[derive(Debug, Drop)]
@@ -119,6 +152,10 @@ pub enum Answer {
     Lands(LandList),
     /// The periods of a territory.
     Periods(PeriodList),
+    /// The listed Easters of a territory.
+    Exceptions(ExceptionList),
+    /// The changes of a territory.
+    Changes(ChangeList),
     /// What a date means as it is written.
     Written(WrittenAnswer),
     /// The query is refused.

@@ -19,6 +19,8 @@ pub enum BorrowedQuery<'a> {
     YearFigures(i64),
     Lands,
     Periods(&'a str),
+    Exceptions(&'a str),
+    Changes(&'a str),
     Written(&'a str, &'a str, &'a DateReading, Option<Weekday>),
 }
 
@@ -50,6 +52,12 @@ impl<'a> BorrowedQuery<'a> {
             BorrowedQuery::YearFigures(year) => Query::YearFigures { year },
             BorrowedQuery::Lands => Query::Lands,
             BorrowedQuery::Periods(code) => Query::Periods {
+                code: Text::from_str(alloc, code)?,
+            },
+            BorrowedQuery::Exceptions(code) => Query::Exceptions {
+                code: Text::from_str(alloc, code)?,
+            },
+            BorrowedQuery::Changes(code) => Query::Changes {
                 code: Text::from_str(alloc, code)?,
             },
             BorrowedQuery::Written(code, text, date, weekday) => Query::Written {

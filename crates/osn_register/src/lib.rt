@@ -7,6 +7,7 @@
 mod answer;
 mod borrowed_query;
 mod change;
+mod change_answer;
 mod code;
 mod edit;
 mod edit_checks;
@@ -24,8 +25,8 @@ mod unanswered;
 mod written_answer;
 
 pub use answer::{
-    Answer, DayList, Found, FoundList, FoundRun, Land, LandList, PeriodAndSource, PeriodList,
-    Reason, RunList, WrittenAnswer,
+    Answer, ChangeList, DayList, Exception, ExceptionList, Found, FoundChange, FoundList, FoundRun,
+    Land, LandList, PeriodAndSource, PeriodList, Reason, RunList, WrittenAnswer,
 };
 pub use borrowed_query::BorrowedQuery;
 pub use edit::Edit;

@@ -40,6 +40,14 @@ pub enum Query {
     Periods {
         code: Text,
     },
+    /// Which Easters a territory lists in place of the rule's.
+    Exceptions {
+        code: Text,
+    },
+    /// Which changes a territory has.
+    Changes {
+        code: Text,
+    },
     /// Which days a date means in a territory, as the date is written, and whether they are on a
     /// weekday, if one is given. The answer depends on what was read of the text, and not on the
     /// text.
@@ -68,6 +76,8 @@ impl Query {
             | Query::DayIn { code, .. }
             | Query::Easter { code, .. }
             | Query::Periods { code }
+            | Query::Exceptions { code }
+            | Query::Changes { code }
             | Query::Written { code, .. } => self.borrowed().to_query(code.allocator()),
         }
     }
@@ -88,6 +98,8 @@ impl Query {
             Query::YearFigures { year } => BorrowedQuery::YearFigures(*year),
             Query::Lands => BorrowedQuery::Lands,
             Query::Periods { code } => BorrowedQuery::Periods(code.as_str()),
+            Query::Exceptions { code } => BorrowedQuery::Exceptions(code.as_str()),
+            Query::Changes { code } => BorrowedQuery::Changes(code.as_str()),
             Query::Written {
                 code,
                 text,

@@ -6,7 +6,7 @@ ghost use Rattle.osn_lands.specs.Label.{local_label};
 ghost use Rattle.osn_register.specs.Answer as spec;
 ghost use Rattle.osn_register.specs.Inside.{sources_in};
 
-use crate::answer::{Answer, Found, PeriodAndSource};
+use crate::answer::{Answer, Exception, Found, PeriodAndSource};
 use crate::source::Source;
 use crate::sources::{Sources, source_of};
 use crate::text::Text;
@@ -73,7 +73,7 @@ fn read_days(
 }
 
 /// Returns a source that is lent, as one that an answer owns.
-fn owned(source: Option<&Source>) -> Result<Option<Source>, AllocError>
+pub(crate) fn owned(source: Option<&Source>) -> Result<Option<Source>, AllocError>
     ensures { IfOk result (λ s. s ≡ option_map (λ b. b.now) source.entry) }
 {
     match source {
@@ -140,6 +140,40 @@ pub(crate) fn periods(
 {
     let periods = and_sources(alloc, sources, territory.periods())?;
     Ok(Answer::Periods(Listing::new(periods)))
+}
+
+/// Returns a listed Easter with its source.
+fn exception(
+    alloc: Global,
+    territory: &Territory,
+    sources: &Sources,
+    year: Year,
+    day: Day,
+) -> Result<Exception, AllocError>
+    ensures { IfOk result (λ e. e ≡ spec.exception_on newest_rules territory.now
+        (Some (sources_in sources.now)) (year, day)) }
+{
+    Ok(Exception {
+        year,
+        found: found_on(alloc, territory, day)?,
+        source: owned(source_of(&sources.easters, year.number()))?,
+    })
+}
+
+/// Returns the listed Easters of a territory, each with its source.
+pub(crate) fn exceptions(
+    alloc: Global,
+    territory: &Territory,
+    sources: &Sources,
+) -> Result<Answer, AllocError>
+    ensures { IfOk result (λ a. a ≡ spec.exceptions_answer newest_rules (Some territory.now)
+        (Some (sources_in sources.now))) }
+{
+    let mut list = Vec::with_capacity(alloc, territory.exception_count())?;
+    for (year, day) in territory.exceptions() {
+        list.push(exception(alloc, territory, sources, *year, *day)?)?;
+    }
+    Ok(Answer::Exceptions(Listing::new(list)))
 }
 
 /// Returns the Easters of a year in a territory.

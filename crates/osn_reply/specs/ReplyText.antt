@@ -19,7 +19,9 @@ use Rattle.osn_written.specs.Kind.{kind_word}
 use Rattle.osn_written.specs.Words.{no_day_words, fault_words}
 use Rattle.osn_register.specs.declared.answer.Answer.{Answer}
 use Rattle.osn_register.specs.declared.answer.Answer.TheVariants as answers
+use Rattle.osn_register.specs.declared.answer.Exception.{Exception}
 use Rattle.osn_register.specs.declared.answer.Found.{Found}
+use Rattle.osn_register.specs.declared.answer.FoundChange.{FoundChange}
 use Rattle.osn_register.specs.declared.answer.FoundRun.{FoundRun}
 use Rattle.osn_register.specs.declared.answer.Land.{Land}
 use Rattle.osn_register.specs.declared.answer.PeriodAndSource.{PeriodAndSource}
@@ -123,10 +125,39 @@ abbrev pub periods_data : List PeriodAndSource → Data
 periods_data periods =
     object (member (codes "periods") (list_data (map period_data periods)) no_members)
 
+-- a year with a listed Easter: the day as the territory names it, and the source
+abbrev pub exception_data : Exception → Data
+exception_data e = object (
+    member (codes "found") (found_data e.found)
+    (source_member e.source
+    (member (codes "year") (whole e.year)
+    no_members)))
+
+abbrev pub exceptions_data : List Exception → Data
+exceptions_data exceptions =
+    object (member (codes "exceptions") (list_data (map exception_data exceptions)) no_members)
+
 -- a value, or null if no value is given
 abbrev pub option_data : {A : Type 0} → (A → Data) → Option A → Data
 option_data json_value None = null
 option_data json_value (Some x) = json_value x
+
+-- a change by the day before it and its first day, the regimes that end and begin, its source, and
+-- how many dates are left out and come twice
+abbrev pub change_data : FoundChange → Data
+change_data c = object (
+    member (codes "before") (found_data c.before)
+    (member (codes "found") (found_data c.found)
+    (member (codes "left_out") (option_data whole c.left_out)
+    (member (codes "regime") (regime_data c.regime)
+    (member (codes "regime_before") (regime_data c.regime_before)
+    (source_member c.source
+    (member (codes "twice") (option_data whole c.twice)
+    no_members)))))))
+
+abbrev pub changes_data : List FoundChange → Data
+changes_data changes =
+    object (member (codes "changes") (list_data (map change_data changes)) no_members)
 
 -- the word of a date's kind
 abbrev pub word_of_kind : Option Kind → List ℕ
@@ -185,6 +216,10 @@ replied_data reader edition
 replied_data reader edition (answers.Lands lands) = answered_data reader edition (lands_data lands)
 replied_data reader edition (answers.Periods periods) =
     answered_data reader edition (periods_data periods)
+replied_data reader edition (answers.Exceptions exceptions) =
+    answered_data reader edition (exceptions_data exceptions)
+replied_data reader edition (answers.Changes changes) =
+    answered_data reader edition (changes_data changes)
 replied_data reader edition (answers.Written written) =
     answered_data reader edition (written_data written)
 replied_data reader edition (answers.Refused f) = object (

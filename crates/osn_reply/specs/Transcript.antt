@@ -4,7 +4,7 @@ use Rattle.std.specs.Prelude.{ℕ, List, codes, Option, Some, None}
 use Rattle.serde_json.specs.Data.{Data, string, object, member, no_members}
 use Rattle.osn_register.specs.declared.query.Query.{Query}
 use Rattle.osn_register.specs.declared.query.Query.TheVariants.{Read, DayIn, Easter, YearFigures}
-use Rattle.osn_register.specs.declared.query.Query.TheVariants.{Lands, Periods, Written}
+use Rattle.osn_register.specs.declared.query.Query.TheVariants.{Lands, Periods, Exceptions, Changes, Written}
 use Rattle.osn_core.specs.declared.step.Reply.{Reply}
 use Rattle.osn_days.specs.declared.weekday.Weekday.{Weekday}
 use Rattle.osn_days.specs.Weekday.{weekday_name}
@@ -61,6 +61,16 @@ query_data reader Lands = object (
 query_data reader (Periods code) = object (
     member (codes "code") (string code)
     (member (codes "op") (string (codes "periods"))
+    (member (codes "reader") (whole reader)
+    no_members)))
+query_data reader (Exceptions code) = object (
+    member (codes "code") (string code)
+    (member (codes "op") (string (codes "exceptions"))
+    (member (codes "reader") (whole reader)
+    no_members)))
+query_data reader (Changes code) = object (
+    member (codes "code") (string code)
+    (member (codes "op") (string (codes "changes"))
     (member (codes "reader") (whole reader)
     no_members)))
 query_data reader (Written code text date weekday) = asked_date_data reader code text weekday

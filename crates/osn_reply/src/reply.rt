@@ -8,6 +8,7 @@ ghost use Rattle.osn_reply.specs.Transcript.{transcript_line};
 ghost use Rattle.serde_json.specs.Written.{compact_text};
 
 mod answer;
+mod change;
 mod compact;
 mod date;
 mod figures;

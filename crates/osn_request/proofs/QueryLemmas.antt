@@ -50,6 +50,8 @@ query_by_code readers ops.Read d asked is names = refl
 query_by_code readers ops.DayIn d asked is names = refl
 query_by_code readers ops.Easter d asked is names = refl
 query_by_code readers ops.Periods d asked is names = refl
+query_by_code readers ops.Exceptions d asked is names = refl
+query_by_code readers ops.Changes d asked is names = refl
 query_by_code readers ops.Written d asked is names = refl
 query_by_code readers ops.YearFigures d asked is names =
     sym (subst NamesNone is (figures_asked readers d)) ∙ names

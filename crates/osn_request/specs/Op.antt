@@ -26,6 +26,8 @@ op_named = meaning (
     ∷ (codes "figures", Query queries.YearFigures)
     ∷ (codes "lands", Query queries.Lands)
     ∷ (codes "periods", Query queries.Periods)
+    ∷ (codes "exceptions", Query queries.Exceptions)
+    ∷ (codes "changes", Query queries.Changes)
     ∷ (codes "written", Query queries.Written)
     ∷ [])
 

@@ -48,6 +48,16 @@ periods_of d = do
   code ← text_at members.Code d
   Ok (queries.Periods code)
 
+unfoldable pub exceptions_of : Data → Result Query WireFault
+exceptions_of d = do
+  code ← text_at members.Code d
+  Ok (queries.Exceptions code)
+
+unfoldable pub changes_of : Data → Result Query WireFault
+changes_of d = do
+  code ← text_at members.Code d
+  Ok (queries.Changes code)
+
 unfoldable pub written_of : Data → Result Query WireFault
 written_of d = do
   code ← text_at members.Code d
@@ -63,6 +73,8 @@ query_by ops.Easter d = easter_of d
 query_by ops.YearFigures d = year_figures_of d
 query_by ops.Lands d = Ok queries.Lands
 query_by ops.Periods d = periods_of d
+query_by ops.Exceptions d = exceptions_of d
+query_by ops.Changes d = changes_of d
 query_by ops.Written d = written_of d
 
 -- a query that has a territory's code
@@ -73,6 +85,8 @@ has_code ops.Easter = true
 has_code ops.YearFigures = false
 has_code ops.Lands = false
 has_code ops.Periods = true
+has_code ops.Exceptions = true
+has_code ops.Changes = true
 has_code ops.Written = true
 
 -- the number of the reader who asks, and the query

@@ -60,6 +60,8 @@ PLACE = {"place": text("code")}
 QUERIES = {
     "territories": Query("lands", {}),
     "periods": Query("periods", PLACE),
+    "exceptions": Query("exceptions", PLACE),
+    "changes": Query("changes", PLACE),
     "read": Query("read", PLACE | {"date": label}),
     "written": Query("written", PLACE | {"date": text("date"), "weekday": text("weekday")},
                      ("weekday",)),

@@ -10,12 +10,13 @@ ghost use Rattle.osn_register.specs.InsideQuery.{IsAnswered};
 
 use crate::answer::{Answer, Land};
 use crate::borrowed_query::BorrowedQuery;
+use crate::change_answer::changes;
 use crate::figures::figures;
 use crate::numbers::{asked_label, day_on_line, year_in_range};
 use crate::query::Query;
 use crate::refusal::Refusal;
 use crate::register::Register;
-use crate::territory_answer::{easters, on_day, periods, reading};
+use crate::territory_answer::{easters, exceptions, on_day, periods, reading};
 use crate::text::Text;
 use crate::unanswered::Unanswered;
 use crate::written_answer::written;
@@ -102,6 +103,8 @@ impl Register {
             BorrowedQuery::YearFigures(year) => Ok(figures(year_in_range(year)?)),
             BorrowedQuery::Lands => Ok(Answer::Lands(Listing::new(self.listed()?))),
             BorrowedQuery::Periods(code) => self.periods(code),
+            BorrowedQuery::Exceptions(code) => self.exceptions(code),
+            BorrowedQuery::Changes(code) => self.changes(code),
             BorrowedQuery::Written(code, _, date, weekday) => self.written(code, date, weekday),
         }
     }
@@ -143,6 +146,24 @@ impl Register {
     {
         let (territory, sources) = self.known_land(code)?;
         Ok(periods(self.alloc, territory, sources)?)
+    }
+
+    fn exceptions(&self, code: &str) -> Result<Answer, Unanswered>
+        ensures { IsAnswered
+            (code_refusal self.now.lands code.now)
+            (spec.exceptions_in_answer newest_rules self.now.lands code.now) result }
+    {
+        let (territory, sources) = self.known_land(code)?;
+        Ok(exceptions(self.alloc, territory, sources)?)
+    }
+
+    fn changes(&self, code: &str) -> Result<Answer, Unanswered>
+        ensures { IsAnswered
+            (code_refusal self.now.lands code.now)
+            (spec.changes_in_answer newest_rules self.now.lands code.now) result }
+    {
+        let (territory, sources) = self.known_land(code)?;
+        Ok(changes(self.alloc, territory, sources)?)
     }
 
     fn written(

@@ -11,7 +11,7 @@ use crate::reply::written::write_written;
 use osn_computus::Epact;
 use osn_core::Reply;
 use osn_days::{Day, Year};
-use osn_register::{Answer, Found, Land, PeriodAndSource, Refusal, Source};
+use osn_register::{Answer, Exception, Found, FoundChange, Land, PeriodAndSource, Refusal, Source};
 use std::alloc::AllocError;
 
 /// Begins a reply with a reading.
@@ -78,6 +78,26 @@ fn write_periods(out: &mut LineWriter, periods: &[PeriodAndSource]) -> Result<()
     ensures before { out.new.before ≡ out.old.before }
 {
     write_list(out, r#"{"answer":{"periods":"#, periods)?;
+    out.push("}")
+}
+
+/// Begins a reply with listed Easters.
+fn write_exceptions(out: &mut LineWriter, exceptions: &[Exception]) -> Result<(), AllocError>
+    ensures text { OnOk result (out.new.text ≡ out.old.text
+        ++ (codes "{\"answer\":" ++ compact_text (spec.exceptions_data exceptions.now))) }
+    ensures before { out.new.before ≡ out.old.before }
+{
+    write_list(out, r#"{"answer":{"exceptions":"#, exceptions)?;
+    out.push("}")
+}
+
+/// Begins a reply with changes.
+fn write_changes(out: &mut LineWriter, changes: &[FoundChange]) -> Result<(), AllocError>
+    ensures text { OnOk result (out.new.text ≡ out.old.text
+        ++ (codes "{\"answer\":" ++ compact_text (spec.changes_data changes.now))) }
+    ensures before { out.new.before ≡ out.old.before }
+{
+    write_list(out, r#"{"answer":{"changes":"#, changes)?;
     out.push("}")
 }
 
@@ -180,6 +200,8 @@ pub(crate) fn write_reply(
         }
         Answer::Lands(lands) => write_lands(out, lands.as_slice()),
         Answer::Periods(periods) => write_periods(out, periods.as_slice()),
+        Answer::Exceptions(exceptions) => write_exceptions(out, exceptions.as_slice()),
+        Answer::Changes(changes) => write_changes(out, changes.as_slice()),
         Answer::Written(written) => write_written(out, written),
         Answer::Refused(refusal) => return write_refused(out, reader, edition, *refusal),
     };

@@ -1,11 +1,11 @@
-//! Days, runs of them and territories in a reply.
-ghost use Rattle.osn_reply.specs.ReplyText.{found_data, found_run_data, land_data};
+//! Days, runs of them, listed Easters and territories in a reply.
+ghost use Rattle.osn_reply.specs.ReplyText.{exception_data, found_data, found_run_data, land_data};
 
 use crate::line_writer::LineWriter;
 use crate::reply::date::{write_date_of, write_label};
-use crate::reply::write_json::{WriteJson, write_member};
+use crate::reply::write_json::{WriteJson, write_member, write_source};
 use osn_days::Calendar;
-use osn_register::{Found, FoundRun, Land};
+use osn_register::{Exception, Found, FoundRun, Land};
 use std::alloc::AllocError;
 
 impl WriteJson for Found {
@@ -30,6 +30,17 @@ impl WriteJson for FoundRun {
     fn write_json(&self, out: &mut LineWriter) -> Result<(), AllocError> {
         write_member(out, r#"{"first":"#, &self.first)?;
         write_member(out, r#","last":"#, &self.last)?;
+        out.push("}")
+    }
+}
+
+impl WriteJson for Exception {
+    ghost json_value = { exception_data };
+
+    fn write_json(&self, out: &mut LineWriter) -> Result<(), AllocError> {
+        write_member(out, r#"{"found":"#, &self.found)?;
+        write_source(out, &self.source)?;
+        out.push_number(r#","year":"#, self.year.number())?;
         out.push("}")
     }
 }

@@ -89,6 +89,28 @@ fn write_periods(out: &mut LineWriter, reader: u32, code: &Text) -> Result<(), A
     out.push("}")
 }
 
+fn write_exceptions(out: &mut LineWriter, reader: u32, code: &Text) -> Result<(), AllocError>
+    ensures text { OnOk result (out.new.text ≡ out.old.text
+        ++ compact_text (spec.query_data reader (queries.Exceptions code.now))) }
+    ensures before { out.new.before ≡ out.old.before }
+{
+    out.push_text(r#"{"code":"#, code.as_str())?;
+    out.push_text(r#","op":"#, "exceptions")?;
+    out.push_number(r#","reader":"#, reader)?;
+    out.push("}")
+}
+
+fn write_changes(out: &mut LineWriter, reader: u32, code: &Text) -> Result<(), AllocError>
+    ensures text { OnOk result (out.new.text ≡ out.old.text
+        ++ compact_text (spec.query_data reader (queries.Changes code.now))) }
+    ensures before { out.new.before ≡ out.old.before }
+{
+    out.push_text(r#"{"code":"#, code.as_str())?;
+    out.push_text(r#","op":"#, "changes")?;
+    out.push_number(r#","reader":"#, reader)?;
+    out.push("}")
+}
+
 fn write_written(
     out: &mut LineWriter,
     reader: u32,
@@ -130,6 +152,8 @@ fn write_query(out: &mut LineWriter, reader: u32, query: &Query) -> Result<(), A
         Query::YearFigures { year } => write_figures(out, reader, *year),
         Query::Lands => write_lands(out, reader),
         Query::Periods { code } => write_periods(out, reader, code),
+        Query::Exceptions { code } => write_exceptions(out, reader, code),
+        Query::Changes { code } => write_changes(out, reader, code),
         Query::Written {
             code,
             text,

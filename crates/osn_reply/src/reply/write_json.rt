@@ -31,6 +31,14 @@ impl WriteJson for Day {
     }
 }
 
+impl WriteJson for u32 {
+    ghost json_value = { whole };
+
+    fn write_json(&self, out: &mut LineWriter) -> Result<(), AllocError> {
+        out.push_number("", *self)
+    }
+}
+
 impl WriteJson for bool {
     ghost json_value = { boolean };
 

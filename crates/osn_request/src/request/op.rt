@@ -34,6 +34,8 @@ pub enum QueryOp {
     YearFigures,
     Lands,
     Periods,
+    Exceptions,
+    Changes,
     Written,
 }
 
@@ -54,6 +56,8 @@ fn op_named(word: &str) -> Option<Op>
         "figures" => Some(Op::Query(QueryOp::YearFigures)),
         "lands" => Some(Op::Query(QueryOp::Lands)),
         "periods" => Some(Op::Query(QueryOp::Periods)),
+        "exceptions" => Some(Op::Query(QueryOp::Exceptions)),
+        "changes" => Some(Op::Query(QueryOp::Changes)),
         "written" => Some(Op::Query(QueryOp::Written)),
         _ => None,
     }

@@ -66,6 +66,22 @@ fn periods_of<O: JsonObject>(object: &O) -> Result<LineQuery<'_>, WireFault>
     Ok(LineQuery::Plain(BorrowedQuery::Periods(code)))
 }
 
+#[tactic(auto, unfolding(crate::specs::QueryRequest::exceptions_of))]
+fn exceptions_of<O: JsonObject>(object: &O) -> Result<LineQuery<'_>, WireFault>
+    ensures { Reads result (spec.exceptions_of (O.value object.now)) }
+{
+    let code = text_at(object, Member::Code)?;
+    Ok(LineQuery::Plain(BorrowedQuery::Exceptions(code)))
+}
+
+#[tactic(auto, unfolding(crate::specs::QueryRequest::changes_of))]
+fn changes_of<O: JsonObject>(object: &O) -> Result<LineQuery<'_>, WireFault>
+    ensures { Reads result (spec.changes_of (O.value object.now)) }
+{
+    let code = text_at(object, Member::Code)?;
+    Ok(LineQuery::Plain(BorrowedQuery::Changes(code)))
+}
+
 #[tactic(auto, unfolding(crate::specs::QueryRequest::year_figures_of))]
 fn year_figures_of<O: JsonObject>(object: &O) -> Result<LineQuery<'_>, WireFault>
     ensures { Reads result (spec.year_figures_of (O.value object.now)) }
@@ -99,6 +115,8 @@ fn query_by<O: JsonObject>(op: QueryOp, object: &O) -> Result<LineQuery<'_>, Wir
         QueryOp::YearFigures => year_figures_of(object),
         QueryOp::Lands => Ok(LineQuery::Plain(BorrowedQuery::Lands)),
         QueryOp::Periods => periods_of(object),
+        QueryOp::Exceptions => exceptions_of(object),
+        QueryOp::Changes => changes_of(object),
         QueryOp::Written => written_of(object),
     }
 }

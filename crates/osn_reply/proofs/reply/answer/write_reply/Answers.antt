@@ -55,6 +55,16 @@ returns-clause-text c =
           (ap (λ l. spec.periods_data l) w.as_slice-in-Periods.ensures)
           (ap (λ v. v.text) w.out-is
           ∙ given _ _ _ c.in_ok-begun.was w.begun-is w.write_periods-begun.ensures.text) e)
+      | goal.in-Exceptions w ↦
+          rw w.in-Exceptions.is (reply _ _
+          (ap (λ l. spec.exceptions_data l) w.as_slice-in-Exceptions.ensures)
+          (ap (λ v. v.text) w.out-is
+          ∙ given _ _ _ c.in_ok-begun.was w.begun-is w.write_exceptions-begun.ensures.text) e)
+      | goal.in-Changes w ↦
+          rw w.in-Changes.is (reply _ _
+          (ap (λ l. spec.changes_data l) w.as_slice-in-Changes.ensures)
+          (ap (λ v. v.text) w.out-is
+          ∙ given _ _ _ c.in_ok-begun.was w.begun-is w.write_changes-begun.ensures.text) e)
       | goal.in-Written w ↦
           rw w.in-Written.is (reply _ (spec.written_data w.in-Written.written) refl
           (ap (λ v. v.text) w.out-is
