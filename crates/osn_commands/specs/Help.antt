@@ -9,7 +9,7 @@ use Rattle.clap.specs.declared.error.kind.ErrorKind.TheVariants.{MissingRequired
 use Rattle.osn_commands.specs.Journal.{words_without}
 use Rattle.osn_commands.specs.Typed.{begins_with_journal, command_in, has_words}
 
--- a number that is none: a year, or how many readers there are
+-- a word that is not a number: a year, or how many readers there are
 abbrev pub number_help : Text → Text
 number_help command =
     if bytes_eq command (codes "almanac")
@@ -62,6 +62,6 @@ help_by kind command has_surplus = []
 abbrev pub has_surplus : List Text → Bool
 has_surplus words = has_words (words_taken (command_in words) + 1) words
 
--- the help on the words that were typed
+-- the help on the typed words
 abbrev pub help_on : ErrorKind → List Text → Text
 help_on kind words = help_by kind (command_in words) (has_surplus words)

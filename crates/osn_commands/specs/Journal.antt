@@ -23,7 +23,7 @@ words_without command =
     else (if bytes_eq command (codes "month") then Some 3
     else None)))))))
 
--- so many words and no more come before the options
+-- exactly this number of words comes before the options
 abbrev pub has_just : ℕ → List Text → Bool
 has_just count words = has_words count words && not (has_words (count + 1) words)
 
@@ -32,7 +32,7 @@ abbrev pub leaves_out_journal : List Text → Bool
 leaves_out_journal words =
     option_map_or (λ count. has_just count words) (words_without (command_in words)) false
 
--- where the option `--journal` is first
+-- the place of the first option `--journal`
 abbrev pub option_at : List Text → Option ℕ
 option_at words = position (λ word. bytes_eq word (codes "--journal")) words
 

@@ -20,7 +20,7 @@ begins_with_journal command =
     || (bytes_eq command (codes "publish") || (bytes_eq command (codes "almanac")
     || bytes_eq command (codes "audit"))))))))))
 
--- the words after the command begin with as many that are no options, by the texts of the words
+-- the words after the command begin with this number of words that are not options, by their texts
 abbrev pub has_first : {X : Type 0} → (X → Text) → ℕ → List X → Bool
 has_first text count words =
     not (nat_lt (length words) 2)

@@ -26,7 +26,7 @@ const TABLE: &str =
 const QUOTES: &str =
     "help: put a date or a name of several words in quotes: \"11 February 1731\"\n";
 
-/// Returns the help on a number that is none.
+/// Returns the help on a word that is not a number.
 fn number_help(command: &str) -> &'static str
     ensures { result.now ≡ spec.number_help command.now }
 {
@@ -75,7 +75,7 @@ fn surplus_help(command: &str) -> &'static str
     }
 }
 
-/// Returns the help on what is wrong with the words that were typed, or an empty text.
+/// Returns the help on what is wrong with the arguments, or an empty text.
 pub(crate) fn help_on<S: AsStr>(error: &Error, words: &[S]) -> &'static str
     ensures { result.now ≡ spec.help_on (kind_of error.now) (map S.text words.now) }
 {

@@ -27,7 +27,7 @@ pub(crate) fn words_without(command: &str) -> Option<usize>
     }
 }
 
-/// Returns whether so many words and no more come before the options.
+/// Returns whether exactly this number of words comes before the options.
 fn has_just(count: usize, words: &[&str]) -> bool
     ensures { result ≡ spec.has_just count (map (λ word. word.now) words.now) }
 {

@@ -50,7 +50,8 @@ fn has_option<S: AsStr>(words: &[S]) -> bool
     words.iter().any(|word| is_option(word.as_str()))
 }
 
-/// Returns whether the words after the command begin with as many that are no options.
+/// Returns whether the words after the command begin with this number of words that are not
+/// options.
 fn has_first<S: AsStr>(count: usize, words: &[S]) -> bool
     ensures { result ≡ spec.has_first S.text count words.now }
 {
