@@ -106,6 +106,8 @@ def worked(register):
     styles = [period.style for period in periods]
     yield "periods", styles == ["annunciation", "january", "january"]
     yield "no sources", [period.source for period in periods] == [None] * 3
+    changes = [(change.found.gregorian, change.left_out) for change in register.changes("GB")]
+    yield f"changes: {changes}", changes == [("1752-01-12", 0), ("1752-09-14", 11)]
 
 
 def piped(register, program, options):
@@ -204,15 +206,20 @@ def faults(register, program, folder):
 
 
 def cited(program, journal):
-    """A period with a source, and one without."""
+    """A period, a change and a listed Easter with a source, and those without."""
     regime = {"code": "GB", "calendar": "julian", "rule": "julian"}
     opening = {"op": "add_land", "name": "n", "style": "annunciation", **regime}
     change = {"op": "add_change", "day": 639551, "style": "january", **regime, "source": "an act"}
-    lines = [{"journal": 4}, opening, change, {"op": "publish"}]
+    easter = {"op": "add_exception", "code": "GB", "year": 1724, "day": 629419}
+    cited = {**easter, "year": 1744, "day": 636713, "source": "a table"}
+    lines = [{"journal": 4}, opening, change, easter, cited, {"op": "publish"}]
     put(journal, "".join(compact(line) + "\n" for line in lines).encode())
     with oldstyle.Register(journal, program=program) as register:
-        found = [period.source for period in register.periods("GB")]
-    yield f"sources: {found}", found == [None, "an act"]
+        found = [one.source for ask in (register.periods, register.changes, register.exceptions)
+                 for one in ask("GB")]
+        years = [easter.year for easter in register.exceptions("GB")]
+    yield f"sources: {found}", found == [None, "an act", "an act", None, "a table"]
+    yield f"listed Easters: {years}", years == [1724, 1744]
 
 
 def ended(program):

@@ -159,7 +159,7 @@ def check_sources(program, folder):
             text in before and text in cited for text in expected), status, cited)
         check(f"the name on {path}", "A\u2028B&lt;U+0085&gt;C" in before and "\x85" not in before)
     listed = page.get("/place?code=ES")[2].decode()
-    check("the source of a listed Easter", "(source: The source of an Easter)" in listed)
+    check("the source of a listed Easter", ". Source: The source of an Easter.</li>" in listed)
     wrong = [line for date in ("10 October 1582", "11/2/1731", "March 1582")
              for line in differences(page.answer(code="ES", date=date)[1]["html"], program, journal,
                                      "ES", date)]

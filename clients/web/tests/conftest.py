@@ -2,6 +2,7 @@
 from __future__ import annotations
 
 import http.client
+import json
 import os
 import re
 import shutil
@@ -76,6 +77,18 @@ def script(tmp_path: Path) -> Callable[[str], str]:
         path.write_text(f"#!/bin/sh\n{text}\n")
         path.chmod(0o755)
         return str(path)
+    return make
+
+
+@pytest.fixture
+def journal_of(program: str, tmp_path: Path) -> Callable[..., str]:
+    """Makes a journal of one edition."""
+    def make(*edits: dict[str, Any]) -> str:
+        path = str(tmp_path / "made.journal")
+        lines = "".join(json.dumps(line) + "\n" for line in (*edits, {"op": "publish"}))
+        subprocess.run([program, "serve", "--save", path], input=lines, text=True, check=True,
+                       capture_output=True)
+        return path
     return make
 
 

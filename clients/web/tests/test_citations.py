@@ -43,17 +43,13 @@ def test_an_edition_is_what_it_changed_and_a_place_in_it(client: Any) -> None:
 
 
 def test_each_citation_has_the_sources_of_its_page(page_of: Callable[..., Page], program: str,
-                                                   tmp_path: Path) -> None:
-    name, path = "A\x85B", str(tmp_path / "a.journal")
-    land = {"op": "add_land", "code": "AA", "name": name, "calendar": "julian", "rule": "julian",
-            "style": "january", "source": "The <first> source"}
+                                                   journal_of: Callable[..., str]) -> None:
+    land = {"op": "add_land", "code": "AA", "name": "A\x85B", "calendar": "julian",
+            "rule": "julian", "style": "january", "source": "The <first> source"}
     change = land | {"op": "add_change", "day": 577_736, "calendar": "gregorian",
                      "source": "An act"}
     del change["name"]
-    lines = "\n".join(map(json.dumps, (land, change, {"op": "publish"})))
-    subprocess.run([program, "serve", "--save", path], input=lines + "\n", text=True, check=True,
-                   capture_output=True)
-    client = page_of(program, path).test_client()
+    client = page_of(program, journal_of(land, change)).test_client()
     for asked in ("/?code=AA&date=October+1582", "/month?code=AA&year=1582&month=10",
                   "/year?code=AA&year=1582", "/place?code=AA",
                   "/compare?code=AA&other=AA&date=October+1582"):

@@ -99,6 +99,13 @@ def test_dates_have_the_names_of_the_language(client: Any) -> None:
         assert 'name="weekday"' in text and '<option value="Friday">' in text
 
 
+def test_changes_are_in_the_language(client: Any) -> None:
+    for language, sentence in (("de", "11 Daten fielen aus."), ("fr", "11 dates sautées."),
+                               ("sv", "11 datum föll bort.")):
+        for page in ("month?month=9&year=1752", "year?year=1752", "place?"):
+            assert f" {sentence}</strong>" in client.get(f"/{page}&code=GB&lang={language}").text
+
+
 def test_what_the_program_says_is_quoted_in_its_language(client: Any) -> None:
     text = client.get("/?code=GB&date=5+September+1752&lang=de").text
     assert '<li lang="en">Skipped: Wednesday 2 September 1752 was followed by' in text

@@ -9,6 +9,8 @@ from typing import Any
 import pytest
 from conftest import SAMPLES
 
+from oldstyle_web.texts import gap_text
+
 
 def text_of(client: Any, path: str) -> str:
     """The text of a page, each piece between two tags without blanks around it."""
@@ -44,6 +46,15 @@ def test_a_month_has_its_gregorian_days(client: Any) -> None:
     ("GB&year=1751&month=1", "The year\u2019s beginning changed: until then years from 25 March")])
 def test_why_a_month_is_as_it_is(client: Any, asked: str, sentence: str) -> None:
     assert sentence.replace("\u2019", "'") in text_of(client, f"/month?code={asked}")
+
+
+@pytest.mark.parametrize("left_out, twice, sentence", [
+    (11, 0, "11 dates left out."), (1, 0, "1 date left out."), (0, 0, ""),
+    (0, 2, "2 dates come twice."), (0, 1, "1 date comes twice."),
+    (None, None, "By the calendar before, no day has that date.")])
+def test_how_many_dates_a_change_left_out_or_repeated(left_out: int | None, twice: int | None,
+                                                      sentence: str) -> None:
+    assert gap_text(left_out, twice) == sentence
 
 
 @pytest.mark.parametrize("path", ["/day?code=GB&day=632287", "/?code=GB&date=11+February+1731"])

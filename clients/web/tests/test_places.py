@@ -2,7 +2,11 @@
 from __future__ import annotations
 
 import re
-from typing import Any
+from typing import Any, Callable
+
+from oldstyle_web.context import Page
+
+REGIME = {"calendar": "gregorian", "style": "january", "rule": "gregorian"}
 
 
 def names_in(client: Any, path: str) -> list[str]:
@@ -22,6 +26,25 @@ def test_a_name_or_a_code_is_looked_for(client: Any) -> None:
     assert names_in(client, "/place?name=none+of+these") == []
     text = client.get("/place?name=%22%3Cb%3E").text
     assert "<b>" not in text and 'value="&#34;&lt;b&gt;"' in text
+
+
+def test_a_place_has_its_changes_and_listed_easters(
+        page_of: Callable[..., Page], program: str, journal_of: Callable[..., str]) -> None:
+    client = page_of(program, journal_of(
+        {"op": "add_land", "code": "AA", "name": "A", **REGIME},
+        {"op": "add_change", "code": "AA", "day": 639_965, **REGIME, "calendar": "julian"},
+        {"op": "add_exception", "code": "AA", "year": 1724, "day": 629_412, "source": "A <table>"},
+        {"op": "add_exception", "code": "AA", "year": 1744, "day": 636_720})).test_client()
+    text = client.get("/place?code=AA").text
+    day = '<a href="/day?code=AA&amp;day='
+    assert f"<li>1724: {day}629412\">Sunday 9 April 1724</a>. Source: A &lt;table&gt;.</li>" in text
+    assert f"<li>1744: {day}636720\">Sunday 12 April 1744</a>. </li>" in text
+    assert ("<strong>Wednesday 28 February 1753 was followed by Thursday 18 February 1753. "
+            "11 dates come twice.</strong> Until then: Gregorian calendar, ") in text
+    text = client.get("/year?code=AA&year=1724").text
+    assert "Sunday 9 April 1724</a>, as it is listed" in text
+    assert "Source: A &lt;table&gt;." in text.partition('class="citation"')[2]
+    assert "listed" not in client.get("/year?code=AA&year=1725").text
 
 
 def test_one_date_in_two_places(client: Any) -> None:

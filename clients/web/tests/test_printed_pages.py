@@ -5,7 +5,7 @@ import subprocess
 import sys
 from pathlib import Path
 from types import SimpleNamespace
-from typing import Callable
+from typing import Any, Callable
 
 import pytest
 from conftest import SAMPLES
@@ -56,14 +56,7 @@ def test_a_report_of_a_date_lacks_the_date() -> None:
     assert found.notes == ["open between day and month"]
 
 
-def test_listed_easters_have_their_sources() -> None:
-    page = Page(["A (AA), edition 1", "always: x", "(source: X)", "listed Easter of 1: a",
-                 "(source: Y)", "listed Easter of 2: b"], "")
-    assert printed_pages.listed_on(page) == ["listed Easter of 1: a (source: Y)",
-                                             "listed Easter of 2: b"]
-
-
-def test_feasts_and_gaps_of_a_year(monkeypatch: pytest.MonkeyPatch) -> None:
+def test_feasts_of_a_year(monkeypatch: pytest.MonkeyPatch) -> None:
     printer = Printer(Settings(SAMPLES, "/bin/true"))
     monkeypatch.setattr(printer, "print_page", lambda _asking, _words: Page([
         "the year 1752 in A (AA), edition 1",
@@ -72,9 +65,15 @@ def test_feasts_and_gaps_of_a_year(monkeypatch: pytest.MonkeyPatch) -> None:
         "11 dates left out", "(source: Easter: 24 Geo. II)",
         "Ash Wednesday: Wednesday 12 February 1752    23 February 1752 Gregorian    12 February "
         "1752 Julian    day 639593    JDN 2361018"], ""))
-    one = asking(1)
-    assert printed_pages.feasts_of_year(printer, one, "AA", 1752) == [("Ash Wednesday", 639593)]
-    assert printed_pages.gaps_of_year(printer, one, "AA", 1752) == {639797: "11 dates left out"}
+    assert printed_pages.feasts_of_year(printer, asking(1), "AA", 1752) == [
+        ("Ash Wednesday", 639593)]
+
+
+def test_places_and_months_require_no_printed_page(page: Any, client: Any,
+                                                   monkeypatch: pytest.MonkeyPatch) -> None:
+    monkeypatch.setattr(page.printer, "page", None)
+    for path in ("/place?code=GB", "/month?code=GB&year=1752&month=9"):
+        assert client.get(path).status_code == 200
 
 
 def test_the_page_that_was_asked_for_last_stays(monkeypatch: pytest.MonkeyPatch) -> None:

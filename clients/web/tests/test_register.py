@@ -74,6 +74,14 @@ def test_members_that_a_newer_program_adds_are_ignored() -> None:
     assert asking.lands()[0].code == "GB"
     register.answer = {"periods": [PERIOD]}
     assert asking.periods("GB")[0].source == "A book"
+    register.answer = {"changes": [{"before": DAY, "found": DAY, "left_out": None, "twice": None,
+                                    "regime": PERIOD, "regime_before": PERIOD, "new": 1}]}
+    change, = asking.changes("GB")
+    assert (change.found.day, change.regime.style, change.left_out, change.source) == (
+        632287, "annunciation", None, None)
+    register.answer = {"exceptions": [{"found": DAY, "year": 1732, "source": "A table", "new": 1}]}
+    easter, = asking.exceptions("GB")
+    assert (easter.found.label, easter.year, easter.source) == ("1731-02-11", 1732, "A table")
     register.answer = {"found": DAY, "regime": {"calendar": "julian", "rule": "julian",
                                                 "style": "annunciation", "new": 1},
                        "first": 1, "last": 639550, "new": 1}

@@ -4,7 +4,7 @@ from __future__ import annotations
 import datetime
 from dataclasses import dataclass, fields
 from operator import itemgetter
-from typing import Any, Dict, Mapping, Optional, Tuple, Type, TypeVar
+from typing import Any, Callable, Dict, Mapping, Optional, Tuple, Type, TypeVar
 
 Value = TypeVar("Value")
 
@@ -121,6 +121,39 @@ class Period:
     source: Optional[str] = None
 
 
+@dataclass(frozen=True)
+class Regime:
+    """A calendar, a year beginning and an Easter rule."""
+
+    calendar: str
+    rule: str
+    style: str
+
+
+@dataclass(frozen=True)
+class Change:
+    """A change of a territory: the day before it and its first day, the regimes on both sides, how
+    many dates are left out or come twice, and the source, if the register has one. Both numbers are
+    None if the calendar before lacks the date of the first day."""
+
+    before: Day
+    found: Day
+    left_out: Optional[int]
+    regime: Regime
+    regime_before: Regime
+    twice: Optional[int]
+    source: Optional[str] = None
+
+
+@dataclass(frozen=True)
+class ListedEaster:
+    """The Easter that a territory lists for a year, and the source, if the register has one."""
+
+    found: Day
+    year: int
+    source: Optional[str] = None
+
+
 def reading_of(code: str, date: str, reply: Mapping[str, Any]) -> Reading:
     """The reading in a reply to `written`."""
     answer = reply["answer"]
@@ -147,8 +180,19 @@ def day_of(day: Dict[str, Any]) -> Day:
 
 def from_members(kind: Type[Value], members: Mapping[str, Any]) -> Value:
     """A value of those members that it has here. A newer program may have more of them."""
-    names = [field.name for field in fields(kind)]
-    return kind(**{name: members[name] for name in names if name in members})
+    values = {field.name: members[field.name] for field in fields(kind) if field.name in members}
+    for name in values.keys() & OBJECTS.keys():
+        values[name] = OBJECTS[name](values[name])
+    return kind(**values)
+
+
+def regime_of(regime: Mapping[str, Any]) -> Regime:
+    return from_members(Regime, regime)
+
+
+# The members that are objects.
+OBJECTS: Dict[str, Callable[[Any], Any]] = {
+    "before": day_of, "found": day_of, "regime": regime_of, "regime_before": regime_of}
 
 
 def construct(kind: Type[Value], members: Dict[str, Any]) -> Value:

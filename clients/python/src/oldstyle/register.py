@@ -6,7 +6,8 @@ import os
 from typing import (Any, Dict, Iterable, Iterator, List, Literal, NoReturn, Optional, Sequence,
                     Type, TypeVar, Union, overload)
 
-from .answers import Land, Period, Reading, from_members, reading_of
+from .answers import (Change, Land, ListedEaster, Period, Reading, from_members,
+                      reading_of)
 from .faults import Fault, JournalRefused, ProgramDiffers, fault_of
 from .service import Service, program_at, absolute, unreadable
 
@@ -92,6 +93,14 @@ class Register:
     def periods(self, code: str) -> List[Period]:
         """The periods of a territory, ascending."""
         return self._all_of(Period, "periods", code=code)
+
+    def changes(self, code: str) -> List[Change]:
+        """The changes of a territory, ascending."""
+        return self._all_of(Change, "changes", code=code)
+
+    def exceptions(self, code: str) -> List[ListedEaster]:
+        """The Easters that a territory lists, in ascending order of their years."""
+        return self._all_of(ListedEaster, "exceptions", code=code)
 
     def ask(self, op: str, **members: Any) -> Dict[str, Any]:
         """The answer to any query of docs/FORMATS.md, such as

@@ -49,7 +49,7 @@ def create_app(settings: Settings) -> Page:
         other_language=languages.other_language, _=languages.in_template)
     filters: list[Callable[[Any], Any]] = [
         texts.full, texts.in_words, texts.regime_text, texts.sources_text, texts.month_text,
-        dates.cited_day, languages.date_text]
+        texts.change_text, texts.difference, dates.cited_day, languages.date_text]
     for function in filters:
         app.add_template_filter(function)
     return app

@@ -4,12 +4,11 @@ from __future__ import annotations
 from dataclasses import dataclass
 from typing import Callable
 
-from oldstyle import Period, Run
+from oldstyle import Change, Period, Run
 
 from .languages import date_text, gettext as _
-from .months import Change
 from .places import Detail, PlaceFound, YearRow, run_text
-from .texts import regime_text
+from .texts import change_text, regime_text
 
 WIDTH, MARGIN = 1000, 10
 ROW, LABEL = 34, 70
@@ -102,7 +101,7 @@ def across(first: int, last: int, left: int = MARGIN, right: int = WIDTH - MARGI
 
 def line_of_time(found: PlaceFound) -> LineOfTime:
     place = across(*found.window)
-    description = " ".join(change.sentence for change in found.changes) or \
+    description = " ".join(map(change_text, found.changes)) or \
         _("One period, always: %(regime)s.", regime=regime_text(found.periods[0]))
     boxes = [period_box(number, period, place) for number, period in enumerate(found.periods, 1)]
     ticks = [Tick(year, place(day), min(max(place(day), TICK), WIDTH - TICK))
@@ -130,7 +129,7 @@ def change_marks(changes: list[Change], place: Place) -> list[Mark]:
                       if all(at - end >= ROOM for end in ends[level:])), None)
         if level is not None:
             ends[level] = at
-        marks.append(Mark(at, TOP if level is None else LEVELS[level] - 14, change.sentence,
+        marks.append(Mark(at, TOP if level is None else LEVELS[level] - 14, change_text(change),
                           date_text(change.found.dual), None if level is None else LEVELS[level]))
     return marks
 

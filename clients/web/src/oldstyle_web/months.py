@@ -1,41 +1,18 @@
 """The month as it was lived: its days by lines of the program, and the changes that it meets."""
 from __future__ import annotations
 
-from dataclasses import dataclass, replace
+from dataclasses import dataclass
 
-from oldstyle import Day, Period, Run
+from oldstyle import Change, Day, Period, Run
 
 from .languages import date_text, gettext as _
-from .printed_pages import Printer, gaps_of_year, printed_date
+from .printed_pages import Printer, printed_date
 from .register import Asking
-from .texts import full, regime_text, sources_text
+from .texts import full
 from .words import BEGINNINGS, LAST_DAY, MONTHS, WEEKDAYS
 
 MOST_DAYS = 100
 Week = list[Day | None]
-
-
-@dataclass(frozen=True)
-class Change:
-    """A change: the day before it, its day, and the regimes on both sides. The gap is how many
-    dates it left out or repeated, as the program says it."""
-
-    before: Day
-    found: Day
-    old: Period
-    new: Period
-    gap: str = ""
-
-    @property
-    def sentence(self) -> str:
-        return _("%(before)s was followed by %(day)s.", before=full(self.before),
-                 day=full(self.found))
-
-    @property
-    def difference(self) -> str:
-        text = _("Until then: %(old)s. From then on: %(new)s.", old=regime_text(self.old),
-                 new=regime_text(self.new))
-        return f"{text} {sources_text([self.new.source] if self.new.source else [])}".strip()
 
 
 @dataclass(frozen=True)
@@ -106,21 +83,6 @@ def sources_of(periods: list[Period], runs: list[Run]) -> list[str]:
             run.first.day <= period.last and period.first <= run.last.day for run in runs)))
 
 
-def changes_of(asking: Asking, code: str, periods: list[Period]) -> list[Change]:
-    """The changes of a territory, from its periods."""
-    pairs = list(zip(periods, periods[1:]))
-    days = asking.days(code, (day for old, new in pairs for day in (old.last, new.first)))
-    return [Change(before, found, old, new)
-            for (old, new), before, found in zip(pairs, days[::2], days[1::2])]
-
-
-def with_gaps(printer: Printer, asking: Asking, code: str, year: int,
-              changes: list[Change]) -> list[Change]:
-    """Changes that a year meets, with what they left out or repeated."""
-    gaps = gaps_of_year(printer, asking, code, year) if changes and 1 <= year <= 9_999 else {}
-    return [replace(change, gap=gaps.get(change.found.day, "")) for change in changes]
-
-
 def month_found(printer: Printer, asking: Asking, code: str, name: str, year: int,
                 month: int) -> MonthFound:
     """The days that a territory dated in a month of its year."""
@@ -129,11 +91,11 @@ def month_found(printer: Printer, asking: Asking, code: str, name: str, year: in
     runs = [run_found(asking, code, run) for run in written]
     periods = asking.periods(code)
     numbers = {found.day for run in runs for found in run.days}
-    met = [change for change in changes_of(asking, code, periods)
+    met = [change for change in asking.changes(code)
            if numbers & {change.before.day, change.found.day}]
     reasons = [] if runs else printed_date(printer, asking, code, name, date, "", "").notes
-    return MonthFound(year, month, runs, with_gaps(printer, asking, code, year, met), reasons,
-                      styles_of(periods, numbers), sources_of(periods, written))
+    return MonthFound(year, month, runs, met, reasons, styles_of(periods, numbers),
+                      sources_of(periods, written))
 
 
 def run_found(asking: Asking, code: str, run: Run) -> MonthRun:

@@ -148,7 +148,7 @@ def place() -> Response:
         lands = asking.lands()
         if not code:
             return lands, None
-        return lands, place_found(page().printer, asking, code, name_in(lands, code))
+        return lands, place_found(asking, code, name_in(lands, code))
     edition, (lands, found) = page().register.of_one_edition(work)
     drawn = {"line": line_of_time(found), "details": [(detail, years_of(detail))
                                                       for detail in found.details]} if found else {}

@@ -3,11 +3,9 @@ from __future__ import annotations
 
 from dataclasses import dataclass
 
-from oldstyle import Day, Period, Run
+from oldstyle import Change, Day, ListedEaster, Period, Run
 
 from .languages import date_text, gettext as _
-from .months import Change, changes_of
-from .printed_pages import Printer, listed_easters
 from .register import Asking
 from .texts import full
 from .words import BEGINNINGS, LAST_DAY, year_in
@@ -68,7 +66,7 @@ class PlaceFound:
     name: str
     periods: list[Period]
     changes: list[Change]
-    listed: list[str]
+    listed: list[ListedEaster]
     window: tuple[int, int]
     marks: list[tuple[int, int]]
     details: list[Detail]
@@ -90,12 +88,12 @@ def run_text(run: Run) -> str:
     return _("%(first)s to %(last)s", first=full(run.first), last=full(run.last))
 
 
-def place_found(printer: Printer, asking: Asking, code: str, name: str) -> PlaceFound:
+def place_found(asking: Asking, code: str, name: str) -> PlaceFound:
     """What the program returns for a territory."""
     periods = asking.periods(code)
-    changes = changes_of(asking, code, periods)
+    changes = asking.changes(code)
     window = window_of(periods)
-    return PlaceFound(code, name, periods, changes, listed_easters(printer, asking, code), window,
+    return PlaceFound(code, name, periods, changes, asking.exceptions(code), window,
                       marks_in(asking, code, *window),
                       [Detail(group, rows_about(asking, code, group)) for group in groups(changes)])
 

@@ -1,7 +1,7 @@
 """What the program prints for people, read by its lines: what no query of the service returns yet.
 
-All that reads a printed page is here: what `read` prints besides a date's days, the Easters that
-`territory` lists, and the feasts and changes of `year`.
+All that reads a printed page is here: what `read` prints besides a date's days, and the feasts of
+`year`.
 """
 from __future__ import annotations
 
@@ -30,9 +30,7 @@ SOURCE = re.compile(r"\(source: (.+)\)")
 FLAGS = {"approximate", "in doubt", "supplied by an editor"}
 OPEN_ENDS = {"from any earlier day", "to   any later day"}
 OTHER_ORDER = ", or use --order dmy or mdy"
-LISTED = "listed Easter of "
 FEAST = re.compile(r"([A-Z][\w ]+): .* day (\d+)    JDN \d+$")
-GAP = re.compile(r".* was followed by .* \(day (\d+)\): (.+)$")
 
 
 @dataclass(frozen=True)
@@ -163,30 +161,8 @@ def without_word(stderr: str, date: str, weekday: str) -> str:
     return stderr
 
 
-def listed_easters(printer: Printer, asking: Asking, code: str) -> list[str]:
-    """The lines of the Easters that a territory lists."""
-    return listed_on(printer.page(asking, "territory", code))
-
-
-def listed_on(page: Page) -> list[str]:
-    """The lines of listed Easters, each with the source that may follow it."""
-    listed: list[str] = []
-    for line in page.lines:
-        if line.startswith(LISTED):
-            listed.append(line)
-        elif listed and SOURCE.fullmatch(line):
-            listed[-1] += f" {line}"
-    return listed
-
-
 def feasts_of_year(printer: Printer, asking: Asking, code: str,
                    year: int) -> list[tuple[str, int]]:
     """The feasts of a year as the place counted it, each with the number of its day."""
     lines = printer.page(asking, "year", code, str(year)).lines
     return [(feast[1], int(feast[2])) for line in lines if (feast := FEAST.match(line))]
-
-
-def gaps_of_year(printer: Printer, asking: Asking, code: str, year: int) -> dict[int, str]:
-    """How many dates the changes of a year left out or repeated, by the number of their day."""
-    lines = printer.page(asking, "year", code, str(year)).lines
-    return {int(gap[1]): gap[2] for line in lines if (gap := GAP.match(line))}

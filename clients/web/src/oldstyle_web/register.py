@@ -8,8 +8,8 @@ import time
 from dataclasses import dataclass
 from typing import Any, Callable, Iterable, Sequence, TypeVar
 
-from oldstyle import (Day, Land, Period, Pool, ProgramBusy, ProgramEnded, ProgramFailed,
-                      ProgramSlow, Run)
+from oldstyle import (Change, Day, Land, ListedEaster, Period, Pool, ProgramBusy, ProgramEnded,
+                      ProgramFailed, ProgramSlow, Run)
 from oldstyle.answers import day_of, from_members, run_of
 
 from .problems import AGAIN, Problem, busy, no_place, unavailable
@@ -132,6 +132,15 @@ class Asking:
     def periods(self, code: str) -> list[Period]:
         answer, = self.answers([{"op": "periods", "code": code}])
         return [from_members(Period, period) for period in answer["periods"]]
+
+    def changes(self, code: str) -> list[Change]:
+        answer, = self.answers([{"op": "changes", "code": code}])
+        return [from_members(Change, change) for change in answer["changes"]]
+
+    def exceptions(self, code: str) -> list[ListedEaster]:
+        """The Easters that a territory lists."""
+        answer, = self.answers([{"op": "exceptions", "code": code}])
+        return [from_members(ListedEaster, easter) for easter in answer["exceptions"]]
 
     def days(self, code: str, numbers: Iterable[int]) -> list[Day]:
         """The days with these numbers, as the territory dated them."""

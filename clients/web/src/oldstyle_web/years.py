@@ -4,9 +4,9 @@ from __future__ import annotations
 from dataclasses import dataclass
 from typing import Any
 
-from oldstyle import Day, Run
+from oldstyle import Change, Day, Run
 
-from .months import Change, changes_of, sources_of, with_gaps
+from .months import sources_of
 from .printed_pages import Printer, feasts_of_year
 from .register import Asking
 from .words import year_in
@@ -39,18 +39,16 @@ def year_found(printer: Printer, asking: Asking, code: str, year: int) -> YearFo
     days = asking.days(code, (number for _, number in named))
     feasts = [(name, found) for (name, _), found in zip(named, days)]
     easters = [found for name, found in feasts if name == "Easter"]
-    figures, *answers = asking.answers([{"op": "figures", "year": year}, *(
-        {"op": "easter", "code": code, "year": year_in(found.gregorian)} for found in easters)])
-    periods = asking.periods(code)
-    changes = [change for change in changes_of(asking, code, periods) if meets(change, year)]
-    sources = sources_of(periods, runs) + [change.new.source for change in changes
-                                           if change.new.source]
+    listed = [easter for easter in asking.exceptions(code) if easter.found in easters]
+    figures, = asking.answers([{"op": "figures", "year": year}])
+    changes = [change for change in asking.changes(code) if meets(change, year)]
+    sources = [*sources_of(asking.periods(code), runs), *(change.source for change in changes),
+               *(easter.source for easter in listed)]
     return YearFound(
         year, runs, sorted(((month, run) for month, found in enumerate(months, 1) for run in found),
                            key=lambda one: one[1].first.day),
-        with_gaps(printer, asking, code, year, changes), feasts,
-        [found for found, answer in zip(easters, answers) if answer["listed"]], figures,
-        sources + [answer["source"] for answer in answers if "source" in answer])
+        changes, feasts, [easter.found for easter in listed], figures,
+        list(filter(None, sources)))
 
 
 def meets(change: Change, year: int) -> bool:

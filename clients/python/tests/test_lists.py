@@ -1,0 +1,62 @@
+"""The lists of a territory: its periods, its changes and the Easters that it lists."""
+from __future__ import annotations
+
+import json
+from pathlib import Path
+from typing import Any, Callable, Dict
+
+import pytest
+
+from oldstyle import Change, Day, ListedEaster, ProgramDiffers, Regime, Register
+from oldstyle.commands import Context
+
+DAY: Dict[str, Any] = {"day": 1, "dual": "d", "gregorian": "0001-01-01", "jdn": 1721426,
+                       "julian": "j", "label": "l", "weekday": "Monday"}
+REGIME: Dict[str, str] = {"calendar": "julian", "rule": "julian", "style": "january"}
+CHANGE: Dict[str, Any] = {
+    "before": DAY, "found": DAY, "left_out": None, "regime": REGIME, "regime_before": REGIME,
+    "twice": None}
+EASTER: Dict[str, Any] = {"found": DAY, "year": 1753, "source": "a table"}
+
+
+@pytest.fixture
+def answering(tmp_path: Path) -> Callable[[Dict[str, Any]], Register]:
+    """Opens a register whose program gives one answer to each line."""
+    def start(answer: Dict[str, Any]) -> Register:
+        program, line = tmp_path / "program", tmp_path / "line"
+        line.write_text(json.dumps({"answer": {"lands": [], **answer}, "edition": 1}) + "\n")
+        program.write_text(f"#!/bin/sh\nwhile read x; do cat {line}; done\n")
+        program.chmod(0o755)
+        return Register(program, program=str(program), timeout=5)
+    return start
+
+
+def test_members_of_a_newer_program_are_left_out(
+        answering: Callable[[Dict[str, Any]], Register]) -> None:
+    newer = {"newer": 1}
+    change: Dict[str, Any] = {**CHANGE, **newer, "found": {**DAY, **newer},
+                              "regime": {**REGIME, **newer}}
+    with answering({"changes": [change], "exceptions": [{**EASTER, **newer}]}) as register:
+        assert register.changes("GB") == [Change(
+            Day(**DAY), Day(**DAY), None, Regime(**REGIME), Regime(**REGIME), None)]
+        assert register.exceptions("GB") == [ListedEaster(Day(**DAY), 1753, "a table")]
+
+
+@pytest.mark.parametrize("answer", [
+    {}, {"changes": None}, {"changes": [None]}, {"changes": [{}]},
+    {"changes": [{**CHANGE, "found": 1}]}, {"changes": [{**CHANGE, "regime": "julian"}]}])
+def test_an_answer_of_another_form_is_refused(answering: Callable[[Dict[str, Any]], Register],
+                                              answer: Dict[str, Any]) -> None:
+    with answering(answer) as register, pytest.raises(ProgramDiffers):
+        register.changes("GB")
+
+
+def test_changes_join_the_periods(context: Context) -> None:
+    register = context.register
+    for land in register.lands():
+        changes, periods = register.changes(land.code), register.periods(land.code)
+        assert [(change.before.day, change.found.day) for change in changes] == [
+            (old.last, new.first) for old, new in zip(periods, periods[1:])]
+        assert [change.regime.calendar for change in changes] == [
+            period.calendar for period in periods[1:]]
+    assert register.changes("GB")[1].left_out == 11 and register.exceptions("GB") == []
