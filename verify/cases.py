@@ -5,7 +5,8 @@ The cases are those of crates/osn_cases/data and of system.cases here, or the fi
 README.md beside that folder has their form. The gate runs the first by the code of the program over
 a folder in memory, which proves nothing about its main function, its files and the streams of the
 system. A command that names a path in `private/`, `broken/` or `full/`, or `a.folder/`, is left
-out: only the memory has them. Prints each stream and each status that is not as its case says.
+out: only the memory has them. No variable of the environment names a journal, except as a case
+says. Prints each stream and each status that is not as its case says.
 """
 import glob
 import os
@@ -14,7 +15,7 @@ import subprocess
 import tempfile
 from concurrent.futures import ThreadPoolExecutor
 from dataclasses import dataclass, field
-from itertools import zip_longest
+from itertools import dropwhile, takewhile, zip_longest
 
 from lib.checks import check, verdict
 from lib.common import TOP, CommandLine, end, file_at, run_at_terminal
@@ -26,6 +27,8 @@ ESCAPE = re.compile(rb"\\(?:x([0-9a-f]{2})|([trn0e\\]))")
 WORD = re.compile(rb"""(?:"[^"]*"|'[^']*'|[^ "'])+""")
 STATUS = re.compile(rb"\[(\d+)\]")
 IN_MEMORY = (b"private/", b"broken/", b"full/", b"a.folder/")
+VARIABLE = re.compile(rb"([A-Z_]+)=(.*)")
+NAME_JOURNAL = (b"OLDSTYLE_JOURNAL", b"XDG_DATA_HOME", b"HOME")
 
 
 @dataclass
@@ -100,9 +103,18 @@ def read_cases(text):
     return parts
 
 
+def variables_of(words):
+    """The variables of a command: those of this script that name no journal, and those that it
+    sets, which are before its other words."""
+    set_there = dict(it.groups() for it in takewhile(bool, map(VARIABLE.fullmatch, words)))
+    return {**{name: value for name, value in os.environb.items() if name not in NAME_JOURNAL},
+            **set_there}
+
+
 def left(program, folder, step):
     """What a command leaves in a folder: its output, its text on standard error, its status."""
-    words, stdin = step.words, step.stdin
+    words, stdin = list(dropwhile(VARIABLE.fullmatch, step.words)), step.stdin
+    ways = {"cwd": folder, "env": variables_of(step.words)}
     if words[-2:-1] in ([b"<<"], [b"<"]):
         if words[-2] == b"<":
             with open(os.path.join(folder, words[-1]), "rb") as file:
@@ -111,11 +123,11 @@ def left(program, folder, step):
     match words:
         case [b"oldstyle" | b"./oldstyle" as name, *rest, b"2>", b"/dev/tty"]:
             done, shown = run_at_terminal([name, *rest], executable=program, input=stdin,
-                                          cwd=folder, timeout=60)
+                                          timeout=60, **ways)
             return done.stdout, shown, done.returncode
         case [b"oldstyle" | b"./oldstyle" as name, *rest]:
-            done = subprocess.run([name, *rest], executable=program, input=stdin, cwd=folder,
-                                  capture_output=True, timeout=60, check=False)
+            done = subprocess.run([name, *rest], executable=program, input=stdin, timeout=60,
+                                  capture_output=True, check=False, **ways)
             return done.stdout, done.stderr, done.returncode
         case [b"cat", b">", name]:
             os.makedirs(os.path.dirname(os.path.join(folder, name)), exist_ok=True)
