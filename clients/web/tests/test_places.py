@@ -42,7 +42,7 @@ def test_a_place_has_its_changes_and_listed_easters(
     assert ("<strong>Wednesday 28 February 1753 was followed by Thursday 18 February 1753. "
             "11 dates come twice.</strong> Until then: Gregorian calendar, ") in text
     text = client.get("/year?code=AA&year=1724").text
-    assert "Sunday 9 April 1724</a>, as it is listed" in text
+    assert "Sunday 9 April 1724</a>, as listed" in text
     assert "Source: A &lt;table&gt;." in text.partition('class="citation"')[2]
     assert "listed" not in client.get("/year?code=AA&year=1725").text
 
