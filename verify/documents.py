@@ -8,9 +8,7 @@ input. What it prints, on standard output and then on standard error, are the li
 the next run or the end of the block. After '$ cat > FILE << END', as in the cases, the lines up to
 END make a file. Prints each reply and each run that differs.
 
-Compares the manual too: its synopsis has the arguments and options of each command in help.cases,
-with the same values, and its statuses are those of docs/ERRORS.md. The completions of each shell
-have all these commands and options.
+Compares the completions too: those of each shell have the commands and options of the help.
 """
 import itertools
 import os
@@ -21,8 +19,7 @@ import tempfile
 from lib.common import TOP, CommandLine, end, file_at, run
 
 RUN, FILE = "$ ./oldstyle ", "$ cat > "
-HELP, MANUAL, ERRORS = "crates/osn_cases/data/help.cases", "docs/oldstyle.1", "docs/ERRORS.md"
-VALUE = "[A-Z]+"
+HELP = "crates/osn_cases/data/help.cases"
 SHELLS = "bash", "zsh", "fish"
 
 
@@ -80,58 +77,19 @@ def text_of(path):
         return file.read()
 
 
-def in_help():
-    """The arguments and the options of each command, with their values, in the help."""
+def names_in_help():
+    """The commands and the options in the help, without their hyphens."""
     for page in text_of(HELP).split("\n== ")[1:]:
-        usage = re.search(r"^Usage: oldstyle ([a-z]+)", page, flags=re.M)
-        arguments = re.findall(rf"^  [<\[]({VALUE})[>\]]", page, flags=re.M)
-        options = re.findall(rf"^ +(?:-[a-zA-Z], )?(--[a-z-]+)(?:\.\.\.)?(?: <({VALUE})>)?  ", page,
-                             flags=re.M)
-        if usage or page.startswith("--help"):
-            named = [" ".join(option).strip() for option in options if option[0] != "--help"]
-            yield usage[1] if usage else "", arguments, named if usage else ["--help", *named]
-        if "\n  help  " in page:
-            yield "help", ["COMMAND"], []
-
-
-def section_of(manual, title):
-    return manual.split(f"\n.SH {title}\n")[1].split("\n.SH ")[0]
-
-
-def in_manual():
-    """The same, as the synopsis of the manual has them."""
-    for usage in section_of(text_of(MANUAL), "SYNOPSIS").split(".br\n"):
-        words = re.sub(r"^\.[BIR]+ ", "", usage, flags=re.M).replace("\\-", "-")
-        words = re.sub(r"[\[\]|]", " ", words).split()[1:]
-        command = words.pop(0) if words and words[0].isalpha() else ""
-        if command or words:
-            plain, option = " ".join(words), rf"--[a-z-]+(?: {VALUE}\b)?"
-            yield command, re.sub(option, "", plain).split(), re.findall(option, plain)
-
-
-def differences_of_manual():
-    """What the manual has otherwise than the help, and the statuses that it lacks."""
-    shown, helped = ({command: (arguments, sorted(options)) for command, arguments, options in rows}
-                   for rows in (in_manual(), in_help()))
-    for command in sorted({*shown, *helped}):
-        if shown.get(command) != helped.get(command):
-            yield (f"{MANUAL}: oldstyle {command}\n  shown {shown.get(command)}\n"
-                   f"  help  {helped.get(command)}")
-    rows = re.findall(r"^\| ([0-9, ]+) \| ", text_of(ERRORS).split("\n## ")[0], flags=re.M)
-    statuses = re.findall(r"^\.BR? ([0-9, \"]+)$", section_of(text_of(MANUAL), "EXIT STATUS"),
-                          flags=re.M)
-    listed, named = (re.findall(r"\d+", " ".join(texts)) for texts in (rows, statuses))
-    if listed != named:
-        yield f"{MANUAL}: statuses\n  shown {named}\n  {ERRORS} {listed}"
+        yield from re.findall(r"^Usage: oldstyle ([a-z]+)", page, flags=re.M)
+        yield from re.findall(r"^ +(?:-[a-zA-Z], )?--([a-z-]+)", page, flags=re.M)
 
 
 def differences_of_completions(program):
     """The commands and options of the help that the completions of a shell lack."""
-    helped = {name for command, _, options in in_help()
-              for name in (command, *(option.split()[0].strip("-") for option in options))}
+    helped = set(names_in_help())
     for shell in SHELLS:
         done = run(program, ["completions", shell])
-        lacking = helped - {"", *re.findall("[a-z]+(?:-[a-z]+)*", done.stdout)}
+        lacking = helped - {*re.findall("[a-z]+(?:-[a-z]+)*", done.stdout)}
         if lacking or done.returncode or done.stderr:
             yield f"completions {shell}: {done.stderr}\n  lacking {sorted(lacking)}"
 
@@ -142,7 +100,7 @@ def main():
     line.add_program()
     options = line.read()
     requests = all_runs = differ = 0
-    for difference in [*differences_of_manual(), *differences_of_completions(options.program)]:
+    for difference in differences_of_completions(options.program):
         differ += 1
         print(difference)
     for path in options.files:
@@ -153,8 +111,8 @@ def main():
             print(f"{path}: {difference}")
         requests += len(marked(lines, "> "))
         all_runs += len(list(runs(lines)))
-    print(f"{requests} requests and {all_runs} runs of {', '.join(options.files)}, and the manual: "
-          f"{differ} differ")
+    print(f"{requests} requests and {all_runs} runs of {', '.join(options.files)}, and the "
+          f"completions: {differ} differ")
     return 1 if differ else 0
 
 
