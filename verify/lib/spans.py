@@ -247,7 +247,7 @@ def span_page(place, span, weekday=None):
     lines += sureness(span)
     lines += calendar_lines(place, span.reckoning, runs, found(place.territory, span))
     if weekday:
-        lines.append(f"{weekday} is not looked for: that is done for one day alone")
+        lines.append(f"{weekday} is not compared: the date is not one day")
     return [f"{span.words()} in {place.heading()}", *lines]
 
 

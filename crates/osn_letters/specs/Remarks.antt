@@ -25,7 +25,7 @@ remark_words remark.NotCountedDouble = codes "not counted double there"
 remark_words remark.Supplied = codes "supplied by an editor"
 remark_words remark.YearOfThreeDigits = codes "year of three digits"
 remark_words remark.ByAnotherCalendar = codes "by another calendar"
-remark_words remark.WeekdayNotLookedFor = codes "weekday not looked for"
+remark_words remark.WeekdayNotCompared = codes "weekday not compared"
 remark_words remark.MalformedWeekday = codes "malformed weekday"
 
 -- of remarks, each with whether it applies, those that do, in their order
@@ -64,11 +64,11 @@ remarks_beside w given is_by_other_calendar is_malformed =
     (w.is_supplied, remark.Supplied)
     ∷ (has_three_digits w.extent, remark.YearOfThreeDigits)
     ∷ (is_by_other_calendar, remark.ByAnotherCalendar)
-    ∷ (is_none (one_day w) && is_weekday_given w.weekday given, remark.WeekdayNotLookedFor)
+    ∷ (is_none (one_day w) && is_weekday_given w.weekday given, remark.WeekdayNotCompared)
     ∷ (is_malformed, remark.MalformedWeekday)
     ∷ []
 
 -- of a set of dates
 abbrev pub remarks_beside_set : Option Weekday → Bool → List (Bool × Remark)
 remarks_beside_set given is_malformed =
-    (is_some given, remark.WeekdayNotLookedFor) ∷ (is_malformed, remark.MalformedWeekday) ∷ []
+    (is_some given, remark.WeekdayNotCompared) ∷ (is_malformed, remark.MalformedWeekday) ∷ []

@@ -36,7 +36,7 @@ pub enum Remark {
     /// By the calendar that its date names, it means other days than by that of its place.
     ByAnotherCalendar,
     /// A weekday is given, and its date is not one day.
-    WeekdayNotLookedFor,
+    WeekdayNotCompared,
     /// Its weekday is not the name of a weekday.
     MalformedWeekday,
 }
@@ -57,7 +57,7 @@ impl Remark {
             Remark::Supplied => "supplied by an editor",
             Remark::YearOfThreeDigits => "year of three digits",
             Remark::ByAnotherCalendar => "by another calendar",
-            Remark::WeekdayNotLookedFor => "weekday not looked for",
+            Remark::WeekdayNotCompared => "weekday not compared",
             Remark::MalformedWeekday => "malformed weekday",
         }
     }
@@ -165,7 +165,7 @@ pub(crate) fn remarks_beside_set(given: Option<Weekday>, is_malformed: bool) -> 
     ensures { result ≡ spec.remarks_beside_set given is_malformed }
 {
     [
-        (given.is_some(), Remark::WeekdayNotLookedFor),
+        (given.is_some(), Remark::WeekdayNotCompared),
         (is_malformed, Remark::MalformedWeekday),
     ]
 }
@@ -188,7 +188,7 @@ pub(crate) fn remarks_beside(
             Remark::YearOfThreeDigits,
         ),
         (is_by_other_calendar, Remark::ByAnotherCalendar),
-        (is_not_looked_for, Remark::WeekdayNotLookedFor),
+        (is_not_looked_for, Remark::WeekdayNotCompared),
         (is_malformed, Remark::MalformedWeekday),
     ]
 }

@@ -17,8 +17,8 @@ pub enum OpenFault {
     /// The readers are 1 to 64.
     #[error("the number of readers is not 1 to 64")]
     BadCount,
-    /// A reader found no place.
-    #[error("a reader found no place; nothing was opened")]
+    /// There is no room for a reader.
+    #[error("there is no room for a reader; nothing was opened")]
     NoPlace,
 }
 
@@ -48,7 +48,7 @@ pub enum PublishFault {
     #[error("there are as many editions as the limit allows")]
     EditionsFull,
     /// A growth of memory was refused; the call may be tried again.
-    #[error("memory ran out; what is pending stands")]
+    #[error("memory ran out; the pending edits are kept")]
     NoMemory,
 }
 
@@ -71,7 +71,7 @@ pub enum DeskFault {
     NoMemory,
     /// Once all had ended, a reader had seen more editions than there were. No contract excludes
     /// it, and no cause for it is known.
-    #[error("reader {reader} was told of edition {last}, of {editions} editions")]
+    #[error("reader {reader} saw edition {last}, but there are {editions} editions")]
     HistoryBroken {
         /// Which reader, from 1.
         reader: u32,
@@ -83,8 +83,8 @@ pub enum DeskFault {
     /// The lists of questions are 1 to 64.
     #[error("the number of readers is not 1 to 64")]
     BadCount,
-    /// A reader found no place, or no thread.
-    #[error("a reader found no place or no thread")]
+    /// There is no room for a reader, or no thread.
+    #[error("there is no room for a reader, or no thread")]
     NoPlace,
     /// The gate was closed to an item.
     #[error("the gate was closed")]

@@ -11,7 +11,7 @@ use std::alloc::{AllocError, AllocFailed};
 pub enum WorkFault {
     /// A growth of memory was refused.
     NoMemory,
-    /// A reader found no place, or no thread.
+    /// There is no room for a reader, or no thread.
     NoPlace,
     /// The gate was closed to an item.
     GateClosed,

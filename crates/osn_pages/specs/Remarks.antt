@@ -1,5 +1,5 @@
 -- What is remarked after the days of a date: how sure it is, by which calendar it was read, and
--- that its weekday is not looked for. And how its page names it. This project's profile.
+-- that its weekday is not compared. And how its page names it. This project's profile.
 use Rattle.std.specs.Prelude.{ℕ, ◌==◌, Bool, if◌then◌else◌, List, [], ◌∷◌, ◌++◌, Option, Some, None}
 use Rattle.std.specs.Prelude.{Result, Ok, Err, codes}
 use Rattle.std.specs.Option.{option_or}
@@ -111,7 +111,7 @@ calendar_line p name t w (Some reckoning) =
 unfoldable pub not_sought_line : Option Weekday → List ℕ
 not_sought_line None = []
 not_sought_line (Some weekday) =
-    weekday_name weekday ++ codes " is not looked for: that is done for one day alone\n"
+    weekday_name weekday ++ codes " is not compared: the date is not one day\n"
 
 abbrev pub weekday_line : Option Weekday → Option WrittenDate → List ℕ
 weekday_line weekday (Some day) = []

@@ -28,7 +28,7 @@ found_set_lines p t sources (Err absent) = no_day_lines p t sources absent.exten
 abbrev pub set_sureness : Bool → Bool → List ℕ
 set_sureness approximate uncertain = sureness approximate uncertain false
 
--- both, and that a weekday is not looked for
+-- both, and that a weekday is not compared
 unfoldable pub set_lines : Profile → TerritoryModel → Option SourcesModel → List AnyDate
     → Option Weekday → List ℕ
 set_lines p t sources ws given =

@@ -163,7 +163,7 @@ fn push_calendar(
     push_own_dates(out, name, territory, &found)
 }
 
-/// Appends that the weekday of a date is not looked for, if it has one.
+/// Appends that the weekday of a date is not compared, if it has one.
 #[tactic(auto, unfolding(crate::specs::Remarks::not_sought_line))]
 pub(crate) fn push_not_sought(out: &mut String, weekday: Option<Weekday>) -> Result<(), AllocError>
     ensures { OnOk result (string_bytes out.new
@@ -173,13 +173,13 @@ pub(crate) fn push_not_sought(out: &mut String, weekday: Option<Weekday>) -> Res
         None => Ok(()),
         Some(weekday) => writeln!(
             out,
-            "{} is not looked for: that is done for one day alone",
+            "{} is not compared: the date is not one day",
             weekday.name()
         ),
     }
 }
 
-/// Appends that the weekday is not looked for, if the date is not one day.
+/// Appends that the weekday is not compared, if the date is not one day.
 fn push_weekday(
     out: &mut String,
     weekday: Option<Weekday>,

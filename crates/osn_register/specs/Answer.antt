@@ -277,7 +277,7 @@ abbrev pub set_reason_in : Result (List Run) AbsentMember → Option Reason
 set_reason_in (Ok runs) = None
 set_reason_in (Err absent) = Some (reasons.NoDay absent.reason)
 
--- what a set of dates means in a territory. It is not one day, so no weekday is looked for
+-- what a set of dates means in a territory. It is not one day, so no weekday is compared
 abbrev pub set_answer : Profile → TerritoryModel → List AnyDate → WrittenAnswer
 set_answer p t ws = record {
   kind = Some kinds.Set;

@@ -150,7 +150,7 @@ fn set_runs_and_reason(
     }
 }
 
-/// Returns what a set of dates means in a territory. No weekday is looked for.
+/// Returns what a set of dates means in a territory. No weekday is compared.
 fn set_answer(
     alloc: Global,
     territory: &Territory,

@@ -14,10 +14,10 @@ const DESKS: [(DeskFault, &str); 5] = [
             last: 4,
             editions: 3,
         },
-        "reader 2 was told of edition 4, of 3 editions",
+        "reader 2 saw edition 4, but there are 3 editions",
     ),
     (DeskFault::BadCount, "the number of readers is not 1 to 64"),
-    (DeskFault::NoPlace, "a reader found no place or no thread"),
+    (DeskFault::NoPlace, "there is no room for a reader, or no thread"),
     (DeskFault::GateClosed, "the gate was closed"),
 ];
 
@@ -26,7 +26,7 @@ const OPENINGS: [(OpenFault, &str); 3] = [
     (OpenFault::BadCount, "the number of readers is not 1 to 64"),
     (
         OpenFault::NoPlace,
-        "a reader found no place; nothing was opened",
+        "there is no room for a reader; nothing was opened",
     ),
 ];
 
@@ -38,7 +38,7 @@ const PUBLISHES: [(PublishFault, &str); 3] = [
     ),
     (
         PublishFault::NoMemory,
-        "memory ran out; what is pending stands",
+        "memory ran out; the pending edits are kept",
     ),
 ];
 

@@ -95,7 +95,7 @@ fn double_meant(
     Ok(days)
 }
 
-/// Returns the days that a date means, before any weekday is looked for.
+/// Returns the days that a date means, before any weekday is compared.
 #[tactic(auto, unfolding(crate::specs::Meaning::days_meant))]
 fn plain_days_meant(
     alloc: Global,
