@@ -183,6 +183,8 @@ try_install() {
     check "in fish" cmp "$at/under/share/fish/vendor_completions.d/oldstyle.fish" <(completed fish)
     check "and the samples" diff -r "$clone/examples" "$at/under/share/oldstyle/examples"
     check "which find the program" test -x "$at/under/share/oldstyle/examples/../oldstyle"
+    check "and the documents" diff -r -x oldstyle.1 -x CHANGELOG.md "$clone/docs" \
+        "$at/under/share/doc/oldstyle"
     check "and the units of systemd" diff -r "$clone/deploy" "$at/under/share/oldstyle/deploy"
     check "and the package of R with the samples" cmp "$clone/examples/samples.journal" \
         "$at/under/share/oldstyle/r/inst/extdata/samples.journal"

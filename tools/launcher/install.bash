@@ -1,7 +1,7 @@
 # shellcheck shell=bash disable=SC2154  # part of `oldstyle`
-# Puts the program, its manual, the completions of shells, the clients in Python and R, the samples
-# and the units of systemd under a folder, in which they need neither the kit nor this repository,
-# and removes them again.
+# Puts the program, its manual, the documents, the completions of shells, the clients in Python and
+# R, the samples and the units of systemd under a folder, in which they need neither the kit nor this
+# repository, and removes them again.
 to=""
 # Below the folder: names each file that was put there, this one too.
 list=share/oldstyle/files.txt
@@ -28,7 +28,8 @@ install_program() {
             "name a folder that you may write to, as ./oldstyle install FOLDER"
     say "installed under $to: bin/oldstyle, bin/oldstyle-web, bin/oldstyle-tei," \
         "bin/oldstyle-gedcom, share/man/man1/oldstyle.1, share/oldstyle/examples," \
-        "share/oldstyle/deploy, share/oldstyle/r and completions of bash, zsh and fish"
+        "share/oldstyle/deploy, share/oldstyle/r, share/doc/oldstyle and completions of bash, zsh" \
+        "and fish"
     [[ :$PATH: == *":$to/bin:"* ]] ||
         say "$to/bin is not on the PATH: add it, or start $to/bin/oldstyle"
 }
@@ -69,6 +70,9 @@ put_all() {
         put_completions zsh share/zsh/site-functions/_oldstyle &&
         put_completions fish share/fish/vendor_completions.d/oldstyle.fish &&
         put_clients || return
+    for file in CHANGELOG.md docs/*.md; do
+        put 644 "$file" "share/doc/oldstyle/${file#docs/}" || return
+    done
     while read -r -d '' file; do
         mode=644
         [ ! -x "$file" ] || mode=755
