@@ -6,9 +6,10 @@ one that brings another calendar or beginning of the year the note says which da
 which: both dates and both weekdays are those of the days by `calendars.py`. A listed Easter is a
 Sunday a week from the rule's.
 
-Then the program publishes the text into a new journal, and must print the same periods and listed
-Easters, with their sources. `--text-alone` leaves that out, and needs no program.
+Then the program publishes the text into a new journal, which is examples/europe.journal, and must
+print the same periods and listed Easters, with their sources. `--text-alone` leaves that out, and needs no program.
 """
+import filecmp
 import json
 import os
 import tempfile
@@ -20,7 +21,7 @@ from lib.common import TOP, CommandLine, compact, end, run
 from reference import cited
 from lib.territory_texts import WORDS, lands_of
 
-EUROPE = os.path.join(TOP, "examples", "europe.toml")
+EUROPE, JOURNAL = (os.path.join(TOP, "examples", f"europe.{kind}") for kind in ("toml", "journal"))
 
 
 def words_of(found):
@@ -53,6 +54,7 @@ def check_program(program, lands):
         journal = os.path.join(folder, "europe.journal")
         done = run(program, ["publish", journal, EUROPE])
         check(f"publish: {done.returncode} {done.stderr!r}", done.returncode == 0)
+        check(f"{JOURNAL} is not what publish makes", filecmp.cmp(journal, JOURNAL, shallow=False))
         asked = [{"op": "periods", "reader": 1, "code": code} for code in lands]
         asked += [{"op": "easter", "reader": 1, "code": code, "year": year}
                   for code, land in lands.items() for year in land.exceptions]
