@@ -112,10 +112,10 @@ converse() {
     started=$!
     exec {requests}> "$at/requests" {replies}< "$at/replies"
     echo first >&"$requests"
-    read -r -t 60 reply <&"$replies" && [ "$reply" = "word: serve" ] || return
-    read -r -t 60 reply <&"$replies" && [ "$reply" = first ] || return
+    read -r -t 600 reply <&"$replies" && [ "$reply" = "word: serve" ] || return
+    read -r -t 600 reply <&"$replies" && [ "$reply" = first ] || return
     echo second >&"$requests"
-    read -r -t 60 reply <&"$replies" && [ "$reply" = second ] || return
+    read -r -t 600 reply <&"$replies" && [ "$reply" = second ] || return
     exec {requests}>&-
     end_started
     ends_with 0
@@ -157,6 +157,31 @@ run_closed() {
         > "$at/out" 2> "$at/err" <&- || status=$?
 }
 
+# The program gets no variable and no folder of the user while it is tried.
+try_default() {
+    forget
+    words=(read RM 1500-01-01)
+    run OLDSTYLE_JOURNAL=one
+    check "so does what leaves out a journal that the environment names" \
+        says_once "the words name no journal"
+    forget
+    mkdir -p "$at/here/oldstyle"
+    touch "$at/here/oldstyle/register.journal"
+    run XDG_DATA_HOME=.
+    check "or that is the user's own" says_once "the words name no journal"
+    forget
+    run XDG_DATA_HOME=elsewhere
+    check "but not if there is none" says_once "gives the same answer"
+    forget
+    words=(read one 1500-01-01)
+    run OLDSTYLE_JOURNAL=one
+    check "nor if the first word names a file" says_once "gives the same answer"
+    forget
+    words=(read RM 1500-01-01 --journal one)
+    run OLDSTYLE_JOURNAL=two
+    check "nor if the option names one" says_once "gives the same answer"
+}
+
 try_no_answers() {
     new_clone no_answers
     words=(serve --save kept)
@@ -172,6 +197,7 @@ try_no_answers() {
     words=(read pipe)
     run
     check "so does what names a pipe" says_once "is not a regular file"
+    try_default
     forget
     words=(read one)
     run FAKE_FAULT="the program wrote too much" FAKE_PAUSE=0.1

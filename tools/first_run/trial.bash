@@ -9,6 +9,7 @@ chmod 755 "$work"
 trap end_trial EXIT
 trap 'exit 130' INT TERM
 unset FAKE_KIT FAKE_BROKEN FAKE_DIES FAKE_SIZE FAKE_PAUSE FAKE_TRY FAKE_FAULT FAKE_OTHER NO_COLOR
+unset OLDSTYLE_JOURNAL XDG_DATA_HOME
 # shellcheck source=tools/launcher/stamp.bash
 crates=$(cd "$top" && . tools/launcher/stamp.bash && needed_lines | wc -l)
 passed=0

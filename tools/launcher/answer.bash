@@ -24,6 +24,8 @@ why_no_answer() {
         echo "the input is a terminal; give it as < FILE, or by a pipe"
     elif [ -n "$closed" ]; then
         echo "standard input or output is closed"
+    elif reads_default "$@"; then
+        echo "the words name no journal, and only the proved program reads the default one"
     elif takes_input "$@" && [ -f /dev/fd/0 ] && [ "$(stat -L -c %s /dev/fd/0)" -gt $most ]; then
         echo "the input has more than 1 MiB"
     else
@@ -57,6 +59,15 @@ asks_help() {
 }
 
 takes_input() { [[ ${1:-} =~ ^(|serve|letters)$ ]] && ! asks_help "$@"; }
+
+# Returns whether the words leave out the journal, which the environment or the user's folder names:
+# the program gets neither while it is tried.
+reads_default() {
+    local own=${XDG_DATA_HOME:-${HOME:-}/.local/share}/oldstyle/register.journal
+    [[ ${1:-} =~ ^(read|day|month|year|territory|almanac|letters|text)$ ]] || return 1
+    [[ " ${*:2} " != *" --journal "* ]] && ! asks_help "$@" || return 1
+    (cd "$from" && [ ! -e "${2:-}" ] && { [ -n "${OLDSTYLE_JOURNAL:-}" ] || [ -e "$own" ]; })
+}
 
 # Prints each file that is there and that a word after the command names, ended by a zero byte.
 named_files() {
