@@ -4,7 +4,7 @@ The marks of a date are at the ends of the text. Each other text is Unread.
 """
 import re
 
-from lib.spans import NAMES, Simple, Span
+from lib.spans import NAMES, PART_WORDS, Simple, Span, in_part, part_of
 
 MONTHS = {name.lower(): month for names in NAMES for month, name in enumerate(names, 1)}
 
@@ -32,7 +32,7 @@ NONE = {r" *|n\.d\.|s\.d\.|undated|no date": "no date",
 
 # Years of which the last digits are open, and centuries by their number.
 DECADE, HUNDRED = r"(\d\d\d)[x_]|(\d\d[1-9])0s", r"(\d\d)[x_]{2}"
-CENTURY = r"([4-9]|1\d|20)th century"
+CENTURY = r"([4-9]|1\d|20)th (?:century|c\.?)"
 # The same by signs alone: [158-?], 15--.
 BY_SIGNS = r"(\[?)(?:([1-9]\d\d)(?:\?|-(\??))|([1-9]\d)--(\??))(\]?)"
 
@@ -107,6 +107,37 @@ def years_of(text):
     return None
 
 
+# A part of a month, a year, a decade or a century, and the first months of seasons and quarters.
+PARTS = [(f"{word} (.*)", portion) for portion, words in PART_WORDS.items() for word in words]
+SEASONS = {"spring": 3, "21": 3, "summer": 6, "22": 6, "autumn": 9, "23": 9,
+           "33": 1, "34": 4, "35": 7, "36": 10}
+
+
+def part_in(text):
+    """The part of a time that a text is, None if it has no such form."""
+    for form, portion in PARTS:
+        if found := re.fullmatch(form, text, re.I):
+            if years := years_of(found[1]):
+                first, last = part_of(years.first.year, years.last.year, portion)
+                return Span("range", Simple(first), Simple(last))
+            date = date_of(found[1])
+            if date.day is not None:
+                raise Unread(text)
+            return in_part(date, portion)
+    return None
+
+
+def season_in(text):
+    """The months of a season or a quarter, None if the text is neither."""
+    if found := re.fullmatch(r"(spring|summer|autumn) (\d{4})", text, re.I):
+        year, month = int(found[2]), SEASONS[found[1].lower()]
+    elif (found := re.fullmatch(r"(\d{4})-(2[123]|3[3-6])", text)) and found[1][2:] >= found[2]:
+        year, month = int(found[1]), SEASONS[found[2]]
+    else:
+        return None
+    return Span("range", Simple(year, False, month), Simple(year, False, month + 2))
+
+
 def years_by_signs(text):
     """The same of digits and signs alone, which may be in brackets and in doubt."""
     found = re.fullmatch(BY_SIGNS, text)
@@ -170,5 +201,8 @@ def span_of(text):
     named = re.fullmatch(RECKONING, rest, re.I)
     reckoning = ("old" if named[2].lower().startswith("o") else "new") if named else None
     rest, approximate = without(APPROXIMATE, named[1] if named else rest)
+    if part := part_in(rest) or season_in(rest):
+        return part._replace(reckoning=reckoning, approximate=True, uncertain=uncertain,
+                             supplied=supplied)
     return extent_of(rest)._replace(reckoning=reckoning, approximate=approximate,
                                     uncertain=uncertain, supplied=supplied)

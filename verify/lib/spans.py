@@ -78,6 +78,7 @@ class Span(NamedTuple):
     uncertain: bool = False
     supplied: bool = False
     members: tuple = ()
+    portion: Optional[str] = None
 
     def sign(self):
         return "%" if self.approximate and self.uncertain else (
@@ -95,6 +96,8 @@ class Span(NamedTuple):
         text = self.first.words()
         if self.kind == "range":
             text += f" to {self.last.words()}"
+        elif self.kind == "part":
+            text = f"the {self.portion} of {text}"
         elif self.kind != "on":
             text = f"{self.kind} {text}"
         text = ("about " if self.approximate else "") + text
@@ -145,6 +148,20 @@ def found_of_set(parts):
     return runs
 
 
+# Which one of how many equal parts.
+PORTIONS = {"first third": (1, 3), "middle third": (2, 3), "last third": (3, 3),
+            "first half": (1, 2), "second half": (2, 2)}
+
+
+def part_of(first, last, portion):
+    """The days or years of a part: each of which some of it is in that part."""
+    number, count = PORTIONS[portion]
+    length = last - first + 1
+    meant = [place for place in range(length)
+             if (number - 1) * length < count * (place + 1) and count * place < number * length]
+    return [first + meant[0], first + meant[-1]]
+
+
 def without_day(territory, span):
     """The span, or for a set its first member that has no day."""
     return next((member for member in span.members if isinstance(found(territory, member), str)),
@@ -160,6 +177,8 @@ def found(territory, span):
         return "first"
     if span.kind == "on":
         return runs_of(first)
+    if span.kind == "part":
+        return [part_of(first[0], first[-1], span.portion)]
     if span.kind == "range":
         last = span.last.days(territory)
         if not last:
@@ -259,7 +278,8 @@ def kind_of(span):
         return "set"
     if span.kind == "on":
         return "day" if span.first.day else "month" if span.first.month else "year"
-    return {"range": "range", "before": "before", "not after": "before"}.get(span.kind, "after")
+    kinds = {"range": "range", "part": "part", "before": "before", "not after": "before"}
+    return kinds.get(span.kind, "after")
 
 
 def reason_of(territory, span, why):
@@ -346,18 +366,29 @@ def range_text(chance, first, last):
                           f"{begin}\u2013{end}", f"between {begin} and {end}"])
 
 
+PART_WORDS = {
+    "first third": ["early", "the beginning of", "Anfang", "début", "the first third of"],
+    "middle third": ["mid", "Mitte", "mediados de", "the middle third of"],
+    "last third": ["late", "end of", "Ende", "fin", "the last third of"],
+    "first half": ["first half of", "the first half of", "1. Hälfte", "primera mitad de"],
+    "second half": ["second half of", "2. Hälfte", "tweede helft", "seconde moitié de"]}
+
+
 def text_of(chance, span):
     """A span in one of its forms, with its marks."""
     if span.kind == "set":
         return span.words()
-    if span.kind == "range":
+    if span.portion:
+        whole = span.first._replace(day=None)
+        text = f"{chance.choice(PART_WORDS[span.portion])} {simple_text(chance, whole)}"
+    elif span.kind == "range":
         text = range_text(chance, span.first, span.last)
     elif span.kind == "on":
         text = simple_text(chance, span.first)
     else:
         words = {"not after": ["not after", "by"]}.get(span.kind, [span.kind])
         text = f"{chance.choice(words)} {simple_text(chance, span.first)}"
-    if span.approximate:
+    if span.approximate and (not span.portion or chance.random() < 0.3):
         text = f"{chance.choice(['about', 'c.', 'ca.', 'circa'])} {text}"
     if span.reckoning:
         names = {"old": [" O.S.", " (OS)", ", old style"], "new": [" N.S.", " (NS)", " new style"]}
@@ -388,12 +419,34 @@ def set_near(chance, labels):
     return Span("set", members[0].first, None, None, *rarely, False, tuple(members))
 
 
+def in_part(date, portion):
+    """The span of a part of a month or a year."""
+    if date.month is None:
+        return Span("part", date, approximate=True, portion=portion)
+    end = date if date.month == 2 else date._replace(
+        day=30 if date.month in (4, 6, 9, 11) else 31)
+    first, last = {"first third": (1, 10), "middle third": (11, 20), "last third": (21, None),
+                   "first half": (1, 15), "second half": (16, None)}[portion]
+    return Span("range", date._replace(day=first), date._replace(day=last) if last else end,
+                approximate=True, portion=portion)
+
+
+def part_near(chance, date):
+    """A part of a month or a year."""
+    span = in_part(date, chance.choice(list(PORTIONS)))
+    reckoning = chance.choice([None] * 6 + ["old", "new"])
+    return span._replace(reckoning=reckoning, uncertain=chance.random() < 0.15,
+                         supplied=chance.random() < 0.15)
+
+
 def span_near(chance, label, other):
     """A month, a year, a range, a bound or a set about a label; a range goes to the other one."""
-    kinds = ["on", "on", "range", "before", "not after", "after", "not before", "set"]
+    kinds = ["on", "on", "part", "range", "before", "not after", "after", "not before", "set"]
     kind = chance.choice(kinds)
     if kind == "set":
         return set_near(chance, [label, other])
+    if kind == "part":
+        return part_near(chance, simple_near(chance, label, False))
     first = simple_near(chance, label, kind != "on")
     last = simple_near(chance, other) if kind == "range" else None
     rarely = [chance.random() < 0.15 for _ in range(3)]

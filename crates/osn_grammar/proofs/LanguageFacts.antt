@@ -4,7 +4,8 @@ use Rattle.osn_days.specs.Weekday.{weekday_numbered}
 use Rattle.osn_grammar.specs.Languages.{AreMonthsKnown, AreWeekdaysKnown, AreOtherWeekdaysKnown}
 use Rattle.osn_grammar.specs.Languages.{AreOrdinalsKnown, AreOtherWordsKnown, AreWordsKnown}
 use Rattle.osn_grammar.specs.Languages.{AreOtherLanguagesKnown, AreOtherMonthsKnown}
-use Rattle.osn_grammar.specs.Languages.{AreCenturiesKnown}
+use Rattle.osn_grammar.specs.Languages.{AreCenturiesKnown, AreDecadesKnown}
+use Rattle.osn_grammar.specs.Languages.{ArePeriodsKnown}
 use Rattle.osn_grammar.specs.Names.{names, other_names}
 
 months_known : AreMonthsKnown
@@ -148,6 +149,33 @@ centuries_known = record {
   ordinals = refl;
 }
 
+decades_known : AreDecadesKnown
+unfolding names other_names lib.Utf8.encode
+decades_known = record {
+  century = refl;
+  letter = refl;
+  tal = refl;
+  decade = refl;
+  fillers = refl;
+}
+
+periods_known : ArePeriodsKnown
+unfolding names other_names lib.Utf8.encode
+periods_known = record {
+  first_third = refl;
+  middle_third = refl;
+  last_third = refl;
+  first = refl;
+  second = refl;
+  last = refl;
+  half = refl;
+  third = refl;
+  spring = refl;
+  summer = refl;
+  autumn = refl;
+  winter = refl;
+}
+
 pub words_known : AreWordsKnown
 unfolding AreWordsKnown
 words_known = (
@@ -159,4 +187,6 @@ words_known = (
   others_known,
   other_languages_known,
   centuries_known,
+  decades_known,
+  periods_known,
 )

@@ -1,5 +1,5 @@
 -- Several days in digits are refused by every other form than that of a set.
-use Rattle.std.proofs.Common.{◌≡◌, ℕ, Bool, true, false, if◌then◌else◌}
+use Rattle.std.proofs.Common.{◌≡◌, ℕ, Bool, true, false, ◌||◌, if◌then◌else◌}
 use Rattle.std.proofs.Common.{List, [], ◌∷◌}
 use Rattle.std.proofs.Common.{◌++◌, length, filter, unsigned_abs, Option, Some, None}
 use Rattle.std.proofs.Common.{Result, Ok, Err, is_err, refl, arith}
@@ -30,6 +30,7 @@ use Rattle.osn_grammar.specs.Reading.{after_estimated, date_of, is_undated, or_o
 use Rattle.osn_grammar.specs.Reading.{reading_of_parts, unless_open, is_about, is_feast}
 use Rattle.osn_grammar.specs.Reading.{is_doubt, is_bracket, weekday_after, reckoning_after}
 use Rattle.osn_grammar.specs.Reading.{told_by_both, told_in}
+use Rattle.osn_grammar.specs.Period.{period_in}
 use Rattle.osn_grammar.specs.Roman.{roman_date}
 use Rattle.osn_grammar.specs.SetsInDigits.{Days}
 use Rattle.osn_grammar.specs.Forms.{simple_date}
@@ -167,6 +168,7 @@ pub record HaveNoOtherForm (ts : List Part) : Type 0 where
   pub estimated : (o : DateOrder) (parts : List Part)
       → after_estimated o parts ts ≡ Err faults.Malformed
   pub years : years_in ts ≡ None
+  pub period : period_in ts ≡ None
   pub roman : roman_date ts ≡ Err faults.Malformed
   pub both : (parts : List Part) → day_by_both newest_rules parts ts ≡ Err faults.Malformed
 
@@ -175,9 +177,9 @@ time_refused : (o : DateOrder) (parts ts : List Part) (r : Option Reckoning)
     → is_err (or_other o parts ts r read) ≡ true
 time_refused o parts ts r (Ok e) other wrong = absurd (cc)
 time_refused o parts ts None (Err fault) other wrong =
-    rw (other.estimated o parts, other.years, other.roman, other.both parts) refl
+    rw (other.estimated o parts, other.years, other.period, other.roman, other.both parts) refl
 time_refused o parts ts (Some r) (Err fault) other wrong =
-    rw (other.estimated o parts, other.years, other.roman, other.both parts) refl
+    rw (other.estimated o parts, other.years, other.period, other.roman, other.both parts) refl
 
 named_refused : (named : Bool) (fault : DateFault) (day : Result SimpleDate DateFault)
     → day ≡ Err faults.Malformed
@@ -203,7 +205,7 @@ unless_refused false o parts ts other wrong =
       extent = time.extent;
       weekday = w;
       reckoning = time.reckoning;
-      is_approximate = list_any is_about parts;
+      is_approximate = time.is_part || list_any is_about parts;
       is_uncertain = list_any is_doubt parts;
       is_supplied = list_any is_bracket parts;
     })) (told_refused o parts ts (reckoning_after None parts) other wrong))
@@ -213,18 +215,21 @@ pub other_refused : (first next : Days) (rest : List Days)
 other_refused (d, None) (e, None) rest = record {
   estimated = λ o parts. refl;
   years = refl;
+  period = refl;
   roman = refl;
   both = λ parts. refl;
 }
 other_refused (d, None) (e, Some f) rest = record {
   estimated = λ o parts. refl;
   years = refl;
+  period = refl;
   roman = refl;
   both = λ parts. refl;
 }
 other_refused (d, Some e) next rest = record {
   estimated = λ o parts. refl;
   years = refl;
+  period = refl;
   roman = refl;
   both = λ parts. refl;
 }

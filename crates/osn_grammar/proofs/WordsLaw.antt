@@ -149,6 +149,7 @@ extent_read (extent.NotBefore d) ok =
       reads = begins_reads not_before_begins read.reads;
       is = not_before_is read.is;
     }
+extent_read (extent.Part portion d) ok = absurd (cc)
 
 -- ---- after the extent
 
@@ -251,6 +252,7 @@ extent_whole (extent.Before d) ok = date_whole d ok
 extent_whole (extent.NotAfter d) ok = date_whole d ok
 extent_whole (extent.After d) ok = date_whole d ok
 extent_whole (extent.NotBefore d) ok = date_whole d ok
+extent_whole (extent.Part portion d) ok = absurd (cc)
 
 pub words_law : AreWordsRead
 unfolding AreWordsRead words_of

@@ -5,9 +5,12 @@ use Rattle.std.specs.List.{range_with_len}
 use Rattle.osn_days.specs.declared.weekday.Weekday.TheVariants.{Sunday, Monday, Tuesday, Wednesday}
 use Rattle.osn_days.specs.declared.weekday.Weekday.TheVariants.{Thursday, Friday, Saturday}
 use Rattle.osn_days.specs.Weekday.{weekday_numbered}
+use Rattle.osn_grammar.specs.declared.part.Fraction.TheVariants as fraction
+use Rattle.osn_grammar.specs.declared.part.Nth.TheVariants as nth
 use Rattle.osn_grammar.specs.declared.part.Part.{Part}
 use Rattle.osn_grammar.specs.declared.part.Part.TheVariants as part
 use Rattle.osn_written.specs.declared.any_date.Reckoning.TheVariants.{OldStyle, NewStyle}
+use Rattle.osn_written.specs.declared.portion.Portion.TheVariants as portion
 use Rattle.osn_grammar.specs.Scan.{parts_after}
 
 -- the characters have these parts
@@ -267,8 +270,69 @@ pub record AreCenturiesKnown : Type 0 where
       (codes "ixe xie xiie xiiie xive xve xvie xviie xviiie xixe xxe xxie")
       (map part.Roman (9 ∷ 11 ∷ 12 ∷ 13 ∷ 14 ∷ 15 ∷ 16 ∷ 17 ∷ 18 ∷ 19 ∷ 20 ∷ 21 ∷ []))
 
+-- more words for a century, and those for a decade
+pub record AreDecadesKnown : Type 0 where
+  pub century : Reads
+      (codes "centuries jahrhunderte jhd saeculi sæculo séc eeuwen århundredet årh "
+      ++ codes "aarhundrede aarh sekel seklet")
+      (times 13 part.Century)
+  pub letter : Reads (codes "s") (times 1 part.CenturyLetter)
+  pub tal : Reads (codes "talet tallet") (times 2 part.Tal)
+  pub decade : Reads (codes "années annees década decada jaren") (times 5 part.Decade)
+  pub fillers : Reads (codes "des jahr jahre jahren") (times 4 part.Filler)
+
+-- ---- parts of a time
+
+-- thirds and halves, and the seasons by their first months
+pub record ArePeriodsKnown : Type 0 where
+  pub first_third : Reads
+      (codes "early beginning begin anfang début debut inizio principios "
+      ++ codes "comienzos início inicio initio början begyndelsen")
+      (times 14 (part.Portion portion.FirstThird))
+  pub middle_third : Reads
+      (codes "mid middle mitte milieu metà mediados meados midden medio mitten "
+      ++ codes "midten")
+      (times 11 (part.Portion portion.MiddleThird))
+  pub last_third : Reads
+      (codes "late end ende fin fine fines finales fim fins einde eind slutet "
+      ++ codes "slutningen")
+      (times 13 (part.Portion portion.LastThird))
+  pub first : Reads
+      (codes "first erste ersten première premiere primera primeira eerste "
+      ++ codes "första første")
+      (times 10 (part.Nth nth.First))
+  pub second : Reads
+      (codes "second zweite zweiten seconde deuxième deuxieme tweede andra "
+      ++ codes "anden")
+      (times 9 (part.Nth nth.Second))
+  pub last : Reads
+      (codes "last")
+      (times 1 (part.Nth nth.Last))
+  pub half : Reads
+      (codes "half hälfte moitié moitie helft mitad metade hälften halvdel")
+      (times 9 (part.Fraction fraction.Half))
+  pub third : Reads
+      (codes "third")
+      (times 1 (part.Fraction fraction.Third))
+  pub spring : Reads
+      (codes "spring printemps frühling frühjahr primavera lente voorjaar vår "
+      ++ codes "våren forår foråret")
+      (times 11 (part.Season 3))
+  pub summer : Reads
+      (codes "summer été sommer verano estate verão zomer sommar sommaren "
+      ++ codes "sommeren")
+      (times 10 (part.Season 6))
+  pub autumn : Reads
+      (codes "autumn automne herbst otoño autunno outono herfst höst hösten "
+      ++ codes "efterår efteråret")
+      (times 11 (part.Season 9))
+  pub winter : Reads
+      (codes "winter hiver invierno inverno vinter vintern vinteren")
+      (times 7 (part.Season 12))
+
 -- as a law: all these words are known
 unfoldable pub AreWordsKnown : Type 0
 AreWordsKnown =
     AreMonthsKnown × AreOtherMonthsKnown × AreWeekdaysKnown × AreOtherWeekdaysKnown
     × AreOrdinalsKnown × AreOtherWordsKnown × AreOtherLanguagesKnown × AreCenturiesKnown
+    × AreDecadesKnown × ArePeriodsKnown

@@ -7,6 +7,7 @@ pub mod Forms
 pub mod Extent
 pub mod Sets
 pub mod Years
+pub mod Period
 pub mod BothCalendars
 pub mod Roman
 pub mod Reading

@@ -81,7 +81,7 @@ years_of_gaps a b c d =
     else (if is_gap c then Some (hundred a b)
     else None))
 
--- the decade of 1580s. 1500s may be a century, too
+-- the decade of 1580s, and of 1580er. 1500s may be a century, too
 abbrev pub years_of_plural : ℕ → ℕ → ℕ → ℕ → ℕ → Option Years
 years_of_plural a b c d e =
     if are_two_digits a b && (all_ascii_digits (c ∷ []) && (not (c == 48) && is_zero_s d e)) then
@@ -92,6 +92,8 @@ years_of_plural a b c d e =
 abbrev pub years_of_word : List ℕ → Option Years
 years_of_word (a ∷ b ∷ c ∷ d ∷ []) = years_of_gaps a b c d
 years_of_word (a ∷ b ∷ c ∷ d ∷ e ∷ []) = years_of_plural a b c d e
+years_of_word (a ∷ b ∷ c ∷ d ∷ e ∷ r ∷ []) =
+    if e == 101 && r == 114 then years_of_plural a b c d 115 else None
 years_of_word _ = None
 
 -- a year with other open digits: 1x3x, 1xxx, and 1500s

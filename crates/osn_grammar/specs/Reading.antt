@@ -29,6 +29,7 @@ use Rattle.osn_grammar.specs.Scan.{parts_in}
 use Rattle.osn_grammar.specs.Sets.{inside_brackets, between_commas, is_sign, days_in_digits}
 use Rattle.osn_grammar.specs.Simple.{◌>>=◌, lacks_digit}
 use Rattle.osn_grammar.specs.BothCalendars.{day_by_both, named_day}
+use Rattle.osn_grammar.specs.Period.{is_period, period_in}
 use Rattle.osn_grammar.specs.Roman.{roman_date}
 use Rattle.osn_grammar.specs.Years.{range_of, years_in, years_of_text}
 
@@ -88,7 +89,11 @@ is_open_year _ = false
 -- ---- other forms
 
 abbrev pub told : Option Reckoning → Extent → Told
-told reckoning e = record { extent = e; reckoning = reckoning }
+told reckoning e = record { extent = e; reckoning = reckoning; is_part = false }
+
+-- a part of a time is approximate
+abbrev pub told_part : Option Reckoning → Extent → Told
+told_part reckoning e = record { extent = e; reckoning = reckoning; is_part = true }
 
 -- a day by both calendars is that of the new one. No calendar may be named beside it
 abbrev pub told_by_both : Option Reckoning → DateFault → Result SimpleDate DateFault
@@ -114,21 +119,24 @@ after_estimated o parts (part.Estimated ∷ date) =
 after_estimated o parts _ = Err faults.Malformed
 
 abbrev pub told_by : List Part → List Part → Option Reckoning → DateFault
-    → Result Extent DateFault → Option Years → Result SimpleDate DateFault → Result Told DateFault
-told_by parts timed reckoning fault (Ok e) years roman = Ok (told reckoning e)
-told_by parts timed reckoning fault (Err other) (Some years) roman =
+    → Result Extent DateFault → Option Years → Option Extent → Result SimpleDate DateFault
+    → Result Told DateFault
+told_by parts timed reckoning fault (Ok e) years period roman = Ok (told reckoning e)
+told_by parts timed reckoning fault (Err other) (Some years) period roman =
     Ok (told reckoning (range_of years))
-told_by parts timed reckoning fault (Err other) None (Ok d) = Ok (told reckoning (extent.On d))
-told_by parts timed reckoning fault (Err other) None (Err another) =
+told_by parts timed reckoning fault (Err other) None (Some e) roman = Ok (told_part reckoning e)
+told_by parts timed reckoning fault (Err other) None None (Ok d) =
+    Ok (told reckoning (extent.On d))
+told_by parts timed reckoning fault (Err other) None None (Err another) =
     told_by_both reckoning fault (day_by_both newest_rules parts timed)
 
--- what has none of the usual forms may be an estimated date, a decade, a century, a day with a
--- Roman numeral or a day by both calendars
+-- what has none of the usual forms may be an estimated date, a decade, a century, a part of a time,
+-- a day with a Roman numeral or a day by both calendars
 abbrev pub told_otherwise : DateOrder → List Part → List Part → Option Reckoning → DateFault
     → Result Told DateFault
 told_otherwise o parts timed reckoning fault =
     told_by parts timed reckoning fault (after_estimated o parts timed) (years_in timed)
-    (roman_date timed)
+    (period_in timed) (roman_date timed)
 
 abbrev pub or_other : DateOrder → List Part → List Part → Option Reckoning
     → Result Extent DateFault → Result Told DateFault
@@ -157,7 +165,7 @@ date_of o parts timed = do
     extent = time.extent;
     weekday = weekday;
     reckoning = time.reckoning;
-    is_approximate = list_any is_about parts;
+    is_approximate = time.is_part || list_any is_about parts;
     is_uncertain = list_any is_doubt parts;
     is_supplied = list_any is_bracket parts;
   })
@@ -181,12 +189,14 @@ abbrev pub open_or : List Part → DateFault → DateFault
 open_or timed faults.Malformed = if ends_open timed then faults.OpenYear else faults.Malformed
 open_or timed fault = fault
 
--- why parts are not a date: a Roman numeral, a year with an open digit, or else the fault
+-- why parts are not a date: a part of a time, a Roman numeral, a year with an open digit, or else
+-- the fault
 abbrev pub reason : List Part → List Part → DateFault → DateFault
 reason parts timed fault =
-    if list_any is_roman_numeral parts then faults.RomanNumeral
+    if list_any is_period parts then faults.OpenPart
+    else (if list_any is_roman_numeral parts then faults.RomanNumeral
     else (if list_any is_open_year parts then faults.OpenYear
-    else open_or timed fault)
+    else open_or timed fault))
 
 abbrev pub or_reason : List Part → List Part → Result AnyDate DateFault → Result Written DateFault
 or_reason parts timed (Ok w) = Ok (say.Date w)

@@ -1,5 +1,5 @@
 -- Which dates are read back from their words. This project's profile.
-use Rattle.std.specs.Prelude.{◌≡◌, Bool, true, not, ◌&&◌, nat_le, Ok}
+use Rattle.std.specs.Prelude.{◌≡◌, Bool, true, false, not, ◌&&◌, nat_le, Ok}
 use Rattle.osn_grammar.specs.declared.written.DateOrder.{DateOrder}
 use Rattle.osn_grammar.specs.declared.written.Written.TheVariants as say
 use Rattle.osn_grammar.specs.Reading.{read_date}
@@ -30,6 +30,7 @@ is_writable_extent (extent.Before d) = is_writable_date d
 is_writable_extent (extent.NotAfter d) = is_writable_date d
 is_writable_extent (extent.After d) = is_writable_date d
 is_writable_extent (extent.NotBefore d) = is_writable_date d
+is_writable_extent (extent.Part portion d) = false
 
 abbrev pub is_writable : AnyDate → Bool
 is_writable w = is_writable_extent w.extent

@@ -1,13 +1,15 @@
 -- Decades and centuries, which are ranges of years. This project's profile.
-use Rattle.std.specs.Prelude.{ℕ, Bool, true, false, not, ◌&&◌, ◌||◌, ◌==◌, ◌-◌, ◌*◌}
+use Rattle.std.specs.Prelude.{ℕ, Bool, true, false, not, ◌&&◌, ◌||◌, ◌==◌, ◌+◌, ◌-◌, ◌*◌, ◌%◌}
+use Rattle.std.specs.Prelude.{nat_le}
 use Rattle.std.specs.Prelude.{if◌then◌else◌, List, [], ◌∷◌, Option, Some, None}
 use Rattle.std.specs.Str.{all_ascii_digits}
 use Rattle.osn_grammar.specs.declared.part.Part.{Part}
 use Rattle.osn_grammar.specs.declared.part.Part.TheVariants as part
 use Rattle.osn_grammar.specs.declared.part.Part.TheVariants.{Number, Roman, Century, Dash}
-use Rattle.osn_grammar.specs.declared.part.Part.TheVariants.{Slash, To, Or}
+use Rattle.osn_grammar.specs.declared.part.Part.TheVariants.{Slash, To, Or, CenturyLetter, Tal}
+use Rattle.osn_grammar.specs.declared.part.Numeral.{Numeral}
 use Rattle.osn_grammar.specs.declared.part.Years.{Years}
-use Rattle.osn_grammar.specs.Parts.{are_two_digits, decade, hundred}
+use Rattle.osn_grammar.specs.Parts.{are_two_digits, decade, digit, hundred, years_from}
 use Rattle.osn_grammar.specs.Sets.{inside_brackets}
 use Rattle.osn_grammar.specs.Simple.{is_between}
 use Rattle.osn_written.specs.declared.any_date.AnyDate.{AnyDate}
@@ -54,6 +56,28 @@ one_in (Roman n ∷ Century ∷ []) = century n
 one_in (Century ∷ Roman n ∷ []) = century n
 one_in _ = None
 
+-- the years from one of four digits on
+abbrev pub years_on : Numeral → ℕ → Option Years
+years_on first more =
+    if first.digits == 4 && nat_le first.value 9999 then Some (years_from first.value more) else None
+
+-- that of `années 1500` may be a century, too
+abbrev pub decade_from : Numeral → Option Years
+decade_from first =
+    if first.value % 10 == 0 && not (first.value % 100 == 0) then years_on first 9 else None
+
+-- 1500-talet is 1500 to 1599, and 1580-talet 1580 to 1589
+abbrev pub years_of_tal : Numeral → Option Years
+years_of_tal first = if first.value % 100 == 0 then years_on first 99 else decade_from first
+
+-- XVIe s., s. XVI, 1580-talet, années 1580
+abbrev pub by_word : List Part → Option Years
+by_word (Roman n ∷ CenturyLetter ∷ []) = century n
+by_word (CenturyLetter ∷ Roman n ∷ []) = century n
+by_word (Number first ∷ Dash ∷ Tal ∷ []) = years_of_tal first
+by_word (part.Decade ∷ Number first ∷ []) = decade_from first
+by_word _ = None
+
 -- two of them
 abbrev pub decades_in : List Part → Option Years
 decades_in (part.Years first ∷ p ∷ part.Years last ∷ []) = joined (Some first) p (Some last)
@@ -78,7 +102,7 @@ or_years None other = other
 
 abbrev pub years_in : List Part → Option Years
 years_in parts =
-    or_years (or_years (one_in parts) (decades_in parts))
+    or_years (or_years (one_in parts) (or_years (by_word parts) (decades_in parts)))
     (or_years (centuries_in parts) (roman_centuries_in parts))
 
 -- ---- in digits and signs
@@ -116,10 +140,33 @@ open_years supplied (a ∷ b ∷ c ∷ d ∷ e ∷ f ∷ []) =
     else None
 open_years supplied _ = None
 
+-- 16th c.
+abbrev pub numbered : ℕ → ℕ → Option Years
+numbered a b = if are_two_digits a b then century (10 * digit a + digit b) else None
+
+abbrev pub is_th_c : ℕ → ℕ → ℕ → ℕ → Bool
+is_th_c t h s c = t == 116 && (h == 104 && (s == 32 && c == 99))
+
+abbrev pub century_by_letter : List ℕ → Option Years
+century_by_letter (a ∷ b ∷ t ∷ h ∷ s ∷ c ∷ []) =
+    if is_th_c t h s c then numbered a b else None
+century_by_letter (a ∷ b ∷ t ∷ h ∷ s ∷ c ∷ stop ∷ []) =
+    if is_th_c t h s c && stop == 46 then numbered a b else None
+century_by_letter _ = None
+
+abbrev pub date_or : Option AnyDate → Option AnyDate → Option AnyDate
+date_or (Some w) other = Some w
+date_or None other = other
+
+abbrev pub years_or_century : Bool → List ℕ → Option AnyDate
+years_or_century supplied text =
+    date_or (open_years supplied text)
+    (date_of_years (century_by_letter text) false supplied)
+
 -- in brackets an editor supplied it: [158-]
 abbrev pub open_inside : List ℕ → Option (List ℕ) → Option AnyDate
-open_inside text None = open_years false text
-open_inside text (Some inside) = open_years true inside
+open_inside text None = years_or_century false text
+open_inside text (Some inside) = years_or_century true inside
 
 abbrev pub years_of_text : List ℕ → Option AnyDate
 years_of_text text = open_inside text (inside_brackets text)

@@ -174,7 +174,7 @@ fn after_year(year: Numeral, rest: &[Part]) -> Result<SimpleDate, DateFault>
 }
 
 /// Returns a month or a year.
-fn month_or_year(parts: &[Part]) -> Result<SimpleDate, DateFault>
+pub fn month_or_year(parts: &[Part]) -> Result<SimpleDate, DateFault>
     ensures { result ≡ spec.month_or_year parts.now }
 {
     match parts {

@@ -10,6 +10,7 @@ mod names;
 mod order;
 mod other_names;
 mod part;
+mod period;
 mod reading;
 mod roman;
 mod roman_year;

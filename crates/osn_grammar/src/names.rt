@@ -5,7 +5,7 @@ ghost use Rattle.osn_grammar.specs.Names as spec;
 use crate::other_names::other_part_named;
 use crate::part::{Numeral, Part};
 use osn_days::Weekday;
-use osn_written::Reckoning;
+use osn_written::{Portion, Reckoning};
 
 /// Each usual name with the part of a date that it is: in small letters, with accents and without.
 pub const NAMES: [(&str, Part); 483] = [
@@ -446,7 +446,7 @@ pub const NAMES: [(&str, Part); 483] = [
     ("pentecost", Part::Feast),
     ("epiphany", Part::Feast),
     ("lammas", Part::Feast),
-    ("mid", Part::Unknown),
+    ("mid", Part::Portion(Portion::MiddleThird)),
     ("os", Part::Reckoning(Reckoning::OldStyle)),
     ("old", Part::Reckoning(Reckoning::OldStyle)),
     ("veteri", Part::Reckoning(Reckoning::OldStyle)),

@@ -7,7 +7,7 @@ ghost use Rattle.osn_grammar.specs.Parts as spec;
 use crate::names::part_named;
 use crate::roman_year::roman_year;
 use osn_days::Weekday;
-use osn_written::Reckoning;
+use osn_written::{Portion, Reckoning};
 
 /// A number with the count of its digits.
 #[derive(Clone, Copy)]
@@ -21,6 +21,21 @@ pub struct Numeral {
 pub struct Years {
     pub first: u16,
     pub last: u16,
+}
+
+/// Which one of some equal parts.
+#[derive(Clone, Copy)]
+pub enum Nth {
+    First,
+    Second,
+    Last,
+}
+
+/// How large a part is.
+#[derive(Clone, Copy)]
+pub enum Fraction {
+    Half,
+    Third,
 }
 
 /// A part of a text.
@@ -70,6 +85,19 @@ pub enum Part {
     Years(Years),
     /// The word `century`.
     Century,
+    /// `s`, which is the word for a century beside a Roman numeral.
+    CenturyLetter,
+    /// `talet`, which makes `1580-talet` a decade and `1500-talet` a hundred years.
+    Tal,
+    /// A word for a decade before its first year, such as `années`.
+    Decade,
+    /// A third of a time, by one word: `early`, `mid` or `late`.
+    Portion(Portion),
+    /// `first`, `second` or `last`, which are other words except before `half` or `third`.
+    Nth(Nth),
+    Fraction(Fraction),
+    /// A season, by the number of its first month.
+    Season(u8),
     /// A year with other open digits, such as `1x3x`.
     OpenYear,
     Unknown,
@@ -175,7 +203,7 @@ fn is_open_year(word: &[u8]) -> bool
 }
 
 /// Returns the value of a digit.
-fn digit(byte: u8) -> u16
+pub fn digit(byte: u8) -> u16
     ensures value { result ≡ spec.digit byte }
     ensures small { result ≤ 9 }
 {
@@ -237,7 +265,7 @@ fn years_of_gaps(a: u8, b: u8, c: u8, d: u8) -> Option<Years>
     }
 }
 
-/// Returns the decade of `1580s`. `1500s` may be a century too.
+/// Returns the decade of `1580s`, and of `1580er`. `1500s` may be a century too.
 fn years_of_plural(a: u8, b: u8, c: u8, d: u8, e: u8) -> Option<Years>
     ensures { result ≡ spec.years_of_plural a b c d e }
 {
@@ -255,6 +283,7 @@ fn years_of_word(word: &[u8]) -> Option<Years>
     match word {
         [a, b, c, d] => years_of_gaps(*a, *b, *c, *d),
         [a, b, c, d, e] => years_of_plural(*a, *b, *c, *d, *e),
+        [a, b, c, d, e, r] if *e == b'e' && *r == b'r' => { years_of_plural(*a, *b, *c, *d, b's') }
         _ => None,
     }
 }

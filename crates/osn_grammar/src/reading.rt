@@ -11,12 +11,13 @@ ghost use Rattle.osn_grammar.specs.SetsInDigits.{AreSetsRead};
 use crate::both_calendars::{day_by_both, named_day};
 use crate::extent::extent_of;
 use crate::part::Part;
-use crate::roman::roman_date;
+use crate::period::{has_period, period_in};
+use crate::roman::{has_roman_numeral, roman_date};
 use crate::scan::parts_in;
 use crate::set::set_in;
 use crate::simple::lacks_digit;
 use crate::written::{DateOrder, Written};
-use crate::years::{range_of, years_in, years_of_text};
+use crate::years::{has_open_year, range_of, years_in, years_of_text};
 use osn_days::Weekday;
 use osn_written::{AnyDate, DateFault, Extent, Reckoning, SimpleDate};
 use std::alloc::{AllocError, Global};
@@ -95,29 +96,24 @@ fn has_feast(parts: &[Part]) -> bool
     parts.iter().any(|part| matches!(part, Part::Feast))
 }
 
-/// Returns whether a part is a Roman numeral.
-fn has_roman_numeral(parts: &[Part]) -> bool
-    ensures { result ≡ list_any spec.is_roman_numeral parts.now }
-{
-    parts
-        .iter()
-        .any(|part| matches!(part, Part::RomanNumeral | Part::Roman(_)))
-}
-
-/// Returns whether a part has years with open digits.
-fn has_open_year(parts: &[Part]) -> bool
-    ensures { result ≡ list_any spec.is_open_year parts.now }
-{
-    parts
-        .iter()
-        .any(|part| matches!(part, Part::OpenYear | Part::Years(_)))
-}
-
 /// What parts say of the time, by which calendar.
 #[derive(Clone, Copy)]
 struct Told {
     extent: Extent,
     reckoning: Option<Reckoning>,
+    /// Whether it is part of a time, such as `early 1675`.
+    is_part: bool,
+}
+
+/// Returns what is said by a usual form.
+fn plain(extent: Extent, reckoning: Option<Reckoning>) -> Told
+    ensures { result ≡ spec.told reckoning extent }
+{
+    Told {
+        extent,
+        reckoning,
+        is_part: false,
+    }
 }
 
 /// Returns the day by both calendars, which is by the new one, unless parts name a calendar.
@@ -129,10 +125,9 @@ fn told_by_both(
     ensures { result ≡ spec.told_by_both reckoning fault day }
 {
     match day {
-        Ok(date) if reckoning.is_none() => Ok(Told {
-            extent: Extent::On(date),
-            reckoning: Some(Reckoning::NewStyle),
-        }),
+        Ok(date) if reckoning.is_none() => {
+            Ok(plain(Extent::On(date), Some(Reckoning::NewStyle)))
+        }
         Ok(_) => Err(DateFault::TwoDays),
         Err(DateFault::Malformed) => Err(fault),
         Err(other) => Err(other),
@@ -165,8 +160,8 @@ fn after_estimated(order: DateOrder, parts: &[Part], timed: &[Part]) -> Result<E
     }
 }
 
-/// Returns what parts without a usual form say: an estimated date, a decade, a century, a day with a
-/// Roman numeral or a day by both calendars.
+/// Returns what parts without a usual form say: an estimated date, a decade, a century, a part of a
+/// time, a day with a Roman numeral or a day by both calendars.
 fn told_otherwise(
     order: DateOrder,
     parts: &[Part],
@@ -177,19 +172,20 @@ fn told_otherwise(
     ensures { result ≡ spec.told_otherwise order parts.now timed.now reckoning fault }
 {
     if let Ok(extent) = after_estimated(order, parts, timed) {
-        return Ok(Told { extent, reckoning });
+        return Ok(plain(extent, reckoning));
     }
     if let Some(years) = years_in(timed) {
+        return Ok(plain(range_of(years), reckoning));
+    }
+    if let Some(extent) = period_in(timed) {
         return Ok(Told {
-            extent: range_of(years),
+            extent,
             reckoning,
+            is_part: true,
         });
     }
     match roman_date(timed) {
-        Ok(date) => Ok(Told {
-            extent: Extent::On(date),
-            reckoning,
-        }),
+        Ok(date) => Ok(plain(Extent::On(date), reckoning)),
         Err(_) => told_by_both(reckoning, fault, day_by_both(parts, timed)),
     }
 }
@@ -205,7 +201,7 @@ fn or_other(
     ensures { result ≡ spec.or_other order parts.now timed.now reckoning read }
 {
     match read {
-        Ok(extent) => Ok(Told { extent, reckoning }),
+        Ok(extent) => Ok(plain(extent, reckoning)),
         Err(fault) => told_otherwise(order, parts, timed, reckoning, fault),
     }
 }
@@ -247,7 +243,7 @@ fn date_of(order: DateOrder, parts: &[Part], timed: &[Part]) -> Result<AnyDate, 
         extent: told.extent,
         weekday,
         reckoning: told.reckoning,
-        is_approximate: is_approximate(parts),
+        is_approximate: told.is_part || is_approximate(parts),
         is_uncertain: is_uncertain(parts),
         is_supplied: is_supplied(parts),
     })
@@ -280,12 +276,14 @@ fn open_or(timed: &[Part], fault: DateFault) -> DateFault
     }
 }
 
-/// Returns why parts are not a date: the Roman numeral or the year with an open digit that they
-/// have, or else the fault.
+/// Returns why parts are not a date: the part of a time, the Roman numeral or the year with an open
+/// digit that they have, or else the fault.
 fn reason(parts: &[Part], timed: &[Part], fault: DateFault) -> DateFault
     ensures { result ≡ spec.reason parts.now timed.now fault }
 {
-    if has_roman_numeral(parts) {
+    if has_period(parts) {
+        DateFault::OpenPart
+    } else if has_roman_numeral(parts) {
         DateFault::RomanNumeral
     } else if has_open_year(parts) {
         DateFault::OpenYear

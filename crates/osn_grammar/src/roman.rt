@@ -1,5 +1,7 @@
 //! A day with a Roman numeral for its day or its month.
 ghost use Rattle.std.specs.Prelude.{◌≡◌};
+ghost use Rattle.std.specs.List.{list_any};
+ghost use Rattle.osn_grammar.specs.Reading as reading;
 ghost use Rattle.osn_grammar.specs.Roman as spec;
 
 use crate::forms::year_numbers;
@@ -78,4 +80,13 @@ pub fn roman_date(parts: &[Part]) -> Result<SimpleDate, DateFault>
         [Number(a), rest @ ..] => after_number(*a, rest),
         _ => Err(DateFault::Malformed),
     }
+}
+
+/// Returns whether a part is a Roman numeral.
+pub fn has_roman_numeral(parts: &[Part]) -> bool
+    ensures { result ≡ list_any reading.is_roman_numeral parts.now }
+{
+    parts
+        .iter()
+        .any(|part| matches!(part, Part::RomanNumeral | Part::Roman(_)))
 }

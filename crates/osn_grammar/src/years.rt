@@ -1,9 +1,11 @@
 //! Decades and centuries, which are ranges of years.
-ghost use Rattle.std.specs.Prelude.{◌≡◌};
+ghost use Rattle.std.specs.Prelude.{◌≡◌, ◌≤◌};
+ghost use Rattle.std.specs.List.{list_any};
+ghost use Rattle.osn_grammar.specs.Reading as reading;
 ghost use Rattle.osn_grammar.specs.Years as spec;
 
-use crate::part::Part::{self, Century, Dash, Number, Or, Roman, Slash, To};
-use crate::part::{Years, are_two_digits, decade, hundred};
+use crate::part::Part::{self, Century, CenturyLetter, Dash, Number, Or, Roman, Slash, Tal, To};
+use crate::part::{Numeral, Years, are_two_digits, decade, digit, hundred};
 use crate::set::inside_brackets;
 use osn_written::{AnyDate, Extent, SimpleDate, Year};
 
@@ -49,6 +51,58 @@ fn joined(first: Option<Years>, part: Part, last: Option<Years>) -> Option<Years
             first: first?.first,
             last: last?.last,
         }),
+        _ => None,
+    }
+}
+
+/// Returns the years from one on, if it has four digits.
+fn years_on(first: Numeral, more: u16) -> Option<Years>
+    requires { more ≤ 99 }
+    ensures { result ≡ spec.years_on first more }
+{
+    if first.digits == 4 && first.value <= 9999 {
+        let first = first.value as u16;
+        Some(Years {
+            first,
+            last: first + more,
+        })
+    } else {
+        None
+    }
+}
+
+/// Returns the decade of a year that is its first one. That of `1500` may be a century too.
+fn decade_from(first: Numeral) -> Option<Years>
+    ensures { result ≡ spec.decade_from first }
+{
+    if first.value % 10 == 0 && first.value % 100 != 0 {
+        years_on(first, 9)
+    } else {
+        None
+    }
+}
+
+/// Returns the hundred years of `1500-talet`, or the decade of `1580-talet`.
+fn years_of_tal(first: Numeral) -> Option<Years>
+    ensures { result ≡ spec.years_of_tal first }
+{
+    if first.value % 100 == 0 {
+        years_on(first, 99)
+    } else {
+        decade_from(first)
+    }
+}
+
+/// Returns the years of parts that are one decade or one century, by a word beside a number.
+fn by_word(parts: &[Part]) -> Option<Years>
+    ensures { result ≡ spec.by_word parts.now }
+{
+    match parts {
+        [Roman(number), CenturyLetter] | [CenturyLetter, Roman(number)] => {
+            century(u32::from(*number))
+        }
+        [Number(first), Dash, Tal] => years_of_tal(*first),
+        [Part::Decade, Number(first)] => decade_from(*first),
         _ => None,
     }
 }
@@ -120,7 +174,7 @@ pub fn years_in(parts: &[Part]) -> Option<Years>
     ensures { result ≡ spec.years_in parts.now }
 {
     or_years(
-        or_years(one_in(parts), decades_in(parts)),
+        or_years(one_in(parts), or_years(by_word(parts), decades_in(parts))),
         or_years(centuries_in(parts), roman_centuries_in(parts)),
     )
 }
@@ -171,12 +225,61 @@ fn open_years(text: &[u8], is_supplied: bool) -> Option<AnyDate>
     }
 }
 
-/// Returns the years that a text is, such as `158?`, `[158-]` and `15--?`, if it is nothing else.
+/// Returns whether four bytes are `th c`.
+fn is_th_c(t: u8, h: u8, s: u8, c: u8) -> bool
+    ensures { result ≡ spec.is_th_c t h s c }
+{
+    t == b't' && h == b'h' && s == b' ' && c == b'c'
+}
+
+/// Returns the century of two digits.
+fn numbered(a: u8, b: u8) -> Option<Years>
+    ensures { result ≡ spec.numbered a b }
+{
+    if are_two_digits(a, b) {
+        century(u32::from(10 * digit(a) + digit(b)))
+    } else {
+        None
+    }
+}
+
+/// Returns the century of `16th c.`, since `c.` is also the word for `about`.
+fn century_by_letter(text: &[u8]) -> Option<Years>
+    ensures { result ≡ spec.century_by_letter text.now }
+{
+    match text {
+        [a, b, t, h, s, c] if is_th_c(*t, *h, *s, *c) => numbered(*a, *b),
+        [a, b, t, h, s, c, stop] if is_th_c(*t, *h, *s, *c) && *stop == b'.' => numbered(*a, *b),
+        _ => None,
+    }
+}
+
+/// Returns the years that a text is by digits and signs, or the century that it is.
+fn years_or_century(text: &[u8], is_supplied: bool) -> Option<AnyDate>
+    ensures { result ≡ spec.years_or_century is_supplied text.now }
+{
+    match open_years(text, is_supplied) {
+        Some(date) => Some(date),
+        None => date_of_years(century_by_letter(text), false, is_supplied),
+    }
+}
+
+/// Returns the years that a text is, such as `158?`, `[158-]`, `15--?` and `16th c.`, if it is
+/// nothing else.
 pub fn years_of_text(text: &str) -> Option<AnyDate>
     ensures { result ≡ spec.years_of_text text.now }
 {
     match inside_brackets(text) {
-        Some(inside) => open_years(inside.as_bytes(), true),
-        None => open_years(text.as_bytes(), false),
+        Some(inside) => years_or_century(inside.as_bytes(), true),
+        None => years_or_century(text.as_bytes(), false),
     }
+}
+
+/// Returns whether a part has years with open digits.
+pub fn has_open_year(parts: &[Part]) -> bool
+    ensures { result ≡ list_any reading.is_open_year parts.now }
+{
+    parts
+        .iter()
+        .any(|part| matches!(part, Part::OpenYear | Part::Years(_)))
 }

@@ -103,6 +103,10 @@ such as 1640-1645"
 the month between two numbers, but vi, xx and single letters are other words too: \
 write it in digits"
         }
+        DateFault::OpenPart => {
+            "early, mid, late and the halves are parts of a month, a year, a decade or a century, \
+and a winter is of two years: write the months, such as December 1675 to February 1676"
+        }
     }
 }
 

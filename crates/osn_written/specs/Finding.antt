@@ -62,6 +62,7 @@ ends_of (extent.Before date) = (date, date)
 ends_of (extent.NotAfter date) = (date, date)
 ends_of (extent.After date) = (date, date)
 ends_of (extent.NotBefore date) = (date, date)
+ends_of (extent.Part portion date) = (date, date)
 
 -- why what is written is not a span of days
 abbrev pub reason_of : Profile → TerritoryModel → Extent → NoSpan → NoDay

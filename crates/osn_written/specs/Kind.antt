@@ -15,6 +15,7 @@ kind_word kinds.Year = codes "year"
 kind_word kinds.Range = codes "range"
 kind_word kinds.Before = codes "before"
 kind_word kinds.After = codes "after"
+kind_word kinds.Part = codes "part"
 kind_word kinds.Set = codes "set"
 
 -- of one date, and of what is written
@@ -30,3 +31,4 @@ kind_of (extent.Before date) = kinds.Before
 kind_of (extent.NotAfter date) = kinds.Before
 kind_of (extent.After date) = kinds.After
 kind_of (extent.NotBefore date) = kinds.After
+kind_of (extent.Part portion date) = kinds.Part

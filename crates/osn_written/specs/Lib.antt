@@ -6,6 +6,7 @@ pub mod Meaning
 pub mod Absence
 pub mod Runs
 pub mod OneDay
+pub mod Portion
 pub mod Spans
 pub mod Kind
 pub mod Finding

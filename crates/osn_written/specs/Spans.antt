@@ -11,6 +11,8 @@ use Rattle.osn_lands.specs.Territory.{TerritoryModel}
 use Rattle.osn_written.specs.declared.span.NoSpan.{NoSpan}
 use Rattle.osn_written.specs.declared.span.NoSpan.TheVariants.{NoDay, NoLastDay, OutOfOrder}
 use Rattle.osn_written.specs.declared.span.NoSpan.TheVariants.{OffTheLine}
+use Rattle.osn_written.specs.declared.portion.Portion.{Portion}
+use Rattle.osn_written.specs.Portion.{part_of_run}
 use Rattle.osn_written.specs.Runs.{runs_meant}
 
 -- ---- the first and the last day of runs in order
@@ -40,6 +42,11 @@ from_to (Some first) None = Err NoLastDay
 from_to (Some first) (Some last) =
     if nat_le first last then Ok (record { first = first; last = last }) else Err OutOfOrder
 
+-- the part of the days of a span
+abbrev pub part_of_span : Portion → Result Run NoSpan → Result Run NoSpan
+part_of_span portion (Ok run) = Ok (part_of_run portion run)
+part_of_span portion (Err none) = Err none
+
 -- from the first day of the line to the day before one, or to that one
 abbrev pub before : Option ℕ → Result Run NoSpan
 before None = Err NoDay
@@ -60,7 +67,8 @@ not_before p None = Err NoDay
 not_before p (Some d) = Ok (record { first = d; last = p.high })
 
 -- from the first day that a date or a range may mean to the last one. A range lasts from the first
--- day of its first date to the last day of its last date, and a bound reaches to an end of the line
+-- day of its first date to the last day of its last date, and a bound reaches to an end of the line.
+-- A part of a date is that of the days from its first to its last one
 abbrev pub span_meant : Profile → TerritoryModel → Extent → Result Run NoSpan
 span_meant p t (extent.On date) = from_to (first_meant p t date) (last_meant p t date)
 span_meant p t (extent.FromTo a b) = from_to (first_meant p t a) (last_meant p t b)
@@ -68,3 +76,5 @@ span_meant p t (extent.Before date) = before (first_meant p t date)
 span_meant p t (extent.NotAfter date) = not_after (last_meant p t date)
 span_meant p t (extent.After date) = after p (last_meant p t date)
 span_meant p t (extent.NotBefore date) = not_before p (first_meant p t date)
+span_meant p t (extent.Part portion date) =
+    part_of_span portion (from_to (first_meant p t date) (last_meant p t date))

@@ -2,6 +2,7 @@
 ghost use Rattle.std.specs.Prelude.{◌≡◌};
 ghost use Rattle.osn_written.specs.AnyDate as spec;
 
+use crate::portion::Portion;
 use osn_days::Weekday;
 
 /// A year as it is written. For a double year, such as `1731/2`, it is the first one.
@@ -32,6 +33,8 @@ pub enum Extent {
     NotAfter(SimpleDate),
     After(SimpleDate),
     NotBefore(SimpleDate),
+    /// In a part of a month or a year, such as the first third of it.
+    Part(Portion, SimpleDate),
 }
 
 impl SimpleDate {
@@ -59,7 +62,8 @@ impl Extent {
             | Extent::Before(date)
             | Extent::NotAfter(date)
             | Extent::After(date)
-            | Extent::NotBefore(date) => date.has_year_of_three_digits(),
+            | Extent::NotBefore(date)
+            | Extent::Part(_, date) => date.has_year_of_three_digits(),
         }
     }
 }

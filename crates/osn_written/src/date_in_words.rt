@@ -94,6 +94,9 @@ impl fmt::Display for ExtentInWords {
             Extent::NotAfter(date) => write!(f, "not after {}", SimpleInWords(date)),
             Extent::After(date) => write!(f, "after {}", SimpleInWords(date)),
             Extent::NotBefore(date) => write!(f, "not before {}", SimpleInWords(date)),
+            Extent::Part(portion, date) => {
+                write!(f, "{} {}", portion.words(), SimpleInWords(date))
+            }
         }
     }
 }

@@ -91,7 +91,8 @@ pub fn ends_of(extent: Extent) -> (SimpleDate, SimpleDate)
         | Extent::Before(date)
         | Extent::NotAfter(date)
         | Extent::After(date)
-        | Extent::NotBefore(date) => (date, date),
+        | Extent::NotBefore(date)
+        | Extent::Part(_, date) => (date, date),
     }
 }
 

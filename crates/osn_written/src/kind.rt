@@ -16,12 +16,15 @@ pub enum Kind {
     Before,
     /// After a date, or not before it.
     After,
+    /// A part of a month or a year.
+    Part,
     /// One of several dates.
     Set,
 }
 
 impl Kind {
-    /// Returns the word of the kind: `day`, `month`, `year`, `range`, `before`, `after` or `set`.
+    /// Returns the word of the kind: `day`, `month`, `year`, `range`, `before`, `after`, `part`
+    /// or `set`.
     pub fn word(self) -> &'static str
         ensures { result.now ≡ spec.kind_word self }
     {
@@ -32,6 +35,7 @@ impl Kind {
             Kind::Range => "range",
             Kind::Before => "before",
             Kind::After => "after",
+            Kind::Part => "part",
             Kind::Set => "set",
         }
     }
@@ -57,5 +61,6 @@ pub fn kind_of(extent: Extent) -> Kind
         Extent::FromTo(_, _) => Kind::Range,
         Extent::Before(_) | Extent::NotAfter(_) => Kind::Before,
         Extent::After(_) | Extent::NotBefore(_) => Kind::After,
+        Extent::Part(_, _) => Kind::Part,
     }
 }

@@ -1,9 +1,10 @@
 //! From which day to which a written date, a range or a bound may be in a territory.
-ghost use Rattle.std.specs.Prelude.{◌≡◌, IfOk};
+ghost use Rattle.std.specs.Prelude.{◌≡◌, ◌≤◌, IfOk};
 ghost use Rattle.osn_days.specs.Profile.{newest_rules};
 ghost use Rattle.osn_written.specs.Spans as spec;
 
 use crate::any_date::{Extent, SimpleDate};
+use crate::portion::{Portion, part_of_run};
 use crate::runs::runs_meant;
 use osn_days::{Day, HIGH};
 use osn_lands::{Run, Territory};
@@ -68,7 +69,8 @@ fn last_meant(
 
 /// Returns the run from one day to another one, which is not earlier.
 fn from_to(first: Option<Day>, last: Option<Day>) -> Result<Run, NoSpan>
-    ensures { result ≡ spec.from_to first last }
+    ensures value { result ≡ spec.from_to first last }
+    ensures in_order { IfOk result (λ run. run.first ≤ run.last) }
 {
     let first = first.ok_or(NoSpan::NoDay)?;
     let last = last.ok_or(NoSpan::NoLastDay)?;
@@ -77,6 +79,14 @@ fn from_to(first: Option<Day>, last: Option<Day>) -> Result<Run, NoSpan>
     } else {
         Err(NoSpan::OutOfOrder)
     }
+}
+
+/// Returns the part of the days of a span.
+fn part_of_span(portion: Portion, span: Result<Run, NoSpan>) -> Result<Run, NoSpan>
+    requires { IfOk span (λ run. run.first ≤ run.last) }
+    ensures { result ≡ spec.part_of_span portion span }
+{
+    Ok(part_of_run(portion, span?))
 }
 
 /// Returns the run from the first day of the line to the day before one.
@@ -136,9 +146,10 @@ fn range_meant(
     first: SimpleDate,
     last: SimpleDate,
 ) -> Result<Result<Run, NoSpan>, AllocError>
-    ensures { IfOk result (λ span. span ≡ spec.from_to
+    ensures value { IfOk result (λ span. span ≡ spec.from_to
         (spec.first_meant newest_rules territory.now first)
         (spec.last_meant newest_rules territory.now last)) }
+    ensures in_order { IfOk result (λ span. IfOk span (λ run. run.first ≤ run.last)) }
 {
     let first = first_meant(alloc, territory, first)?;
     let last = last_meant(alloc, territory, last)?;
@@ -147,7 +158,8 @@ fn range_meant(
 
 /// Returns the days from the first one that a date, a range or a bound may mean in a territory to
 /// the last one, or why no day is meant. A range lasts from the first day of its first date to the
-/// last day of its last date. A bound reaches to the first or the last day of the line.
+/// last day of its last date. A bound reaches to the first or the last day of the line. A part of a
+/// date is that part of the days from its first day to its last day.
 ///
 /// # Errors
 ///
@@ -166,5 +178,9 @@ pub fn span_meant(
         Extent::NotAfter(date) => Ok(not_after(last_meant(alloc, territory, date)?)),
         Extent::After(date) => Ok(after(last_meant(alloc, territory, date)?)),
         Extent::NotBefore(date) => Ok(not_before(first_meant(alloc, territory, date)?)),
+        Extent::Part(portion, date) => {
+            let span = range_meant(alloc, territory, date, date)?;
+            Ok(part_of_span(portion, span))
+        }
     }
 }

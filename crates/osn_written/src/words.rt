@@ -69,6 +69,7 @@ impl DateFault {
             DateFault::TwoDays => "day by both calendars",
             DateFault::Feast => "a feast, not read",
             DateFault::RomanNumeral => "a Roman numeral, not read",
+            DateFault::OpenPart => "an open part of a date, not read",
         }
     }
 }

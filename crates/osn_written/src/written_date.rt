@@ -49,6 +49,8 @@ pub enum DateFault {
     Feast,
     /// A number is Roman.
     RomanNumeral,
+    /// The text names a part of a time, such as `early` or `winter`, and it is not sure of which one.
+    OpenPart,
 }
 
 /// Returns the parts before and after the first such character.

@@ -46,12 +46,17 @@ ADVICE = {
                                     "xi February 1731, or as the month between two numbers, but "
                                     "vi, xx and single letters are other words too: write it in "
                                     "digits"),
+    "an open part of a date, not read": N_("early, mid, late and the halves are parts of a month, "
+                                           "a year, a decade or a century, and a winter is of two "
+                                           "years: write the months, such as December 1675 to "
+                                           "February 1676"),
 }
 FLAGS = [("approximate", N_("approximate")), ("uncertain", N_("in doubt")),
          ("supplied", N_("supplied by an editor"))]
 KINDS = {"month": N_("The date is a month"), "year": N_("The date is a year"),
          "range": N_("The date is a range"), "before": N_("The date is a bound"),
-         "after": N_("The date is a bound"), "set": N_("The date is one of these days")}
+         "after": N_("The date is a bound"), "part": N_("The date is a part of a year"),
+         "set": N_("The date is one of these days")}
 
 
 @dataclass

@@ -1,0 +1,230 @@
+//! Parts of a month, a year, a decade or a century, and seasons and quarters of a year.
+ghost use Rattle.std.specs.Prelude.{◌≡◌, ◌≤◌, IfSome};
+ghost use Rattle.std.specs.List.{list_any};
+ghost use Rattle.osn_grammar.specs.Period as spec;
+
+use crate::forms::month_or_year;
+use crate::part::Part::{self, Dash, Fraction, Nth, Number, Season};
+use crate::part::{Fraction as Share, Nth as Place, Numeral, Years};
+use crate::simple::{one, year_of};
+use crate::years::{range_of, years_in};
+use osn_written::{DateFault, Extent, Portion, SimpleDate, Year};
+
+/// Returns the portion that a third or a half is, by its place, such as `first half`.
+fn portion_of(place: Place, share: Share) -> Portion
+    ensures { result ≡ spec.portion_of place share }
+{
+    match (place, share) {
+        (Place::First, Share::Third) => Portion::FirstThird,
+        (Place::Second, Share::Third) => Portion::MiddleThird,
+        (Place::Last, Share::Third) => Portion::LastThird,
+        (Place::First, Share::Half) => Portion::FirstHalf,
+        (Place::Second | Place::Last, Share::Half) => Portion::SecondHalf,
+    }
+}
+
+/// Returns the part of the years of a decade or a century. A third or a half that ends within a
+/// year has the whole year.
+fn part_of_years(portion: Portion, years: Years) -> Years
+    ensures { result ≡ spec.part_of_years portion years }
+{
+    let Years { first, last } = years;
+    let gap = u32::from(last.saturating_sub(first));
+    match portion {
+        Portion::FirstThird => Years {
+            first,
+            last: first + (gap / 3) as u16,
+        },
+        Portion::MiddleThird => Years {
+            first: first + ((gap + 1) / 3) as u16,
+            last: last - ((gap + 1) / 3) as u16,
+        },
+        Portion::LastThird => Years {
+            first: last - (gap / 3) as u16,
+            last,
+        },
+        Portion::FirstHalf => Years {
+            first,
+            last: first + (gap / 2) as u16,
+        },
+        Portion::SecondHalf => Years {
+            first: last - (gap / 2) as u16,
+            last,
+        },
+    }
+}
+
+/// Returns a day of a month.
+fn day_in(year: Year, month: u8, day: u8) -> SimpleDate
+    ensures { result ≡ spec.day_in year month day }
+{
+    SimpleDate::Day { year, month, day }
+}
+
+/// Returns the last day of a month, or the whole of February, whose last day differs.
+fn end_of(year: Year, month: u8) -> SimpleDate
+    ensures { result ≡ spec.end_of year month }
+{
+    match month {
+        2 => SimpleDate::Month { year, month },
+        4 | 6 | 9 | 11 => day_in(year, month, 30),
+        _ => day_in(year, month, 31),
+    }
+}
+
+/// Returns the days of a part of a month.
+fn part_of_month(portion: Portion, year: Year, month: u8) -> Extent
+    ensures { result ≡ spec.part_of_month portion year month }
+{
+    match portion {
+        Portion::FirstThird => Extent::FromTo(day_in(year, month, 1), day_in(year, month, 10)),
+        Portion::MiddleThird => Extent::FromTo(day_in(year, month, 11), day_in(year, month, 20)),
+        Portion::LastThird => Extent::FromTo(day_in(year, month, 21), end_of(year, month)),
+        Portion::FirstHalf => Extent::FromTo(day_in(year, month, 1), day_in(year, month, 15)),
+        Portion::SecondHalf => Extent::FromTo(day_in(year, month, 16), end_of(year, month)),
+    }
+}
+
+/// Returns the part of a month or a year.
+fn part_of_date(portion: Portion, whole: Result<SimpleDate, DateFault>) -> Option<Extent>
+    ensures { result ≡ spec.part_of_date portion whole }
+{
+    match whole {
+        Ok(SimpleDate::Month { year, month }) => Some(part_of_month(portion, year, month)),
+        Ok(SimpleDate::Year(year)) => Some(Extent::Part(portion, SimpleDate::Year(year))),
+        _ => None,
+    }
+}
+
+/// Returns the part of the month, the year, the decade or the century that parts are.
+fn part_of(portion: Portion, whole: &[Part]) -> Option<Extent>
+    ensures { result ≡ spec.part_of portion whole.now }
+{
+    match years_in(whole) {
+        Some(years) => Some(range_of(part_of_years(portion, years))),
+        None => part_of_date(portion, month_or_year(whole)),
+    }
+}
+
+/// Returns the same without a dash before the whole, as in `mid-1675`, or the word `third`.
+fn part_after(portion: Portion, rest: &[Part]) -> Option<Extent>
+    ensures { result ≡ spec.part_after portion rest.now }
+{
+    match rest {
+        [Dash, whole @ ..] => part_of(portion, whole),
+        [Fraction(Share::Third), whole @ ..] => part_of(portion, whole),
+        _ => part_of(portion, rest),
+    }
+}
+
+/// Returns three months of a year.
+fn three_months(year: Result<Year, DateFault>, first: u8) -> Option<Extent>
+    requires { first ≤ 10 }
+    ensures { result ≡ spec.three_months year first }
+{
+    match year {
+        Ok(year) => Some(Extent::FromTo(
+            SimpleDate::Month { year, month: first },
+            SimpleDate::Month {
+                year,
+                month: first + 2,
+            },
+        )),
+        Err(_) => None,
+    }
+}
+
+/// Returns the months of a season. Which year a winter is of is open.
+fn season_in(first: u8, year: &[Part]) -> Option<Extent>
+    ensures { result ≡ spec.season_in first year.now }
+{
+    match year {
+        [Number(year)] if first <= 10 => three_months(year_of(one(*year)), first),
+        _ => None,
+    }
+}
+
+/// Returns the first month of a season or a quarter by its code in EDTF.
+fn month_by_code(code: u32) -> Option<u8>
+    ensures value { result ≡ spec.month_by_code code }
+    ensures small { IfSome result (λ first. first ≤ 10) }
+{
+    match code {
+        21 => Some(3),
+        22 => Some(6),
+        23 => Some(9),
+        33 => Some(1),
+        34 => Some(4),
+        35 => Some(7),
+        36 => Some(10),
+        _ => None,
+    }
+}
+
+/// Returns the season or the quarter of a code of two digits after its year. If the code may be the
+/// last digits of a later year, as in `1521-33`, it is not sure.
+fn coded(year: Numeral, code: Numeral) -> Option<Extent>
+    ensures { result ≡ spec.coded year code }
+{
+    match month_by_code(code.value) {
+        Some(first) if code.digits == 2 && code.value <= year.value % 100 => {
+            three_months(year_of(one(year)), first)
+        }
+        _ => None,
+    }
+}
+
+/// Returns which one of some equal parts a number is.
+fn nth_of(number: u32) -> Option<Place>
+    ensures { result ≡ spec.nth_of number }
+{
+    match number {
+        1 => Some(Place::First),
+        2 => Some(Place::Second),
+        _ => None,
+    }
+}
+
+/// Returns the part of a time that a third or a half is, by its place.
+fn nth_part(place: Option<Place>, share: Share, whole: &[Part]) -> Option<Extent>
+    ensures { result ≡ spec.nth_part place share whole.now }
+{
+    match place {
+        Some(place) => part_of(portion_of(place, share), whole),
+        None => None,
+    }
+}
+
+/// Returns the part of a time that a number and these parts after it are.
+fn after_number(number: Numeral, rest: &[Part]) -> Option<Extent>
+    ensures { result ≡ spec.after_number number rest.now }
+{
+    match rest {
+        [Dash, Number(code)] => coded(number, *code),
+        [Fraction(share), whole @ ..] => nth_part(nth_of(number.value), *share, whole),
+        _ => None,
+    }
+}
+
+/// Returns the part of a time that parts are, if they are one: a part of a month, a year, a decade
+/// or a century, a season or a quarter.
+pub fn period_in(parts: &[Part]) -> Option<Extent>
+    ensures { result ≡ spec.period_in parts.now }
+{
+    match parts {
+        [Part::Portion(portion), rest @ ..] => part_after(*portion, rest),
+        [Nth(place), Fraction(share), whole @ ..] => nth_part(Some(*place), *share, whole),
+        [Season(first), year @ ..] => season_in(*first, year),
+        [Number(number), rest @ ..] => after_number(*number, rest),
+        _ => None,
+    }
+}
+
+/// Returns whether a part names a part of a time.
+pub fn has_period(parts: &[Part]) -> bool
+    ensures { result ≡ list_any spec.is_period parts.now }
+{
+    parts
+        .iter()
+        .any(|part| matches!(part, Part::Portion(_) | Part::Season(_)))
+}
