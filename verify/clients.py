@@ -63,6 +63,10 @@ def rows_drawn(chance, count):
         yield chance.choice(["GB", "SE", "RU", "RM"]), text, weekday
 
 
+PLAIN = ("approximate", "kind", "named_calendar", "named_weekday", "not_counted_double",
+         "other_calendar", "reason", "supplied", "three_digits", "uncertain")
+
+
 def request(row):
     asked = {"op": "written", "reader": 1, "code": row[0], "date": row[1]}
     return compact({**asked, "weekday": row[2]} if row[2] else asked)
@@ -70,10 +74,12 @@ def request(row):
 
 def reply_of(reading):
     """The reply that a reading was made of."""
-    runs = [{"first": vars(run.first), "last": vars(run.last)} for run in reading.runs]
-    answer = {name: getattr(reading, name) for name in ("approximate", "kind", "other_calendar",
-                                                        "reason", "supplied", "uncertain")}
-    return {"answer": {**answer, "runs": runs, "weekday": reading.weekday_fits},
+    answer = {name: getattr(reading, name) for name in PLAIN}
+    runs, year = ([{"first": vars(run.first), "last": vars(run.last)} for run in found]
+                  for found in (reading.runs, reading.year))
+    lists = {"nearest": list(map(vars, reading.nearest)), "read_as": list(reading.read_as),
+             "runs": runs, "skipped": list(reading.skipped), "year": year}
+    return {"answer": {**answer, **lists, "weekday": reading.weekday_fits},
             "edition": reading.edition, "reader": 1}
 
 

@@ -17,7 +17,7 @@ from lib.calendars import (HIGH, LAST_LABEL_YEAR, LAST_YEAR, WEEKDAYS, Land, dat
 from lib.common import SCRIPT, CommandLine, compact, end
 from lib.date_meaning import Malformed, Territory, has_weekday, parse
 from lib.span_texts import Unread, span_of, why_none
-from lib.spans import none_answer, runs_of, span_answer
+from lib.spans import Simple, near, none_answer, remarks, runs_found, runs_of, span_answer
 
 LONGEST_LINE = 65_536
 DEEPEST = 128
@@ -256,13 +256,16 @@ def written_answer(land, text, weekday):
     territory, weekday = Territory(land), weekday and weekday.capitalize()
     days = territory.days_meant(date)
     is_on = any(has_weekday(date, weekday, day) for day in days)
-    runs = [[land.found(day) for day in run] for run in runs_of(sorted(days))]
+    named = f"{date.weekday} " if date.weekday else ""
+    written = Simple(date.year, date.is_double, date.month, date.day, date.has_three_digits)
     return {
-        "approximate": False, "kind": "day", "other_calendar": False,
-        "reason": None if days else territory.absence(date),
-        "runs": [{"first": first, "last": last} for first, last in runs],
-        "supplied": False, "uncertain": False,
+        "approximate": False, "kind": "day", "named_calendar": None,
+        "named_weekday": date.weekday, "other_calendar": False,
+        "read_as": [named + written.words()], "reason": None if days else territory.absence(date),
+        "runs": runs_found(land, runs_of(sorted(days))), "supplied": False, "uncertain": False,
         "weekday": is_on if date.weekday or weekday else None,
+        **remarks(territory, territory, [written]),
+        **near(land, territory, None if days else date),
     }
 
 

@@ -24,8 +24,9 @@ WEEKDAYS = ["Friday", "sunday", "MONDAY"]
 REASONS = ("not with both years", "no date of its calendar", "off the line", "skipped",
            "no such date in that year")
 TWO_WEEKDAYS = b": the date names "
-MEMBERS = {"approximate", "kind", "other_calendar", "reason", "runs", "supplied", "uncertain",
-           "weekday"}
+MEMBERS = {"approximate", "kind", "named_calendar", "named_weekday", "nearest",
+           "not_counted_double", "other_calendar", "read_as", "reason", "runs", "skipped",
+           "supplied", "three_digits", "uncertain", "weekday", "year"}
 
 
 def sample_dates():

@@ -63,7 +63,8 @@ def month_of(parts):
 def simple_of(parts, text):
     year, later = int(parts["year"]), parts["later"]
     day = int(parts["day"]) if "day" in parts else None
-    date = Simple(year, later is not None, month_of(parts), day)
+    has_three_digits = len(parts["year"]) == 3 and year >= 100
+    date = Simple(year, later is not None, month_of(parts), day, has_three_digits)
     is_later = later is None or str(year + 1).zfill(len(later)).endswith(later)
     if not is_later or year > 10_000 or date.month not in (None, *range(1, 13)):
         raise Unread(text)

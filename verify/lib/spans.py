@@ -31,6 +31,7 @@ class Simple(NamedTuple):
     is_double: bool = False
     month: Optional[int] = None
     day: Optional[int] = None
+    has_three_digits: bool = False
 
     def first_day(self):
         return Written(self.year, self.month or 1, self.day or 1, self.is_double)
@@ -282,14 +283,52 @@ def kind_of(span):
     return kinds.get(span.kind, "after")
 
 
+def missing_day(territory, span, why):
+    """The day that is missing, None if that is not why a span has no day."""
+    span = without_day(territory, span)
+    return {"first": span.first, "last": span.last}[why].first_day() if why in ("first", "last") \
+        else None
+
+
 def reason_of(territory, span, why):
     """Why a span has no day."""
-    span = without_day(territory, span)
-    if why == "first":
-        return territory.absence(span.first.first_day())
-    if why == "last":
-        return f"last date: {territory.absence(span.last.first_day())}"
+    if missing := missing_day(territory, span, why):
+        return ("last date: " if why == "last" else "") + territory.absence(missing)
     return {"order": "first date after the last", "line": "off the line"}[why]
+
+
+def near(land, territory, missing):
+    """What is near a missing day in a territory: the days most like it, the changes at which it was
+    skipped, and the year that lacks it."""
+    why = territory.absence(missing) if missing else None
+    days = territory.days_of(missing.label()) if why == "not with both years" else []
+    if why in ("skipped", "no such date in that year"):
+        days = territory.nearest(missing)
+    is_lacking = why == "no such date in that year"
+    return {
+        "nearest": [land.found(day) for day in days],
+        "skipped": territory.gaps(missing.label()) if why == "skipped" else [],
+        "year": runs_found(land, runs_of(territory.days_of_year(missing.year))) if is_lacking
+                else [],
+    }
+
+
+def runs_found(land, runs):
+    return [{"first": land.found(first), "last": land.found(last)} for first, last in runs]
+
+
+def is_not_counted_double(territory, by_name, date):
+    """Returns whether a date has both years, and the place dated a day of it by another year than
+    the first."""
+    return date.is_double and any(territory.label(day)[0] != date.year
+                                  for day in date.days(by_name))
+
+
+def remarks(territory, by_name, dates):
+    """What is remarked of a date with these ends."""
+    return {"not_counted_double": any(is_not_counted_double(territory, by_name, date)
+                                      for date in dates),
+            "three_digits": any(date.has_three_digits for date in dates)}
 
 
 def has_day_of(runs, weekday):
@@ -299,8 +338,18 @@ def has_day_of(runs, weekday):
 
 def none_answer(why):
     """The answer to a text that is not a date."""
-    return {"approximate": False, "kind": "none", "other_calendar": False, "reason": why,
-            "runs": [], "supplied": False, "uncertain": False, "weekday": None}
+    return {"approximate": False, "kind": "none", "named_calendar": None, "named_weekday": None,
+            "nearest": [], "not_counted_double": False, "other_calendar": False, "read_as": [],
+            "reason": why, "runs": [], "skipped": [], "supplied": False, "three_digits": False,
+            "uncertain": False, "weekday": None, "year": []}
+
+
+def read_as(span):
+    """A span in words, or each member of a set."""
+    if span.kind != "set":
+        return [span.words()]
+    return [member._replace(approximate=span.approximate, uncertain=span.uncertain).words()
+            for member in span.members]
 
 
 def span_answer(land, span, weekday=None):
@@ -310,14 +359,19 @@ def span_answer(land, span, weekday=None):
     runs, own = found(by_name, span), found(territory, span)
     is_none = isinstance(runs, str)
     is_asked = weekday is not None and kind_of(span) == "day"
+    ends = [date for date in (span.first, span.last) if date and span.kind != "set"]
     return {
         "approximate": span.approximate, "kind": kind_of(span),
+        "named_calendar": {None: None, "old": "Old Style", "new": "New Style"}[span.reckoning],
+        "named_weekday": None,
         "other_calendar": runs != own and not (is_none and isinstance(own, str)),
+        "read_as": read_as(span),
         "reason": reason_of(by_name, span, runs) if is_none else None,
-        "runs": [] if is_none else [{"first": land.found(first), "last": land.found(last)}
-                                    for first, last in runs],
+        "runs": [] if is_none else runs_found(land, runs),
         "supplied": span.supplied, "uncertain": span.uncertain,
         "weekday": not is_none and has_day_of(runs, weekday) if is_asked else None,
+        **remarks(territory, by_name, ends),
+        **near(land, by_name, missing_day(by_name, span, runs) if is_none else None),
     }
 
 

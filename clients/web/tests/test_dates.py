@@ -1,66 +1,59 @@
-"""When the page of a date is printed too, and what is said of a text that is not read."""
+"""Which days a date means on its page, and what is said of a text that is not read."""
 from __future__ import annotations
 
 import json
+import subprocess
 from pathlib import Path
-from typing import Any
+from typing import Any, Callable
 
 import pytest
 from conftest import SAMPLES
 
 from oldstyle import Day
-from oldstyle_web.dates import ADVICE, DateFound, by_weekday, date_found, needs_page
-from oldstyle_web.printed_pages import PrintedDate, Printer, printed_date
+from oldstyle_web.dates import ADVICE, DateFound, date_found, in_order
 from oldstyle_web.register import Asking, Register
 from oldstyle_web.settings import Settings
 
-ANSWERED: dict[str, Any] = {"kind": "day", "reason": None, "weekday": None,
-                            "other_calendar": False, "runs": [{}]}
-ALONE = ["11 February 1731", "Friday 11 February 1731", "1731", "March 1731", "[Feb. 1640?]",
-         "1731-02", "1640-1645", "1640?", "0173?", "0045-05", "3.5.1640",
-         "[1640-05-03,1640-05-10]", "[1731-04-05..1731-04-11,1732-04-04]"]
+ANSWERED: dict[str, Any] = {"kind": "day", "reason": None, "weekday": None, "named_weekday": None,
+                            "other_calendar": False, "read_as": [], "runs": [{}]}
 
 
-def found(reason: str | None, kind: str = "none", *notes: str) -> DateFound:
-    answered = {**ANSWERED, "kind": kind, "reason": reason}
-    return DateFound("GB", "Great Britain", "x", "", "", answered, [], [],
-                     PrintedDate(notes=list(notes)))
+def found(reason: str | None, kind: str = "none", weekday: str = "", **members: Any) -> DateFound:
+    answered = {**ANSWERED, "kind": kind, "reason": reason, **members}
+    return DateFound("GB", "Great Britain", "x", weekday, "", answered, [], [], [])
 
 
-@pytest.mark.parametrize("kind, date, changed, is_needed", [
-    ("day", "11 February 1731", {}, False), ("day", "11 February 1731/2", {}, True),
-    ("day", "11 July 841", {}, True), ("day", "11 February 1731", {"weekday": False}, False),
-    ("day", "Monday 11 February 1731", {"weekday": False}, True),
-    ("day", "Monday 1731-02-11", {"weekday": False}, True),
-    ("day", "11 February 1731", {"reason": "skipped"}, True),
-    ("day", "11 February 1731 N.S.", {"other_calendar": True}, True),
-    ("day", "1 April 1543", {"runs": [{}, {}]}, False),
-    ("day", "Sunday 1 April 1543", {"runs": [{}, {}]}, True),
-    ("none", "11/2/1731", {"reason": "open between day and month"}, False),
-    ("month", "March 1731", {"runs": [{}, {}]}, False), ("month", "Friday 1731-03", {}, True),
-    ("month", "c. March 1731", {}, True), ("year", "1731", {}, False), ("year", "841", {}, True),
-    ("year", "Friday 1731", {}, True), ("range", "840-1640", {}, True),
-    ("range", "1640-1645", {}, False), ("range", "3-10 May 1640", {}, True)])
-def test_the_page_of_a_date_is_printed_if_it_may_say_more(
-        kind: str, date: str, changed: dict[str, Any], is_needed: bool) -> None:
-    assert needs_page({**ANSWERED, "kind": kind, **changed}, date, "") is is_needed
+@pytest.mark.parametrize("named, given, text", [
+    (None, "", "Friday"), ("Friday", "", "Friday, as it is said"),
+    (None, "Friday", "Friday, as it is said"), ("Monday", "Friday", "Friday, not Monday"),
+    ("Friday", "Sunday", "Friday, not Sunday"), ("Friday", "Friday", "Friday, as it is said")])
+def test_whether_a_day_is_of_the_weekdays_that_are_given(named: str | None, given: str,
+                                                         text: str) -> None:
+    day = Day(1, "", "", 1, "", "", "Friday")
+    assert found(None, "day", given, named_weekday=named).agreement(day) == text
 
 
-def test_a_given_weekday_of_a_month_is_remarked() -> None:
-    assert needs_page({**ANSWERED, "kind": "month"}, "1731-03", "Friday")
+def test_a_date_is_named_as_it_was_read() -> None:
+    assert found(None, "day", read_as=["11 February 1731/2"]).read_as == "11 February 1731/2"
+    assert found(None, "set", read_as=["1 May 1640", "3 May 1640"]).read_as == "x"
+    assert found("malformed date").read_as == "x"
 
 
-def test_days_of_a_given_weekday_come_first() -> None:
-    days = [Day(number, "", "", number, "", "", name)
-            for number, name in ((1, "Sunday"), (2, "Tuesday"), (3, "Sunday"))]
-    assert list(by_weekday(days, "Tuesday").items()) == [
-        (2, "ok"), (1, "not Tuesday"), (3, "not Tuesday")]
+@pytest.mark.parametrize("date, day_first, month_first", [
+    ("11/2/1731", "11.2.1731", "2.11.1731"), ("11 2 1731", "11.2.1731", "2.11.1731"),
+    ("Friday 11-2-1731/2", "Friday 11.2.1731/2", "Friday 2.11.1731/2"),
+    ("11/2 1731", "11.2.1731", "2.11.1731"), ("11 February 1731", None, None),
+    ("1731-02-11", None, None)])
+def test_the_order_of_three_numbers(date: str, day_first: str | None,
+                                    month_first: str | None) -> None:
+    assert in_order(date, "dmy") == (day_first or date)
+    assert in_order(date, "mdy") == (month_first or date)
+    assert in_order(date, "") == date
 
 
 def test_a_text_that_is_not_read_has_advice() -> None:
     assert found("year of one or two digits").advice == (
         "A year of one or two digits needs its zeros, such as 0045.")
-    assert found("year of one or two digits", "none", "a note").advice == ""
     assert found("skipped", "day").advice == found(None, "year").advice == ""
 
 
@@ -84,14 +77,6 @@ def asking(program: str) -> Any:
     register.close()
 
 
-@pytest.mark.parametrize("date", ALONE)
-def test_the_page_says_no_more_where_it_is_not_printed(asking: Asking, date: str) -> None:
-    answered, = asking.answers([{"op": "written", "code": "GB", "date": date}])
-    assert not needs_page(answered, date, "")
-    printer = Printer(asking.register.settings)
-    assert printed_date(printer, asking, "GB", "Great Britain", date, "", "").notes == []
-
-
 @pytest.mark.parametrize("date, reason", [
     ("nothing", "malformed date"), ("1731/3", "not the year that follows"),
     ("11 February 10001", "no year from 0 to 10000"), ("1640-45", "no month from 1 to 12"),
@@ -103,22 +88,41 @@ def test_the_page_says_no_more_where_it_is_not_printed(asking: Asking, date: str
 def test_the_advice_is_that_of_the_program(asking: Asking, date: str, reason: str) -> None:
     answered, = asking.answers([{"op": "written", "code": "GB", "date": date}])
     assert (answered["kind"], answered["reason"]) == ("none", reason)
-    printer = Printer(asking.register.settings)
-    page = printed_date(printer, asking, "GB", "Great Britain", date, "", "").notes
-    assert page == [ADVICE[reason]]
+    settings = asking.register.settings
+    printed = subprocess.run([settings.program, "read", settings.journal, "GB", date], text=True,
+                             check=False, capture_output=True)
+    assert ADVICE[reason] in printed.stderr and not printed.stdout
 
 
 @pytest.mark.parametrize("code, date, weekday", [
     ("GB", "11 February 1731", "Friday"), ("GB", "11 February 1731", "Monday"),
-    ("FR", "1 April 1543", "Tuesday"), ("FR", "1 April 1543", "Monday")])
-def test_a_given_weekday_is_compared_as_by_the_program(
+    ("FR", "1 April 1543", "Tuesday"), ("FR", "1 April 1543", "Monday"),
+    ("FR", "Tuesday 1 April 1543", "")])
+def test_days_and_their_weekdays_are_those_of_the_printed_page(
         program: str, easter_style: str, code: str, date: str, weekday: str) -> None:
     register = Register(Settings(easter_style, program))
-    asking, printer = Asking(register), Printer(register.settings)
-    found = date_found(printer, asking, code, code, date, weekday, "")
-    assert not printer.cache
-    page = printed_date(printer, asking, code, code, date, weekday, "")
+    found = date_found(Asking(register), code, code, date, weekday, "")
     register.close()
-    assert page.agreeing
-    assert list(found.printed.agreeing.items()) == list(page.agreeing.items())
-    assert [day.found.day for day in found.days] == list(page.agreeing)
+    words = ["--weekday", weekday] if weekday else []
+    lines = subprocess.run([program, "read", easter_style, code, date, *words], text=True,
+                           check=True, capture_output=True).stdout.splitlines()[1:]
+    verdicts = [(int(number), verdict.strip()) for number, verdict in (
+        line.partition("    day ")[2].split("    JDN ") for line in lines)]
+    assert [day.found.day for day in found.days] == [number for number, _ in verdicts]
+    for day, (_, verdict) in zip(found.days, verdicts):
+        expected = verdict.partition(" ")[2].replace("ok", "as it is said")
+        assert found.agreement(day.found) == f"{day.found.weekday}, {expected}"
+
+
+def test_the_source_of_a_change_is_cited(journal_of: Callable[..., str], program: str) -> None:
+    regime = {"code": "GB", "calendar": "julian", "style": "january", "rule": "julian"}
+    journal = journal_of({"op": "add_land", "name": "GB", **regime},
+                         {"op": "add_change", "day": 639797, **regime, "calendar": "gregorian",
+                          "source": "24 Geo. II c. 23"})
+    register = Register(Settings(journal, program))
+    found = date_found(Asking(register), "GB", "GB", "3 September 1752", "", "")
+    register.close()
+    assert found.sources == ["24 Geo. II c. 23"] and not found.reason_sentence
+    assert found.remarks == [
+        "Wednesday 2 September 1752 was followed by Thursday 14 September 1752. 11 dates left out. "
+        "Source: 24 Geo. II c. 23."]

@@ -106,9 +106,14 @@ def test_changes_are_in_the_language(client: Any) -> None:
             assert f" {sentence}</strong>" in client.get(f"/{page}&code=GB&lang={language}").text
 
 
-def test_what_the_program_says_is_quoted_in_its_language(client: Any) -> None:
+def test_remarks_are_in_the_language(client: Any) -> None:
     text = client.get("/?code=GB&date=5+September+1752&lang=de").text
-    assert '<li lang="en">Skipped: Wednesday 2 September 1752 was followed by' in text
+    assert "<li>Auf Mittwoch 2. September 1752 folgte Donnerstag 14. September 1752." in text
+    text = client.get("/?code=GB&date=11+February+1731+N.S.&lang=fr").text
+    assert "<li>Lu comme nouveau style, ainsi que le dit la date." in text
+
+
+def test_what_the_program_says_is_quoted_in_its_language(client: Any) -> None:
     assert '<pre class="quoted" lang="en">' in client.get("/edition?lang=de").text
 
 

@@ -28,32 +28,6 @@ def test_a_name_with_line_separators_is_one_line(script: Callable[[str], str]) -
     page = Printer(Settings(SAMPLES, script(printing))).page(one, "read", "AA")
     assert page.lines == [f"11 February 1731 in {NAME} (AA), edition 2", "second line"]
     assert one.editions == {2}
-    assert printed_pages.date_on(page, NAME, "AA").read_as == "11 February 1731"
-
-
-def test_a_source_belongs_to_the_note_before_it() -> None:
-    found = printed_pages.date_on(Page([
-        "3 September 1752 in Great Britain (GB), edition 5",
-        "skipped: Wednesday 2 September 1752 was followed by a day", "(source: 24 Geo. II c. 23)",
-        "nearest: a day", "2 edits are not published yet", "approximate; in doubt"], ""),
-        "Great Britain", "GB")
-    assert found.sources == ["24 Geo. II c. 23"]
-    assert found.notes == ["skipped: Wednesday 2 September 1752 was followed by a day (source: "
-                           "24 Geo. II c. 23)", "nearest: a day"]
-
-
-def test_days_and_counts_are_no_notes() -> None:
-    found = printed_pages.date_on(Page([
-        "x in A (AA), edition 1", "from any earlier day",
-        "Friday 11 February 1731/2    22 February 1732 Gregorian    11 February 1732 Julian    "
-        "day 632287    JDN 2353712 not Monday", "31 days"], ""), "A", "AA")
-    assert (found.agreeing, found.notes) == ({632287: "not Monday"}, [])
-
-
-def test_a_report_of_a_date_lacks_the_date() -> None:
-    stderr = "oldstyle: 11/2/1731: open between day and month, or use --order dmy or mdy\nmore"
-    found = printed_pages.date_on(Page([], stderr), "A", "AA", "11/2/1731")
-    assert found.notes == ["open between day and month"]
 
 
 def test_feasts_of_a_year(monkeypatch: pytest.MonkeyPatch) -> None:
@@ -69,10 +43,13 @@ def test_feasts_of_a_year(monkeypatch: pytest.MonkeyPatch) -> None:
         ("Ash Wednesday", 639593)]
 
 
-def test_places_and_months_require_no_printed_page(page: Any, client: Any,
-                                                   monkeypatch: pytest.MonkeyPatch) -> None:
+def test_places_months_and_dates_require_no_printed_page(page: Any, client: Any,
+                                                         monkeypatch: pytest.MonkeyPatch) -> None:
     monkeypatch.setattr(page.printer, "page", None)
-    for path in ("/place?code=GB", "/month?code=GB&year=1752&month=9"):
+    for path in ("/place?code=GB", "/month?code=GB&year=1752&month=9",
+                 "/month?code=GB&year=0&month=1", "/?code=GB&date=10+January+1751",
+                 "/?code=GB&date=11%2F2%2F1731&order=mdy",
+                 "/?code=GB&date=Friday+11+February+1731%2F2"):
         assert client.get(path).status_code == 200
 
 

@@ -2,7 +2,6 @@ pub mod Words
 pub mod Turn
 pub mod SourceLine
 pub mod Heading
-pub mod Nearest
 pub mod Reading
 pub mod Why
 pub mod Runs

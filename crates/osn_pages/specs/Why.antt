@@ -20,7 +20,7 @@ use Rattle.osn_written.specs.declared.absence.Absence.TheVariants as why
 use Rattle.osn_written.specs.declared.written_date.WrittenDate.{WrittenDate}
 use Rattle.osn_written.specs.Absence.{absence}
 use Rattle.osn_written.specs.Meaning.{label_of}
-use Rattle.osn_pages.specs.Nearest.{nearest}
+use Rattle.osn_written.specs.Nearest.{nearest}
 use Rattle.osn_pages.specs.SourceLine.{source_text}
 use Rattle.osn_pages.specs.Turn.{turned_line}
 use Rattle.osn_pages.specs.Words.{numbered_day, year_ends, empty_year_line, followed}

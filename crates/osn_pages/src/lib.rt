@@ -9,7 +9,6 @@ mod grid;
 mod heading;
 mod land_sources;
 mod month;
-mod nearest;
 mod page;
 mod periods;
 mod reading;

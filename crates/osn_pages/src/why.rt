@@ -5,17 +5,16 @@ ghost use Rattle.osn_days.specs.Profile.{newest_rules};
 ghost use Rattle.osn_lands.specs.Dated.{dated_on};
 ghost use Rattle.osn_lands.specs.Runs.{days_in, days_of_year, AreRuns};
 ghost use Rattle.osn_written.specs.Absence.{absence};
-ghost use Rattle.osn_pages.specs.Nearest.{nearest_days as days_nearest};
+ghost use Rattle.osn_written.specs.Nearest.{nearest_days as days_nearest};
 ghost use Rattle.osn_pages.specs.Why as spec;
 
 use crate::land_sources::LandSources;
-use crate::nearest::nearest_days;
 use crate::source_line::push_source;
 use crate::turn::push_turned;
 use crate::words::{Followed, NumberedDay, YearEnds, push_empty_year};
 use osn_days::{Day, Keyword, month_name};
 use osn_lands::{DatedDay, Run, Style, Territory};
-use osn_written::{Absence, WrittenDate, absence_of};
+use osn_written::{Absence, WrittenDate, absence_of, nearest_days};
 use std::alloc::{AllocError, Global};
 use std::fmt::Write;
 

@@ -1,9 +1,9 @@
 -- What the register answers to a query: this project's profile.
-use Rattle.std.specs.Prelude.{ℕ, Bool, true, false, not, ◌&&◌, ◌||◌, if◌then◌else◌, nat_le, ℤ, pos}
+use Rattle.std.specs.Prelude.{ℕ, Bool, true, false, not, ◌&&◌, if◌then◌else◌, nat_le, ℤ, pos}
 use Rattle.std.specs.Prelude.{nat_lt, ◌-◌}
 use Rattle.std.specs.Prelude.{unsigned_abs, List, [], ◌∷◌, map, find, Option, Some, None, is_some}
-use Rattle.std.specs.Prelude.{option_map, option_and_then, Result, Ok, Err}
-use Rattle.std.specs.List.{list_any, flat_map}
+use Rattle.std.specs.Prelude.{option_and_then}
+use Rattle.std.specs.List.{flat_map}
 use Rattle.osn_days.specs.Profile.{Profile}
 use Rattle.osn_days.specs.declared.calendar.Calendar.TheVariants as calendar
 use Rattle.osn_days.specs.declared.weekday.Weekday.{Weekday}
@@ -25,15 +25,13 @@ use Rattle.osn_lands.specs.Easters.{easters}
 use Rattle.osn_written.specs.declared.any_date.AnyDate.{AnyDate}
 use Rattle.osn_written.specs.declared.date_reading.DateReading.{DateReading}
 use Rattle.osn_written.specs.declared.date_reading.DateReading.TheVariants as readings
-use Rattle.osn_written.specs.declared.finding.NoDay.{NoDay}
 use Rattle.osn_written.specs.declared.kind.Kind.TheVariants as kinds
-use Rattle.osn_written.specs.declared.set.AbsentMember.{AbsentMember}
+use Rattle.osn_written.specs.declared.missing.Missing.{Missing}
 use Rattle.osn_written.specs.declared.written_date.DateFault.{DateFault}
-use Rattle.osn_written.specs.declared.written_date.WrittenDate.{WrittenDate}
+use Rattle.osn_written.specs.DateInWords.{words_of}
 use Rattle.osn_written.specs.Finding.{extent_meant, reckoned, is_by_other_calendar}
 use Rattle.osn_written.specs.Kind.{kind_of}
-use Rattle.osn_written.specs.Meaning.{meaning, has_weekday}
-use Rattle.osn_written.specs.PlainDay.{one_day}
+use Rattle.osn_written.specs.Missing.{days_like, changes_over, year_without}
 use Rattle.osn_written.specs.SetsMeant.{set_meant, is_set_approximate, is_set_uncertain}
 use Rattle.osn_register.specs.declared.query.Query.{Query}
 use Rattle.osn_register.specs.declared.query.Query.TheVariants as queries
@@ -47,13 +45,15 @@ use Rattle.osn_register.specs.declared.answer.FoundChange.{FoundChange}
 use Rattle.osn_register.specs.declared.answer.FoundRun.{FoundRun}
 use Rattle.osn_register.specs.declared.answer.Land.{Land}
 use Rattle.osn_register.specs.declared.answer.PeriodAndSource.{PeriodAndSource}
-use Rattle.osn_register.specs.declared.answer.Reason.{Reason}
 use Rattle.osn_register.specs.declared.answer.Reason.TheVariants as reasons
 use Rattle.osn_register.specs.declared.answer.WrittenAnswer.{WrittenAnswer}
+use Rattle.osn_register.specs.declared.remarks.NearDays.{NearDays}
 use Rattle.osn_register.specs.declared.refusal.Refusal.{Refusal}
 use Rattle.osn_register.specs.declared.refusal.Refusal.TheVariants.{UnknownLand, DayOffLine}
 use Rattle.osn_register.specs.declared.refusal.Refusal.TheVariants.{YearOffRange, BadDate}
 use Rattle.osn_register.specs.Refusal.{first_refusal, or_else}
+use Rattle.osn_register.specs.Remarks.{runs_in, reason_in, set_runs_in, set_reason_in, if_weekday}
+use Rattle.osn_register.specs.Remarks.{remarks_of, remarks_if_read_as, missing_in, missing_in_set}
 use Rattle.osn_register.specs.Plain.{LandModel, territory_of, sources_of, code_refusal}
 use Rattle.osn_register.specs.Plain.{is_between, is_off_line, is_off_years}
 use Rattle.osn_register.specs.Sources.{SourcesModel, source_of}
@@ -222,24 +222,17 @@ changes_answer p (Some t) sources = Changes (flat_map (change_if p t sources) (p
 abbrev pub found_run : Profile → TerritoryModel → Run → FoundRun
 found_run p t run = record { first = found_on p t run.first; last = found_on p t run.last }
 
--- the days that a date means, and why it means none
-abbrev pub runs_in : Result (List Run) NoDay → List Run
-runs_in (Ok runs) = runs
-runs_in (Err none) = []
+-- what is near a date that no day has, each day as the territory names it
+abbrev pub near_missing : Profile → TerritoryModel → TerritoryModel → Missing → NearDays
+near_missing p t by missing = record {
+  days = map (found_on p t) (days_like p by missing);
+  changes = changes_over p by missing;
+  year = map (found_run p t) (year_without p by missing);
+}
 
-abbrev pub reason_in : Result (List Run) NoDay → Option Reason
-reason_in (Ok runs) = None
-reason_in (Err none) = Some (reasons.NoDay none)
-
--- one of the days that a date means is of the weekday that it names, and of the one that is given
-abbrev pub is_on_weekday : Profile → TerritoryModel → Option Weekday → WrittenDate → Bool
-is_on_weekday p t given w = list_any (has_weekday w given) (meaning p t w given)
-
--- the same if a weekday is named or given, and the date is that of one day
-abbrev pub if_weekday : Profile → TerritoryModel → AnyDate → Option Weekday → Option Bool
-if_weekday p t w given =
-    if is_some w.weekday || is_some given then option_map (is_on_weekday p t given) (one_day w)
-    else None
+abbrev pub near : Profile → TerritoryModel → TerritoryModel → Option Missing → NearDays
+near p t by None = record { days = []; changes = []; year = [] }
+near p t by (Some missing) = near_missing p t by missing
 
 -- what a date means in a territory: the days by the calendar that it names, each as the territory
 -- names it
@@ -253,6 +246,9 @@ date_answer p t w given = record {
   reason = reason_in (extent_meant p (reckoned t w.reckoning) w.extent);
   runs = map (found_run p t) (runs_in (extent_meant p (reckoned t w.reckoning) w.extent));
   is_on_weekday = if_weekday p (reckoned t w.reckoning) w given;
+  remarks = remarks_of p t (reckoned t w.reckoning) w;
+  near = near p t (reckoned t w.reckoning)
+      (missing_in w.extent (extent_meant p (reckoned t w.reckoning) w.extent));
 }
 
 -- the answer if no date is read, with the reason
@@ -266,16 +262,9 @@ no_date fault = record {
   reason = Some (reasons.NotRead fault);
   runs = [];
   is_on_weekday = None;
+  remarks = remarks_if_read_as [];
+  near = record { days = []; changes = []; year = [] };
 }
-
--- the days of a set, and why it means none
-abbrev pub set_runs_in : Result (List Run) AbsentMember → List Run
-set_runs_in (Ok runs) = runs
-set_runs_in (Err absent) = []
-
-abbrev pub set_reason_in : Result (List Run) AbsentMember → Option Reason
-set_reason_in (Ok runs) = None
-set_reason_in (Err absent) = Some (reasons.NoDay absent.reason)
 
 -- what a set of dates means in a territory. It is not one day, so no weekday is compared
 abbrev pub set_answer : Profile → TerritoryModel → List AnyDate → WrittenAnswer
@@ -288,6 +277,8 @@ set_answer p t ws = record {
   reason = set_reason_in (set_meant p t ws);
   runs = map (found_run p t) (set_runs_in (set_meant p t ws));
   is_on_weekday = None;
+  remarks = remarks_if_read_as (map words_of ws);
+  near = near p t t (missing_in_set (set_meant p t ws));
 }
 
 -- the answer about a date that was read

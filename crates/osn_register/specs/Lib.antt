@@ -9,6 +9,7 @@ pub mod Lawful
 pub mod SameLand
 pub mod Named
 pub mod ByName
+pub mod Remarks
 pub mod Answer
 pub mod Inside
 pub mod InsideChange

@@ -1,5 +1,6 @@
 //! What the register answers.
 use crate::refusal::Refusal;
+use crate::remarks::{DateRemarks, NearDays};
 use crate::source::Source;
 use crate::text::Text;
 use osn_computus::{Epact, Letters};
@@ -113,6 +114,10 @@ pub struct WrittenAnswer {
     /// Whether one of the days is on each weekday that is named or given, if one is and the date is
     /// that of one day.
     pub is_on_weekday: Option<bool>,
+    /// How the text was read, and what is remarked of it.
+    pub remarks: DateRemarks,
+    /// What is near the date, if no day has it.
+    pub near: NearDays,
 }
 
 /// What the register answers to a query.

@@ -45,7 +45,11 @@ pub(crate) fn found_on(alloc: Global, territory: &Territory, day: Day) -> Result
 }
 
 /// Returns days as the territory names them.
-fn found_days(alloc: Global, territory: &Territory, days: &[Day]) -> Result<Vec<Found>, AllocError>
+pub(crate) fn found_days(
+    alloc: Global,
+    territory: &Territory,
+    days: &[Day],
+) -> Result<Vec<Found>, AllocError>
     ensures { IfOk result (λ v. v.items ≡ map (spec.found_on newest_rules territory.now) days.now) }
 {
     let mut found = Vec::with_capacity(alloc, days.len())?;

@@ -2,17 +2,19 @@
 ghost use Rattle.std.specs.Prelude.{◌≡◌, Some, IfOk, map};
 ghost use Rattle.osn_days.specs.Profile.{newest_rules};
 ghost use Rattle.osn_register.specs.Answer as spec;
+ghost use Rattle.osn_register.specs.Remarks as remark;
 ghost use Rattle.osn_written.specs.Finding as finding;
 ghost use Rattle.osn_written.specs.SetsMeant.{set_list_of};
 
 use crate::answer::{Answer, FoundRun, Reason, WrittenAnswer};
+use crate::remarks::{near, no_near_days, no_remarks, remarks_of, remarks_of_set};
 use crate::territory_answer::found_on;
 use osn_days::Weekday;
 use osn_lands::{Run, Territory};
 use osn_written::{
-    AbsentMember, AnyDate, DateFault, DateReading, Kind, Listing, NoDay, WrittenDate, by_reckoning,
-    days_meant, find_runs, find_set, has_weekday, is_by_other_calendar, is_set_approximate,
-    is_set_uncertain, kind_of,
+    AbsentMember, AnyDate, DateFault, DateReading, Extent, Kind, Listing, Missing, NoDay,
+    WrittenDate, by_reckoning, days_meant, find_runs, find_set, has_weekday, is_by_other_calendar,
+    is_set_approximate, is_set_uncertain, kind_of, missing_day,
 };
 use std::alloc::{AllocError, Global};
 
@@ -27,7 +29,7 @@ fn found_run(alloc: Global, territory: &Territory, run: Run) -> Result<FoundRun,
 }
 
 /// Runs by their first and their last days, as the territory names them.
-fn found_runs(
+pub(crate) fn found_runs(
     alloc: Global,
     territory: &Territory,
     runs: &[Run],
@@ -49,12 +51,22 @@ fn runs_and_reason(
     found: Result<Vec<Run>, NoDay>,
 ) -> Result<(Vec<FoundRun>, Option<Reason>), AllocError>
     ensures runs { IfOk result (λ told. told.0.items
-        ≡ map (spec.found_run newest_rules territory.now) (spec.runs_in (finding.list_of found))) }
-    ensures reason { IfOk result (λ told. told.1 ≡ spec.reason_in (finding.list_of found)) }
+        ≡ map (spec.found_run newest_rules territory.now) (remark.runs_in (finding.list_of found))) }
+    ensures reason { IfOk result (λ told. told.1 ≡ remark.reason_in (finding.list_of found)) }
 {
     match found {
         Ok(runs) => Ok((found_runs(alloc, territory, runs.as_slice())?, None)),
         Err(no_day) => Ok((Vec::new(alloc), Some(Reason::NoDay(no_day)))),
+    }
+}
+
+/// Returns the date whose day is missing, if that is why no day is meant.
+fn missing_in(extent: Extent, found: &Result<Vec<Run>, NoDay>) -> Option<Missing>
+    ensures { result ≡ remark.missing_in extent (finding.list_of found.now) }
+{
+    match found {
+        Ok(_) => None,
+        Err(reason) => missing_day(extent, *reason),
     }
 }
 
@@ -67,7 +79,7 @@ fn is_on_weekday(
     date: WrittenDate,
 ) -> Result<bool, AllocError>
     ensures { IfOk result (λ on.
-        on ≡ spec.is_on_weekday newest_rules territory.now given date) }
+        on ≡ remark.is_on_weekday newest_rules territory.now given date) }
 {
     let days = days_meant(alloc, territory, date, given)?;
     Ok(days.iter().any(|day| has_weekday(date, given, day)))
@@ -80,7 +92,7 @@ fn if_weekday(
     date: AnyDate,
     given: Option<Weekday>,
 ) -> Result<Option<bool>, AllocError>
-    ensures { IfOk result (λ on. on ≡ spec.if_weekday newest_rules territory.now date given) }
+    ensures { IfOk result (λ on. on ≡ remark.if_weekday newest_rules territory.now date given) }
 {
     if date.weekday.is_none() && given.is_none() {
         return Ok(None);
@@ -103,6 +115,7 @@ fn answer_by(
     ensures { IfOk result (λ a. a ≡ spec.date_answer newest_rules territory.now date given) }
 {
     let found = find_runs(alloc, reckoned, date.extent)?;
+    let missing = missing_in(date.extent, &found);
     let (runs, reason) = runs_and_reason(alloc, territory, found)?;
     Ok(WrittenAnswer {
         kind: Some(kind_of(date.extent)),
@@ -113,6 +126,8 @@ fn answer_by(
         reason,
         runs: Listing::new(runs),
         is_on_weekday: if_weekday(alloc, reckoned, date, given)?,
+        remarks: remarks_of(alloc, territory, reckoned, date)?,
+        near: near(alloc, territory, reckoned, missing)?,
     })
 }
 
@@ -141,12 +156,22 @@ fn set_runs_and_reason(
     found: Result<Vec<Run>, AbsentMember>,
 ) -> Result<(Vec<FoundRun>, Option<Reason>), AllocError>
     ensures runs { IfOk result (λ told. told.0.items
-        ≡ map (spec.found_run newest_rules territory.now) (spec.set_runs_in (set_list_of found))) }
-    ensures reason { IfOk result (λ told. told.1 ≡ spec.set_reason_in (set_list_of found)) }
+        ≡ map (spec.found_run newest_rules territory.now) (remark.set_runs_in (set_list_of found))) }
+    ensures reason { IfOk result (λ told. told.1 ≡ remark.set_reason_in (set_list_of found)) }
 {
     match found {
         Ok(runs) => Ok((found_runs(alloc, territory, runs.as_slice())?, None)),
         Err(absent) => Ok((Vec::new(alloc), Some(Reason::NoDay(absent.reason)))),
+    }
+}
+
+/// Returns the date of a set whose day is missing, if that is why no day is meant.
+fn missing_in_set(found: &Result<Vec<Run>, AbsentMember>) -> Option<Missing>
+    ensures { result ≡ remark.missing_in_set (set_list_of found.now) }
+{
+    match found {
+        Ok(_) => None,
+        Err(absent) => missing_day(absent.extent, absent.reason),
     }
 }
 
@@ -159,6 +184,7 @@ fn set_answer(
     ensures { IfOk result (λ a. a ≡ spec.set_answer newest_rules territory.now members.now) }
 {
     let found = find_set(alloc, territory, members)?;
+    let missing = missing_in_set(&found);
     let (runs, reason) = set_runs_and_reason(alloc, territory, found)?;
     Ok(WrittenAnswer {
         kind: Some(Kind::Set),
@@ -169,6 +195,8 @@ fn set_answer(
         reason,
         runs: Listing::new(runs),
         is_on_weekday: None,
+        remarks: remarks_of_set(alloc, members)?,
+        near: near(alloc, territory, territory, missing)?,
     })
 }
 
@@ -185,6 +213,8 @@ fn no_date(alloc: Global, fault: DateFault) -> WrittenAnswer
         reason: Some(Reason::NotRead(fault)),
         runs: Listing::new(Vec::new(alloc)),
         is_on_weekday: None,
+        remarks: no_remarks(alloc),
+        near: no_near_days(alloc),
     }
 }
 

@@ -7,6 +7,7 @@ use Rattle.osn_computus.specs.declared.letters.Letters.{Letters}
 use Rattle.osn_computus.specs.FigureTexts.{epact_text, letters_text}
 use Rattle.osn_computus.specs.RuleWords.{rule_word}
 use Rattle.osn_days.specs.declared.calendar.Calendar.TheVariants.{Julian, Gregorian}
+use Rattle.osn_days.specs.declared.weekday.Weekday.{Weekday}
 use Rattle.osn_days.specs.Chain.{date_of}
 use Rattle.osn_days.specs.Line.{weekday, julian_day}
 use Rattle.osn_days.specs.Weekday.{weekday_name, weekday_numbered}
@@ -14,6 +15,8 @@ use Rattle.osn_days.specs.DateText.{date_text, text_of_date}
 use Rattle.osn_days.specs.CalendarWords.{calendar_word}
 use Rattle.osn_lands.specs.declared.regime.Regime.{Regime}
 use Rattle.osn_lands.specs.StyleWords.{style_word}
+use Rattle.osn_written.specs.declared.any_date.Reckoning.{Reckoning}
+use Rattle.osn_written.specs.declared.any_date.Reckoning.TheVariants.{OldStyle, NewStyle}
 use Rattle.osn_written.specs.declared.kind.Kind.{Kind}
 use Rattle.osn_written.specs.Kind.{kind_word}
 use Rattle.osn_written.specs.Words.{no_day_words, fault_words}
@@ -179,18 +182,37 @@ found_run_data run = object (
     (member (codes "last") (found_data run.last)
     no_members))
 
--- what a text means as a date
+-- the calendar that a text names, and its weekday
+abbrev pub reckoning_words : Reckoning → List ℕ
+reckoning_words OldStyle = codes "Old Style"
+reckoning_words NewStyle = codes "New Style"
+
+abbrev pub named_calendar_data : Reckoning → Data
+named_calendar_data reckoning = string (reckoning_words reckoning)
+
+abbrev pub weekday_data : Weekday → Data
+weekday_data w = string (weekday_name w)
+
+-- what a text means as a date, how it was read, and what is near it if it means no day
 abbrev pub written_data : WrittenAnswer → Data
 written_data w = object (
     member (codes "approximate") (boolean w.is_approximate)
     (member (codes "kind") (string (word_of_kind w.kind))
+    (member (codes "named_calendar") (option_data named_calendar_data w.remarks.reckoning)
+    (member (codes "named_weekday") (option_data weekday_data w.remarks.weekday)
+    (member (codes "nearest") (list_data (map found_data w.near.days))
+    (member (codes "not_counted_double") (boolean w.remarks.is_not_counted_double)
     (member (codes "other_calendar") (boolean w.is_by_other_calendar)
+    (member (codes "read_as") (list_data (map string w.remarks.read_as))
     (member (codes "reason") (option_data reason_data w.reason)
     (member (codes "runs") (list_data (map found_run_data w.runs))
+    (member (codes "skipped") (list_data (map whole w.near.changes))
     (member (codes "supplied") (boolean w.is_supplied)
+    (member (codes "three_digits") (boolean w.remarks.has_year_of_three_digits)
     (member (codes "uncertain") (boolean w.is_uncertain)
     (member (codes "weekday") (option_data boolean w.is_on_weekday)
-    no_members))))))))
+    (member (codes "year") (list_data (map found_run_data w.near.year))
+    no_members))))))))))))))))
 
 abbrev pub answered_data : ℕ → ℕ → Data → Data
 answered_data reader edition answer = object (

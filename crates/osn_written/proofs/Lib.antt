@@ -5,3 +5,4 @@ pub mod OrderFacts
 pub mod OneDayFacts
 mod SpanFacts
 mod UnionFacts
+mod NearestFacts

@@ -13,3 +13,5 @@ pub mod Finding
 pub mod SetsMeant
 pub mod Double
 pub mod Words
+pub mod Nearest
+pub mod Missing

@@ -51,7 +51,8 @@ class Reading:
 
     `runs` has all of the days, and `reason` says why there are none. If the date means several
     days, `day` is None; `earliest` or `latest` is None at the open end of a bound. The other
-    members are those of `written` in docs/FORMATS.md.
+    members are those of `written` in docs/FORMATS.md. An older program
+    gives none of those with a default.
     """
 
     code: str
@@ -65,6 +66,14 @@ class Reading:
     uncertain: bool
     other_calendar: bool
     weekday_fits: Optional[bool]
+    read_as: Tuple[str, ...] = ()
+    named_calendar: Optional[str] = None
+    named_weekday: Optional[str] = None
+    not_counted_double: bool = False
+    three_digits: bool = False
+    nearest: Tuple[Day, ...] = ()
+    skipped: Tuple[int, ...] = ()
+    year: Tuple[Run, ...] = ()
 
     @property
     def day(self) -> Optional[Day]:
@@ -162,7 +171,14 @@ def reading_of(code: str, date: str, reply: Mapping[str, Any]) -> Reading:
         "runs": tuple([run_of(run) for run in answer["runs"]]), "reason": answer["reason"],
         "approximate": answer["approximate"], "supplied": answer["supplied"],
         "uncertain": answer["uncertain"], "other_calendar": answer["other_calendar"],
-        "weekday_fits": answer["weekday"]})
+        "weekday_fits": answer["weekday"], "read_as": tuple(answer.get("read_as", ())),
+        "named_calendar": answer.get("named_calendar"),
+        "named_weekday": answer.get("named_weekday"),
+        "not_counted_double": answer.get("not_counted_double", False),
+        "three_digits": answer.get("three_digits", False),
+        "nearest": tuple([day_of(day) for day in answer.get("nearest", ())]),
+        "skipped": tuple(answer.get("skipped", ())),
+        "year": tuple([run_of(run) for run in answer.get("year", ())])})
 
 
 def run_of(run: Mapping[str, Any]) -> Run:

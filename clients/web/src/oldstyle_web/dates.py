@@ -1,4 +1,4 @@
-"""What the program says of one date: its days, their periods, and the reason if there is none."""
+"""What the program says of one date: its days, their periods, and what is remarked of it."""
 from __future__ import annotations
 
 import re
@@ -10,14 +10,14 @@ from oldstyle.answers import run_of
 
 from .languages import gettext as _
 from .months import sources_of
-from .printed_pages import PrintedDate, Printer, printed_date
+from .notes import notes_of
 from .register import Asking, DatedDay
 from .texts import full, in_words
 from .words import N_
 
 MOST_DAYS = 40
-WORD, NUMBER = re.compile(r"[^\W\d_]+"), re.compile(r"\d+")
-THREE_DIGITS = re.compile(r"(?<!\d)\d{3}(?!\d)")
+# Three numbers of which the first two may be a day and a month in either order.
+NUMBERS = re.compile(r"(?<!\d)(\d{1,2})[-/. ]+(\d{1,2})[-/. ]+(?=\d{3})")
 SENTENCES = {
     "malformed date": N_("The text has none of the forms of a date."),
     "no date": N_("The text says that there is no date."),
@@ -61,7 +61,7 @@ KINDS = {"month": N_("The date is a month"), "year": N_("The date is a year"),
 
 @dataclass
 class DateFound:
-    """A date in a territory: what was written, what it means, what is printed of it, and the
+    """A date in a territory: what was written, what it means, what is remarked of it, and the
     sources of the periods that it meets."""
 
     code: str
@@ -72,7 +72,7 @@ class DateFound:
     written: dict[str, Any]
     runs: list[Run]
     sources: list[str]
-    printed: PrintedDate
+    remarks: list[str]
     days: list[DatedDay] = field(default_factory=list)
 
     @property
@@ -91,12 +91,18 @@ class DateFound:
         return self.reason == "open between day and month"
 
     @property
-    def reason_sentence(self) -> str | None:
-        """Why it means no day, unless a note says so."""
+    def reason_sentence(self) -> str:
+        """Why it means no day, unless a remark says so."""
         reason = self.reason or ""
-        if any(note.startswith(reason) for note in self.printed.notes):
-            return None
+        if self.remarks:
+            return ""
         return _(SENTENCES[reason]) if reason in SENTENCES else f"{reason.capitalize()}."
+
+    @property
+    def read_as(self) -> str:
+        """The date as it was read, or as it is written if it was not, or is a set."""
+        texts: list[str] = self.written["read_as"]
+        return texts[0] if len(texts) == 1 else self.date
 
     @property
     def spans(self) -> Iterator[tuple[str | None, Day | None, Day | None, int | None]]:
@@ -111,14 +117,17 @@ class DateFound:
             yield (_("Day") if is_one else _("From"), None if is_open else run.first,
                    run.last if has_last else None, count)
 
+    @property
+    def weekdays(self) -> list[str]:
+        """The weekday that the date names, and the one that is given beside it."""
+        return [name for name in (self.written["named_weekday"], self.weekday) if name]
+
     def agreement(self, day: Day) -> str:
-        """A day's weekday, and in a few words whether it is the one that was given."""
-        verdict = self.printed.agreeing.get(day.day, "")
-        if verdict.startswith("not "):
-            return _("%(day)s, not %(other)s", day=_(day.weekday), other=_(verdict[4:]))
-        if verdict == "ok" or (self.written["weekday"] is True and not self.printed.agreeing):
-            return _("%(day)s, as it is said", day=_(day.weekday))
-        return _(day.weekday)
+        """A day's weekday, and in a few words whether it is each that was given."""
+        for other in self.weekdays:
+            if day.weekday != other:
+                return _("%(day)s, not %(other)s", day=_(day.weekday), other=_(other))
+        return _("%(day)s, as it is said", day=_(day.weekday)) if self.weekdays else _(day.weekday)
 
     @property
     def flags(self) -> str:
@@ -127,15 +136,10 @@ class DateFound:
         return _("The date is %(flags)s.", flags=flags) if flags else ""
 
     @property
-    def remarks(self) -> list[str]:
-        """The notes that are printed with its days."""
-        return list(map(as_sentence, self.printed.notes))
-
-    @property
     def advice(self) -> str:
-        """What to write instead of a text that is not read, unless a note says so."""
+        """What to write instead of a text that is not read."""
         advice = ADVICE.get(self.reason or "") if self.kind == "none" else None
-        return as_sentence(_(advice)) if advice and not self.printed.notes else ""
+        return as_sentence(_(advice)) if advice else ""
 
     @property
     def cited(self) -> str:
@@ -168,34 +172,28 @@ def cited_day(found: Day) -> str:
              gregorian=in_words(found.gregorian), julian=in_words(found.julian), jdn=found.jdn)
 
 
-def date_found(printer: Printer, asking: Asking, code: str, name: str, date: str, weekday: str,
+def date_found(asking: Asking, code: str, name: str, date: str, weekday: str,
                order: str) -> DateFound:
     """What a written date means in a territory."""
-    printed = printed_date(printer, asking, code, name, date, weekday, order) if order else None
-    question = {"op": "written", "code": code,
-                "date": printed.read_as if printed and printed.read_as else date}
+    question = {"op": "written", "code": code, "date": in_order(date, order)}
     written, = asking.answers([{**question, "weekday": weekday} if weekday else question])
     runs = [run_of(run) for run in written["runs"]]
+    changes = asking.changes_on(code, written["skipped"])
     sources = sources_of(asking.periods(code), shown_runs(written["kind"], runs))
-    if printed is None:
-        printed = printed_date(printer, asking, code, name, date, weekday, "") \
-            if needs_page(written, date, weekday) else PrintedDate()
-    found = DateFound(code, name, date, weekday, order, written, runs,
-                      sources + printed.sources, printed)
+    sources += [change.source for change in changes if change.source]
+    found = DateFound(code, name, date, weekday, order, written, runs, sources,
+                      notes_of(name, written, changes, weekday))
     if written["kind"] == "day":
         found.days = asking.dated_days(code, [run.first.day for run in runs][:MOST_DAYS])
-        if weekday and not printed.agreeing:
-            printed.agreeing = by_weekday([day.found for day in found.days], weekday)
-        order_of_days = list(printed.agreeing)
-        if all(day.found.day in printed.agreeing for day in found.days):
-            found.days.sort(key=lambda day: order_of_days.index(day.found.day))
+        found.days.sort(key=lambda day: any(day.found.weekday != other for other in found.weekdays))
     return found
 
 
-def by_weekday(days: list[Day], weekday: str) -> dict[int, str]:
-    """How days agree with a weekday, by their numbers: those of that weekday come first."""
-    return {day.day: "ok" if day.weekday == weekday else f"not {weekday}"
-            for day in sorted(days, key=lambda day: day.weekday != weekday)}
+def in_order(date: str, order: str) -> str:
+    """A date with its numbers in the order that is chosen: with full stops the day comes first."""
+    if order == "dmy":
+        return NUMBERS.sub(r"\1.\2.", date)
+    return NUMBERS.sub(r"\2.\1.", date) if order == "mdy" else date
 
 
 def shown_runs(kind: str, runs: list[Run]) -> list[Run]:
@@ -204,22 +202,3 @@ def shown_runs(kind: str, runs: list[Run]) -> list[Run]:
         return runs
     end = runs[-1].last if kind == "before" else runs[0].first
     return [Run(end, end)]
-
-
-def needs_page(written: dict[str, Any], date: str, weekday: str) -> bool:
-    """Returns whether the page of a date may say more than its answer: why it means no day, a
-    remark on its year, or how the weekday in its text or its calendar was understood."""
-    kind = written["kind"]
-    if kind == "none":
-        return False
-    is_open = written["weekday"] is False or len(written["runs"]) > 1 if kind == "day" else True
-    return bool(written["reason"] is not None or "/" in date or THREE_DIGITS.search(date)
-                or written["other_calendar"] or is_open and may_name_weekday(kind, date)
-                or weekday and kind != "day")
-
-
-def may_name_weekday(kind: str, date: str) -> bool:
-    """Returns whether a word of a date may be a weekday. The one of `11 March 1731` is its
-    month."""
-    words, numbers = len(WORD.findall(date)), len(NUMBER.findall(date))
-    return words > 0 and (kind, words, numbers) not in (("day", 1, 2), ("month", 1, 1))

@@ -1,12 +1,13 @@
-"""The month as it was lived: its days by lines of the program, and the changes that it meets."""
+"""The month as it was lived: its days, and the changes that it meets."""
 from __future__ import annotations
 
 from dataclasses import dataclass
 
 from oldstyle import Change, Day, Period, Run
+from oldstyle.answers import run_of
 
 from .languages import date_text, gettext as _
-from .printed_pages import Printer, printed_date
+from .notes import notes_of
 from .register import Asking
 from .texts import full
 from .words import BEGINNINGS, LAST_DAY, MONTHS, WEEKDAYS
@@ -83,19 +84,18 @@ def sources_of(periods: list[Period], runs: list[Run]) -> list[str]:
             run.first.day <= period.last and period.first <= run.last.day for run in runs)))
 
 
-def month_found(printer: Printer, asking: Asking, code: str, name: str, year: int,
-                month: int) -> MonthFound:
+def month_found(asking: Asking, code: str, name: str, year: int, month: int) -> MonthFound:
     """The days that a territory dated in a month of its year."""
-    date = f"{year:04}-{month:02}"
-    written, = asking.runs(code, [date])
-    runs = [run_found(asking, code, run) for run in written]
+    written, = asking.answers([{"op": "written", "code": code, "date": f"{year:04}-{month:02}"}])
+    days = [run_of(run) for run in written["runs"]]
+    runs = [run_found(asking, code, run) for run in days]
     periods = asking.periods(code)
     numbers = {found.day for run in runs for found in run.days}
     met = [change for change in asking.changes(code)
            if numbers & {change.before.day, change.found.day}]
-    reasons = [] if runs else printed_date(printer, asking, code, name, date, "", "").notes
+    reasons = notes_of(name, written, asking.changes_on(code, written["skipped"]))
     return MonthFound(year, month, runs, met, reasons, styles_of(periods, numbers),
-                      sources_of(periods, written))
+                      sources_of(periods, days))
 
 
 def run_found(asking: Asking, code: str, run: Run) -> MonthRun:

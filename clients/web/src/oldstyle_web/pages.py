@@ -57,8 +57,8 @@ def dates_found(question: Question, codes: list[str]) -> tuple[int, list[Land], 
         names = {code: name_in(lands, code) for code in codes if code}
         if not question.date or not all(codes):
             return lands, []
-        return lands, [date_found(page().printer, asking, code, names[code], question.date,
-                                  question.weekday, question.order) for code in codes]
+        return lands, [date_found(asking, code, names[code], question.date, question.weekday,
+                                  question.order) for code in codes]
     edition, (lands, found) = page().register.of_one_edition(work)
     return edition, lands, found
 
@@ -131,8 +131,7 @@ def month() -> Response:
         if not code or year_asked is None:
             return lands, "", None
         name = name_in(lands, code)
-        return lands, name, month_found(page().printer, asking, code, name, year_asked,
-                                        month_asked)
+        return lands, name, month_found(asking, code, name, year_asked, month_asked)
     edition, (lands, name, found) = page().register.of_one_edition(work)
     return written("month.html", edition, title=found.title(name) if found else _("A month"),
                    here="month", code=code, name=name, year=year_asked, month=month_asked,

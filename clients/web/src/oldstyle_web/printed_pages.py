@@ -1,7 +1,6 @@
 """What the program prints for people, read by its lines: what no query of the service returns yet.
 
-All that reads a printed page is here: what `read` prints besides a date's days, and the feasts of
-`year`.
+All that reads a printed page is here: the feasts of `year`, and the edition that a page names.
 """
 from __future__ import annotations
 
@@ -10,12 +9,11 @@ import subprocess
 import threading
 import time
 from collections import OrderedDict
-from dataclasses import dataclass, field
+from dataclasses import dataclass
 
 from .problems import busy, no_place, unavailable
 from .register import Asking
 from .settings import Settings, in_bytes, reason_of
-from .words import WEEKDAYS
 
 EDITION = re.compile(r", edition (\d+)$")
 MOST_PAGES = 2_000
@@ -23,13 +21,6 @@ NO_LAND = "no territory has the code"
 # The fault of a line of the journal that is just being written, and the seconds to wait for it.
 UNFINISHED, AWAITED = "oldstyle: journal line ", 1
 
-DAY_LINE = re.compile(r"day (\d+)    JDN \d+( ok| not \w+)?$")
-COUNT = re.compile(r"\d+ days?$")
-WAITING = re.compile(r"\d+ edits? (is|are) not published yet$")
-SOURCE = re.compile(r"\(source: (.+)\)")
-FLAGS = {"approximate", "in doubt", "supplied by an editor"}
-OPEN_ENDS = {"from any earlier day", "to   any later day"}
-OTHER_ORDER = ", or use --order dmy or mdy"
 FEAST = re.compile(r"([A-Z][\w ]+): .* day (\d+)    JDN \d+$")
 
 
@@ -109,56 +100,6 @@ class Printer:
         finally:
             self.places.release()
         return done.returncode, done.stdout.decode(), done.stderr.decode(errors="replace")
-
-
-@dataclass
-class PrintedDate:
-    """What `read` prints of a date in addition to the answer of the query `written`."""
-
-    read_as: str = ""
-    notes: list[str] = field(default_factory=list)
-    agreeing: dict[int, str] = field(default_factory=dict)
-    sources: list[str] = field(default_factory=list)
-
-
-def printed_date(printer: Printer, asking: Asking, code: str, name: str, date: str, weekday: str,
-                 order: str) -> PrintedDate:
-    """The page of a written date."""
-    words = ["read", code, *(["--weekday", weekday] if weekday else []),
-             *(["--order", order] if order else []), "--", date]
-    page = printer.page(asking, *words)
-    return date_on(page, name, code, date, weekday)
-
-
-def date_on(page: Page, name: str, code: str, date: str = "", weekday: str = "") -> PrintedDate:
-    """The contents of a page about a date."""
-    found = PrintedDate()
-    if not page.lines:
-        if page.stderr:
-            first = page.stderr.partition("\n")[0].removesuffix(OTHER_ORDER)
-            found.notes.append(without_word(first, date, weekday))
-        return found
-    found.read_as = page.lines[0].rpartition(", edition ")[0].removesuffix(f" in {name} ({code})")
-    for line in page.lines[1:]:
-        if line in OPEN_ENDS or WAITING.search(line) or COUNT.fullmatch(line):
-            continue
-        if day := DAY_LINE.search(line):
-            found.agreeing[int(day[1])] = (day[2] or "").strip()
-        elif found.notes and (source := SOURCE.fullmatch(line)):
-            found.notes[-1] += f" {line}"
-            found.sources.append(source[1])
-        elif not FLAGS.issuperset(line.split("; ")):
-            found.notes.append(line)
-    return found
-
-
-def without_word(stderr: str, date: str, weekday: str) -> str:
-    """The report of a wrong argument, without that argument and the program's name."""
-    stderr = stderr.removeprefix("oldstyle: ")
-    for word in (date, weekday, *WEEKDAYS):
-        if word and stderr.startswith(f"{word}: "):
-            return stderr[len(word) + 2:]
-    return stderr
 
 
 def feasts_of_year(printer: Printer, asking: Asking, code: str,

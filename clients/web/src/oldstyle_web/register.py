@@ -137,6 +137,10 @@ class Asking:
         answer, = self.answers([{"op": "changes", "code": code}])
         return [from_members(Change, change) for change in answer["changes"]]
 
+    def changes_on(self, code: str, days: Sequence[int]) -> list[Change]:
+        """The changes of a territory on these days."""
+        return [change for change in self.changes(code) if change.found.day in days] if days else []
+
     def exceptions(self, code: str) -> list[ListedEaster]:
         """The Easters that a territory lists."""
         answer, = self.answers([{"op": "exceptions", "code": code}])

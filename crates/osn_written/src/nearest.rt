@@ -1,11 +1,11 @@
 //! The days of a date's month and day in the nearest years that have them.
 ghost use Rattle.std.specs.Prelude.{◌≡◌, ◌<◌, IfOk};
 ghost use Rattle.osn_days.specs.Profile.{newest_rules};
-ghost use Rattle.osn_pages.specs.Nearest as spec;
+ghost use Rattle.osn_written.specs.Nearest as spec;
 
+use crate::written_date::WrittenDate;
 use osn_days::Day;
 use osn_lands::{Label, Territory};
-use osn_written::WrittenDate;
 use std::alloc::{AllocError, Global};
 
 /// How far the years are looked through: labels have the years 0 to 10,000.
@@ -56,8 +56,13 @@ fn nearest_within(
     Ok(Vec::new(alloc))
 }
 
-/// Returns those in the nearest years that have some, of all years that a label may have.
-pub(crate) fn nearest_days(
+/// Returns the days of the date's month and day in the nearest years that have some, of all years
+/// that a label may have: those of the year before and of the one after it, if both are as near.
+///
+/// # Errors
+///
+/// `AllocError` if there is no memory for a list of days.
+pub fn nearest_days(
     alloc: Global,
     territory: &Territory,
     date: WrittenDate,

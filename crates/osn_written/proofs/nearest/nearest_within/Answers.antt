@@ -1,8 +1,8 @@
 use Rattle.std.proofs.Common.{arith, rules}
 use Rattle.osn_days.specs.Profile.{newest_rules}
-use Rattle.osn_pages.specs.Nearest as spec
-use Rattle.osn_pages.proofs.NearestFacts.{begin_years, next_years}
-use Rattle.osn_pages.proofs.nearest.nearest_within.Goals as goal
+use Rattle.osn_written.specs.Nearest as spec
+use Rattle.osn_written.proofs.NearestFacts.{begin_years, next_years}
+use Rattle.osn_written.proofs.nearest.nearest_within.Goals as goal
 
 pub loop-years-init : goal.loop-years-init
 loop-years-init c = begin_years newest_rules c.args.territory.now c.args.date c.args.most

@@ -5,7 +5,7 @@ use Rattle.std.specs.List.{range_with_len}
 use Rattle.osn_days.specs.Profile.{Profile}
 use Rattle.osn_lands.specs.Territory.{TerritoryModel}
 use Rattle.osn_written.specs.declared.written_date.WrittenDate.{WrittenDate}
-use Rattle.osn_pages.specs.Nearest as spec
+use Rattle.osn_written.specs.Nearest as spec
 
 -- the years that are left from one on
 abbrev left : (ℕ → List ℕ) → ℕ → ℕ → List ℕ

@@ -1,8 +1,8 @@
 use Rattle.std.proofs.Common.{◌≡◌, ◌+◌, ◌-◌, map}
 use Rattle.std.specs.List.{range_with_len}
 use Rattle.osn_days.specs.Profile.{newest_rules}
-use Rattle.osn_pages.specs.Nearest as spec
-use Rattle.osn_pages.proofs.nearest.nearest_within.Given as goal
+use Rattle.osn_written.specs.Nearest as spec
+use Rattle.osn_written.proofs.nearest.nearest_within.Given as goal
 
 -- the nearest days are those of the years that are left
 abbrev pub invariant-loop-years : goal.invariant-loop-years
