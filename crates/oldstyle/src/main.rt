@@ -40,11 +40,16 @@ fn is_there(rt: &impl Files, path: &str) -> bool {
     fs::exists(rt, path).unwrap_or(false)
 }
 
+/// Returns the first word after the command that does not begin with a hyphen.
+fn first_word(args: &[String]) -> Option<&String> {
+    args.iter().skip(2).find(|word| !word.starts_with('-'))
+}
+
 /// Returns the path of the journal of a command line that names none: what `OLDSTYLE_JOURNAL` says,
 /// or else the user's own journal, if there is one. If the first word after the command names a
 /// file, it is the journal, and there is no default.
 fn default_journal(rt: &(impl Env + Files + AllocGlobal), args: &[String]) -> Option<String> {
-    if let Some(first) = args.get(2)
+    if let Some(first) = first_word(args)
         && is_there(rt, first.as_str())
     {
         return None;

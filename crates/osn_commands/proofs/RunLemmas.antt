@@ -16,7 +16,7 @@ use Rattle.osn_report.specs.Printing.{PrintsIfMade, PrintsOrReports}
 use Rattle.osn_report.specs.declared.fault.CommandFault.{CommandFault}
 use Rattle.osn_report.specs.declared.status.Status.{Status}
 use Rattle.osn_commands.specs.Help.{help_on}
-use Rattle.osn_commands.specs.Run.{Fails, IsHelp, PrintsSuch, Runs, RunsArgs, ShowsOrEnds}
+use Rattle.osn_commands.specs.Run.{Fails, IsHelp, PrintsSuch, Runs, RunsWords, ShowsOrEnds}
 
 -- what was run is what these words ask for
 pub ran : (limits : Limits) (given found : CommandWords) (CanFail : Bool → Type 0)
@@ -42,15 +42,15 @@ shows_help kind given more o e status text is help (inl printed) =
 shows_help kind given more o e status text is help (inr memory) = inl memory
 
 -- what the grammar refuses was shown
-pub show_runs : (args : List (List ℕ)) (error : Error) (CanFail : Bool → Type 0)
+pub show_runs : (typed args : List (List ℕ)) (error : Error) (CanFail : Bool → Type 0)
     (CanStay : Type 0) (d : Folders) (i : Input) (o e : Output) (status : Status)
     → HasKind (fault_of command_line args) error → d.after ≡ d.before
-    → ShowsOrEnds (kind_of error) (help_on (kind_of error) args) o e status
-    → RunsArgs args CanFail CanStay d i o e status
-show_runs args error CanFail CanStay d i o e status kind same (inl first) = inr (same, inl first)
-show_runs args error CanFail CanStay d i o e status (inl memory) same (inr shown) =
+    → ShowsOrEnds (kind_of error) (help_on (kind_of error) typed) o e status
+    → RunsWords typed args CanFail CanStay d i o e status
+show_runs typed args error CanFail CanStay d i o e status kind same (inl first) = inr (same, inl first)
+show_runs typed args error CanFail CanStay d i o e status (inl memory) same (inr shown) =
     absurd (shown.0 memory)
-show_runs args error CanFail CanStay d i o e status (inr among) same (inr shown) =
+show_runs typed args error CanFail CanStay d i o e status (inr among) same (inr shown) =
     inr (same, inr (kind_of error, among, shown.1))
 
 -- why what was run ended early is why these words did
@@ -97,12 +97,12 @@ pub not_done : {T F : Type 0} (done : Result T F) (cause : F) (Why : Type 0)
 not_done done cause Why is h = subst (λ r. OnErr r Why) is h
 
 -- it was shown with the help on the typed words
-pub show_typed : (args : List (List ℕ)) (error : Error) (help : List ℕ)
+pub show_typed : (typed args : List (List ℕ)) (error : Error) (help : List ℕ)
     (CanFail : Bool → Type 0) (CanStay : Type 0) (d : Folders) (i : Input) (o e : Output)
     (status : Status)
     → HasKind (fault_of command_line args) error → d.after ≡ d.before
-    → help ≡ help_on (kind_of error) args → ShowsOrEnds (kind_of error) help o e status
-    → RunsArgs args CanFail CanStay d i o e status
-show_typed args error help CanFail CanStay d i o e status kind same is shown =
-    show_runs args error CanFail CanStay d i o e status kind same
+    → help ≡ help_on (kind_of error) typed → ShowsOrEnds (kind_of error) help o e status
+    → RunsWords typed args CanFail CanStay d i o e status
+show_typed typed args error help CanFail CanStay d i o e status kind same is shown =
+    show_runs typed args error CanFail CanStay d i o e status kind same
     (subst (λ help. ShowsOrEnds (kind_of error) help o e status) is shown)

@@ -1,25 +1,29 @@
 -- The words of a command line, of whatever type they are.
-use Rattle.std.proofs.Common.{◌≡◌, ◌||◌, ℕ, Bool, List, [], ◌∷◌, map, ap, refl, take, drop}
+use Rattle.std.proofs.Common.{◌≡◌, ◌∙◌, ◌+◌, ◌||◌, ℕ, Bool, List, [], ◌∷◌, map, ap, refl, drop, sym}
+use Rattle.std.proofs.Common.{if◌then◌else◌}
 use Rattle.std.specs.List.{list_any}
-use Rattle.std.specs.Str.Parse.{starts_with_minus}
-use Rattle.std.proofs.lemmas.List.{take-map, drop-map, length-map}
+use Rattle.std.proofs.lemmas.List.{drop-map}
 use Rattle.clap.specs.Words.{Text}
-use Rattle.osn_commands.specs.Typed.{has_first, has_words}
+use Rattle.osn_commands.specs.Typed.{is_plain, next_after, plain_count, plain_from}
+use Rattle.osn_commands.specs.declared.typed.Next.{Next}
+use Rattle.osn_commands.specs.declared.typed.Next.TheVariants as next
 
--- a test of what is read of each element
-any_of_map : {X : Type 0} (f : X → Text) (p : Text → Bool) → (words : List X)
-    → list_any p (map f words) ≡ list_any (λ word. p (f word)) words
+-- a test of one of them, by their texts
+pub any_of_map : {X : Type 0} (f : X → Text) (p : Text → Bool) → (words : List X)
+    → list_any (λ word. p (f word)) words ≡ list_any p (map f words)
 any_of_map f p [] = refl
 any_of_map f p (word ∷ words) = ap (λ rest. p (f word) || rest) (any_of_map f p words)
 
--- the same words, by their texts
-pub same_words : {X : Type 0} (f : X → Text) (count : ℕ) (words : List X)
-    → has_first f count words ≡ has_words count (map f words)
-same_words f count words =
-    rw (
-      length-map words f,
-      drop-map f 2 words,
-      length-map (drop 2 words) f,
-      take-map f count (drop 2 words),
-      any_of_map f starts_with_minus (take count (drop 2 words)),
-    ) refl
+-- the same number, by their texts
+from_map : {X : Type 0} (f : X → Text) (next : Next) (words : List X)
+    → plain_from f next words ≡ plain_from (λ word. word) next (map f words)
+from_map f next [] = refl
+from_map f next (word ∷ words) =
+    ap (λ n. (if is_plain next (f word) then 1 else 0) + n)
+    (from_map f (next_after next (f word)) words)
+
+pub same_count : {X : Type 0} (f : X → Text) (words : List X)
+    → plain_from f next.Any (drop 2 words) ≡ plain_count (map f words)
+same_count f words =
+    from_map f next.Any (drop 2 words)
+    ∙ ap (λ rest. plain_from (λ word. word) next.Any rest) (sym (drop-map f 2 words))

@@ -1,6 +1,6 @@
 -- What a run of the program does, with the files of a folder.
 use Rattle.std.specs.Prelude.{◌≡◌, ◌≢◌, ◌⊎◌, Bool, List, [], ◌∷◌, ◌++◌, ℕ}
-use Rattle.std.specs.Prelude.{MatchResult, unwrap_or}
+use Rattle.std.specs.Prelude.{MatchResult, Option, unwrap_or}
 use Rattle.clap.specs.Words.{Text, fault_of, IsAmong}
 use Rattle.clap.specs.declared.error.kind.ErrorKind.{ErrorKind}
 use Rattle.clap.specs.declared.error.kind.ErrorKind.TheVariants.{OutOfMemory, DisplayHelp}
@@ -36,6 +36,7 @@ use Rattle.osn_text_commands.specs.PublishFolder.{PublishesInFolder}
 use Rattle.osn_text_commands.specs.Text.{PrintsText}
 use Rattle.osn_commands.specs.Completions.{PrintsCompletions}
 use Rattle.osn_commands.specs.Help.{help_on}
+use Rattle.osn_commands.specs.Journal.{with_journal}
 use Rattle.osn_commands.specs.Limits.{limits_of_words}
 
 -- ---- each command
@@ -143,14 +144,21 @@ RunsInvocation asked CanFail CanStay d i o e status = MatchResult (limits_of_wor
     (λ misuse. (d.after ≡ d.before) × (o.new ≡ o.old)
     × TellsMisuse e misuse (unwrap_or asked.limits []) status)
 
--- what a run does with these arguments. If the grammar takes them it does what they ask for.
--- Otherwise it shows what is wrong, with the help for a common mistake, or help that was asked for,
--- by a kind that the grammar gives
-abbrev pub RunsArgs : List (List ℕ) → (Bool → Type 0) → Type 0 → Folders → Input → Output → Output
-    → Status → Type 0
-RunsArgs args CanFail CanStay d i o e status =
+-- what a run does with these words, which mean the typed ones. If the grammar takes them it does what
+-- they ask for. Otherwise it shows what is wrong, with the help for a common mistake, or help that
+-- was asked for, by a kind that the grammar gives
+abbrev pub RunsWords : List Text → List Text → (Bool → Type 0) → Type 0 → Folders → Input → Output
+    → Output → Status → Type 0
+RunsWords typed args CanFail CanStay d i o e status =
     ((fault_of command_line args ≡ [])
     × RunsInvocation (invocation_in args) CanFail CanStay d i o e status)
     ⊎ ((d.after ≡ d.before) × (HasNoMemory o e status
     ⊎ ((kind : ErrorKind) × IsAmong kind (fault_of command_line args)
-    × Shows kind (help_on kind args) o e status)))
+    × Shows kind (help_on kind typed) o e status)))
+
+-- what it does with the typed words: they may leave out the file of the journal, if this is the
+-- default, or name it by an option
+abbrev pub RunsArgs : Option Text → List Text → (Bool → Type 0) → Type 0 → Folders → Input
+    → Output → Output → Status → Type 0
+RunsArgs default typed CanFail CanStay d i o e status =
+    RunsWords typed (with_journal default typed) CanFail CanStay d i o e status

@@ -1,10 +1,13 @@
 -- The words of a command line, as they were typed: the program's name, the command, and the rest.
-use Rattle.std.specs.Prelude.{◌&&◌, ◌||◌, ℕ, Bool, List, [], not, nat_lt, length, take, drop}
-use Rattle.std.specs.Prelude.{get_or, codes}
+use Rattle.std.specs.Prelude.{◌&&◌, ◌||◌, ◌+◌, ℕ, Bool, true, false, List, [], ◌∷◌, not, drop}
+use Rattle.std.specs.Prelude.{get_or, codes, if◌then◌else◌, is_some}
 use Rattle.std.specs.List.{list_any}
 use Rattle.std.specs.Str.Parse.{starts_with_minus}
 use Rattle.std.specs.Str.{bytes_eq}
 use Rattle.clap.specs.Words.{Text}
+use Rattle.osn_written.specs.WrittenDate.{parts_at}
+use Rattle.osn_commands.specs.declared.typed.Next.{Next}
+use Rattle.osn_commands.specs.declared.typed.Next.TheVariants as next
 
 -- the word of the command
 abbrev pub command_in : List Text → Text
@@ -20,12 +23,43 @@ begins_with_journal command =
     || (bytes_eq command (codes "publish") || (bytes_eq command (codes "almanac")
     || bytes_eq command (codes "audit"))))))))))
 
--- the words after the command begin with this number of words that are not options, by their texts
-abbrev pub has_first : {X : Type 0} → (X → Text) → ℕ → List X → Bool
-has_first text count words =
-    not (nat_lt (length words) 2)
-    && (not (nat_lt (length (drop 2 words)) count)
-    && not (list_any (λ word. starts_with_minus (text word)) (take count (drop 2 words))))
+-- the options without a value
+abbrev pub is_flag : Text → Bool
+is_flag word =
+    bytes_eq word (codes "--strict") || (bytes_eq word (codes "--json")
+    || (bytes_eq word (codes "--summary") || (bytes_eq word (codes "--onto-newest")
+    || (bytes_eq word (codes "--upgrade") || (bytes_eq word (codes "--read-only")
+    || (bytes_eq word (codes "--stop-at-refusal") || (bytes_eq word (codes "--help")
+    || bytes_eq word (codes "-h"))))))))
 
-abbrev pub has_words : ℕ → List Text → Bool
-has_words count words = has_first (λ word. word) count words
+-- a word that begins with a hyphen and has more
+abbrev pub is_option : Text → Bool
+is_option word = starts_with_minus word && not (bytes_eq word (codes "-"))
+
+-- the next word is the value of the option: it has one, and not after `=`
+abbrev pub has_value_next : Text → Bool
+has_value_next option = not (is_flag option) && not (is_some (parts_at 61 option))
+
+-- what a word is, by those before it: after `--` no word is an option
+abbrev pub next_after : Next → Text → Next
+next_after next.Plain word = next.Plain
+next_after next.Value word = next.Any
+next_after next.Any word =
+    if bytes_eq word (codes "--") then next.Plain
+    else (if is_option word && has_value_next word then next.Value else next.Any)
+
+abbrev pub is_plain : Next → Text → Bool
+is_plain next.Plain word = true
+is_plain next.Value word = false
+is_plain next.Any word = not (is_option word)
+
+-- how many of the words are neither options nor their values, by their texts
+abbrev pub plain_from : {X : Type 0} → (X → Text) → Next → List X → ℕ
+plain_from text next [] = 0
+plain_from text next (word ∷ words) =
+    (if is_plain next (text word) then 1 else 0)
+    + plain_from text (next_after next (text word)) words
+
+-- how many such words follow the command
+abbrev pub plain_count : List Text → ℕ
+plain_count words = plain_from (λ word. word) next.Any (drop 2 words)

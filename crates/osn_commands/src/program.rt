@@ -10,8 +10,7 @@ ghost use Rattle.osn_report.specs.Folders.{folders_of};
 ghost use Rattle.osn_report.specs.Printing.{PrintsOrReports};
 ghost use Rattle.osn_report.specs.declared.fault.CommandFault.{CommandFault};
 ghost use Rattle.osn_text_commands.specs.PublishInside.{CanStay};
-ghost use Rattle.osn_commands.specs.Journal.{with_journal};
-ghost use Rattle.osn_commands.specs.Run.{Fails, Runs, RunsArgs, RunsInvocation};
+ghost use Rattle.osn_commands.specs.Run.{Fails, Runs, RunsArgs, RunsInvocation, RunsWords};
 
 use crate::completing::completions_command;
 use crate::display::show;
@@ -54,8 +53,8 @@ pub fn run<F, D: Folder, S: AsStr, R: Source, W: Sink, E: Sink, T: Sink + Drop>(
 ) -> Status
 where
     F: Threads + Wait + AllocGlobal,
-    ensures { RunsArgs (with_journal (option_map (λ path. path.now) default_journal.entry)
-        (map S.text args.now)) (MayFail D.File.has_failed)
+    ensures { RunsArgs (option_map (λ path. path.now) default_journal.entry)
+        (map S.text args.now) (MayFail D.File.has_failed)
         (CanStay D.Keeper.cut_back_may_fail)
         (folders_of D.known folder.old folder.new)
         (input_of R.remaining R.has_failed input.old input.new)
@@ -63,15 +62,17 @@ where
         (output_of E.contents E.has_failed E.holds_back errors.old errors.new) result }
 {
     match with_journal(rt.alloc(), args, default_journal) {
-        Ok(words) => run_words(rt, folder, &words, input, output, errors, terminal),
+        Ok(words) => run_words(rt, folder, args, &words, input, output, errors, terminal),
         Err(_) => tell_no_memory(errors),
     }
 }
 
-/// Does what words ask for that have the file of the journal, if their command begins with it.
-fn run_words<F, D: Folder, R: Source, W: Sink, E: Sink, T: Sink + Drop>(
+/// Does what words ask for that have the file of the journal, if their command begins with it. A
+/// mistake in them gets the help for the words as they were typed.
+fn run_words<F, D: Folder, S: AsStr, R: Source, W: Sink, E: Sink, T: Sink + Drop>(
     rt: &F,
     folder: &mut D,
+    typed: &[S],
     words: &[&str],
     input: &mut R,
     output: &mut W,
@@ -80,7 +81,8 @@ fn run_words<F, D: Folder, R: Source, W: Sink, E: Sink, T: Sink + Drop>(
 ) -> Status
 where
     F: Threads + Wait + AllocGlobal,
-    ensures { RunsArgs (map (λ word. word.now) words.now) (MayFail D.File.has_failed)
+    ensures { RunsWords (map S.text typed.now) (map (λ word. word.now) words.now)
+        (MayFail D.File.has_failed)
         (CanStay D.Keeper.cut_back_may_fail)
         (folders_of D.known folder.old folder.new)
         (input_of R.remaining R.has_failed input.old input.new)
@@ -91,7 +93,7 @@ where
     match parse_args(alloc, words) {
         Ok(invocation) => run_invocation(rt, folder, invocation, input, output, errors, terminal),
         Err(error) => {
-            let help = help_on(&error, words);
+            let help = help_on(&error, typed);
             show(alloc, &error, help, output, errors)
         }
     }

@@ -1,16 +1,19 @@
 //! The words of a command line, as they were typed.
-ghost use Rattle.std.specs.Prelude.{◌≡◌, map};
-ghost use Rattle.std.specs.List.{list_any};
-ghost use Rattle.std.specs.Str.Parse.{starts_with_minus};
+ghost use Rattle.std.specs.Prelude.{◌≡◌, drop, map};
 ghost use Rattle.osn_commands.specs.Typed as spec;
 
+use osn_written::parts_at;
 use std::convert::AsStr;
 
-/// Returns whether a word is an option, such as `--strict`.
-fn is_option(word: &str) -> bool
-    ensures { result ≡ starts_with_minus word.now }
-{
-    word.as_bytes().first() == Some(&b'-')
+/// What the next word is, by those before it.
+#[derive(Clone, Copy, Debug, PartialEq, Eq)]
+enum Next {
+    /// An option, or a word of its own.
+    Any,
+    /// The value of an option.
+    Value,
+    /// A word of its own, since `--` was before it.
+    Plain,
 }
 
 /// Returns the word of the command, or an empty text without one.
@@ -43,31 +46,91 @@ pub(crate) fn begins_with_journal(command: &str) -> bool
     )
 }
 
-/// Returns whether one of the words is an option.
-fn has_option<S: AsStr>(words: &[S]) -> bool
-    ensures { result ≡ list_any (λ word. starts_with_minus (S.text word)) words.now }
+/// Returns whether a word is an option without a value.
+fn is_flag(word: &str) -> bool
+    ensures { result ≡ spec.is_flag word.now }
 {
-    words.iter().any(|word| is_option(word.as_str()))
+    matches!(
+        word,
+        "--strict"
+            | "--json"
+            | "--summary"
+            | "--onto-newest"
+            | "--upgrade"
+            | "--read-only"
+            | "--stop-at-refusal"
+            | "--help"
+            | "-h"
+    )
 }
 
-/// Returns whether the words after the command begin with this number of words that are not
-/// options.
-fn has_first<S: AsStr>(count: usize, words: &[S]) -> bool
-    ensures { result ≡ spec.has_first S.text count words.now }
+/// Returns whether a word is an option, such as `--strict`.
+fn is_option(word: &str) -> bool
+    ensures { result ≡ spec.is_option word.now }
+{
+    word.as_bytes().first() == Some(&b'-') && word != "-"
+}
+
+/// Returns whether the word after an option is its value.
+fn has_value_next(option: &str) -> bool
+    ensures { result ≡ spec.has_value_next option.now }
+{
+    !is_flag(option) && parts_at(option, '=').is_none()
+}
+
+/// Returns what the word after this one is.
+fn next_after(next: Next, word: &str) -> Next
+    ensures { result ≡ spec.next_after next word.now }
+{
+    match next {
+        Next::Plain => Next::Plain,
+        Next::Value => Next::Any,
+        Next::Any if word == "--" => Next::Plain,
+        Next::Any if is_option(word) && has_value_next(word) => Next::Value,
+        Next::Any => Next::Any,
+    }
+}
+
+/// Returns whether a word is neither an option nor the value of one.
+fn is_plain(next: Next, word: &str) -> bool
+    ensures { result ≡ spec.is_plain next word.now }
+{
+    match next {
+        Next::Plain => true,
+        Next::Value => false,
+        Next::Any => !is_option(word),
+    }
+}
+
+/// Returns how many of these words are neither options nor their values.
+fn plain_from<S: AsStr>(words: &[S]) -> usize
+    ensures { result ≡ spec.plain_from S.text Next.Any words.now }
+{
+    let mut next = Next::Any;
+    let mut count = 0;
+    for word in words {
+        let word = word.as_str();
+        if is_plain(next, word) {
+            count += 1;
+        }
+        next = next_after(next, word);
+    }
+    count
+}
+
+/// Returns how many such words follow the command.
+fn plain_after<S: AsStr>(words: &[S]) -> usize
+    ensures { result ≡ spec.plain_from S.text Next.Any (drop 2 words.now) }
 {
     if words.len() < 2 {
-        return false;
+        return 0;
     }
-    let rest = &words[2..];
-    if rest.len() < count {
-        return false;
-    }
-    !has_option(&rest[..count])
+    plain_from(&words[2..])
 }
 
-/// The same, by the texts of the words.
-pub(crate) fn has_words<S: AsStr>(count: usize, words: &[S]) -> bool
-    ensures { result ≡ spec.has_words count (map S.text words.now) }
+/// Returns how many words after the command are neither options nor their values, by their texts.
+pub(crate) fn plain_count<S: AsStr>(words: &[S]) -> usize
+    ensures { result ≡ spec.plain_count (map S.text words.now) }
 {
-    has_first(count, words)
+    plain_after(words)
 }

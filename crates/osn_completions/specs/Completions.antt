@@ -26,8 +26,9 @@ takes_value other = false
 -- the arguments whose value is the path of a file
 abbrev pub is_file : Text → Bool
 is_file id = list_any (bytes_eq id)
-    (codes "journal" ∷ codes "save" ∷ codes "keep" ∷ codes "follow" ∷ codes "schedule"
-    ∷ codes "script" ∷ codes "questions" ∷ codes "transcript" ∷ codes "text" ∷ codes "places" ∷ [])
+    (codes "journal" ∷ codes "journal-file" ∷ codes "save" ∷ codes "keep" ∷ codes "follow"
+    ∷ codes "schedule" ∷ codes "script" ∷ codes "questions" ∷ codes "transcript" ∷ codes "text"
+    ∷ codes "places" ∷ [])
 
 -- what the value of the argument of this name may be: FILE is the path of a file, TEXT any text,
 -- and otherwise it is one of these words

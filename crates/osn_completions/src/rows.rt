@@ -32,6 +32,7 @@ fn values_named(id: &str) -> &'static str
 {
     match id {
         "journal"
+        | "journal-file"
         | "save"
         | "keep"
         | "follow"

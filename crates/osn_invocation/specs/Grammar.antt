@@ -13,7 +13,7 @@ use Rattle.clap.specs.declared.parser.matches.ArgMatches.{ArgMatches}
 use Rattle.osn_invocation.specs.declared.argument.Argument.{Argument}
 use Rattle.osn_invocation.specs.declared.argument.Argument.TheVariants.{Required, Optional, Year}
 use Rattle.osn_invocation.specs.declared.argument.Argument.TheVariants.{Valued, Flag, Readers}
-use Rattle.osn_invocation.specs.declared.argument.Argument.TheVariants.{RequiredReaders}
+use Rattle.osn_invocation.specs.declared.argument.Argument.TheVariants.{RequiredReaders, Journal}
 use Rattle.osn_invocation.specs.declared.commands.CommandRow.{CommandRow}
 
 -- ---- an argument
@@ -25,6 +25,13 @@ value_option name = record (new_rule name) { long = Some name; value_names = 1 }
 -- an option without a value, `--read-only`
 abbrev pub flag_option : Text → Rule
 flag_option name = record (new_rule name) { long = Some name; action = Some Count }
+
+-- the option `--journal FILE` of a command that has the argument JOURNAL
+abbrev pub journal_option : Rule
+journal_option = record (new_rule (codes "journal-file")) {
+  long = Some (codes "journal");
+  value_names = 1;
+}
 
 -- the option `--readers N`: N is 1 to 64
 abbrev pub readers_option : Rule
@@ -53,6 +60,7 @@ rule_of_argument (Required id shown help) = required_arg id.now
 rule_of_argument (Optional id shown help) = optional_arg id.now
 rule_of_argument (Year help) = year_arg
 rule_of_argument (Valued id shown help) = value_option id.now
+rule_of_argument (Journal help) = journal_option
 rule_of_argument (Flag id help) = flag_option id.now
 rule_of_argument (Readers help) = readers_option
 rule_of_argument (RequiredReaders help) = record readers_option { required = true }
@@ -67,50 +75,57 @@ command_with name rules = fold with_rule (new_app name) rules
 abbrev pub limits_option : Rule
 limits_option = value_option (codes "limits")
 
+-- the option `--json`
+abbrev pub json_option : Rule
+json_option = flag_option (codes "json")
+
 -- the argument JOURNAL
 abbrev pub journal_arg : Rule
 journal_arg = required_arg (codes "journal")
 
--- `read JOURNAL CODE DATE [--weekday DAY] [--order ORDER] [--strict] [--limits LIMITS]`
+-- `read JOURNAL CODE DATE [--weekday DAY] [--order ORDER] [--strict] [--json] [--journal FILE]
+-- [--limits LIMITS]`
 abbrev pub read_grammar : App
 read_grammar = command_with (codes "read") (journal_arg ∷ required_arg (codes "code")
     ∷ required_arg (codes "date") ∷ value_option (codes "weekday") ∷ value_option (codes "order")
-    ∷ flag_option (codes "strict") ∷ limits_option ∷ [])
+    ∷ flag_option (codes "strict") ∷ json_option ∷ journal_option ∷ limits_option ∷ [])
 
 -- `convert CALENDAR DATE`
 abbrev pub convert_grammar : App
 convert_grammar = command_with (codes "convert")
     (required_arg (codes "calendar") ∷ required_arg (codes "date") ∷ [])
 
--- `day JOURNAL CODE DATE [--limits LIMITS]`
+-- `day JOURNAL CODE DATE [--json] [--journal FILE] [--limits LIMITS]`
 abbrev pub day_grammar : App
 day_grammar = command_with (codes "day") (journal_arg ∷ required_arg (codes "code")
-    ∷ required_arg (codes "date") ∷ limits_option ∷ [])
+    ∷ required_arg (codes "date") ∷ json_option ∷ journal_option ∷ limits_option ∷ [])
 
--- `month JOURNAL CODE YEAR MONTH [--limits LIMITS]`
+-- `month JOURNAL CODE YEAR MONTH [--journal FILE] [--limits LIMITS]`
 abbrev pub month_grammar : App
 month_grammar = command_with (codes "month") (journal_arg ∷ required_arg (codes "code")
-    ∷ required_arg (codes "year") ∷ required_arg (codes "month") ∷ limits_option ∷ [])
+    ∷ required_arg (codes "year") ∷ required_arg (codes "month") ∷ journal_option
+    ∷ limits_option ∷ [])
 
--- `year JOURNAL CODE YEAR [--limits LIMITS]`
+-- `year JOURNAL CODE YEAR [--journal FILE] [--limits LIMITS]`
 abbrev pub year_grammar : App
 year_grammar = command_with (codes "year") (journal_arg ∷ required_arg (codes "code")
-    ∷ required_arg (codes "year") ∷ limits_option ∷ [])
+    ∷ required_arg (codes "year") ∷ journal_option ∷ limits_option ∷ [])
 
--- `territory JOURNAL [CODE] [--limits LIMITS]`
+-- `territory JOURNAL [CODE] [--json] [--journal FILE] [--limits LIMITS]`
 abbrev pub territory_grammar : App
-territory_grammar = command_with (codes "territory")
-    (journal_arg ∷ optional_arg (codes "code") ∷ limits_option ∷ [])
+territory_grammar = command_with (codes "territory") (journal_arg ∷ optional_arg (codes "code")
+    ∷ json_option ∷ journal_option ∷ limits_option ∷ [])
 
 -- `letters JOURNAL [--place NAME] [--date NAME] [--year NAME] [--month NAME] [--day NAME]
 -- [--weekday NAME] [--places FILE] [--separator NAME] [--order ORDER] [--strict] [--summary]
--- [--limits LIMITS]`
+-- [--journal FILE] [--limits LIMITS]`
 abbrev pub letters_grammar : App
 letters_grammar = command_with (codes "letters") (journal_arg ∷ value_option (codes "place")
     ∷ value_option (codes "date") ∷ value_option (codes "year") ∷ value_option (codes "month")
     ∷ value_option (codes "day") ∷ value_option (codes "weekday") ∷ value_option (codes "places")
     ∷ value_option (codes "separator") ∷ value_option (codes "order")
-    ∷ flag_option (codes "strict") ∷ flag_option (codes "summary") ∷ limits_option ∷ [])
+    ∷ flag_option (codes "strict") ∷ flag_option (codes "summary") ∷ journal_option
+    ∷ limits_option ∷ [])
 
 -- `serve [--journal FILE] [--save FILE] [--keep FILE] [--upgrade] [--follow FILE] [--readers N]
 -- [--read-only] [--stop-at-refusal] [--limits LIMITS]`
@@ -120,20 +135,20 @@ serve_grammar = command_with (codes "serve") (value_option (codes "journal")
     ∷ value_option (codes "follow") ∷ readers_option ∷ flag_option (codes "read-only")
     ∷ flag_option (codes "stop-at-refusal") ∷ limits_option ∷ [])
 
--- `text JOURNAL [CODE] [--limits LIMITS]`
+-- `text JOURNAL [CODE] [--journal FILE] [--limits LIMITS]`
 abbrev pub text_grammar : App
 text_grammar = command_with (codes "text")
-    (journal_arg ∷ optional_arg (codes "code") ∷ limits_option ∷ [])
+    (journal_arg ∷ optional_arg (codes "code") ∷ journal_option ∷ limits_option ∷ [])
 
--- `plan JOURNAL TEXT [--limits LIMITS]`
+-- `plan JOURNAL TEXT [--journal FILE] [--limits LIMITS]`
 abbrev pub plan_grammar : App
 plan_grammar = command_with (codes "plan")
-    (journal_arg ∷ required_arg (codes "text") ∷ limits_option ∷ [])
+    (journal_arg ∷ required_arg (codes "text") ∷ journal_option ∷ limits_option ∷ [])
 
--- `publish JOURNAL TEXT [--onto-newest] [--limits LIMITS]`
+-- `publish JOURNAL TEXT [--onto-newest] [--journal FILE] [--limits LIMITS]`
 abbrev pub publish_grammar : App
 publish_grammar = command_with (codes "publish") (journal_arg ∷ required_arg (codes "text")
-    ∷ flag_option (codes "onto-newest") ∷ limits_option ∷ [])
+    ∷ flag_option (codes "onto-newest") ∷ journal_option ∷ limits_option ∷ [])
 
 -- `replay --readers N SCHEDULE [--limits LIMITS]`
 abbrev pub replay_grammar : App
@@ -145,15 +160,15 @@ abbrev pub desk_grammar : App
 desk_grammar = command_with (codes "desk") (required_arg (codes "script")
     ∷ required_arg (codes "questions") ∷ limits_option ∷ [])
 
--- `almanac JOURNAL CODE YEAR [--limits LIMITS]`
+-- `almanac JOURNAL CODE YEAR [--journal FILE] [--limits LIMITS]`
 abbrev pub almanac_grammar : App
 almanac_grammar = command_with (codes "almanac")
-    (journal_arg ∷ required_arg (codes "code") ∷ year_arg ∷ limits_option ∷ [])
+    (journal_arg ∷ required_arg (codes "code") ∷ year_arg ∷ journal_option ∷ limits_option ∷ [])
 
--- `audit JOURNAL TRANSCRIPT [--limits LIMITS]`
+-- `audit JOURNAL TRANSCRIPT [--journal FILE] [--limits LIMITS]`
 abbrev pub audit_grammar : App
 audit_grammar = command_with (codes "audit")
-    (journal_arg ∷ required_arg (codes "transcript") ∷ limits_option ∷ [])
+    (journal_arg ∷ required_arg (codes "transcript") ∷ journal_option ∷ limits_option ∷ [])
 
 -- `completions SHELL`
 abbrev pub completions_grammar : App

@@ -25,14 +25,15 @@ use Rattle.osn_invocation.specs.declared.invocation.PageWords.TheVariants as pag
 -- reading of a date is by a code, the date, the weekday that it is said to be, and the order of its
 -- three numbers. It says whether a date without a day is a refusal. A day is by a code and a date
 -- or day number, a month by a code, a year and the month, and a year by a code and the year. The
--- periods are those of a code's territory, or the page lists all territories
+-- periods are those of a code's territory, or the page lists all territories. The last word of
+-- readings, days and territories is whether the answer is printed as a line of JSON
 pub data PageWordsModel : Type 0 where
   almanac_words : Text → ℕ → PageWordsModel
-  reading_words : Text → Text → Option Text → Option Text → Bool → PageWordsModel
-  day_words : Text → Text → PageWordsModel
+  reading_words : Text → Text → Option Text → Option Text → Bool → Bool → PageWordsModel
+  day_words : Text → Text → Bool → PageWordsModel
   month_words : Text → Text → Text → PageWordsModel
   year_words : Text → Text → PageWordsModel
-  territory_words : Option Text → PageWordsModel
+  territory_words : Option Text → Bool → PageWordsModel
 
 -- what the service is asked for besides files: whether a journal that is kept is first upgraded,
 -- how many readers ask, whether edits and publishes are refused, and whether the first line that is
@@ -190,10 +191,11 @@ almanac_page given =
 abbrev pub read_page : List Row → PageWordsModel
 read_page given = reading_words (text_of (codes "code") given) (text_of (codes "date") given)
     (first_of (codes "weekday") given) (first_of (codes "order") given)
-    (is_given (codes "strict") given)
+    (is_given (codes "strict") given) (is_given (codes "json") given)
 
 abbrev pub day_page : List Row → PageWordsModel
 day_page given = day_words (text_of (codes "code") given) (text_of (codes "date") given)
+    (is_given (codes "json") given)
 
 abbrev pub month_page : List Row → PageWordsModel
 month_page given = month_words (text_of (codes "code") given) (text_of (codes "year") given)
@@ -203,7 +205,8 @@ abbrev pub year_page : List Row → PageWordsModel
 year_page given = year_words (text_of (codes "code") given) (text_of (codes "year") given)
 
 abbrev pub territory_page : List Row → PageWordsModel
-territory_page given = territory_words (first_of (codes "code") given)
+territory_page given =
+    territory_words (first_of (codes "code") given) (is_given (codes "json") given)
 
 -- which page a command asks for, by its name, and what it asks for if it prints no page
 abbrev pub page_or_serve : Text → List Row → CommandModel
@@ -253,12 +256,12 @@ invocation_in args =
 -- the same of what was read, by the texts that its references point to
 abbrev pub page_words : PageWords → PageWordsModel
 page_words (pages.Almanac code year) = almanac_words code.now year
-page_words (pages.Read code date weekday order strict) = reading_words code.now date.now
-    (option_map (λ name. name.now) weekday) (option_map (λ word. word.now) order) strict
-page_words (pages.Day code date) = day_words code.now date.now
+page_words (pages.Read code date weekday order strict json) = reading_words code.now date.now
+    (option_map (λ name. name.now) weekday) (option_map (λ word. word.now) order) strict json
+page_words (pages.Day code date json) = day_words code.now date.now json
 page_words (pages.Month code year month) = month_words code.now year.now month.now
 page_words (pages.Year code year) = year_words code.now year.now
-page_words (pages.Territory code) = territory_words (option_map (λ code. code.now) code)
+page_words (pages.Territory code json) = territory_words (option_map (λ code. code.now) code) json
 
 abbrev pub service_model : ServeOptions → ServiceModel
 service_model given = record {

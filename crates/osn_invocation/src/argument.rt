@@ -1,6 +1,6 @@
 //! An argument of a command, as it is typed and as help shows it.
 
-ghost use Rattle.osn_invocation.specs.Grammar.{IsArg, readers_option, required_arg};
+ghost use Rattle.osn_invocation.specs.Grammar.{IsArg, journal_option, readers_option, required_arg};
 ghost use Rattle.osn_invocation.specs.Grammar.{rule_of_argument};
 
 use clap::{Arg, ArgAction, value_parser};
@@ -17,6 +17,8 @@ pub(crate) enum Argument {
     Year(&'static str),
     /// An option with a value, such as `--journal FILE`.
     Valued(&'static str, &'static str, &'static str),
+    /// The option `--journal FILE`, in place of the argument JOURNAL.
+    Journal(&'static str),
     /// An option without a value, such as `--strict`.
     Flag(&'static str, &'static str),
     /// The option `--readers N`, 1 to 64.
@@ -33,6 +35,15 @@ fn readers_of<'a>(alloc: Global) -> Arg<'a>
         .long("readers")
         .value_name("N")
         .value_parser(value_parser!(u32).range(1..65))
+}
+
+/// Returns the option `--journal`. Its name differs from that of the argument JOURNAL.
+fn journal_of<'a>(alloc: Global) -> Arg<'a>
+    ensures { IsArg journal_option result }
+{
+    Arg::new(alloc, "journal-file")
+        .long("journal")
+        .value_name("FILE")
 }
 
 /// Returns an argument that is required.
@@ -55,6 +66,7 @@ pub(crate) fn arg_of<'a>(alloc: Global, argument: Argument) -> Arg<'a>
         Argument::Valued(id, shown, help) => {
             Arg::new(alloc, id).long(id).value_name(shown).help(help)
         }
+        Argument::Journal(help) => journal_of(alloc).help(help),
         Argument::Flag(id, help) => Arg::new(alloc, id)
             .long(id)
             .action(ArgAction::Count)

@@ -3,6 +3,9 @@
 use crate::argument::Argument::{
     self, Flag, Optional, Readers, Required, RequiredReaders, Valued, Year,
 };
+use crate::common::{
+    CODE, DEFAULT_JOURNAL, JOURNAL, JOURNAL_OPTION, JSON, LIMITS, ORDER, PLACE, TEXT,
+};
 
 /// A command: its name, what help says of it before and after its arguments, and these.
 #[derive(Clone, Copy, Debug)]
@@ -16,26 +19,6 @@ pub(crate) struct CommandRow {
     /// Its arguments, in order.
     pub(crate) arguments: &'static [Argument],
 }
-
-const JOURNAL: Argument = Required("journal", "JOURNAL", "The file of the journal");
-
-const CODE: Argument = Required("code", "CODE", "The code of the territory");
-
-const PLACE: Argument = Required("code", "PLACE", "The territory, by its code or its name");
-
-const TEXT: Argument = Required("text", "TEXT", "The file of the text");
-
-const ORDER: Argument = Valued(
-    "order",
-    "ORDER",
-    "How a date of three numbers, such as 11/2/1731, is read: dmy or mdy",
-);
-
-const LIMITS: Argument = Valued(
-    "limits",
-    "LIMITS",
-    "The most that the register may contain, such as lands=5000,changes=200",
-);
 
 /// The commands that say what a date means, in the order in which help lists them.
 pub(crate) const DATES: [CommandRow; 6] = [
@@ -62,6 +45,8 @@ document, or both years are given. It may be a month, a year, a range or a bound
             ),
             ORDER,
             Flag("strict", "Ends with status 1 if the date means no day"),
+            JSON,
+            DEFAULT_JOURNAL,
             LIMITS,
         ],
     },
@@ -103,6 +88,8 @@ is the day number plus 1721425.",
                 "DATE",
                 "A Gregorian date, a day number, or a Julian day number such as \"JDN 2361222\"",
             ),
+            JSON,
+            DEFAULT_JOURNAL,
             LIMITS,
         ],
     },
@@ -126,6 +113,7 @@ A month that the year has at its beginning and at its end is printed twice.",
                 "MONTH",
                 "The month, 1 to 12 or its name, such as Sept",
             ),
+            DEFAULT_JOURNAL,
             LIMITS,
         ],
     },
@@ -145,6 +133,7 @@ dated in it. The figures are of the year from 1 January, and the page says so.",
                 "YEAR",
                 "The year as the territory counted it, 1 to 9999",
             ),
+            DEFAULT_JOURNAL,
             LIMITS,
         ],
     },
@@ -161,6 +150,8 @@ dated in it. The figures are of the year from 1 January, and the page says so.",
                 "PLACE",
                 "The territory whose periods are listed, by its code or its name",
             ),
+            JSON,
+            DEFAULT_JOURNAL,
             LIMITS,
         ],
     },
@@ -227,6 +218,7 @@ edtf, edition and remark.",
                 "summary",
                 "Prints the number of rows with each remark on standard error at the end",
             ),
+            DEFAULT_JOURNAL,
             LIMITS,
         ],
     },
@@ -289,6 +281,7 @@ A text that was not changed plans no edit. Its first line names the edition that
         arguments: &[
             JOURNAL,
             Optional("code", "CODE", "The code of the only territory to print"),
+            DEFAULT_JOURNAL,
             LIMITS,
         ],
     },
@@ -300,7 +293,7 @@ A text that was not changed plans no edit. Its first line names the edition that
 
 TEXT has the form that the command text prints. Each edit is a line, with its day as the territory
 dates it. A territory that TEXT does not name stays as it is. The journal is only read.",
-        arguments: &[JOURNAL, TEXT, LIMITS],
+        arguments: &[JOURNAL, TEXT, JOURNAL_OPTION, LIMITS],
     },
     CommandRow {
         name: "publish",
@@ -317,6 +310,7 @@ Nor does a text that would undo a change of an edition later than its own.",
                 "onto-newest",
                 "Publishes also what undoes or changes again the edits of later editions",
             ),
+            JOURNAL_OPTION,
             LIMITS,
         ],
     },
@@ -369,6 +363,7 @@ The command year prints one year alone.",
             JOURNAL,
             CODE,
             Year("The year, 1 to 9999: of the months as counted there, of all else from 1 January"),
+            DEFAULT_JOURNAL,
             LIMITS,
         ],
     },
@@ -385,6 +380,7 @@ The command year prints one year alone.",
                 "TRANSCRIPT",
                 "The file of the questions and replies of readers",
             ),
+            JOURNAL_OPTION,
             LIMITS,
         ],
     },

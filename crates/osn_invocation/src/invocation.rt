@@ -13,6 +13,7 @@ ghost use Rattle.osn_invocation.specs.Invocation.{model_of, month_page, page_com
 ghost use Rattle.osn_invocation.specs.Invocation.{read_page, replay_command, serve_command};
 ghost use Rattle.osn_invocation.specs.Invocation.{territory_page, with_limits, year_page};
 
+use crate::file_words::{audit_of, desk_of, replay_of};
 use crate::given::{is_given, number_of, text_of, value_of};
 use crate::grammar::command_line;
 use crate::letters::{LettersOptions, letters_of};
@@ -22,7 +23,7 @@ use std::alloc::Global;
 use std::convert::AsStr;
 
 /// The number of readers of the service, if no number is given.
-const READERS: u32 = 8;
+pub(crate) const READERS: u32 = 8;
 
 /// The options of the service. Files are named by their paths; the readers are 1 to 64.
 #[derive(Clone, Copy, Debug, PartialEq, Eq)]
@@ -67,6 +68,8 @@ pub enum PageWords<'a> {
         order: Option<&'a str>,
         /// Whether a date without a day is a refusal.
         strict: bool,
+        /// Whether the answer is printed as a line of JSON.
+        json: bool,
     },
     /// How a territory dated a day.
     Day {
@@ -74,6 +77,8 @@ pub enum PageWords<'a> {
         code: &'a str,
         /// A Gregorian date, or a day number.
         date: &'a str,
+        /// Whether the answer is printed as a line of JSON.
+        json: bool,
     },
     /// A month as a territory lived it.
     Month {
@@ -95,6 +100,8 @@ pub enum PageWords<'a> {
     Territory {
         /// The territory, by its code or its name, if one is named.
         code: Option<&'a str>,
+        /// Whether the answer is printed as a line of JSON.
+        json: bool,
     },
 }
 
@@ -272,36 +279,6 @@ fn serve_of<'a>(given: &ArgMatches<'a>) -> CommandWords<'a>
     })
 }
 
-/// Returns what the arguments of `replay` ask for.
-fn replay_of<'a>(given: &ArgMatches<'a>) -> CommandWords<'a>
-    ensures { command_model result ≡ replay_command (rows_of (found_of given.now)) }
-{
-    CommandWords::Replay {
-        readers: number_of(given, "readers", READERS),
-        schedule: text_of(given, "schedule"),
-    }
-}
-
-/// Returns what the arguments of `desk` ask for.
-fn desk_of<'a>(given: &ArgMatches<'a>) -> CommandWords<'a>
-    ensures { command_model result ≡ desk_command (rows_of (found_of given.now)) }
-{
-    CommandWords::Desk {
-        script: text_of(given, "script"),
-        questions: text_of(given, "questions"),
-    }
-}
-
-/// Returns what the arguments of `audit` ask for.
-fn audit_of<'a>(given: &ArgMatches<'a>) -> CommandWords<'a>
-    ensures { command_model result ≡ audit_command (rows_of (found_of given.now)) }
-{
-    CommandWords::Audit {
-        journal: text_of(given, "journal"),
-        transcript: text_of(given, "transcript"),
-    }
-}
-
 /// Returns what the arguments of `convert` ask for.
 fn convert_of<'a>(given: &ArgMatches<'a>) -> CommandWords<'a>
     ensures { command_model result ≡ convert_command (rows_of (found_of given.now)) }
@@ -352,6 +329,7 @@ fn read_of<'a>(given: &ArgMatches<'a>) -> PageWords<'a>
         weekday: value_of(given, "weekday"),
         order: value_of(given, "order"),
         strict: is_given(given, "strict"),
+        json: is_given(given, "json"),
     }
 }
 
@@ -362,6 +340,7 @@ fn day_of<'a>(given: &ArgMatches<'a>) -> PageWords<'a>
     PageWords::Day {
         code: text_of(given, "code"),
         date: text_of(given, "date"),
+        json: is_given(given, "json"),
     }
 }
 
@@ -392,5 +371,6 @@ fn territory_of<'a>(given: &ArgMatches<'a>) -> PageWords<'a>
 {
     PageWords::Territory {
         code: value_of(given, "code"),
+        json: is_given(given, "json"),
     }
 }

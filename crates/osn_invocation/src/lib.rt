@@ -6,6 +6,8 @@
 
 mod argument;
 mod commands;
+mod common;
+mod file_words;
 mod given;
 mod grammar;
 mod invocation;

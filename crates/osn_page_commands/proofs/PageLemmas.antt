@@ -32,9 +32,9 @@ lacks_text : (topic : Topic) (text : List ℕ) (o e : Output) (status : Status)
     → o.new ≡ o.old → EndsBy e NoMemory status → PrintsTopicText topic text o e status
 lacks_text (Almanac year) text o e status same told = inr (same, told)
 lacks_text (Year year) text o e status same told = inr (same, told)
-lacks_text (Land page is_strict) text o e status same told = inr (same, told)
-lacks_text (Set given is_strict) text o e status same told = inr (same, told)
-lacks_text Lands text o e status same told = inr (same, told)
+lacks_text (Land page form) text o e status same told = inr (same, told)
+lacks_text (Set given form) text o e status same told = inr (same, told)
+lacks_text (Lands is_json) text o e status same told = inr (same, told)
 
 module _ (s : ObjectState) (path code date : List ℕ) (topic : Topic) (o e : Output)
     (status : Status)

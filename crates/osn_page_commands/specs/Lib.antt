@@ -11,3 +11,4 @@ pub mod Letters
 pub mod Places
 pub mod TableWords
 pub mod LettersFiles
+pub mod AnswerLine

@@ -1,6 +1,6 @@
 -- The page that a command prints, or why it prints none.
 use Rattle.std.specs.Prelude.{◌≡◌, ◌⊎◌, ◌++◌, ℕ, pos, List, [], ◌∷◌, length, map, codes, Option}
-use Rattle.std.specs.Prelude.{None, Some}
+use Rattle.std.specs.Prelude.{None, Some, option_map}
 use Rattle.std.specs.Prelude.{Bool, true, false, ◌&&◌, if◌then◌else◌, MatchResult}
 use Rattle.std.specs.Option.{MatchOption}
 use Rattle.std.specs.Fmt.{decimal}
@@ -8,6 +8,7 @@ use Rattle.std.specs.Result.{is_err}
 use Rattle.osn_almanac.specs.Almanac.{almanac, almanac_refusal}
 use Rattle.osn_almanac.specs.YearPage.{year_page}
 use Rattle.osn_days.specs.Profile.{newest_rules}
+use Rattle.osn_days.specs.declared.weekday.Weekday.{Weekday}
 use Rattle.osn_written.specs.declared.any_date.AnyDate.{AnyDate}
 use Rattle.osn_grammar.specs.Reading.{members}
 use Rattle.osn_lands.specs.Territory.{TerritoryModel}
@@ -15,6 +16,7 @@ use Rattle.osn_register.specs.Answer.{listed}
 use Rattle.osn_register.specs.Named.{named_of}
 use Rattle.osn_register.specs.Plain.{LandModel, code_refusal}
 use Rattle.osn_register.specs.declared.limits.Limits.{Limits}
+use Rattle.osn_register.specs.declared.query.Query.TheVariants as queries
 use Rattle.osn_register.specs.declared.refusal.Refusal.{Refusal}
 use Rattle.osn_register.specs.declared.refusal.Refusal.TheVariants.{BadCode, UnknownLand}
 use Rattle.osn_register.specs.declared.refusal.Refusal.TheVariants.{YearOffRange}
@@ -32,6 +34,7 @@ use Rattle.osn_pages.specs.Territory.{territories_page}
 use Rattle.osn_pages.specs.declared.page.Page.{Page}
 use Rattle.osn_pages.specs.declared.page.Page.TheVariants as pages
 use Rattle.osn_pages.specs.declared.page.Published.{Published}
+use Rattle.osn_page_commands.specs.AnswerLine.{query_line, query_of_page, query_of_set}
 use Rattle.osn_page_commands.specs.DateHint.{TellsWord}
 use Rattle.osn_page_commands.specs.PageWords.{topic_of_words, takes_memory, land_word, date_text_of}
 use Rattle.osn_page_commands.specs.PageWords.{wrong_word}
@@ -63,25 +66,45 @@ edition_of s = record { edition = length s.batches; pending = length s.pending }
 
 -- ---- the page
 
+-- a page on a territory, or as a line of JSON, if it has a query. This is the text of its date
+abbrev pub line_or : List ℕ → Option (List ℕ) → List ℕ
+line_or page None = page
+line_or page (Some line) = line
+
+abbrev pub land_text : ObjectState → List ℕ → List ℕ → Page → Bool → List ℕ
+land_text s code date page is_json = line_or
+    (page_text newest_rules (published s) code (edition_of s) page)
+    (if is_json then option_map (query_line s) (query_of_page code date page) else None)
+
+-- that on a set of dates
+abbrev pub set_text : ObjectState → List ℕ → List ℕ → Option Weekday → Bool → List ℕ
+set_text s code date given is_json =
+    if is_json then query_line s (query_of_set code date given)
+    else set_page_text newest_rules (published s) code (edition_of s) date given
+
+-- and on all territories
+abbrev pub lands_text : ObjectState → Bool → List ℕ
+lands_text s is_json =
+    if is_json then query_line s queries.Lands
+    else territories_page (published s) (length s.batches) (length s.pending)
+
 -- the text of what was asked for, from what an object has published, if this is the text of its
 -- date
 abbrev pub topic_text : ObjectState → List ℕ → List ℕ → Topic → List ℕ
 topic_text s code date (Almanac year) = almanac newest_rules (published s) code (pos year)
 topic_text s code date (Year year) =
     year_page newest_rules (published s) code (edition_of s) year
-topic_text s code date (Land page is_strict) =
-    page_text newest_rules (published s) code (edition_of s) page
-topic_text s code date (Set given is_strict) =
-    set_page_text newest_rules (published s) code (edition_of s) date given
-topic_text s code date Lands = territories_page (published s) (length s.batches) (length s.pending)
+topic_text s code date (Land page form) = land_text s code date page form.is_json
+topic_text s code date (Set given form) = set_text s code date given form.is_json
+topic_text s code date (Lands is_json) = lands_text s is_json
 
 -- why it is refused
 abbrev pub topic_refusal : List LandModel → List ℕ → Topic → Option Refusal
 topic_refusal lands code (Almanac year) = almanac_refusal newest_rules lands code (pos year)
 topic_refusal lands code (Year year) = code_refusal lands code
-topic_refusal lands code (Land page is_strict) = code_refusal lands code
-topic_refusal lands code (Set given is_strict) = code_refusal lands code
-topic_refusal lands code Lands = None
+topic_refusal lands code (Land page form) = code_refusal lands code
+topic_refusal lands code (Set given form) = code_refusal lands code
+topic_refusal lands code (Lands is_json) = None
 
 -- ---- a day that is wanted
 
@@ -110,9 +133,9 @@ lacks_set lands code date = is_set_without_day (named_of code lands) date
 abbrev pub lacks_strict_day : List LandModel → List ℕ → List ℕ → Topic → Bool
 lacks_strict_day lands code date (Almanac year) = false
 lacks_strict_day lands code date (Year year) = false
-lacks_strict_day lands code date (Land page is_strict) = is_strict && lacks_day lands code page
-lacks_strict_day lands code date (Set given is_strict) = is_strict && lacks_set lands code date
-lacks_strict_day lands code date Lands = false
+lacks_strict_day lands code date (Land page form) = form.is_strict && lacks_day lands code page
+lacks_strict_day lands code date (Set given form) = form.is_strict && lacks_set lands code date
+lacks_strict_day lands code date (Lands is_json) = false
 
 -- the status of a page that was printed: that of a refusal, if such a day is missing
 abbrev pub ended : Bool → Status → Status
@@ -156,9 +179,9 @@ abbrev pub refusal_line : List ℕ → List ℕ → Topic → Refusal → List �
 refusal_line path code (Almanac year) refusal =
     almanac_refusal_lines path code year refusal
 refusal_line path code (Year year) refusal = land_refusal_line path code refusal
-refusal_line path code (Land page is_strict) refusal = land_refusal_line path code refusal
-refusal_line path code (Set given is_strict) refusal = land_refusal_line path code refusal
-refusal_line path code Lands refusal = numbered_line refusal
+refusal_line path code (Land page form) refusal = land_refusal_line path code refusal
+refusal_line path code (Set given form) refusal = land_refusal_line path code refusal
+refusal_line path code (Lands is_json) refusal = numbered_line refusal
 
 -- ---- how the command ends
 
@@ -171,9 +194,9 @@ IsRefused path code topic refusal o e status =
 abbrev pub PrintsTopicText : Topic → List ℕ → Output → Output → Status → Type 0
 PrintsTopicText (Almanac year) text o e status = PrintsOrReports text o e status
 PrintsTopicText (Year year) text o e status = PrintsIfMade text o e status
-PrintsTopicText (Land page is_strict) text o e status = PrintsIfMade text o e status
-PrintsTopicText (Set given is_strict) text o e status = PrintsIfMade text o e status
-PrintsTopicText Lands text o e status = PrintsIfMade text o e status
+PrintsTopicText (Land page form) text o e status = PrintsIfMade text o e status
+PrintsTopicText (Set given form) text o e status = PrintsIfMade text o e status
+PrintsTopicText (Lands is_json) text o e status = PrintsIfMade text o e status
 
 -- that, with its status
 abbrev pub PrintsPageText : Topic → List ℕ → Bool → Output → Output → Status → Type 0
@@ -202,9 +225,9 @@ PrintsPageOn s path word date topic (NotOne named) o e status =
 abbrev pub place_of : Topic → List ℕ → List LandModel → Place
 place_of (Almanac year) word lands = One word
 place_of (Year year) word lands = place_named word lands
-place_of (Land page is_strict) word lands = place_named word lands
-place_of (Set given is_strict) word lands = place_named word lands
-place_of Lands word lands = One word
+place_of (Land page form) word lands = place_named word lands
+place_of (Set given form) word lands = place_named word lands
+place_of (Lands is_json) word lands = One word
 
 -- for a journal: it makes an object, and that was done
 abbrev pub PrintsTopic : Limits → List ℕ → Input → List ℕ → List ℕ → Topic → Output → Output

@@ -27,6 +27,7 @@ use Rattle.osn_invocation.specs.Invocation.{month_words, year_words, territory_w
 use Rattle.osn_page_commands.specs.DayNumber.{day_by_number, day_by_julian, is_julian_word}
 use Rattle.osn_page_commands.specs.MonthWord.{month_of_word, month_takes_memory}
 use Rattle.osn_page_commands.specs.Order.{order_of_word}
+use Rattle.osn_page_commands.specs.declared.page_words.Form.{Form}
 use Rattle.osn_page_commands.specs.declared.page_words.Topic.{Topic}
 use Rattle.osn_page_commands.specs.declared.page_words.Topic.TheVariants.{Almanac, Year, Land}
 use Rattle.osn_page_commands.specs.declared.page_words.Topic.TheVariants.{Set, Lands}
@@ -83,28 +84,28 @@ reading_of date_result name = do
   Ok (pages.Reading date beside)
 
 -- a page on a territory, as what is asked for
-abbrev pub of_land : Result Page Misuse → Bool → Result Topic Misuse
-of_land page_result is_strict = do
+abbrev pub of_land : Result Page Misuse → Form → Result Topic Misuse
+of_land page_result form = do
   page ← page_result
-  Ok (Land page is_strict)
+  Ok (Land page form)
 
 -- the page on a set of dates
-abbrev pub topic_of_set : Option (List ℕ) → Bool → Result Topic Misuse
-topic_of_set name is_strict = do
+abbrev pub topic_of_set : Option (List ℕ) → Form → Result Topic Misuse
+topic_of_set name form = do
   given ← weekday_of_word name
-  Ok (Set given is_strict)
+  Ok (Set given form)
 
 -- the page on what a text says
-abbrev pub topic_of_read : Result Written DateFault → Option (List ℕ) → Bool → Result Topic Misuse
-topic_of_read (Ok say.Set) name is_strict = topic_of_set name is_strict
-topic_of_read read name is_strict = of_land (reading_of (any_date_or_misuse read) name) is_strict
+abbrev pub topic_of_read : Result Written DateFault → Option (List ℕ) → Form → Result Topic Misuse
+topic_of_read (Ok say.Set) name form = topic_of_set name form
+topic_of_read read name form = of_land (reading_of (any_date_or_misuse read) name) form
 
 -- the same for a text, and for the word of the order of its numbers, if there is one
-abbrev pub topic_of_reading : List ℕ → Option (List ℕ) → Option (List ℕ) → Bool
+abbrev pub topic_of_reading : List ℕ → Option (List ℕ) → Option (List ℕ) → Form
     → Result Topic Misuse
-topic_of_reading text name word is_strict = do
+topic_of_reading text name word form = do
   order ← order_of_word word
-  topic_of_read (read_date order text) name is_strict
+  topic_of_read (read_date order text) name form
 
 -- ---- a day
 
@@ -208,15 +209,21 @@ year_topic_of text = do
 
 -- ---- a page
 
+-- the form of an answer: whether a date without a day is a refusal, and whether it is in JSON
+abbrev pub form_of : Bool → Bool → Form
+form_of is_strict is_json = record { is_strict = is_strict; is_json = is_json }
+
 abbrev pub topic_of_words : PageWordsModel → Result Topic Misuse
 topic_of_words (almanac_words code year) = Ok (Almanac year)
-topic_of_words (reading_words code date weekday order strict) =
-    topic_of_reading date weekday order strict
-topic_of_words (day_words code date) = of_land (day_page_of (day_by_number date) date) false
-topic_of_words (month_words code year month) = of_land (month_page_of year month) false
+topic_of_words (reading_words code date weekday order strict json) =
+    topic_of_reading date weekday order (form_of strict json)
+topic_of_words (day_words code date json) =
+    of_land (day_page_of (day_by_number date) date) (form_of false json)
+topic_of_words (month_words code year month) =
+    of_land (month_page_of year month) (form_of false false)
 topic_of_words (year_words code year) = year_topic_of year
-topic_of_words (territory_words None) = Ok Lands
-topic_of_words (territory_words (Some code)) = Ok (Land pages.Periods false)
+topic_of_words (territory_words None json) = Ok (Lands json)
+topic_of_words (territory_words (Some code) json) = Ok (Land pages.Periods (form_of false json))
 
 -- words take memory if they name a date, or a month by a name
 abbrev pub day_takes_memory : Option (Result ℕ Misuse) → Bool
@@ -225,30 +232,30 @@ day_takes_memory None = true
 
 abbrev pub takes_memory : PageWordsModel → Bool
 takes_memory (almanac_words code year) = false
-takes_memory (reading_words code date weekday order strict) = true
-takes_memory (day_words code date) = day_takes_memory (day_by_number date)
+takes_memory (reading_words code date weekday order strict json) = true
+takes_memory (day_words code date json) = day_takes_memory (day_by_number date)
 takes_memory (month_words code year month) = month_takes_memory (number_of month)
 takes_memory (year_words code year) = false
-takes_memory (territory_words code) = false
+takes_memory (territory_words code json) = false
 
 -- the text of the date that is named, if any
 abbrev pub date_text_of : PageWordsModel → List ℕ
-date_text_of (reading_words code date weekday order strict) = date
+date_text_of (reading_words code date weekday order strict json) = date
 date_text_of (almanac_words code year) = []
-date_text_of (day_words code date) = []
+date_text_of (day_words code date json) = []
 date_text_of (month_words code year month) = []
 date_text_of (year_words code year) = []
-date_text_of (territory_words code) = []
+date_text_of (territory_words code json) = []
 
 -- the word that names the territory, if there is one
 abbrev pub land_word : PageWordsModel → List ℕ
 land_word (almanac_words code year) = code
-land_word (reading_words code date weekday order strict) = code
-land_word (day_words code date) = code
+land_word (reading_words code date weekday order strict json) = code
+land_word (day_words code date json) = code
 land_word (month_words code year month) = code
 land_word (year_words code year) = code
-land_word (territory_words None) = []
-land_word (territory_words (Some code)) = code
+land_word (territory_words None json) = []
+land_word (territory_words (Some code) json) = code
 
 -- the word that is not what its place asks for
 abbrev pub wrong_word_of_reading : List ℕ → Option (List ℕ) → Option (List ℕ) → Misuse → List ℕ
@@ -258,11 +265,11 @@ wrong_word_of_reading date weekday (Some order) misuses.Order = order
 wrong_word_of_reading date weekday order misuse = date
 
 abbrev pub wrong_word : PageWordsModel → Misuse → List ℕ
-wrong_word (reading_words code date weekday order strict) misuse =
+wrong_word (reading_words code date weekday order strict json) misuse =
     wrong_word_of_reading date weekday order misuse
-wrong_word (day_words code date) misuse = date
+wrong_word (day_words code date json) misuse = date
 wrong_word (month_words code year month) misuses.Month = month
 wrong_word (month_words code year month) misuse = year
 wrong_word (year_words code year) misuse = year
 wrong_word (almanac_words code year) misuse = []
-wrong_word (territory_words code) misuse = []
+wrong_word (territory_words code json) misuse = []

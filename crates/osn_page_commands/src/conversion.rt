@@ -1,13 +1,25 @@
 //! The command `convert`.
+ghost use Rattle.std.specs.Prelude.{◌≡◌};
 ghost use Rattle.osn_lines.specs.Streams.{output_of};
 ghost use Rattle.osn_page_commands.specs.Conversion.{PrintsConversion};
+ghost use Rattle.osn_page_commands.specs.PageWords as spec;
 
 use crate::date_hint::tell_word;
-use crate::page_words::{conversion_of_words, wrong_word_of_conversion};
+use crate::page_words::conversion_of_words;
 use osn_lines::Sink;
 use osn_pages::conversion_page;
-use osn_report::{Status, print, tell_no_memory};
+use osn_report::{Misuse, Status, print, tell_no_memory};
 use std::alloc::Global;
+
+/// Returns which of the words of a conversion is not what its place asks for.
+fn wrong_word_of_conversion<'a>(calendar: &'a str, date: &'a str, misuse: Misuse) -> &'a str
+    ensures { result.now ≡ spec.wrong_word_of_conversion calendar.now date.now misuse }
+{
+    match misuse {
+        Misuse::Calendar => calendar,
+        _ => date,
+    }
+}
 
 /// Runs the command `convert`: prints a day by every calendar and by its numbers. The day is that
 /// of a date in the calendar of that word. After the word `day` in place of a calendar's, it is

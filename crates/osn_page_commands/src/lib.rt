@@ -3,6 +3,7 @@
 //! with the status of what happened. It reports in one line on standard error why it ended early.
 #![tactic(auto)]
 
+mod answer_line;
 mod conversion;
 mod date_hint;
 mod day_number;

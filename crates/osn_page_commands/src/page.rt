@@ -6,22 +6,94 @@ ghost use Rattle.osn_register.specs.Refusal.{IsRefusalOrNoMemory};
 ghost use Rattle.osn_page_commands.specs.Page as spec;
 ghost use Rattle.osn_page_commands.specs.Place as places;
 
+use crate::answer_line::{page_line, query_line, set_line};
 use crate::page_words::Topic;
 use crate::place::{Place, place_named};
 use crate::place_lines::place_lines;
 use crate::refusal_lines::refusal_line;
 use osn_almanac::{almanac_text, year_page_text};
 use osn_core::Object;
+use osn_days::Weekday;
 use osn_lines::Sink;
 use osn_pages::{
     Page, Published, has_no_day, page_text, set_has_no_day, set_page_text, territories_page,
 };
-use osn_register::{Limits, Refusal, Register};
+use osn_register::{BorrowedQuery, Refusal, Register};
 use osn_report::{Status, print, print_or_report, tell_line, tell_no_memory};
-use std::alloc::Global;
+use std::alloc::{AllocError, Global};
 
-/// Returns the page that was asked for, on what an object has published. `date` is the text of its
-/// date.
+/// Returns the number of the edition that an object has published, and how many edits wait.
+fn edition_of(object: &Object) -> Published
+    ensures { result ≡ spec.edition_of object.now }
+{
+    Published {
+        edition: object.batches().len(),
+        pending: object.pending().len(),
+    }
+}
+
+/// Returns a page on the territory of a code, or the line of JSON of its answer. `date` is the text
+/// of its date.
+fn land_text(
+    alloc: Global,
+    object: &Object,
+    code: &str,
+    date: &str,
+    page: Page,
+    is_json: bool,
+) -> Result<String, Refusal>
+    ensures lawful { OnOk result (code_refusal (spec.published object.now) code.now ≡ None) }
+    ensures text { IfOk result (λ text. string_bytes text
+        ≡ spec.land_text object.now code.now date.now page is_json) }
+    ensures refused { IfErr result
+        (IsRefusalOrNoMemory (code_refusal (spec.published object.now) code.now)) }
+{
+    let register = object.register();
+    if !is_json {
+        return page_text(alloc, register, code, edition_of(object), page);
+    }
+    register.land(code)?;
+    match page_line(alloc, object, code, date, &page)? {
+        Some(line) => Ok(line),
+        None => page_text(alloc, register, code, edition_of(object), page),
+    }
+}
+
+/// Returns the page on a set of dates, or the line of JSON of its answer.
+fn set_text(
+    alloc: Global,
+    object: &Object,
+    code: &str,
+    date: &str,
+    weekday: Option<Weekday>,
+    is_json: bool,
+) -> Result<String, Refusal>
+    ensures lawful { OnOk result (code_refusal (spec.published object.now) code.now ≡ None) }
+    ensures text { IfOk result (λ text. string_bytes text
+        ≡ spec.set_text object.now code.now date.now weekday is_json) }
+    ensures refused { IfErr result
+        (IsRefusalOrNoMemory (code_refusal (spec.published object.now) code.now)) }
+{
+    let register = object.register();
+    if !is_json {
+        return set_page_text(alloc, register, code, edition_of(object), date, weekday);
+    }
+    register.land(code)?;
+    Ok(set_line(alloc, object, code, date, weekday)?)
+}
+
+/// Returns the page of all territories, or the line of JSON of the answer.
+fn lands_text(alloc: Global, object: &Object, is_json: bool) -> Result<String, AllocError>
+    ensures { IfOk result (λ text. string_bytes text ≡ spec.lands_text object.now is_json) }
+{
+    if is_json {
+        query_line(alloc, object, BorrowedQuery::Lands)
+    } else {
+        territories_page(alloc, object.register(), edition_of(object))
+    }
+}
+
+/// Returns what was asked for, on what an object has published. `date` is the text of its date.
 fn text_of(
     alloc: Global,
     object: &Object,
@@ -37,18 +109,14 @@ fn text_of(
         (spec.topic_refusal (spec.published object.now) code.now topic.now)) }
 {
     let register = object.register();
-    let published = Published {
-        edition: object.batches().len(),
-        pending: object.pending().len(),
-    };
     match *topic {
         Topic::Almanac(year) => almanac_text(alloc, register, code, i64::from(year)),
-        Topic::Year(year) => year_page_text(alloc, register, code, published, year),
-        Topic::Land { page, .. } => page_text(alloc, register, code, published, page),
-        Topic::Set { weekday, .. } => {
-            set_page_text(alloc, register, code, published, date, weekday)
+        Topic::Year(year) => year_page_text(alloc, register, code, edition_of(object), year),
+        Topic::Land { page, form } => land_text(alloc, object, code, date, page, form.is_json),
+        Topic::Set { weekday, form } => {
+            set_text(alloc, object, code, date, weekday, form.is_json)
         }
-        Topic::Lands => Ok(territories_page(alloc, register, published)?),
+        Topic::Lands { is_json } => Ok(lands_text(alloc, object, is_json)?),
     }
 }
 
@@ -91,14 +159,12 @@ fn lacks_strict_day(
         (spec.topic_refusal (spec.published object.now) code.now topic.now)) }
 {
     match *topic {
-        Topic::Land {
-            page,
-            is_strict: true,
-        } => lacks_day(alloc, object.register(), code, page),
-        Topic::Set {
-            is_strict: true,
-            ..
-        } => lacks_set(alloc, object.register(), code, date),
+        Topic::Land { page, form } if form.is_strict => {
+            lacks_day(alloc, object.register(), code, page)
+        }
+        Topic::Set { form, .. } if form.is_strict => {
+            lacks_set(alloc, object.register(), code, date)
+        }
         _ => Ok(false),
     }
 }
@@ -155,7 +221,7 @@ fn print_text_of<W: Sink, E: Sink>(
 {
     match topic {
         Topic::Almanac(_) => print_or_report(Ok(text), output, errors),
-        Topic::Year(_) | Topic::Land { .. } | Topic::Set { .. } | Topic::Lands => {
+        Topic::Year(_) | Topic::Land { .. } | Topic::Set { .. } | Topic::Lands { .. } => {
             print(Ok(text), output, errors)
         }
     }
@@ -237,7 +303,7 @@ pub(crate) fn print_page<W: Sink, E: Sink>(
         (output_of E.contents E.has_failed E.holds_back errors.old errors.new) result }
 {
     match topic {
-        Topic::Almanac(_) | Topic::Lands => {
+        Topic::Almanac(_) | Topic::Lands { .. } => {
             print_page_of(alloc, object, path, word, date, topic, output, errors)
         }
         Topic::Year(_) | Topic::Land { .. } | Topic::Set { .. } => {

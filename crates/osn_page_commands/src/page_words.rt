@@ -17,6 +17,15 @@ use osn_report::Misuse;
 use osn_written::{AnyDate, DateFault, WrittenDate, number_of, weekday_named};
 use std::alloc::{AllocError, Global};
 
+/// How the answer to a question about a territory is printed, and how the command ends.
+#[derive(Clone, Copy, Debug, PartialEq, Eq)]
+pub(crate) struct Form {
+    /// Whether a date that means no day ends the command as a refusal does.
+    pub(crate) is_strict: bool,
+    /// Whether the answer is a line of JSON.
+    pub(crate) is_json: bool,
+}
+
 /// What a command prints a page on.
 #[derive(Clone, Copy, Debug, PartialEq, Eq)]
 pub(crate) enum Topic {
@@ -27,18 +36,19 @@ pub(crate) enum Topic {
     /// What this page says about a territory.
     Land {
         page: Page,
-        /// Whether a date that means no day ends the command as a refusal does.
-        is_strict: bool,
+        form: Form,
     },
     /// Which days the set of dates means that the text of the date is.
     Set {
         /// The weekday that is given beside it, if any.
         weekday: Option<Weekday>,
-        /// Whether a date that means no day ends the command as a refusal does.
-        is_strict: bool,
+        form: Form,
     },
     /// All territories.
-    Lands,
+    Lands {
+        /// Whether the answer is a line of JSON.
+        is_json: bool,
+    },
 }
 
 /// Returns the date of one day that a text is.
@@ -100,12 +110,12 @@ fn reading_of(date: Result<AnyDate, Misuse>, name: Option<&str>) -> Result<Page,
 }
 
 /// Returns the page on a set of dates, by the weekday of that name, if there is a name.
-fn topic_of_set(name: Option<&str>, is_strict: bool) -> Result<Topic, Misuse>
-    ensures { result ≡ spec.topic_of_set (option_map (λ name. name.now) name.entry) is_strict }
+fn topic_of_set(name: Option<&str>, form: Form) -> Result<Topic, Misuse>
+    ensures { result ≡ spec.topic_of_set (option_map (λ name. name.now) name.entry) form }
 {
     Ok(Topic::Set {
         weekday: weekday_of_word(name)?,
-        is_strict,
+        form,
     })
 }
 
@@ -113,14 +123,14 @@ fn topic_of_set(name: Option<&str>, is_strict: bool) -> Result<Topic, Misuse>
 fn topic_of_read(
     read: Result<Written, DateFault>,
     name: Option<&str>,
-    is_strict: bool,
+    form: Form,
 ) -> Result<Topic, Misuse>
     ensures { result
-        ≡ spec.topic_of_read read (option_map (λ name. name.now) name.entry) is_strict }
+        ≡ spec.topic_of_read read (option_map (λ name. name.now) name.entry) form }
 {
     match read {
-        Ok(Written::Set) => topic_of_set(name, is_strict),
-        _ => of_land(reading_of(any_date_or_misuse(read), name), is_strict),
+        Ok(Written::Set) => topic_of_set(name, form),
+        _ => of_land(reading_of(any_date_or_misuse(read), name), form),
     }
 }
 
@@ -131,16 +141,16 @@ fn topic_of_reading(
     text: &str,
     weekday: Option<&str>,
     order: Option<&str>,
-    is_strict: bool,
+    form: Form,
 ) -> Result<Result<Topic, Misuse>, AllocError>
     ensures { IfOk result (λ topic. topic ≡ spec.topic_of_reading text.now
         (option_map (λ name. name.now) weekday.entry) (option_map (λ word. word.now) order.entry)
-        is_strict) }
+        form) }
 {
     match order_of_word(order) {
         Ok(order) => {
             let read = read_date(alloc, text, order)?;
-            Ok(topic_of_read(read, weekday, is_strict))
+            Ok(topic_of_read(read, weekday, form))
         }
         Err(misuse) => Ok(Err(misuse)),
     }
@@ -289,13 +299,17 @@ fn year_topic_of(year: &str) -> Result<Topic, Misuse>
 }
 
 /// Returns a page on a territory, as what is asked for.
-fn of_land(page: Result<Page, Misuse>, is_strict: bool) -> Result<Topic, Misuse>
-    ensures { result ≡ spec.of_land page is_strict }
+fn of_land(page: Result<Page, Misuse>, form: Form) -> Result<Topic, Misuse>
+    ensures { result ≡ spec.of_land page form }
 {
-    Ok(Topic::Land {
-        page: page?,
-        is_strict,
-    })
+    Ok(Topic::Land { page: page?, form })
+}
+
+/// Returns the form of an answer.
+fn form_of(is_strict: bool, is_json: bool) -> Form
+    ensures { result ≡ spec.form_of is_strict is_json }
+{
+    Form { is_strict, is_json }
 }
 
 /// Returns what words ask for a page on.
@@ -313,15 +327,21 @@ pub(crate) fn topic_of_words(
             weekday,
             order,
             strict,
+            json,
             ..
-        } => topic_of_reading(alloc, date, weekday, order, strict),
-        PageWords::Day { date, .. } => Ok(of_land(day_page_of(alloc, date)?, false)),
+        } => topic_of_reading(alloc, date, weekday, order, form_of(strict, json)),
+        PageWords::Day { date, json, .. } => {
+            Ok(of_land(day_page_of(alloc, date)?, form_of(false, json)))
+        }
         PageWords::Month { year, month, .. } => {
-            Ok(of_land(month_page_of(alloc, year, month)?, false))
+            Ok(of_land(month_page_of(alloc, year, month)?, form_of(false, false)))
         }
         PageWords::Year { year, .. } => Ok(year_topic_of(year)),
-        PageWords::Territory { code: None } => Ok(Ok(Topic::Lands)),
-        PageWords::Territory { code: Some(_) } => Ok(of_land(Ok(Page::Periods), false)),
+        PageWords::Territory { code: None, json } => Ok(Ok(Topic::Lands { is_json: json })),
+        PageWords::Territory {
+            code: Some(_),
+            json,
+        } => Ok(of_land(Ok(Page::Periods), form_of(false, json))),
     }
 }
 
@@ -345,8 +365,11 @@ pub(crate) fn land_word<'a>(words: PageWords<'a>) -> &'a str
         | PageWords::Day { code, .. }
         | PageWords::Month { code, .. }
         | PageWords::Year { code, .. }
-        | PageWords::Territory { code: Some(code) } => code,
-        PageWords::Territory { code: None } => "",
+        | PageWords::Territory {
+            code: Some(code),
+            ..
+        } => code,
+        PageWords::Territory { code: None, .. } => "",
     }
 }
 
@@ -373,19 +396,5 @@ pub(crate) fn wrong_word<'a>(words: PageWords<'a>, misuse: Misuse) -> &'a str
         (PageWords::Month { month, .. }, Misuse::Month) => month,
         (PageWords::Month { year, .. } | PageWords::Year { year, .. }, _) => year,
         (PageWords::Almanac { .. } | PageWords::Territory { .. }, _) => "",
-    }
-}
-
-/// Returns which of the words of a conversion is not what its place asks for.
-pub(crate) fn wrong_word_of_conversion<'a>(
-    calendar: &'a str,
-    date: &'a str,
-    misuse: Misuse,
-) -> &'a str
-    ensures { result.now ≡ spec.wrong_word_of_conversion calendar.now date.now misuse }
-{
-    match misuse {
-        Misuse::Calendar => calendar,
-        _ => date,
     }
 }

@@ -124,6 +124,6 @@ pub(crate) fn refusal_line(
         Topic::Year(_) | Topic::Land { .. } | Topic::Set { .. } => {
             land_refusal_line(alloc, path, code, refusal)
         }
-        Topic::Lands => refused(alloc, refusal.number(), refusal.name()),
+        Topic::Lands { .. } => refused(alloc, refusal.number(), refusal.name()),
     }
 }

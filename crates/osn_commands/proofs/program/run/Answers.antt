@@ -3,13 +3,13 @@ use Rattle.osn_folder.specs.Folder.{MayFail}
 use Rattle.osn_lines.specs.Streams.{input_of, output_of}
 use Rattle.osn_report.specs.Folders.{folders_of}
 use Rattle.osn_text_commands.specs.PublishInside.{CanStay}
-use Rattle.osn_commands.specs.Run.{RunsArgs}
+use Rattle.osn_commands.specs.Run.{RunsWords}
 use Rattle.osn_commands.proofs.program.run.Goals as goal
 
 pub returns-in-Ok : goal.returns-in-Ok
 returns-in-Ok g c =
     let lent : c.deref.result.now ≡ c.in-Ok.words.items = search rules in
-    subst (λ args. RunsArgs args (MayFail g.D.File.Source.has_failed)
+    subst (λ args. RunsWords (map g.S.AsStr.text c.args.args.now) args (MayFail g.D.File.Source.has_failed)
     (CanStay g.D.Keeper.KeptFile.cut_back_may_fail)
     (folders_of g.D.Folder.known c.args.folder.now c.run_words.new.folder)
     (input_of g.R.Source.remaining g.R.Source.has_failed c.args.input.now c.run_words.new.input)

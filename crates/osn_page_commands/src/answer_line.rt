@@ -1,0 +1,81 @@
+//! The answer of a page as a line of JSON: the service's reply to the query of the page.
+ghost use Rattle.std.specs.Prelude.{◌≡◌, IfOk, option_map, string_bytes};
+ghost use Rattle.osn_page_commands.specs.AnswerLine as spec;
+ghost use Rattle.osn_register.specs.BorrowedQuery.{as_query};
+
+use osn_core::Object;
+use osn_days::Weekday;
+use osn_grammar::members_of;
+use osn_pages::Page;
+use osn_register::BorrowedQuery;
+use osn_reply::{Outcome, reply_text};
+use osn_written::{DateReading, Listing};
+use std::alloc::{AllocError, Global};
+
+/// The number of the reader who asks for a page.
+const READER: u32 = 1;
+
+/// Returns the line of the reply to a query of what an object has published.
+pub(crate) fn query_line(
+    alloc: Global,
+    object: &Object,
+    query: BorrowedQuery<'_>,
+) -> Result<String, AllocError>
+    ensures { IfOk result (λ line.
+        string_bytes line ≡ spec.query_line object.now (as_query query.entry)) }
+{
+    let reply = object.ask_borrowed(query)?;
+    let outcome = Outcome::Replied {
+        reader: READER,
+        reply,
+    };
+    reply_text(alloc, &outcome)
+}
+
+/// Returns the line of the reply to the query of a page on the territory of a code, if it has one.
+pub(crate) fn page_line(
+    alloc: Global,
+    object: &Object,
+    code: &str,
+    text: &str,
+    page: &Page,
+) -> Result<Option<String>, AllocError>
+    ensures { IfOk result (λ line. option_map (λ line. string_bytes line) line
+        ≡ option_map (spec.query_line object.now) (spec.query_of_page code.now text.now page.now)) }
+{
+    match *page {
+        Page::Reading { date, weekday } => {
+            let date = DateReading::Date(date);
+            let query = BorrowedQuery::Written(code, text, &date, weekday);
+            Ok(Some(query_line(alloc, object, query)?))
+        }
+        Page::OfDay { day, .. } => {
+            let query = BorrowedQuery::DayIn(code, i64::from(day.number()));
+            Ok(Some(query_line(alloc, object, query)?))
+        }
+        Page::Periods => {
+            let query = BorrowedQuery::Periods(code);
+            Ok(Some(query_line(alloc, object, query)?))
+        }
+        Page::Month { .. } => Ok(None),
+    }
+}
+
+/// Returns the line of the reply to the query of a set of dates.
+pub(crate) fn set_line(
+    alloc: Global,
+    object: &Object,
+    code: &str,
+    text: &str,
+    weekday: Option<Weekday>,
+) -> Result<String, AllocError>
+    ensures { IfOk result (λ line. string_bytes line
+        ≡ spec.query_line object.now (spec.query_of_set code.now text.now weekday)) }
+{
+    let dates = DateReading::Set(Listing::new(members_of(alloc, text)?));
+    query_line(
+        alloc,
+        object,
+        BorrowedQuery::Written(code, text, &dates, weekday),
+    )
+}
