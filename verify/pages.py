@@ -20,7 +20,7 @@ from lib.date_draws import (MALFORMED, NAMES, any_case, date_text, day_near, jou
 from lib.date_meaning import Malformed, Territory, days_by_month_and_day, parse
 from lib.page_texts import (Place, conversion_page, day_page, list_page, month_page, pending_lines,
                             reading_page, territory_page)
-from lib.spans import reckoned_page, span_answer, span_near, span_page, text_of
+from lib.spans import both_text, reckoned_page, span_answer, span_near, span_page, text_of
 from lib.year_page import year_page
 
 EACH = 40
@@ -172,7 +172,10 @@ class Asked:
             return
         sign = {"old": "O.S.", "new": "N.S."}[reckoning]
         lines = reckoned_page(self.place, date, None, reckoning)
-        yield from self.page(["read", "XX", f"{text} {sign}"], lines)
+        texts = [f"{text} {sign}"]
+        if reckoning == "new" and (both := both_text(date)):
+            texts.append(both)
+        yield from self.page(["read", "XX", self.chance.choice(texts)], lines)
 
     def span(self, label):
         """A month, a year, a range, a bound or a set."""

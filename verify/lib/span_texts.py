@@ -4,6 +4,8 @@ The marks of a date are at the ends of the text. Each other text is Unread.
 """
 import re
 
+from lib.calendars import dates
+from lib.date_meaning import days_under
 from lib.spans import NAMES, PART_WORDS, Simple, Span, in_part, part_of
 
 MONTHS = {name.lower(): month for names in NAMES for month, name in enumerate(names, 1)}
@@ -19,6 +21,11 @@ FRONTS = [DAY, f"{DAY} {NAME}", NAME]
 # With a dash after it a double year alone is not a first date.
 RANGES = [r"from (.+) to (.+)", r"between (.+) and (.+)", r"(.+) to (.+)",
           r"(?!\d+/\d+ ?[-\u2013])([^-]+?) ?[-\u2013] ?(.+)"]
+# A day by both calendars.
+OLD_NEW = r"(?P<old>\d{1,2})/(?P<new>\d{1,2})"
+OTHER = NAME.replace("name", "other")
+BOTH = [f"{OLD_NEW} {NAME} {YEARS}", f"{NAME} {OLD_NEW},? {YEARS}",
+        rf"(?P<old>\d{{1,2}}) {NAME}/(?P<new>\d{{1,2}}) {OTHER} {YEARS}"]
 BOUND = r"(before|not after|by|after|not before) (.+)"
 
 # A number that may be a day or a month, and one that is a day.
@@ -164,6 +171,23 @@ def extent_of(text):
     raise Unread(text)
 
 
+def by_both(text):
+    """The Gregorian date of a day by both calendars, None if the text has no such form."""
+    if not (parts := matched(BOTH, text)):
+        return None
+    year = simple_of({"year": parts["year"], "later": parts["later"]}, text)
+    month = month_of(parts)
+    old = month, int(parts["old"])
+    new = MONTHS[parts.get("other", parts["name"]).lower()], int(parts["new"])
+    if (min(old, new) < (3, 25)) != year.is_double:
+        raise Unread(text)
+    gregorian = year.year + year.is_double, *new
+    days = days_under(("gregorian", "january"), gregorian)
+    if [dates("julian")[day][1:] for day in days] != [old]:
+        raise Unread(text)
+    return Span("on", Simple(gregorian[0], False, *new), reckoning="new")
+
+
 class Unread(Exception):
     """A text that may be a date, and that is in no form which is read here."""
 
@@ -205,5 +229,9 @@ def span_of(text):
     if part := part_in(rest) or season_in(rest):
         return part._replace(reckoning=reckoning, approximate=True, uncertain=uncertain,
                              supplied=supplied)
+    if both := by_both(rest):
+        if named:
+            raise Unread(text)
+        return both._replace(approximate=approximate, uncertain=uncertain, supplied=supplied)
     return extent_of(rest)._replace(reckoning=reckoning, approximate=approximate,
                                     uncertain=uncertain, supplied=supplied)

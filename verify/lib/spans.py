@@ -6,8 +6,8 @@ about their years.
 """
 from typing import NamedTuple, Optional
 
-from lib.calendars import HIGH, MONTHS
-from lib.date_meaning import Territory, Written, weekday_of, years_about
+from lib.calendars import HIGH, MONTHS, dates
+from lib.date_meaning import Territory, Written, days_under, weekday_of, years_about
 from lib.page_texts import (date_written, day_line, meant_lines, three_digits_lines, why_lines,
                             years_written)
 
@@ -426,6 +426,19 @@ PART_WORDS = {
     "last third": ["late", "end of", "Ende", "fin", "the last third of"],
     "first half": ["first half of", "the first half of", "1. Hälfte", "primera mitad de"],
     "second half": ["second half of", "2. Hälfte", "tweede helft", "seconde moitié de"]}
+
+
+def both_text(date):
+    """A Gregorian date as a day by both calendars, None if it is not one day of both."""
+    days = days_under(("gregorian", "january"), date.label())
+    if date.is_double or date.has_three_digits or not days:
+        return None
+    (_, month, day), (year, other, last) = dates("julian")[days[0]], date.label()
+    is_early = min((month, day), (other, last)) < (3, 25)
+    years = f"{year - 1:04}/{year}" if is_early else f"{year:04}"
+    first = f"{day}" if month == other else f"{day} {MONTHS[month - 1]}"
+    weekday = f"{date.weekday} " if date.weekday else ""
+    return f"{weekday}{first}/{last} {MONTHS[other - 1]} {years}"
 
 
 def text_of(chance, span):

@@ -1,17 +1,15 @@
 -- A day by both calendars, such as 3/13 June 1675: its Julian date and its Gregorian one. This
 -- project's profile.
 use Rattle.std.specs.Prelude.{ℕ, Bool, true, false, not, ◌&&◌, ◌||◌, nat_lt, ◌==◌, ◌+◌, pos, ◌+ℤ◌}
-use Rattle.std.specs.Prelude.{if◌then◌else◌, List, [], ◌∷◌, map, Option, Some, None, is_some}
+use Rattle.std.specs.Prelude.{if◌then◌else◌, List, [], ◌∷◌, Option, Some, None, is_some}
 use Rattle.std.specs.Prelude.{Result, Ok, Err}
 use Rattle.std.specs.List.{list_any}
 use Rattle.std.specs.Ordering.{int_eq}
 use Rattle.std.specs.Result.{result_ok}
 use Rattle.osn_days.specs.declared.calendar.Calendar.TheVariants.{Gregorian, Julian}
 use Rattle.osn_days.specs.declared.date.Date.{Date}
-use Rattle.osn_days.specs.Chain.{date_of, days_with_date}
 use Rattle.osn_days.specs.Profile.{Profile}
 use Rattle.osn_lands.specs.Style.{is_before_25_march}
-use Rattle.osn_grammar.specs.declared.both_calendars.MonthDay.{MonthDay}
 use Rattle.osn_grammar.specs.declared.both_calendars.TwoDates.{TwoDates}
 use Rattle.osn_grammar.specs.declared.both_calendars.WrittenYears.{WrittenYears}
 use Rattle.osn_grammar.specs.declared.both_calendars.WrittenYears.TheVariants as years
@@ -23,9 +21,11 @@ use Rattle.osn_written.specs.declared.any_date.Reckoning.TheVariants.{OldStyle, 
 use Rattle.osn_grammar.specs.declared.simple.YearNumbers.{YearNumbers}
 use Rattle.osn_grammar.specs.Forms.{year_numbers}
 use Rattle.osn_grammar.specs.Simple.{is_long, one, year_of}
+use Rattle.osn_grammar.specs.TwoDays.{dates_in_other, two_days}
 use Rattle.osn_written.specs.declared.any_date.SimpleDate.{SimpleDate}
 use Rattle.osn_written.specs.declared.any_date.SimpleDate.TheVariants as date
 use Rattle.osn_written.specs.declared.any_date.Year.{Year}
+use Rattle.osn_written.specs.declared.written_date.MonthDay.{MonthDay}
 use Rattle.osn_written.specs.declared.written_date.DateFault.{DateFault}
 use Rattle.osn_written.specs.declared.written_date.DateFault.TheVariants as faults
 
@@ -149,13 +149,9 @@ gregorian_year dates = year_by (is_early dates.old || is_early dates.new) dates.
 
 -- ---- one day
 
--- the date of these numbers, whether a calendar has it or not
-abbrev pub numbered : ℕ → MonthDay → Date
-numbered y d = record { year = pos y; month = d.month; day = d.day }
-
 -- the Julian date of the day of the line that has a Gregorian one
 abbrev pub julian_dates : Profile → ℕ → MonthDay → List Date
-julian_dates p y d = map (date_of Julian) (days_with_date p Gregorian (numbered y d))
+julian_dates p y d = dates_in_other p Gregorian Julian (pos y) d
 
 -- a year that is written for a Julian date is its year, or the one before if it is from 1 January
 -- to 24 March
@@ -175,10 +171,10 @@ abbrev pub are_one_day : Profile → Year → TwoDates → Bool
 are_one_day p y dates = list_any (is_old dates) (julian_dates p y.first dates.new)
 
 abbrev pub day_in_year : Profile → TwoDates → Option Year → Result SimpleDate DateFault
-day_in_year p dates None = Err faults.TwoDays
+day_in_year p dates None = Err faults.BothCalendars
 day_in_year p dates (Some y) =
     if are_one_day p y dates then Ok (date.Day y dates.new.month dates.new.day)
-    else Err faults.TwoDays
+    else Err (two_days p y.first dates.old dates.new)
 
 abbrev pub day_of_both : Profile → TwoDates → Result SimpleDate DateFault
 day_of_both p dates = day_in_year p dates (gregorian_year dates)

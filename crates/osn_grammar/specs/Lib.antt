@@ -8,6 +8,7 @@ pub mod Extent
 pub mod Sets
 pub mod Years
 pub mod Period
+pub mod TwoDays
 pub mod BothCalendars
 pub mod Roman
 pub mod Reading

@@ -99,7 +99,7 @@ told_part reckoning e = record { extent = e; reckoning = reckoning; is_part = tr
 abbrev pub told_by_both : Option Reckoning → DateFault → Result SimpleDate DateFault
     → Result Told DateFault
 told_by_both None fault (Ok d) = Ok (told (Some NewStyle) (extent.On d))
-told_by_both (Some r) fault (Ok d) = Err faults.TwoDays
+told_by_both (Some r) fault (Ok d) = Err faults.NamedCalendar
 told_by_both reckoning fault (Err faults.Malformed) = Err fault
 told_by_both reckoning fault (Err other) = Err other
 

@@ -161,7 +161,7 @@ year_and_day year day month =
 -- `1731/2 February 11` has a double year, `11/22 February 1731` the day by both calendars
 abbrev pub double_year_or_days : Numeral → Numeral → ℕ → Numeral → Result SimpleDate DateFault
 double_year_or_days a b month c =
-    if is_long a then day_of_month (two a b) month c else Err faults.TwoDays
+    if is_long a then day_of_month (two a b) month c else Err faults.BothCalendars
 
 -- `2/1731` is a month, `1731/2` a double year
 abbrev pub month_or_double_year : Numeral → Numeral → Result SimpleDate DateFault

@@ -1,9 +1,7 @@
 //! A day by both calendars, such as `3/13 June 1675`: its Julian date and its Gregorian one.
-ghost use Rattle.std.specs.Prelude.{◌≡◌, ◌≤◌, map};
+ghost use Rattle.std.specs.Prelude.{◌≡◌, ◌≤◌};
 ghost use Rattle.std.specs.List.{list_any};
 ghost use Rattle.std.specs.Option.{option_to_list};
-ghost use Rattle.osn_days.specs.declared.calendar.Calendar.TheVariants.{Gregorian, Julian};
-ghost use Rattle.osn_days.specs.Chain as chain;
 ghost use Rattle.osn_days.specs.Profile.{newest_rules};
 ghost use Rattle.osn_lands.specs.Style as style;
 ghost use Rattle.osn_grammar.specs.BothCalendars as spec;
@@ -12,15 +10,9 @@ use crate::forms::year_numbers;
 use crate::part::Numeral;
 use crate::part::Part::{self, Month, Number, Reckoning as By, Round, Slash, Weekday};
 use crate::simple::{YearNumbers, is_long, one, year_of};
-use osn_days::{Calendar, Date, date_of, day_of};
-use osn_written::{DateFault, Reckoning, SimpleDate, Year};
-
-/// A day of a month.
-#[derive(Clone, Copy)]
-struct MonthDay {
-    month: u8,
-    day: u8,
-}
+use crate::two_days::{date_in_other, two_days};
+use osn_days::{Calendar, Date};
+use osn_written::{DateFault, MonthDay, Reckoning, SimpleDate, Year};
 
 /// The years that are written with two dates.
 #[derive(Clone, Copy)]
@@ -261,15 +253,7 @@ fn gregorian_year(dates: TwoDates) -> Option<Year>
 fn julian_date(year: u16, date: MonthDay) -> Option<Date>
     ensures { option_to_list result ≡ spec.julian_dates newest_rules year date }
 {
-    let gregorian = Date {
-        year: i32::from(year),
-        month: date.month,
-        day: date.day,
-    };
-    match day_of(Calendar::Gregorian, gregorian) {
-        Some(day) => Some(date_of(Calendar::Julian, day)),
-        None => None,
-    }
+    date_in_other(Calendar::Gregorian, Calendar::Julian, i32::from(year), date)
 }
 
 /// Returns whether a year that is written for a Julian date is its year, or the one before if it is
@@ -316,7 +300,8 @@ fn day_of_both(dates: TwoDates) -> Result<SimpleDate, DateFault>
             month: dates.new.month,
             day: dates.new.day,
         }),
-        _ => Err(DateFault::TwoDays),
+        Some(year) => Err(two_days(year.first, dates.old, dates.new)),
+        None => Err(DateFault::BothCalendars),
     }
 }
 

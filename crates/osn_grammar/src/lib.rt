@@ -17,6 +17,7 @@ mod roman_year;
 mod scan;
 mod set;
 mod simple;
+mod two_days;
 mod words_read;
 mod written;
 mod years;

@@ -128,7 +128,7 @@ fn told_by_both(
         Ok(date) if reckoning.is_none() => {
             Ok(plain(Extent::On(date), Some(Reckoning::NewStyle)))
         }
-        Ok(_) => Err(DateFault::TwoDays),
+        Ok(_) => Err(DateFault::NamedCalendar),
         Err(DateFault::Malformed) => Err(fault),
         Err(other) => Err(other),
     }

@@ -307,6 +307,6 @@ pub fn double_year_or_days(
     if is_long(first) {
         day_of_month(two(first, second), month, day)
     } else {
-        Err(DateFault::TwoDays)
+        Err(DateFault::BothCalendars)
     }
 }

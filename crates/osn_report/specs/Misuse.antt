@@ -6,6 +6,7 @@ use Rattle.osn_days.specs.Weekday.{weekday_name}
 use Rattle.osn_shown.specs.Shown.{shown}
 use Rattle.osn_written.specs.declared.written_date.DateFault.{DateFault}
 use Rattle.osn_written.specs.declared.written_date.DateFault.TheVariants as faults
+use Rattle.osn_written.specs.WrittenDate.{month_day_words}
 use Rattle.osn_report.specs.declared.misuse.Misuse.{Misuse}
 use Rattle.osn_report.specs.declared.misuse.Misuse.TheVariants.{Date, Weekday, OtherWeekday}
 use Rattle.osn_report.specs.declared.misuse.Misuse.TheVariants.{Calendar, DayNumber, DoubleDate}
@@ -16,35 +17,42 @@ use Rattle.osn_report.specs.declared.misuse.Misuse.TheVariants.{Separator, Order
 use Rattle.osn_report.specs.declared.misuse.Misuse.TheVariants.{OpenOrder, DateAndParts}
 use Rattle.osn_report.specs.declared.misuse.Misuse.TheVariants.{PartWithoutYear, DayWithoutMonth}
 
--- what a date asks for
-abbrev pub date_text : DateFault → List ℕ
-date_text faults.Malformed =
-    codes "a date is written 1731-02-11, \"11 February 1731\" or \"11 February 1731/2\", "
-    ++ codes "with a weekday before it or without"
-date_text faults.LaterYear =
-    codes "after the / comes the year that follows, in full or its last digits, "
-    ++ codes "such as 1731/2, 1731/32 or 1731/1732"
-date_text faults.Year = codes "a year is 0 to 10000"
-date_text faults.Month =
-    codes "a month is 1 to 12: in a range of years write the later year in full, "
-    ++ codes "such as 1640-1645"
-date_text faults.Day = codes "a day of a month is 1 to 31"
-date_text faults.NoDate = codes
-    "it says that there is no date: write a day, such as \"11 February 1731\""
-date_text faults.NotOneDay = codes
-    "a month, a year or a range is not one day: write the day, such as \"11 February 1731\""
-date_text faults.Qualifier = codes
-    "about, ?, [ ], O.S. and the like say more than the day: write only the day"
-date_text faults.ShortYear = codes "a year of one or two digits needs its zeros, such as 0045"
-date_text faults.OpenYear = codes
-    "173? may be any year of a decade: write the year in four digits, such as 1731 or 0173"
-date_text faults.DayOrMonth = codes
-    "11/2/1731 may be 11 February or 2 November: write the month by its name"
-date_text faults.TwoDays =
+abbrev pub both_calendars : List ℕ
+both_calendars =
     codes "a day by both calendars has the two dates of one day, as 3/13 June 1675, and from "
     ++ codes "1 January to 24 March a double year, as 3/13 Feb. 1674/5"
-date_text faults.Feast = codes "a feast is not read: write its day"
-date_text faults.RomanNumeral =
+
+-- what a date asks for, if that is not said by its own dates
+abbrev pub usual_text : DateFault → List ℕ
+usual_text faults.Malformed =
+    codes "a date is written 1731-02-11, \"11 February 1731\" or \"11 February 1731/2\", "
+    ++ codes "with a weekday before it or without"
+usual_text faults.LaterYear =
+    codes "after the / comes the year that follows, in full or its last digits, "
+    ++ codes "such as 1731/2, 1731/32 or 1731/1732"
+usual_text faults.Year = codes "a year is 0 to 10000"
+usual_text faults.Month =
+    codes "a month is 1 to 12: in a range of years write the later year in full, "
+    ++ codes "such as 1640-1645"
+usual_text faults.Day = codes "a day of a month is 1 to 31"
+usual_text faults.NoDate = codes
+    "it says that there is no date: write a day, such as \"11 February 1731\""
+usual_text faults.NotOneDay = codes
+    "a month, a year or a range is not one day: write the day, such as \"11 February 1731\""
+usual_text faults.Qualifier = codes
+    "about, ?, [ ], O.S. and the like say more than the day: write only the day"
+usual_text faults.ShortYear = codes "a year of one or two digits needs its zeros, such as 0045"
+usual_text faults.OpenYear = codes
+    "173? may be any year of a decade: write the year in four digits, such as 1731 or 0173"
+usual_text faults.DayOrMonth = codes
+    "11/2/1731 may be 11 February or 2 November: write the month by its name"
+usual_text faults.BothCalendars = both_calendars
+usual_text (faults.TwoDays old new written) = both_calendars
+usual_text faults.NamedCalendar =
+    codes "a day by both calendars names both of them or neither, such as "
+    ++ codes "3 June O.S./13 June N.S. 1675"
+usual_text faults.Feast = codes "a feast is not read: write its day"
+usual_text faults.RomanNumeral =
     codes "a Roman numeral is read as the day beside a month's name, as xi February 1731, or as "
     ++ codes "the month between two numbers, but vi, xx and single letters are other words too: "
     ++ codes "write it in digits"
@@ -52,6 +60,14 @@ date_text faults.OpenPart =
     codes "early, mid, late and the halves are parts of a month, a year, a decade or a century, "
     ++ codes "and a winter is of two years: write the months, such as December 1675 to February "
     ++ codes "1676"
+
+-- what a date asks for: 3 June old style was 13 June new style, not 14 June
+abbrev pub date_text : DateFault → List ℕ
+date_text (faults.TwoDays old new written) =
+    month_day_words old
+    ++ (codes " old style was "
+    ++ (month_day_words new ++ (codes " new style, not " ++ month_day_words written)))
+date_text fault = usual_text fault
 
 -- what the place of the word asks for
 abbrev pub misuse_text : Misuse → List ℕ

@@ -58,9 +58,9 @@ pub enum Misuse {
     Shell,
 }
 
-/// Returns the text on what a date asks for.
-fn date_text(fault: DateFault) -> &'static str
-    ensures { result.now ≡ spec.date_text fault }
+/// Returns the text on what a date asks for, if it has no dates of its own.
+fn usual_text(fault: DateFault) -> &'static str
+    ensures { result.now ≡ spec.usual_text fault }
 {
     match fault {
         DateFault::Malformed => {
@@ -93,9 +93,13 @@ such as 1640-1645"
         DateFault::DayOrMonth => {
             "11/2/1731 may be 11 February or 2 November: write the month by its name"
         }
-        DateFault::TwoDays => {
+        DateFault::BothCalendars | DateFault::TwoDays { .. } => {
             "a day by both calendars has the two dates of one day, as 3/13 June 1675, and from \
 1 January to 24 March a double year, as 3/13 Feb. 1674/5"
+        }
+        DateFault::NamedCalendar => {
+            "a day by both calendars names both of them or neither, such as \
+3 June O.S./13 June N.S. 1675"
         }
         DateFault::Feast => "a feast is not read: write its day",
         DateFault::RomanNumeral => {
@@ -110,12 +114,29 @@ and a winter is of two years: write the months, such as December 1675 to Februar
     }
 }
 
+/// What a date asks for.
+#[derive(Clone, Copy)]
+struct DateText(DateFault);
+
+impl fmt::Display for DateText {
+    ghost output = { λ x. Some (spec.date_text x.0) };
+
+    fn fmt<W: fmt::Write>(&self, f: &mut fmt::Formatter<W>) -> fmt::Result {
+        match self.0 {
+            DateFault::TwoDays { old, new, written } => {
+                write!(f, "{old} old style was {new} new style, not {written}")
+            }
+            fault => f.write_str(usual_text(fault)),
+        }
+    }
+}
+
 impl fmt::Display for Misuse {
     ghost output = { λ misuse. Some (spec.misuse_text misuse) };
 
     fn fmt<W: fmt::Write>(&self, f: &mut fmt::Formatter<W>) -> fmt::Result {
         match *self {
-            Misuse::Date(fault) => f.write_str(date_text(fault)),
+            Misuse::Date(fault) => write!(f, "{}", DateText(fault)),
             Misuse::Weekday => f.write_str(
                 "a weekday is written by its English name, such as Friday",
             ),

@@ -1,13 +1,20 @@
 -- The parts of a text, its numbers and its weekdays, whose letters may be capital or small. This
 -- project's profile.
 use Rattle.std.specs.Prelude.{ℕ, Bool, ◌&&◌, nat_le, ◌==◌, if◌then◌else◌, List, [], ◌∷◌, length}
-use Rattle.std.specs.Prelude.{find}
+use Rattle.std.specs.Prelude.{find, ◌++◌, codes}
 use Rattle.std.specs.Prelude.{Option, Some, None, option_map}
+use Rattle.std.specs.Fmt.{decimal}
 use Rattle.std.specs.List.{range_with_len}
 use Rattle.std.specs.Str.{all_ascii_digits, str_eq_ignore_ascii_case}
 use Rattle.std.specs.Str.Parse.{digits_value}
 use Rattle.osn_days.specs.declared.weekday.Weekday.{Weekday}
+use Rattle.osn_days.specs.Month.{month_name}
 use Rattle.osn_days.specs.Weekday.{weekday_name, weekday_numbered}
+use Rattle.osn_written.specs.declared.written_date.MonthDay.{MonthDay}
+
+-- a day of a month in words: 3 June
+abbrev pub month_day_words : MonthDay → List ℕ
+month_day_words d = decimal d.day ++ (codes " " ++ month_name d.month)
 
 -- parts with one more byte at the beginning of the first
 abbrev pub with_first : ℕ → List ℕ × List ℕ → List ℕ × List ℕ

@@ -37,4 +37,4 @@ pub use portion::Portion;
 pub use runs::runs_meant;
 pub use set::{AbsentMember, find_set, is_set_approximate, is_set_uncertain};
 pub use span::{NoSpan, first_of, last_of, span_meant};
-pub use written_date::{DateFault, WrittenDate, number_of, parts_at, weekday_named};
+pub use written_date::{DateFault, MonthDay, WrittenDate, number_of, parts_at, weekday_named};

@@ -1,9 +1,10 @@
 //! Dates of one day, as people write them.
-ghost use Rattle.std.specs.Prelude.{◌≡◌, ◌<◌, ◌^◌, IfSome, find, option_map};
+ghost use Rattle.std.specs.Prelude.{◌≡◌, ◌<◌, ◌^◌, IfSome, Some, find, option_map};
 ghost use Rattle.std.specs.Str.{all_ascii_digits};
 ghost use Rattle.osn_written.specs.WrittenDate as spec;
 
-use osn_days::Weekday;
+use osn_days::{Weekday, month_name};
+use std::fmt;
 
 /// A date as people write it: a year, a month and a day, and whether it is a double date such as
 /// `11 February 1731/2`, whose year is the first one. It has the weekday before it too, if one is
@@ -15,6 +16,21 @@ pub struct WrittenDate {
     pub day: u8,
     pub is_double: bool,
     pub weekday: Option<Weekday>,
+}
+
+/// A day of a month, in any year.
+#[derive(Clone, Copy, Debug, PartialEq, Eq)]
+pub struct MonthDay {
+    pub month: u8,
+    pub day: u8,
+}
+
+impl fmt::Display for MonthDay {
+    ghost output = { λ x. Some (spec.month_day_words x) };
+
+    fn fmt<W: fmt::Write>(&self, f: &mut fmt::Formatter<W>) -> fmt::Result {
+        write!(f, "{} {}", self.day, month_name(self.month))
+    }
 }
 
 /// Why a text is not a written date.
@@ -43,8 +59,18 @@ pub enum DateFault {
     OpenYear,
     /// `11/2/1731` may be 11 February or 2 November.
     DayOrMonth,
-    /// In `11/22 February 1731` the day is that of both calendars.
-    TwoDays,
+    /// In `3/13 Feb. 1675` the day or the year of both calendars is not sure.
+    BothCalendars,
+    /// In `3/14 June 1675` the first date and the second one are not one day.
+    TwoDays {
+        old: MonthDay,
+        /// The Gregorian date of the day whose Julian date is the first one.
+        new: MonthDay,
+        /// The second date.
+        written: MonthDay,
+    },
+    /// `3/13 June 1675 O.S.` names one calendar for the dates of both.
+    NamedCalendar,
     /// The text names a feast.
     Feast,
     /// A number is Roman.

@@ -41,6 +41,10 @@ ADVICE = {
     "day by both calendars": N_("a day by both calendars has the two dates of one day, as 3/13 "
                                 "June 1675, and from 1 January to 24 March a double year, as 3/13 "
                                 "Feb. 1674/5"),
+    "two days by both calendars": N_("the two dates are not one day: 3/13 June 1675 has the "
+                                     "Julian date of the day and its Gregorian one"),
+    "one calendar for the dates of both": N_("a day by both calendars names both of them or "
+                                             "neither, such as 3 June O.S./13 June N.S. 1675"),
     "a feast, not read": N_("a feast is not read: write its day"),
     "a Roman numeral, not read": N_("a Roman numeral is read as the day beside a month's name, as "
                                     "xi February 1731, or as the month between two numbers, but "
