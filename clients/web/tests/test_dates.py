@@ -83,7 +83,6 @@ def asking(program: str) -> Any:
     ("1731-02-32", "no day from 1 to 31"), ("n.d.", "no date"),
     ("11 February 31", "year of one or two digits"), ("173..", "year with an open digit"),
     ("11/2/1731", "open between day and month"), ("11/22 February 1731", "day by both calendars"),
-    ("3/14 June 1675", "two days by both calendars"),
     ("3/13 June 1675 O.S.", "one calendar for the dates of both"),
     ("Easter 1640", "a feast, not read"), ("vi February 1731", "a Roman numeral, not read"),
     ("winter 1675", "an open part of a date, not read")])

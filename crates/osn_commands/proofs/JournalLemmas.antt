@@ -1,6 +1,6 @@
 -- The words of a command line with the file of the journal, by their texts.
 use Rattle.std.proofs.Common.{◌≡◌, ◌∙◌, ◌||◌, ℕ, ◌+◌, Bool, true, false, List, [], ◌∷◌, Option, Some}
-use Rattle.std.proofs.Common.{None, map, length, ap, refl, take, drop, sym, nat_lt, subst}
+use Rattle.std.proofs.Common.{None, map, length, ap, refl, take, drop, sym, nat_lt}
 use Rattle.std.proofs.Common.{option_map, suc, cond, not, if◌then◌else◌}
 use Rattle.std.specs.Prelude.{slice_get}
 use Rattle.std.specs.Borrow.{Bor}

@@ -1,7 +1,6 @@
 -- The words of a command line, as they were typed: the program's name, the command, and the rest.
 use Rattle.std.specs.Prelude.{◌&&◌, ◌||◌, ◌+◌, ℕ, Bool, true, false, List, [], ◌∷◌, not, drop}
 use Rattle.std.specs.Prelude.{get_or, codes, if◌then◌else◌, is_some}
-use Rattle.std.specs.List.{list_any}
 use Rattle.std.specs.Str.Parse.{starts_with_minus}
 use Rattle.std.specs.Str.{bytes_eq}
 use Rattle.clap.specs.Words.{Text}

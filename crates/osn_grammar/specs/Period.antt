@@ -14,7 +14,7 @@ use Rattle.osn_grammar.specs.declared.part.Part.TheVariants.{Number, Dash, Seaso
 use Rattle.osn_grammar.specs.declared.part.Years.{Years}
 use Rattle.osn_grammar.specs.Forms.{month_or_year}
 use Rattle.osn_grammar.specs.Simple.{one, year_of}
-use Rattle.osn_grammar.specs.Years.{range_of, years_in}
+use Rattle.osn_grammar.specs.Years.{by_word, one_in, or_years, range_of}
 use Rattle.osn_written.specs.declared.any_date.Extent.{Extent}
 use Rattle.osn_written.specs.declared.any_date.Extent.TheVariants as extent
 use Rattle.osn_written.specs.declared.any_date.SimpleDate.{SimpleDate}
@@ -85,7 +85,8 @@ part_by p (Some years) whole = Some (range_of (part_of_years p years))
 part_by p None whole = part_of_date p whole
 
 abbrev pub part_of : Portion → List Part → Option Extent
-part_of p whole = part_by p (years_in whole) (month_or_year whole)
+part_of p whole =
+    part_by p (or_years (one_in whole) (by_word whole)) (month_or_year whole)
 
 -- early 1675, mid-1675, middle third of 1675
 abbrev pub part_after : Portion → List Part → Option Extent
@@ -123,7 +124,7 @@ month_by_code code =
 abbrev pub coded_by : Numeral → Numeral → Option ℕ → Option Extent
 coded_by y code None = None
 coded_by y code (Some first) =
-    if code.digits == 2 && nat_le code.value (y.value % 100) then
+    if y.digits == 4 && (code.digits == 2 && nat_le code.value (y.value % 100)) then
     three_months (year_of (one y)) first
     else None
 

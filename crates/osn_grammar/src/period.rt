@@ -7,7 +7,7 @@ use crate::forms::month_or_year;
 use crate::part::Part::{self, Dash, Fraction, Nth, Number, Season};
 use crate::part::{Fraction as Share, Nth as Place, Numeral, Years};
 use crate::simple::{one, year_of};
-use crate::years::{range_of, years_in};
+use crate::years::{by_word, one_in, or_years, range_of};
 use osn_written::{DateFault, Extent, Portion, SimpleDate, Year};
 
 /// Returns the portion that a third or a half is, by its place, such as `first half`.
@@ -100,7 +100,7 @@ fn part_of_date(portion: Portion, whole: Result<SimpleDate, DateFault>) -> Optio
 fn part_of(portion: Portion, whole: &[Part]) -> Option<Extent>
     ensures { result ≡ spec.part_of portion whole.now }
 {
-    match years_in(whole) {
+    match or_years(one_in(whole), by_word(whole)) {
         Some(years) => Some(range_of(part_of_years(portion, years))),
         None => part_of_date(portion, month_or_year(whole)),
     }
@@ -167,7 +167,7 @@ fn coded(year: Numeral, code: Numeral) -> Option<Extent>
     ensures { result ≡ spec.coded year code }
 {
     match month_by_code(code.value) {
-        Some(first) if code.digits == 2 && code.value <= year.value % 100 => {
+        Some(first) if year.digits == 4 && code.digits == 2 && code.value <= year.value % 100 => {
             three_months(year_of(one(year)), first)
         }
         _ => None,

@@ -94,7 +94,7 @@ fn years_of_tal(first: Numeral) -> Option<Years>
 }
 
 /// Returns the years of parts that are one decade or one century, by a word beside a number.
-fn by_word(parts: &[Part]) -> Option<Years>
+pub fn by_word(parts: &[Part]) -> Option<Years>
     ensures { result ≡ spec.by_word parts.now }
 {
     match parts {
@@ -108,7 +108,7 @@ fn by_word(parts: &[Part]) -> Option<Years>
 }
 
 /// Returns the years of parts that are one decade or one century.
-fn one_in(parts: &[Part]) -> Option<Years>
+pub fn one_in(parts: &[Part]) -> Option<Years>
     ensures { result ≡ spec.one_in parts.now }
 {
     match parts {
@@ -160,7 +160,7 @@ fn roman_centuries_in(parts: &[Part]) -> Option<Years>
 }
 
 /// Returns the first of two.
-fn or_years(first: Option<Years>, other: Option<Years>) -> Option<Years>
+pub fn or_years(first: Option<Years>, other: Option<Years>) -> Option<Years>
     ensures { result ≡ spec.or_years first other }
 {
     match first {

@@ -136,6 +136,7 @@ date_apart a l m faults.DayOrMonth = (refl, (refl, (refl, tt)))
 date_apart a l m faults.BothCalendars = (refl, (refl, (refl, tt)))
 date_apart a l m (faults.TwoDays old new written) = (refl, (refl, (refl, tt)))
 date_apart a l m faults.NamedCalendar = (refl, (refl, (refl, tt)))
+date_apart a l m faults.OpenPart = (refl, (refl, (refl, tt)))
 date_apart a l m faults.Feast = (refl, (refl, (refl, tt)))
 date_apart a l m faults.RomanNumeral = (refl, (refl, (refl, tt)))
 

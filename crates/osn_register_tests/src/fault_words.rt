@@ -17,7 +17,10 @@ const DESKS: [(DeskFault, &str); 5] = [
         "reader 2 saw edition 4, but there are 3 editions",
     ),
     (DeskFault::BadCount, "the number of readers is not 1 to 64"),
-    (DeskFault::NoPlace, "there is no room for a reader, or no thread"),
+    (
+        DeskFault::NoPlace,
+        "there is no room for a reader, or no thread",
+    ),
     (DeskFault::GateClosed, "the gate was closed"),
 ];
 

@@ -56,7 +56,7 @@ usual_text faults.RomanNumeral =
     codes "a Roman numeral is read as the day beside a month's name, as xi February 1731, or as "
     ++ codes "the month between two numbers, but vi, xx and single letters are other words too: "
     ++ codes "write it in digits"
-date_text faults.OpenPart =
+usual_text faults.OpenPart =
     codes "early, mid, late and the halves are parts of a month, a year, a decade or a century, "
     ++ codes "and a winter is of two years: write the months, such as December 1675 to February "
     ++ codes "1676"

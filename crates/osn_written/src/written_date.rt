@@ -75,7 +75,7 @@ pub enum DateFault {
     Feast,
     /// A number is Roman.
     RomanNumeral,
-    /// The text names a part of a time, such as `early` or `winter`, and it is not sure of which one.
+    /// The text names a part of a time, such as `early` or `winter`, and it is open of which one.
     OpenPart,
 }
 

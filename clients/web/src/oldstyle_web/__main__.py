@@ -11,6 +11,7 @@ import sys
 from typing import Any, Callable, NoReturn
 
 from oldstyle import Pool, ProgramEnded, ProgramFailed
+from waitress.parser import HTTPRequestParser
 from waitress.server import create_server
 
 from .application import access, create_app
@@ -147,6 +148,8 @@ def log_requests() -> None:
     access.setLevel(logging.INFO)
     access.propagate = False
     logging.getLogger("waitress.queue").setLevel(logging.ERROR)
+    # Waitress names the path of a request whose client has gone: one that can't be read has none.
+    HTTPRequestParser.path = ""
 
 
 def stop(*_: object) -> NoReturn:
