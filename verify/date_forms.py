@@ -31,7 +31,7 @@ def expected(document):
             days = re.findall(DAY, meaning)
             assert len(days) in (1, len(texts)), meaning
             yield from zip(texts, days if len(days) == len(texts) else days * len(texts))
-    for title in ("A month, a year", "A decade, a century", "A part, a season",
+    for title in ("A month, a year", "A feast", "A decade, a century", "A part, a season",
                   "A range, a bound"):
         for texts, _ in rows(document, title):
             yield from ((text, NOT_ONE_DAY) for text in texts)

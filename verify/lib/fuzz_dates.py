@@ -22,7 +22,7 @@ READ = 2
 CODES = ["GB", "SE", "RU", "RM", "DE"]
 WEEKDAYS = ["Friday", "sunday", "MONDAY"]
 REASONS = ("not with both years", "no date of its calendar", "off the line", "skipped",
-           "no such date in that year")
+           "no such date in that year", "no such feast in that year")
 TWO_WEEKDAYS = b": the date names "
 MEMBERS = {"approximate", "kind", "named_calendar", "named_weekday", "nearest",
            "not_counted_double", "other_calendar", "read_as", "reason", "runs", "skipped",

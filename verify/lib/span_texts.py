@@ -6,6 +6,7 @@ import re
 
 from lib.calendars import dates
 from lib.date_meaning import days_under
+from lib.feasts import FORM as FEAST, NAMED
 from lib.spans import NAMES, PART_WORDS, Simple, Span, in_part, part_of
 
 MONTHS = {name.lower(): month for names in NAMES for month, name in enumerate(names, 1)}
@@ -161,6 +162,8 @@ def extent_of(text):
         return years
     if parts := matched(DATES, text):
         return Span("on", simple_of(parts, text))
+    if parts := matched([rf"{FEAST} {YEARS}"], text):
+        return Span("feast", simple_of(parts, text), feast=NAMED[parts["feast"].lower()])
     if found := re.fullmatch(BOUND, text, re.I):
         word = found[1].lower()
         return Span("not after" if word == "by" else word, date_of(found[2]))
@@ -233,5 +236,8 @@ def span_of(text):
         if named:
             raise Unread(text)
         return both._replace(approximate=approximate, uncertain=uncertain, supplied=supplied)
-    return extent_of(rest)._replace(reckoning=reckoning, approximate=approximate,
-                                    uncertain=uncertain, supplied=supplied)
+    extent = extent_of(rest)
+    if named and extent.kind == "feast":
+        raise Unread(text)
+    return extent._replace(reckoning=reckoning, approximate=approximate, uncertain=uncertain,
+                           supplied=supplied)

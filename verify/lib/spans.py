@@ -8,6 +8,7 @@ from typing import NamedTuple, Optional
 
 from lib.calendars import HIGH, MONTHS, dates
 from lib.date_meaning import Territory, Written, days_under, weekday_of, years_about
+from lib.feasts import FEASTS, days_of_feast
 from lib.page_texts import (date_written, day_line, meant_lines, three_digits_lines, why_lines,
                             years_written)
 
@@ -80,6 +81,7 @@ class Span(NamedTuple):
     supplied: bool = False
     members: tuple = ()
     portion: Optional[str] = None
+    feast: str = ""
 
     def sign(self):
         return "%" if self.approximate and self.uncertain else (
@@ -95,7 +97,9 @@ class Span(NamedTuple):
         if self.kind == "set":
             return f"[{','.join(member.in_set(self.sign()) for member in self.members)}]"
         text = self.first.words()
-        if self.kind == "range":
+        if self.kind == "feast":
+            text = f"{self.feast} {text}"
+        elif self.kind == "range":
             text += f" to {self.last.words()}"
         elif self.kind == "part":
             text = f"the {self.portion} of {text}"
@@ -173,6 +177,8 @@ def found(territory, span):
     """The runs of a span, or which of its dates has no day, or why it is not a span."""
     if span.kind == "set":
         return found_of_set([found(territory, member) for member in span.members])
+    if span.kind == "feast":
+        return runs_of(days_of_feast(territory, span.feast, span.first)) or "feast"
     first = span.first.days(territory)
     if not first:
         return "first"
@@ -202,7 +208,7 @@ def run_lines(territory, span, run):
         return [f"from {first}", "to   any later day"]
     count = run[1] - run[0] + 1
     if count == 1:
-        return [first, "1 day"]
+        return [first] if span.kind == "feast" else [first, "1 day"]
     return [f"from {first}", f"to   {last}", f"{count} days"]
 
 
@@ -215,6 +221,8 @@ def none_lines(territory, span, why):
         return ["of the last date:", *why_lines(territory, span.last.first_day())]
     if why == "order":
         return ["the first date is after the last one"]
+    if why == "feast":
+        return ["that feast did not fall in that year"]
     return [f"no day of the line is {span.kind.removeprefix('not ')} it"]
 
 
@@ -275,8 +283,8 @@ def span_page(place, span, weekday=None):
 
 
 def kind_of(span):
-    if span.kind == "set":
-        return "set"
+    if span.kind in ("set", "feast"):
+        return span.kind
     if span.kind == "on":
         return "day" if span.first.day else "month" if span.first.month else "year"
     kinds = {"range": "range", "part": "part", "before": "before", "not after": "before"}
@@ -294,7 +302,8 @@ def reason_of(territory, span, why):
     """Why a span has no day."""
     if missing := missing_day(territory, span, why):
         return ("last date: " if why == "last" else "") + territory.absence(missing)
-    return {"order": "first date after the last", "line": "off the line"}[why]
+    return {"order": "first date after the last", "line": "off the line",
+            "feast": "no such feast in that year"}[why]
 
 
 def near(land, territory, missing):
@@ -450,6 +459,9 @@ def text_of(chance, span):
         text = f"{chance.choice(PART_WORDS[span.portion])} {simple_text(chance, whole)}"
     elif span.kind == "range":
         text = range_text(chance, span.first, span.last)
+    elif span.kind == "feast":
+        years = years_text(chance, span.first)
+        text = f"{chance.choice(FEASTS[span.feast][1])} {years}"
     elif span.kind == "on":
         text = simple_text(chance, span.first)
     else:
@@ -508,8 +520,13 @@ def part_near(chance, date):
 
 def span_near(chance, label, other):
     """A month, a year, a range, a bound or a set about a label; a range goes to the other one."""
-    kinds = ["on", "on", "part", "range", "before", "not after", "after", "not before", "set"]
+    kinds = ["on", "on", "part", "range", "before", "not after", "after", "not before", "set",
+             "feast"]
     kind = chance.choice(kinds)
+    if kind == "feast":
+        year = Simple(label[0], label[0] < 10_000 and chance.random() < 0.2)
+        feast = chance.choice([name for name, (_, texts) in FEASTS.items() if texts])
+        return Span("feast", year, feast=feast)
     if kind == "set":
         return set_near(chance, [label, other])
     if kind == "part":

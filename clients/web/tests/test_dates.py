@@ -84,7 +84,7 @@ def asking(program: str) -> Any:
     ("11 February 31", "year of one or two digits"), ("173..", "year with an open digit"),
     ("11/2/1731", "open between day and month"), ("11/22 February 1731", "day by both calendars"),
     ("3/13 June 1675 O.S.", "one calendar for the dates of both"),
-    ("Easter 1640", "a feast, not read"), ("vi February 1731", "a Roman numeral, not read"),
+    ("Lady Day 1640", "a feast, not read"), ("vi February 1731", "a Roman numeral, not read"),
     ("winter 1675", "an open part of a date, not read")])
 def test_the_advice_is_that_of_the_program(asking: Asking, date: str, reason: str) -> None:
     answered, = asking.answers([{"op": "written", "code": "GB", "date": date}])

@@ -29,9 +29,10 @@ use Rattle.osn_register.specs.Named.{named_of}
 use Rattle.osn_register.specs.Plain.{LandModel, sources_of}
 use Rattle.osn_register.specs.Sources.{SourcesModel}
 use Rattle.osn_pages.specs.SourceLine.{source_text}
-use Rattle.osn_almanac.specs.declared.feast.Feast.{Feast}
+use Rattle.osn_written.specs.declared.feast.Feast.{Feast}
 use Rattle.osn_almanac.specs.Columns.{day_columns, absent_line}
-use Rattle.osn_almanac.specs.Feast.{feast_name, feast_day, feasts}
+use Rattle.osn_almanac.specs.Feasts.{feasts}
+use Rattle.osn_written.specs.Feast.{feast_name, feast_day}
 
 -- ---- the heading
 

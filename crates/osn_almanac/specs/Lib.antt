@@ -1,4 +1,4 @@
 pub mod Columns
-pub mod Feast
+pub mod Feasts
 pub mod Almanac
 pub mod YearPage

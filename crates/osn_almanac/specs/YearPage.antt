@@ -33,13 +33,14 @@ use Rattle.osn_pages.specs.Runs.{count_line}
 use Rattle.osn_pages.specs.SourceLine.{source_text}
 use Rattle.osn_pages.specs.Turn.{gap_words, turned_line}
 use Rattle.osn_pages.specs.Words.{named_day, calendar_words, year_ends, empty_year_line, followed}
-use Rattle.osn_almanac.specs.declared.feast.Feast.{Feast}
-use Rattle.osn_almanac.specs.declared.feast.Feast.TheVariants as feast
+use Rattle.osn_written.specs.declared.feast.Feast.{Feast}
+use Rattle.osn_written.specs.declared.feast.Feast.TheVariants as feast
 use Rattle.osn_almanac.specs.declared.year_days.Part.{Part}
 use Rattle.osn_almanac.specs.declared.year_days.Part.TheVariants.{Run, Month}
 use Rattle.osn_almanac.specs.declared.year_feasts.YearEaster.{YearEaster}
 use Rattle.osn_almanac.specs.Almanac.{figures_lines}
-use Rattle.osn_almanac.specs.Feast.{feast_name, feast_day, feasts}
+use Rattle.osn_almanac.specs.Feasts.{feasts}
+use Rattle.osn_written.specs.Feast.{feast_name, feast_day}
 
 -- ---- days and months
 

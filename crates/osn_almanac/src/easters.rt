@@ -6,11 +6,12 @@ ghost use Rattle.osn_register.specs.Plain.{sources_of};
 ghost use Rattle.osn_almanac.specs.Almanac as spec;
 
 use crate::columns::{push_absent, push_day};
-use crate::feast::{FEASTS, Feast};
+use crate::feasts::FEASTS;
 use osn_days::{Day, Year};
 use osn_lands::Territory;
 use osn_pages::push_source;
 use osn_register::Register;
+use osn_written::Feast;
 use std::alloc::AllocError;
 use std::fmt::Write;
 

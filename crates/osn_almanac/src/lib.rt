@@ -7,7 +7,7 @@ mod almanac;
 mod changes;
 mod columns;
 mod easters;
-mod feast;
+mod feasts;
 mod figures;
 mod months;
 mod year_changes;

@@ -5,12 +5,13 @@ ghost use Rattle.osn_days.specs.Profile.{newest_rules};
 ghost use Rattle.osn_register.specs.Plain.{sources_of};
 ghost use Rattle.osn_almanac.specs.YearPage as spec;
 
-use crate::feast::{FEASTS, Feast};
+use crate::feasts::FEASTS;
 use crate::year_days::label_year;
 use osn_days::{Day, Year};
 use osn_lands::{DatedDay, Territory};
 use osn_pages::{push_day, push_source};
 use osn_register::Register;
+use osn_written::Feast;
 use std::alloc::{AllocError, Global};
 use std::fmt::Write;
 

@@ -5,8 +5,8 @@ use Rattle.osn_grammar.specs.Languages.{AreMonthsKnown, AreWeekdaysKnown, AreOth
 use Rattle.osn_grammar.specs.Languages.{AreOrdinalsKnown, AreOtherWordsKnown, AreWordsKnown}
 use Rattle.osn_grammar.specs.Languages.{AreOtherLanguagesKnown, AreOtherMonthsKnown}
 use Rattle.osn_grammar.specs.Languages.{AreCenturiesKnown, AreDecadesKnown}
-use Rattle.osn_grammar.specs.Languages.{ArePeriodsKnown}
-use Rattle.osn_grammar.specs.Names.{names, other_names}
+use Rattle.osn_grammar.specs.Languages.{ArePeriodsKnown, AreFeastsKnown}
+use Rattle.osn_grammar.specs.Names.{names, other_names, feast_names}
 
 months_known : AreMonthsKnown
 unfolding names lib.Utf8.encode
@@ -96,7 +96,7 @@ other_weekdays_known = record {
 }
 
 ordinals_known : AreOrdinalsKnown
-unfolding names other_names lib.Utf8.encode
+unfolding names other_names feast_names lib.Utf8.encode
 ordinals_known = record {
   english = refl;
   english_short = refl;
@@ -119,7 +119,6 @@ others_known = record {
   new_style = refl;
   undated = refl;
   blank = refl;
-  feasts = refl;
   fillers = refl;
 }
 
@@ -176,6 +175,19 @@ periods_known = record {
   winter = refl;
 }
 
+feasts_known : AreFeastsKnown
+unfolding names other_names feast_names lib.Utf8.encode
+feasts_known = record {
+  english = refl;
+  german = refl;
+  french = refl;
+  latin = refl;
+  dutch = refl;
+  southern = refl;
+  swedish = refl;
+  danish = refl;
+}
+
 pub words_known : AreWordsKnown
 unfolding AreWordsKnown
 words_known = (
@@ -189,4 +201,5 @@ words_known = (
   centuries_known,
   decades_known,
   periods_known,
+  feasts_known,
 )

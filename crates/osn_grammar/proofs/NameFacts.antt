@@ -4,6 +4,7 @@ use Rattle.std.specs.List.{list_any}
 use Rattle.osn_days.specs.Weekday.{weekday_numbered}
 use Rattle.osn_grammar.specs.Laws.{AreEnglishNamesKnown, AreCountedNamesKnown}
 use Rattle.osn_grammar.specs.Names.{AreNamesDistinct, are_distinct, is_listed, names, other_names}
+use Rattle.osn_grammar.specs.Names.{feast_names}
 use Rattle.osn_grammar.proofs.LanguageFacts.{words_known}
 
 usual_distinct : are_distinct names ≡ true
@@ -18,9 +19,28 @@ others_not_usual : list_any (is_listed names) other_names ≡ false
 unfolding names other_names
 others_not_usual = refl
 
+feasts_distinct : are_distinct feast_names ≡ true
+unfolding feast_names
+feasts_distinct = refl
+
+feasts_not_usual : list_any (is_listed names) feast_names ≡ false
+unfolding names feast_names
+feasts_not_usual = refl
+
+feasts_not_others : list_any (is_listed other_names) feast_names ≡ false
+unfolding other_names feast_names
+feasts_not_others = refl
+
 pub names_distinct : AreNamesDistinct
 unfolding AreNamesDistinct
-names_distinct = (usual_distinct, others_distinct, others_not_usual)
+names_distinct = (
+  usual_distinct,
+  others_distinct,
+  feasts_distinct,
+  others_not_usual,
+  feasts_not_usual,
+  feasts_not_others,
+)
 
 pub english_names_known : AreEnglishNamesKnown
 unfolding AreEnglishNamesKnown names weekday_numbered

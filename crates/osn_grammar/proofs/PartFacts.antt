@@ -65,7 +65,7 @@ nothing_says = record {
 abbrev pub is_plain : Part → Bool
 is_plain (part.Weekday w) = false
 is_plain (part.Reckoning r) = false
-is_plain part.Feast = false
+is_plain (part.Feast w) = false
 is_plain _ = true
 
 weekday_stays : (found : Option Weekday) (p : Part) → is_plain p ≡ true
@@ -83,7 +83,7 @@ reckoning_stays None p plain = refl
 reckoning_stays (Some v) p plain = refl
 
 no_feast : (p : Part) → is_plain p ≡ true → is_feast p ≡ false
-no_feast part.Feast plain = absurd (cc)
+no_feast (part.Feast w) plain = absurd (cc)
 no_feast p plain = refl
 
 pub part_adds : {ps ts : List Part} {w : Option Weekday} {r : Option Reckoning} {a u s : Bool}

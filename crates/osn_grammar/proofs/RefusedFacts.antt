@@ -29,7 +29,8 @@ use Rattle.osn_grammar.specs.declared.reading.Told.{Told}
 use Rattle.osn_grammar.specs.Reading.{after_estimated, date_of, is_undated, or_other, or_reason}
 use Rattle.osn_grammar.specs.Reading.{reading_of_parts, unless_open, is_about, is_feast}
 use Rattle.osn_grammar.specs.Reading.{is_doubt, is_bracket, weekday_after, reckoning_after}
-use Rattle.osn_grammar.specs.Reading.{told_by_both, told_in}
+use Rattle.osn_grammar.specs.Reading.{told_by_both, told_in, as_date, feast_of, with_its_signs}
+use Rattle.osn_grammar.specs.Feasts.{feast_in}
 use Rattle.osn_grammar.specs.Period.{period_in}
 use Rattle.osn_grammar.specs.Roman.{roman_date}
 use Rattle.osn_grammar.specs.SetsInDigits.{Days}
@@ -171,6 +172,7 @@ pub record HaveNoOtherForm (ts : List Part) : Type 0 where
   pub period : period_in ts ≡ None
   pub roman : roman_date ts ≡ Err faults.Malformed
   pub both : (parts : List Part) → day_by_both newest_rules parts ts ≡ Err faults.Malformed
+  pub feast : (weekday : Option Weekday) → feast_in weekday ts ≡ Err faults.Feast
 
 time_refused : (o : DateOrder) (parts ts : List Part) (r : Option Reckoning)
     (read : Result Extent DateFault) → HaveNoOtherForm ts → is_err read ≡ true
@@ -194,10 +196,24 @@ told_refused o parts ts (Ok r) other wrong = time_refused o parts ts r (extent_o
 told_refused o parts ts (Err fault) other wrong =
     named_refused (are_named parts) fault (day_by_both newest_rules parts ts) (other.both parts)
 
+named_feast : (weekday : Result (Option Weekday) DateFault)
+    (reckoning : Result (Option Reckoning) DateFault) (parts ts : List Part) → HaveNoOtherForm ts
+    → is_err (as_date (weekday >>= (λ w. reckoning >>= (λ r. feast_in w ts >>= (λ e.
+    with_its_signs parts r e))))) ≡ true
+named_feast (Err fault) reckoning parts ts other = refl
+named_feast (Ok w) (Err fault) parts ts other = refl
+named_feast (Ok w) (Ok r) parts ts other = rw (other.feast w) refl
+
+feast_refused : (parts ts : List Part) → HaveNoOtherForm ts
+    → is_err (as_date (feast_of parts ts)) ≡ true
+feast_refused parts ts other = named_feast (weekday_after None parts) (reckoning_after None parts)
+    parts ts other
+
 unless_refused : (feast : Bool) (o : DateOrder) (parts ts : List Part) → HaveNoOtherForm ts
     → is_err (extent_of o ts) ≡ true
-    → is_err (if feast then Err faults.Feast else or_reason parts ts (date_of o parts ts)) ≡ true
-unless_refused true o parts ts other wrong = refl
+    → is_err (if feast then as_date (feast_of parts ts)
+    else or_reason parts ts (date_of o parts ts)) ≡ true
+unless_refused true o parts ts other wrong = feast_refused parts ts other
 unless_refused false o parts ts other wrong =
     reason_refused parts ts (date_of o parts ts)
     (date_refused (weekday_after None parts) (told_in o parts ts (reckoning_after None parts))
@@ -218,6 +234,7 @@ other_refused (d, None) (e, None) rest = record {
   period = refl;
   roman = refl;
   both = λ parts. refl;
+  feast = λ weekday. refl;
 }
 other_refused (d, None) (e, Some f) rest = record {
   estimated = λ o parts. refl;
@@ -225,6 +242,7 @@ other_refused (d, None) (e, Some f) rest = record {
   period = refl;
   roman = refl;
   both = λ parts. refl;
+  feast = λ weekday. refl;
 }
 other_refused (d, Some e) next rest = record {
   estimated = λ o parts. refl;
@@ -232,6 +250,7 @@ other_refused (d, Some e) next rest = record {
   period = refl;
   roman = refl;
   both = λ parts. refl;
+  feast = λ weekday. refl;
 }
 
 pub said_refused : (o : DateOrder) (p : Part) (ps ts : List Part) → filter tells_time (p ∷ ps) ≡ ts

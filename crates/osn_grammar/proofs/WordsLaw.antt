@@ -150,6 +150,7 @@ extent_read (extent.NotBefore d) ok =
       is = not_before_is read.is;
     }
 extent_read (extent.Part portion d) ok = absurd (cc)
+extent_read (extent.Feast feast year) ok = absurd (cc)
 
 -- ---- after the extent
 
@@ -253,6 +254,7 @@ extent_whole (extent.NotAfter d) ok = date_whole d ok
 extent_whole (extent.After d) ok = date_whole d ok
 extent_whole (extent.NotBefore d) ok = date_whole d ok
 extent_whole (extent.Part portion d) ok = absurd (cc)
+extent_whole (extent.Feast feast year) ok = absurd (cc)
 
 pub words_law : AreWordsRead
 unfolding AreWordsRead words_of

@@ -7,10 +7,12 @@ use Rattle.osn_days.specs.declared.weekday.Weekday.TheVariants.{Thursday, Friday
 use Rattle.osn_days.specs.Weekday.{weekday_numbered}
 use Rattle.osn_grammar.specs.declared.part.Fraction.TheVariants as fraction
 use Rattle.osn_grammar.specs.declared.part.Nth.TheVariants as nth
+use Rattle.osn_grammar.specs.declared.part.FeastWord.TheVariants as word
 use Rattle.osn_grammar.specs.declared.part.Part.{Part}
 use Rattle.osn_grammar.specs.declared.part.Part.TheVariants as part
 use Rattle.osn_written.specs.declared.any_date.Reckoning.TheVariants.{OldStyle, NewStyle}
 use Rattle.osn_written.specs.declared.portion.Portion.TheVariants as portion
+use Rattle.osn_written.specs.declared.feast.Feast.TheVariants as feast
 use Rattle.osn_grammar.specs.Scan.{parts_after}
 
 -- the characters have these parts
@@ -214,10 +216,6 @@ pub record AreOtherWordsKnown : Type 0 where
   pub new_style : Reads (codes "N.S. NS new") (times 3 (part.Reckoning NewStyle))
   pub undated : Reads (codes "n.d. s.d. undated no unknown") (times 5 part.Undated)
   pub blank : Reads (codes "XX") (times 1 part.Blank)
-  pub feasts : Reads
-      (codes "Easter Christmas Michaelmas Lady Whitsun Whitsunday Martinmas Candlemas Saints "
-      ++ codes "Trinity Midsummer Pentecost Epiphany Lammas")
-      (times 14 part.Feast)
   pub fillers : Reads
       (codes "the of on in de del di le den der die dies anno date style feira")
       (times 16 part.Filler)
@@ -330,9 +328,56 @@ pub record ArePeriodsKnown : Type 0 where
       (codes "winter hiver invierno inverno vinter vintern vinteren")
       (times 7 (part.Season 12))
 
+-- ---- feasts
+
+-- the names of feasts that are counted from Easter, and English names of some others. A name with
+-- its weekday in it is that of the day
+pub record AreFeastsKnown : Type 0 where
+  pub english : Reads
+      (codes "easter whitsun whitsunday pentecost ascension ash palm maundy good "
+      ++ codes "whit trinity corpus christi day christmas michaelmas lady "
+      ++ codes "martinmas candlemas saints midsummer epiphany lammas")
+      (map part.Feast (word.Easter ∷ word.Whitsun ∷ word.Whitsun ∷ word.Whitsun ∷ word.Ascension ∷
+      word.Ash ∷ word.Palm ∷ word.Maundy ∷ word.Good ∷ word.Whit ∷ word.Trinity ∷
+      word.Corpus ∷ word.Christi ∷ word.Day ∷ word.Other ∷ word.Other ∷
+      word.Other ∷ word.Other ∷ word.Other ∷ word.Other ∷ word.Other ∷ word.Other ∷
+      word.Other ∷ []))
+  pub german : Reads
+      (codes "ostern ostersonntag ostermontag osterdienstag pfingsten "
+      ++ codes "pfingstsonntag pfingstmontag pfingstdienstag aschermittwoch "
+      ++ codes "palmsonntag gründonnerstag karfreitag charfreitag fronleichnam")
+      (map part.Feast (word.Easter ∷ word.Easter ∷ word.Named feast.EasterMonday ∷
+      word.Named feast.EasterTuesday ∷ word.Whitsun ∷ word.Whitsun ∷
+      word.Named feast.WhitMonday ∷ word.Named feast.WhitTuesday ∷
+      word.Named feast.AshWednesday ∷ word.Named feast.PalmSunday ∷
+      word.Named feast.MaundyThursday ∷ word.Named feast.GoodFriday ∷
+      word.Named feast.GoodFriday ∷ word.Named feast.CorpusChristi ∷ []))
+  pub french : Reads
+      (codes "pâques paques pentecôte pentecote")
+      (map part.Feast (word.Easter ∷ word.Easter ∷ word.Whitsun ∷ word.Whitsun ∷ []))
+  pub latin : Reads
+      (codes "pascha pentecoste trinitatis")
+      (map part.Feast (word.Easter ∷ word.Whitsun ∷ word.Named feast.Trinity ∷ []))
+  pub dutch : Reads
+      (codes "pasen paasmaandag pinksteren pinkstermaandag aswoensdag palmzondag")
+      (map part.Feast (word.Easter ∷ word.Named feast.EasterMonday ∷ word.Whitsun ∷
+      word.Named feast.WhitMonday ∷ word.Named feast.AshWednesday ∷
+      word.Named feast.PalmSunday ∷ []))
+  pub southern : Reads
+      (codes "pasqua páscoa pascoa pentecostés")
+      (map part.Feast (word.Easter ∷ word.Easter ∷ word.Easter ∷ word.Whitsun ∷ []))
+  pub swedish : Reads
+      (codes "påsk påskdagen pingst pingstdagen långfredagen")
+      (map part.Feast (word.Easter ∷ word.Easter ∷ word.Whitsun ∷ word.Whitsun ∷
+      word.Named feast.GoodFriday ∷ []))
+  pub danish : Reads
+      (codes "påske paaske pinse langfredag skærtorsdag")
+      (map part.Feast (word.Easter ∷ word.Easter ∷ word.Whitsun ∷ word.Named feast.GoodFriday ∷
+      word.Named feast.MaundyThursday ∷ []))
+
 -- as a law: all these words are known
 unfoldable pub AreWordsKnown : Type 0
 AreWordsKnown =
     AreMonthsKnown × AreOtherMonthsKnown × AreWeekdaysKnown × AreOtherWeekdaysKnown
     × AreOrdinalsKnown × AreOtherWordsKnown × AreOtherLanguagesKnown × AreCenturiesKnown
-    × AreDecadesKnown × ArePeriodsKnown
+    × AreDecadesKnown × ArePeriodsKnown × AreFeastsKnown

@@ -10,6 +10,7 @@ pub mod Years
 pub mod Period
 pub mod TwoDays
 pub mod BothCalendars
+pub mod Feasts
 pub mod Roman
 pub mod Reading
 pub mod Laws

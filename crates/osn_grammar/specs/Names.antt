@@ -4,6 +4,7 @@ use Rattle.std.specs.Prelude.{Option, Some, None}
 use Rattle.std.specs.Borrow.{Bor}
 use Rattle.std.specs.List.{list_any}
 use Rattle.std.specs.Str.{bytes_eq}
+use Rattle.osn_grammar.specs.declared.feast_names.TheConstants.{FEAST_NAMES}
 use Rattle.osn_grammar.specs.declared.names.TheConstants.{NAMES}
 use Rattle.osn_grammar.specs.declared.other_names.TheConstants.{OTHER_NAMES}
 use Rattle.osn_grammar.specs.declared.part.Part.{Part}
@@ -26,13 +27,20 @@ names = map (λ e. (e.0.now, e.1)) NAMES
 unfoldable pub other_names : List (List ℕ × Part)
 other_names = map (λ e. (e.0.now, e.1)) OTHER_NAMES
 
+-- the names of feasts
+unfoldable pub feast_names : List (List ℕ × Part)
+feast_names = map (λ e. (e.0.now, e.1)) FEAST_NAMES
+
 abbrev pub named_or : Option Part → Option Part → Option Part
 named_or (Some p) other = Some p
 named_or None other = other
 
+abbrev pub other_or_feast : List ℕ → Option Part
+other_or_feast word = named_or (first_named other_names word) (first_named feast_names word)
+
 -- the part that a name in small letters is
 abbrev pub part_named : List ℕ → Option Part
-part_named word = named_or (first_named names word) (first_named other_names word)
+part_named word = named_or (first_named names word) (other_or_feast word)
 
 -- the list has the name
 abbrev pub is_listed : List (List ℕ × Part) → List ℕ × Part → Bool
@@ -47,4 +55,7 @@ are_distinct (entry ∷ rest) = not (is_listed rest entry) && are_distinct rest
 unfoldable pub AreNamesDistinct : Type 0
 AreNamesDistinct =
     (are_distinct names ≡ true) × (are_distinct other_names ≡ true)
+    × (are_distinct feast_names ≡ true)
     × (list_any (is_listed names) other_names ≡ false)
+    × (list_any (is_listed names) feast_names ≡ false)
+    × (list_any (is_listed other_names) feast_names ≡ false)

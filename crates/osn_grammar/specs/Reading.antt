@@ -7,6 +7,7 @@ use Rattle.std.specs.Option.{unwrap_or}
 use Rattle.std.specs.Result.{result_ok}
 use Rattle.osn_days.specs.declared.weekday.Weekday.{Weekday}
 use Rattle.osn_days.specs.Profile.{newest_rules}
+use Rattle.osn_grammar.specs.declared.part.FeastWord.TheVariants as word
 use Rattle.osn_grammar.specs.declared.part.Part.{Part}
 use Rattle.osn_grammar.specs.declared.part.Part.TheVariants as part
 use Rattle.osn_written.specs.declared.written_date.DateFault.{DateFault}
@@ -22,6 +23,7 @@ use Rattle.osn_grammar.specs.declared.reading.Told.{Told}
 use Rattle.osn_grammar.specs.declared.written.Written.{Written}
 use Rattle.osn_grammar.specs.declared.written.Written.TheVariants as say
 use Rattle.osn_written.specs.declared.any_date.AnyDate.{AnyDate}
+use Rattle.osn_grammar.specs.Feasts.{feast_in}
 use Rattle.osn_grammar.specs.Extent.{extent_of}
 use Rattle.osn_written.specs.AnyDate.{has_three_digits}
 use Rattle.osn_grammar.specs.Parts.{tells_time}
@@ -72,8 +74,10 @@ abbrev pub is_bracket : Part → Bool
 is_bracket part.Bracket = true
 is_bracket _ = false
 
+-- a word of a feast's name; `day` is one only after another
 abbrev pub is_feast : Part → Bool
-is_feast part.Feast = true
+is_feast (part.Feast word.Day) = false
+is_feast (part.Feast w) = true
 is_feast _ = false
 
 abbrev pub is_roman_numeral : Part → Bool
@@ -202,11 +206,37 @@ abbrev pub or_reason : List Part → List Part → Result AnyDate DateFault → 
 or_reason parts timed (Ok w) = Ok (say.Date w)
 or_reason parts timed (Err fault) = Err (reason parts timed fault)
 
+-- ---- a feast
+
+abbrev pub with_its_signs : List Part → Option Reckoning → Extent → Result AnyDate DateFault
+with_its_signs parts (Some r) e = Err faults.Feast
+with_its_signs parts None e = unless_open (record {
+  extent = e;
+  weekday = None;
+  reckoning = None;
+  is_approximate = list_any is_about parts;
+  is_uncertain = list_any is_doubt parts;
+  is_supplied = list_any is_bracket parts;
+})
+
+-- a feast in a year. Its weekday is part of its name, and no calendar may be named
+abbrev pub feast_of : List Part → List Part → Result AnyDate DateFault
+feast_of parts timed = do
+  weekday ← weekday_after None parts
+  reckoning ← reckoning_after None parts
+  extent ← feast_in weekday timed
+  with_its_signs parts reckoning extent
+
+abbrev pub as_date : Result AnyDate DateFault → Result Written DateFault
+as_date read = do
+  w ← read
+  Ok (say.Date w)
+
 -- a text of no parts has no date, and neither has one that is undated
 abbrev pub reading_of_parts : DateOrder → List Part → List Part → Result Written DateFault
 reading_of_parts o parts timed =
     if length parts == 0 || is_undated timed then Ok say.NoDate
-    else (if list_any is_feast parts then Err faults.Feast
+    else (if list_any is_feast parts then as_date (feast_of parts timed)
     else or_reason parts timed (date_of o parts timed))
 
 -- ---- a set of dates

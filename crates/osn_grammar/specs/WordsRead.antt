@@ -31,6 +31,7 @@ is_writable_extent (extent.NotAfter d) = is_writable_date d
 is_writable_extent (extent.After d) = is_writable_date d
 is_writable_extent (extent.NotBefore d) = is_writable_date d
 is_writable_extent (extent.Part portion d) = false
+is_writable_extent (extent.Feast feast year) = false
 
 abbrev pub is_writable : AnyDate → Bool
 is_writable w = is_writable_extent w.extent

@@ -5,6 +5,9 @@
 mod both_calendars;
 mod date_in_text;
 mod extent;
+mod feast_names;
+mod feast_reading;
+mod feasts;
 mod forms;
 mod names;
 mod order;

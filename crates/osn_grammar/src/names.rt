@@ -2,13 +2,14 @@
 ghost use Rattle.std.specs.Prelude.{◌≡◌};
 ghost use Rattle.osn_grammar.specs.Names as spec;
 
+use crate::feast_names::feast_named;
 use crate::other_names::other_part_named;
 use crate::part::{Numeral, Part};
 use osn_days::Weekday;
 use osn_written::{Portion, Reckoning};
 
 /// Each usual name with the part of a date that it is: in small letters, with accents and without.
-pub const NAMES: [(&str, Part); 483] = [
+pub const NAMES: [(&str, Part); 469] = [
     ("january", Part::Month(1)),
     ("jan", Part::Month(1)),
     ("ianuarius", Part::Month(1)),
@@ -432,20 +433,6 @@ pub const NAMES: [(&str, Part); 483] = [
     ("utan", Part::Undated),
     ("sine", Part::Undated),
     ("xx", Part::Blank),
-    ("easter", Part::Feast),
-    ("christmas", Part::Feast),
-    ("michaelmas", Part::Feast),
-    ("lady", Part::Feast),
-    ("whitsun", Part::Feast),
-    ("whitsunday", Part::Feast),
-    ("martinmas", Part::Feast),
-    ("candlemas", Part::Feast),
-    ("saints", Part::Feast),
-    ("trinity", Part::Feast),
-    ("midsummer", Part::Feast),
-    ("pentecost", Part::Feast),
-    ("epiphany", Part::Feast),
-    ("lammas", Part::Feast),
     ("mid", Part::Portion(Portion::MiddleThird)),
     ("os", Part::Reckoning(Reckoning::OldStyle)),
     ("old", Part::Reckoning(Reckoning::OldStyle)),
@@ -741,12 +728,22 @@ fn usual_part_named(word: &str) -> Option<Part>
     first_named(&NAMES, word)
 }
 
+/// Returns the part that another name or that of a feast is, if it is one.
+fn other_or_feast(word: &str) -> Option<Part>
+    ensures { result ≡ spec.other_or_feast word.now }
+{
+    match other_part_named(word) {
+        Some(part) => Some(part),
+        None => feast_named(word),
+    }
+}
+
 /// Returns the part that a name in small letters is, if it is one.
 pub fn part_named(word: &str) -> Option<Part>
     ensures { result ≡ spec.part_named word.now }
 {
     match usual_part_named(word) {
         Some(part) => Some(part),
-        None => other_part_named(word),
+        None => other_or_feast(word),
     }
 }

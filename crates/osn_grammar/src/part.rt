@@ -7,7 +7,7 @@ ghost use Rattle.osn_grammar.specs.Parts as spec;
 use crate::names::part_named;
 use crate::roman_year::roman_year;
 use osn_days::Weekday;
-use osn_written::{Portion, Reckoning};
+use osn_written::{Feast, Portion, Reckoning};
 
 /// A number with the count of its digits.
 #[derive(Clone, Copy)]
@@ -36,6 +36,32 @@ pub enum Nth {
 pub enum Fraction {
     Half,
     Third,
+}
+
+/// A word of the name of a feast.
+#[derive(Clone, Copy)]
+pub enum FeastWord {
+    /// `easter`, alone or with a weekday beside it.
+    Easter,
+    /// `pentecost`, in the same way.
+    Whitsun,
+    Ascension,
+    /// `ash`, before Wednesday. The next ones need their weekdays too.
+    Ash,
+    Palm,
+    Maundy,
+    Good,
+    Whit,
+    Trinity,
+    /// `corpus`, before `christi`.
+    Corpus,
+    Christi,
+    /// `day`, after another one.
+    Day,
+    /// A name with its weekday, such as `ostermontag`.
+    Named(Feast),
+    /// A feast that is not counted from Easter.
+    Other,
 }
 
 /// A part of a text.
@@ -76,7 +102,7 @@ pub enum Part {
     /// A word that says nothing of the day, such as `of`.
     Filler,
     Undated,
-    Feast,
+    Feast(FeastWord),
     /// A Roman numeral from 2 to 31 that is not another word, or an ordinal such as `XVIe`.
     Roman(u8),
     /// Another word of the letters of Roman numerals.

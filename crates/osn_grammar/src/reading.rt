@@ -10,6 +10,7 @@ ghost use Rattle.osn_grammar.specs.SetsInDigits.{AreSetsRead};
 
 use crate::both_calendars::{day_by_both, named_day};
 use crate::extent::extent_of;
+use crate::feast_reading::{feast_of, has_feast};
 use crate::part::Part;
 use crate::period::{has_period, period_in};
 use crate::roman::{has_roman_numeral, roman_date};
@@ -34,7 +35,7 @@ fn with_weekday(found: Option<Weekday>, part: Part) -> Result<Option<Weekday>, D
 }
 
 /// Returns the weekday that parts name, if one does.
-fn weekday_of(parts: &[Part]) -> Result<Option<Weekday>, DateFault>
+pub fn weekday_of(parts: &[Part]) -> Result<Option<Weekday>, DateFault>
     ensures { result ≡ spec.weekday_after None parts.now }
 {
     let mut found = None;
@@ -56,7 +57,7 @@ fn with_reckoning(found: Option<Reckoning>, part: Part) -> Result<Option<Reckoni
 }
 
 /// Returns the calendar that parts name, if one does.
-fn reckoning_of(parts: &[Part]) -> Result<Option<Reckoning>, DateFault>
+pub fn reckoning_of(parts: &[Part]) -> Result<Option<Reckoning>, DateFault>
     ensures { result ≡ spec.reckoning_after None parts.now }
 {
     let mut found = None;
@@ -83,17 +84,10 @@ pub fn is_uncertain(parts: &[Part]) -> bool
 }
 
 /// Returns whether a part says that an editor supplied a date.
-fn is_supplied(parts: &[Part]) -> bool
+pub fn is_supplied(parts: &[Part]) -> bool
     ensures { result ≡ list_any spec.is_bracket parts.now }
 {
     parts.iter().any(|part| matches!(part, Part::Bracket))
-}
-
-/// Returns whether a part names a feast.
-fn has_feast(parts: &[Part]) -> bool
-    ensures { result ≡ list_any spec.is_feast parts.now }
-{
-    parts.iter().any(|part| matches!(part, Part::Feast))
 }
 
 /// What parts say of the time, by which calendar.
@@ -223,7 +217,7 @@ fn told_in(
 
 /// Returns the date, unless a year of it may lack a digit: one of three digits that is in doubt or
 /// in brackets.
-fn unless_open(date: AnyDate) -> Result<AnyDate, DateFault>
+pub fn unless_open(date: AnyDate) -> Result<AnyDate, DateFault>
     ensures { result ≡ spec.unless_open date }
 {
     if date.extent.has_year_of_three_digits() && (date.is_uncertain || date.is_supplied) {
@@ -321,7 +315,7 @@ fn reading_of_parts(order: DateOrder, parts: &[Part], timed: &[Part]) -> Result<
         return Ok(Written::NoDate);
     }
     if has_feast(parts) {
-        return Err(DateFault::Feast);
+        return Ok(Written::Date(feast_of(parts, timed)?));
     }
     or_reason(parts, timed, date_of(order, parts, timed))
 }

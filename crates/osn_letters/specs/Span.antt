@@ -41,3 +41,4 @@ span_of_runs (extent.Before date) runs = span None (last_of runs)
 span_of_runs (extent.NotAfter date) runs = span None (last_of runs)
 span_of_runs (extent.After date) runs = span (first_of runs) None
 span_of_runs (extent.NotBefore date) runs = span (first_of runs) None
+span_of_runs (extent.Feast feast year) runs = span (first_of runs) (last_of runs)

@@ -14,7 +14,7 @@ use Rattle.osn_register.specs.Sources.{SourcesModel}
 use Rattle.osn_written.specs.declared.absence.Absence.{Absence}
 use Rattle.osn_written.specs.declared.finding.NoDay.{NoDay}
 use Rattle.osn_written.specs.declared.finding.NoDay.TheVariants.{Absent, LastAbsent, OutOfOrder}
-use Rattle.osn_written.specs.declared.finding.NoDay.TheVariants.{OffTheLine}
+use Rattle.osn_written.specs.declared.finding.NoDay.TheVariants.{OffTheLine, NoFeast}
 use Rattle.osn_written.specs.declared.kind.Kind.{Kind}
 use Rattle.osn_written.specs.declared.kind.Kind.TheVariants as kinds
 use Rattle.osn_written.specs.declared.written_date.WrittenDate.{WrittenDate}
@@ -56,6 +56,7 @@ no_day_lines p t sources e (LastAbsent absence) =
     last_absent_lines p t sources (first_day_of (ends_of e).1) absence
 no_day_lines p t sources e OutOfOrder = codes "the first date is after the last one\n"
 no_day_lines p t sources e OffTheLine = off_the_line (kind_of e)
+no_day_lines p t sources e NoFeast = codes "that feast did not fall in that year\n"
 
 -- the days, as the place itself dated them, or why no day is meant
 abbrev pub found_lines : Profile → TerritoryModel → TerritoryModel → Option SourcesModel → Extent

@@ -45,6 +45,7 @@ since_lines p t r = from_line (dated_on p t r.first) ++ codes "to   any later da
 abbrev pub run_lines : Profile → TerritoryModel → Kind → Run → List ℕ
 run_lines p t kinds.Before r = until_lines p t r
 run_lines p t kinds.After r = since_lines p t r
+run_lines p t kinds.Feast r = ends_lines p t r.first r.last
 run_lines p t kind r = whole_lines p t r
 
 -- the lines of all runs, in their order

@@ -90,6 +90,7 @@ pub(crate) fn push_no_day(
         }
         NoDay::OutOfOrder => out.push_str("the first date is after the last one\n"),
         NoDay::OffTheLine => out.push_str(off_the_line(kind_of(extent))),
+        NoDay::NoFeast => out.push_str("that feast did not fall in that year\n"),
     }
 }
 

@@ -102,6 +102,7 @@ fn push_run(out: &mut String, territory: &Territory, kind: Kind, run: Run) -> Re
     match kind {
         Kind::Before => push_until(out, territory, run),
         Kind::After => push_since(out, territory, run),
+        Kind::Feast => push_ends(out, territory, run.first, run.last),
         Kind::Day | Kind::Month | Kind::Year | Kind::Range | Kind::Part | Kind::Set => {
             push_whole(out, territory, run)
         }

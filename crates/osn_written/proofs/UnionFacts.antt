@@ -18,7 +18,7 @@ use Rattle.osn_days.proofs.RangeFacts.{filter_all, filter_none, filter_same, fil
 use Rattle.osn_lands.specs.declared.runs.Run.{Run}
 use Rattle.osn_lands.specs.Runs.{days_in, days_of_run}
 use Rattle.osn_written.specs.Runs.{HaveDays, runs_of}
-use Rattle.osn_written.specs.SetsMeant.{EndOnLine, first_from, has_day, rest_from, union, with_rest}
+use Rattle.osn_written.specs.Union.{EndOnLine, first_from, has_day, rest_from, union, with_rest}
 use Rattle.osn_written.specs.SetsMeant.{before_others}
 use Rattle.osn_written.specs.declared.any_date.AnyDate.{AnyDate}
 use Rattle.osn_written.specs.declared.finding.NoDay.{NoDay}

@@ -19,3 +19,4 @@ has_three_digits (extent.NotAfter d) = has_year_of_three_digits d
 has_three_digits (extent.After d) = has_year_of_three_digits d
 has_three_digits (extent.NotBefore d) = has_year_of_three_digits d
 has_three_digits (extent.Part portion d) = has_year_of_three_digits d
+has_three_digits (extent.Feast feast year) = year.has_three_digits

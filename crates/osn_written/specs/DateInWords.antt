@@ -14,6 +14,7 @@ use Rattle.osn_written.specs.declared.any_date.SimpleDate.{SimpleDate}
 use Rattle.osn_written.specs.declared.any_date.SimpleDate.TheVariants as date
 use Rattle.osn_written.specs.declared.any_date.AnyDate.{AnyDate}
 use Rattle.osn_written.specs.declared.any_date.Year.{Year}
+use Rattle.osn_written.specs.Feast.{feast_name}
 use Rattle.osn_written.specs.Portion.{portion_words}
 use Rattle.osn_lands.specs.Dual.{year_text}
 
@@ -49,7 +50,7 @@ words_of_date (date.Year year) = words_of_year year
 -- ---- from when to when
 
 -- 1640, 1640 to 1645, before 1640, not after 1640, after 1640, not before 1640, the first third of
--- 1640
+-- 1640, Easter 1640
 unfoldable pub words_of_extent : Extent → List ℕ
 words_of_extent (extent.On d) = words_of_date d
 words_of_extent (extent.FromTo a b) = words_of_date a ++ (codes " to " ++ words_of_date b)
@@ -58,6 +59,7 @@ words_of_extent (extent.NotAfter d) = codes "not after " ++ words_of_date d
 words_of_extent (extent.After d) = codes "after " ++ words_of_date d
 words_of_extent (extent.NotBefore d) = codes "not before " ++ words_of_date d
 words_of_extent (extent.Part portion d) = portion_words portion ++ (codes " " ++ words_of_date d)
+words_of_extent (extent.Feast feast year) = feast_name feast ++ (codes " " ++ words_of_year year)
 
 -- ---- what is said beside it
 

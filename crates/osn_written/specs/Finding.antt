@@ -25,7 +25,9 @@ use Rattle.osn_lands.specs.Territory.{TerritoryModel, opened}
 use Rattle.osn_written.specs.declared.absence.Absence.{Absence}
 use Rattle.osn_written.specs.declared.finding.NoDay.{NoDay}
 use Rattle.osn_written.specs.declared.finding.NoDay.TheVariants.{Absent, LastAbsent, OutOfOrder}
-use Rattle.osn_written.specs.declared.finding.NoDay.TheVariants.{OffTheLine}
+use Rattle.osn_written.specs.declared.finding.NoDay.TheVariants.{OffTheLine, NoFeast}
+use Rattle.osn_written.specs.declared.feast.Feast.{Feast}
+use Rattle.osn_written.specs.FeastDays.{feast_meant}
 use Rattle.osn_written.specs.declared.span.NoSpan.{NoSpan}
 use Rattle.osn_written.specs.declared.span.NoSpan.TheVariants as spans
 use Rattle.osn_written.specs.declared.written_date.WrittenDate.{WrittenDate}
@@ -54,7 +56,7 @@ first_day_of (date.Year year) = day_in_year year 1 1
 abbrev pub absence_in : Profile → TerritoryModel → SimpleDate → Absence
 absence_in p t date = absence p t (first_day_of date)
 
--- the first date of what is written, and the last one
+-- the first date of what is written, and the last one: of a feast, its year
 abbrev pub ends_of : Extent → SimpleDate × SimpleDate
 ends_of (extent.FromTo first last) = (first, last)
 ends_of (extent.On date) = (date, date)
@@ -63,6 +65,7 @@ ends_of (extent.NotAfter date) = (date, date)
 ends_of (extent.After date) = (date, date)
 ends_of (extent.NotBefore date) = (date, date)
 ends_of (extent.Part portion date) = (date, date)
+ends_of (extent.Feast feast year) = (date.Year year, date.Year year)
 
 -- why what is written is not a span of days
 abbrev pub reason_of : Profile → TerritoryModel → Extent → NoSpan → NoDay
@@ -92,10 +95,15 @@ abbrev pub one_date : Extent → Option SimpleDate
 one_date (extent.On date) = Some date
 one_date e = None
 
--- the days of that date, or those of a range or a bound
+-- the days of a feast in a year, which may have none of them
+abbrev pub of_feast : Profile → TerritoryModel → Feast → WrittenYear → Result (List Run) NoDay
+of_feast p t feast year = unless_none (feast_meant p t feast year) NoFeast
+
+-- the days of that date, or those of a feast, a range or a bound
 abbrev pub extent_meant_by : Profile → TerritoryModel → Extent → Option SimpleDate
     → Result (List Run) NoDay
 extent_meant_by p t e (Some date) = of_date p t date
+extent_meant_by p t (extent.Feast feast year) None = of_feast p t feast year
 extent_meant_by p t e None = of_span p t e (span_meant p t e)
 
 -- the days that what is written means, as runs in order, or why it means none

@@ -17,6 +17,7 @@ kind_word kinds.Before = codes "before"
 kind_word kinds.After = codes "after"
 kind_word kinds.Part = codes "part"
 kind_word kinds.Set = codes "set"
+kind_word kinds.Feast = codes "feast"
 
 -- of one date, and of what is written
 abbrev pub kind_of_date : SimpleDate → Kind
@@ -32,3 +33,4 @@ kind_of (extent.NotAfter date) = kinds.Before
 kind_of (extent.After date) = kinds.After
 kind_of (extent.NotBefore date) = kinds.After
 kind_of (extent.Part portion date) = kinds.Part
+kind_of (extent.Feast feast year) = kinds.Feast

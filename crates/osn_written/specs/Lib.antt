@@ -5,6 +5,9 @@ pub mod DateInWords
 pub mod Meaning
 pub mod Absence
 pub mod Runs
+pub mod Union
+pub mod Feast
+pub mod FeastDays
 pub mod OneDay
 pub mod Portion
 pub mod Spans

@@ -25,6 +25,7 @@ missing_day e (none.LastAbsent absence) =
     Some (record { date = first_day_of (ends_of e).1; absence = absence })
 missing_day e none.OutOfOrder = None
 missing_day e none.OffTheLine = None
+missing_day e none.NoFeast = None
 
 -- the days that are most like it: those with its first year alone, or those of its month and day in
 -- the nearest years. A date of no calendar and one off the line have none

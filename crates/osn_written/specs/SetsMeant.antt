@@ -1,18 +1,16 @@
 -- The days of a set of dates in a territory, of which one is meant. This project's profile.
-use Rattle.std.specs.Prelude.{ℕ, ◌+◌, ◌≤◌, Bool, ◌&&◌, nat_le, if◌then◌else◌, List, [], ◌∷◌, ◌++◌}
-use Rattle.std.specs.Prelude.{filter, Result, Ok, Err, Vec}
+use Rattle.std.specs.Prelude.{Bool, List, [], ◌∷◌, ◌++◌, Result, Ok, Err, Vec}
 use Rattle.std.specs.declared.alloc.Global.{Global}
 use Rattle.std.specs.List.{list_any}
 use Rattle.std.specs.Result.{result_map_both}
 use Rattle.osn_days.specs.Profile.{Profile}
-use Rattle.osn_days.specs.Line.{line}
 use Rattle.osn_written.specs.declared.any_date.AnyDate.{AnyDate}
 use Rattle.osn_lands.specs.declared.runs.Run.{Run}
 use Rattle.osn_lands.specs.Territory.{TerritoryModel}
 use Rattle.osn_written.specs.declared.finding.NoDay.{NoDay}
 use Rattle.osn_written.specs.declared.set.AbsentMember.{AbsentMember}
 use Rattle.osn_written.specs.Finding.{extent_meant}
-use Rattle.osn_written.specs.Runs.{runs_of}
+use Rattle.osn_written.specs.Union.{union}
 
 -- ---- how sure a set is
 
@@ -37,14 +35,6 @@ abbrev pub members_meant : Profile → TerritoryModel → List AnyDate → Resul
 members_meant p t [] = Ok []
 members_meant p t (w ∷ ws) = before_others w (extent_meant p t w.extent) (members_meant p t ws)
 
--- the run has the day
-abbrev pub has_day : ℕ → Run → Bool
-has_day d run = nat_le run.first d && nat_le d run.last
-
--- the days that any of some runs has, as runs in order
-unfoldable pub union : Profile → List Run → List Run
-union p runs = runs_of (filter (λ d. list_any (has_day d) runs) (line p))
-
 -- the days of a set, or the first date that means no day
 abbrev pub united : Profile → Result (List Run) AbsentMember → Result (List Run) AbsentMember
 united p (Ok runs) = Ok (union p runs)
@@ -56,26 +46,3 @@ set_meant p t members = united p (members_meant p t members)
 -- the same of the list that the code has
 abbrev pub set_list_of : Result (Vec Run Global) AbsentMember → Result (List Run) AbsentMember
 set_list_of = result_map_both (λ runs. runs.items) (λ absent. absent)
-
--- ---- how they are found
-
--- the first day of a run from a number on
-abbrev pub first_from : Run → ℕ → ℕ
-first_from run next = if nat_le next run.first then run.first else next
-
--- what is left of a run, if it has a day left, and of the others
-abbrev pub with_rest : ℕ → ℕ → List Run → List Run → List Run
-with_rest first last after before =
-    if nat_le first last then record { first = first; last = last } ∷ after else before
-
--- of runs in the order of their first days, each without the days before a number, and without
--- those of the runs before it
-abbrev pub rest_from : ℕ → List Run → List Run
-rest_from next [] = []
-rest_from next (r ∷ rs) =
-    with_rest (first_from r next) r.last (rest_from (r.last + 1) rs) (rest_from next rs)
-
--- each run ends on the line
-abbrev pub EndOnLine : Profile → List Run → Type 0
-EndOnLine p [] = Unit {0}
-EndOnLine p (r ∷ rs) = (r.last ≤ p.high) × EndOnLine p rs

@@ -11,6 +11,7 @@ use Rattle.osn_lands.specs.Territory.{TerritoryModel}
 use Rattle.osn_written.specs.declared.span.NoSpan.{NoSpan}
 use Rattle.osn_written.specs.declared.span.NoSpan.TheVariants.{NoDay, NoLastDay, OutOfOrder}
 use Rattle.osn_written.specs.declared.span.NoSpan.TheVariants.{OffTheLine}
+use Rattle.osn_written.specs.FeastDays.{feast_meant}
 use Rattle.osn_written.specs.declared.portion.Portion.{Portion}
 use Rattle.osn_written.specs.Portion.{part_of_run}
 use Rattle.osn_written.specs.Runs.{runs_meant}
@@ -78,3 +79,5 @@ span_meant p t (extent.After date) = after p (last_meant p t date)
 span_meant p t (extent.NotBefore date) = not_before p (first_meant p t date)
 span_meant p t (extent.Part portion date) =
     part_of_span portion (from_to (first_meant p t date) (last_meant p t date))
+span_meant p t (extent.Feast feast year) =
+    from_to (first_of (feast_meant p t feast year)) (last_of (feast_meant p t feast year))

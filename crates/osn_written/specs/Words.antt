@@ -30,6 +30,7 @@ no_day_words (none.Absent absence) = absence_words absence
 no_day_words (none.LastAbsent absence) = last_absence_words absence
 no_day_words none.OutOfOrder = codes "first date after the last"
 no_day_words none.OffTheLine = codes "off the line"
+no_day_words none.NoFeast = codes "no such feast in that year"
 
 -- why a text says nothing of a date
 abbrev pub fault_words : DateFault → List ℕ

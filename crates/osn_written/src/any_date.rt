@@ -2,6 +2,7 @@
 ghost use Rattle.std.specs.Prelude.{◌≡◌};
 ghost use Rattle.osn_written.specs.AnyDate as spec;
 
+use crate::feast::Feast;
 use crate::portion::Portion;
 use osn_days::Weekday;
 
@@ -35,6 +36,8 @@ pub enum Extent {
     NotBefore(SimpleDate),
     /// In a part of a month or a year, such as the first third of it.
     Part(Portion, SimpleDate),
+    /// On the day of a feast in a year, as the place counted it.
+    Feast { feast: Feast, year: Year },
 }
 
 impl SimpleDate {
@@ -64,6 +67,7 @@ impl Extent {
             | Extent::After(date)
             | Extent::NotBefore(date)
             | Extent::Part(_, date) => date.has_year_of_three_digits(),
+            Extent::Feast { year, .. } => year.has_three_digits,
         }
     }
 }

@@ -97,6 +97,7 @@ impl fmt::Display for ExtentInWords {
             Extent::Part(portion, date) => {
                 write!(f, "{} {}", portion.words(), SimpleInWords(date))
             }
+            Extent::Feast { feast, year } => write!(f, "{} {}", feast.name(), YearInWords(year)),
         }
     }
 }

@@ -4,7 +4,9 @@ ghost use Rattle.osn_days.specs.Profile.{newest_rules};
 ghost use Rattle.osn_written.specs.Finding as spec;
 
 use crate::absence::{Absence, absence_of};
-use crate::any_date::{AnyDate, Extent, Reckoning, SimpleDate};
+use crate::any_date::{AnyDate, Extent, Reckoning, SimpleDate, Year};
+use crate::feast::Feast;
+use crate::feast_days::feast_meant;
 use crate::runs::runs_meant;
 use crate::span::{NoSpan, span_meant};
 use crate::written_date::WrittenDate;
@@ -25,6 +27,8 @@ pub enum NoDay {
     OutOfOrder,
     /// The line has no day before the date, or no day after it.
     OffTheLine,
+    /// The feast did not fall in that year, as the place counted it.
+    NoFeast,
 }
 
 /// The regime of a date by the new style.
@@ -81,7 +85,7 @@ fn absence_in(territory: &Territory, date: SimpleDate) -> Result<Absence, AllocE
 }
 
 /// Returns the first date of what is written, and the last one. For one date or a bound both are
-/// that one.
+/// that one, and for a feast both are its year.
 pub fn ends_of(extent: Extent) -> (SimpleDate, SimpleDate)
     ensures { result ≡ spec.ends_of extent }
 {
@@ -93,6 +97,7 @@ pub fn ends_of(extent: Extent) -> (SimpleDate, SimpleDate)
         | Extent::After(date)
         | Extent::NotBefore(date)
         | Extent::Part(_, date) => (date, date),
+        Extent::Feast { year, .. } => (SimpleDate::Year(year), SimpleDate::Year(year)),
     }
 }
 
@@ -146,6 +151,23 @@ fn of_date(
     Ok(Ok(runs))
 }
 
+/// Returns the runs of a feast, or that it did not fall in the year.
+fn of_feast(
+    alloc: Global,
+    territory: &Territory,
+    feast: Feast,
+    year: Year,
+) -> Result<Result<Vec<Run>, NoDay>, AllocError>
+    ensures { IfOk result (λ found. spec.list_of found
+        ≡ spec.of_feast newest_rules territory.now feast year) }
+{
+    let runs = feast_meant(alloc, territory, feast, year)?;
+    if runs.is_empty() {
+        return Ok(Err(NoDay::NoFeast));
+    }
+    Ok(Ok(runs))
+}
+
 /// Returns the date, if what is written is one.
 fn one_date(extent: Extent) -> Option<SimpleDate>
     ensures { result ≡ spec.one_date extent }
@@ -157,7 +179,8 @@ fn one_date(extent: Extent) -> Option<SimpleDate>
 }
 
 /// Returns the days that what is written means in a territory, as runs in order, or why it means
-/// none. One date has the runs of `runs_meant`, a range or a bound is the one of `span_meant`.
+/// none. One date has the runs of `runs_meant`, a range or a bound is the one of `span_meant`. A
+/// feast has the days of the year that are counted from the Easters in force there.
 ///
 /// # Errors
 ///
@@ -173,10 +196,13 @@ pub fn find_runs(
 {
     match one_date(extent) {
         Some(date) => of_date(alloc, territory, date),
-        None => {
-            let span = span_meant(alloc, territory, extent)?;
-            of_span(alloc, territory, extent, span)
-        }
+        None => match extent {
+            Extent::Feast { feast, year } => of_feast(alloc, territory, feast, year),
+            _ => {
+                let span = span_meant(alloc, territory, extent)?;
+                of_span(alloc, territory, extent, span)
+            }
+        },
     }
 }
 

@@ -20,11 +20,13 @@ pub enum Kind {
     Part,
     /// One of several dates.
     Set,
+    /// A feast that is counted from Easter.
+    Feast,
 }
 
 impl Kind {
-    /// Returns the word of the kind: `day`, `month`, `year`, `range`, `before`, `after`, `part`
-    /// or `set`.
+    /// Returns the word of the kind: `day`, `month`, `year`, `range`, `before`, `after`, `part`,
+    /// `set` or `feast`.
     pub fn word(self) -> &'static str
         ensures { result.now ≡ spec.kind_word self }
     {
@@ -37,6 +39,7 @@ impl Kind {
             Kind::After => "after",
             Kind::Part => "part",
             Kind::Set => "set",
+            Kind::Feast => "feast",
         }
     }
 }
@@ -62,5 +65,6 @@ pub fn kind_of(extent: Extent) -> Kind
         Extent::Before(_) | Extent::NotAfter(_) => Kind::Before,
         Extent::After(_) | Extent::NotBefore(_) => Kind::After,
         Extent::Part(_, _) => Kind::Part,
+        Extent::Feast { .. } => Kind::Feast,
     }
 }

@@ -35,7 +35,7 @@ pub fn missing_day(extent: Extent, reason: NoDay) -> Option<Missing>
             date: first_day_of(last),
             absence,
         }),
-        NoDay::OutOfOrder | NoDay::OffTheLine => None,
+        NoDay::OutOfOrder | NoDay::OffTheLine | NoDay::NoFeast => None,
     }
 }
 

@@ -42,7 +42,7 @@ fn is_before_25_march(label: Label) -> bool
 }
 
 /// Returns whether the day is of the double year that begins with this one.
-fn is_in_double_year(first: u16, day: &DatedDay) -> bool
+pub(crate) fn is_in_double_year(first: u16, day: &DatedDay) -> bool
     ensures { result ≡ spec.is_in_double_year first day.now }
 {
     let year = i32::from(first);

@@ -4,6 +4,7 @@ ghost use Rattle.osn_days.specs.Profile.{newest_rules};
 ghost use Rattle.osn_written.specs.Spans as spec;
 
 use crate::any_date::{Extent, SimpleDate};
+use crate::feast_days::feast_meant;
 use crate::portion::{Portion, part_of_run};
 use crate::runs::runs_meant;
 use osn_days::{Day, HIGH};
@@ -181,6 +182,10 @@ pub fn span_meant(
         Extent::Part(portion, date) => {
             let span = range_meant(alloc, territory, date, date)?;
             Ok(part_of_span(portion, span))
+        }
+        Extent::Feast { feast, year } => {
+            let runs = feast_meant(alloc, territory, feast, year)?;
+            Ok(from_to(first_of(runs.as_slice()), last_of(runs.as_slice())))
         }
     }
 }

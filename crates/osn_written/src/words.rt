@@ -44,6 +44,7 @@ impl NoDay {
             NoDay::LastAbsent(absence) => absence.words_of_last(),
             NoDay::OutOfOrder => "first date after the last",
             NoDay::OffTheLine => "off the line",
+            NoDay::NoFeast => "no such feast in that year",
         }
     }
 }

@@ -60,7 +60,7 @@ FLAGS = [("approximate", N_("approximate")), ("uncertain", N_("in doubt")),
 KINDS = {"month": N_("The date is a month"), "year": N_("The date is a year"),
          "range": N_("The date is a range"), "before": N_("The date is a bound"),
          "after": N_("The date is a bound"), "part": N_("The date is a part of a year"),
-         "set": N_("The date is one of these days")}
+         "set": N_("The date is one of these days"), "feast": N_("The date is a feast")}
 
 
 @dataclass

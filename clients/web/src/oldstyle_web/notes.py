@@ -18,6 +18,7 @@ REASONS = {
     "off the line": N_("The days of the register go from 1 January 1 to 31 December 9999, by the "
                        "Gregorian calendar."),
     "first date after the last": N_("The first date is after the last one."),
+    "no such feast in that year": N_("That feast did not fall in that year."),
 }
 
 

@@ -2,9 +2,9 @@ use Rattle.std.proofs.Common.{◌≡◌, ◌≤◌, ◌<◌, ◌+◌, ◌∙◌,
 use Rattle.osn_days.specs.Profile.{newest_rules}
 use Rattle.osn_lands.specs.declared.runs.Run.{Run}
 use Rattle.osn_written.proofs.UnionFacts.{IsRestBefore, no_rest, one_rest}
-use Rattle.osn_written.proofs.set.without_overlap.Goals as goal
-use Rattle.osn_written.proofs.set.without_overlap.Goals.{then-first-last+in_ok-push_from}
-use Rattle.osn_written.proofs.set.without_overlap.Goals.{else-first-last}
+use Rattle.osn_written.proofs.union.without_overlap.Goals as goal
+use Rattle.osn_written.proofs.union.without_overlap.Goals.{then-first-last+in_ok-push_from}
+use Rattle.osn_written.proofs.union.without_overlap.Goals.{else-first-last}
 
 pub loop-run-preserved : goal.loop-run-preserved
 loop-run-preserved c =

@@ -1,7 +1,7 @@
 use Rattle.std.proofs.Common.{◌≤◌, ◌+◌, drop}
 use Rattle.osn_days.specs.Profile.{newest_rules}
 use Rattle.osn_written.proofs.UnionFacts.{IsRestBefore}
-use Rattle.osn_written.proofs.set.without_overlap.Given as goal
+use Rattle.osn_written.proofs.union.without_overlap.Given as goal
 
 abbrev pub invariant-loop-run : goal.invariant-loop-run
 invariant-loop-run l =

@@ -3,9 +3,9 @@ use Rattle.std.specs.List.Sorted.{IsNonDecreasingBy, IsPermutation}
 use Rattle.osn_days.specs.Profile.{newest_rules}
 use Rattle.osn_lands.specs.Runs.{days_in}
 use Rattle.osn_written.specs.Runs.{HaveDays}
-use Rattle.osn_written.specs.SetsMeant.{rest_from}
+use Rattle.osn_written.specs.Union.{rest_from}
 use Rattle.osn_written.proofs.UnionFacts.{joined_is, rest_has_days, union_is}
-use Rattle.osn_written.proofs.set.union.Goals as goal
+use Rattle.osn_written.proofs.union.union.Goals as goal
 
 pub joined-requires : goal.joined-requires
 joined-requires c =
