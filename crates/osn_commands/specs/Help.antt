@@ -54,7 +54,7 @@ abbrev pub words_taken : Text → ℕ
 words_taken command =
     if bytes_eq command (codes "serve") then 0
     else (if bytes_eq command (codes "letters") || (bytes_eq command (codes "replay")
-    || bytes_eq command (codes "completions")) then 1
+    || (bytes_eq command (codes "editions") || bytes_eq command (codes "completions"))) then 1
     else (if bytes_eq command (codes "convert") || (bytes_eq command (codes "territory")
     || (bytes_eq command (codes "text") || (bytes_eq command (codes "plan")
     || (bytes_eq command (codes "publish") || (bytes_eq command (codes "audit")

@@ -12,13 +12,14 @@ use Rattle.osn_invocation.specs.Grammar.{command_line}
 use Rattle.osn_invocation.specs.Invocation.{CommandModel, InvocationModel}
 use Rattle.osn_invocation.specs.Invocation.{serving, replaying, working, printing}
 use Rattle.osn_invocation.specs.Invocation.{auditing, converting, completing, reading_letters}
-use Rattle.osn_invocation.specs.Invocation.{planning, publishing, writing_text}
+use Rattle.osn_invocation.specs.Invocation.{listing, planning, publishing, writing_text}
 use Rattle.osn_invocation.specs.Invocation.{invocation_in}
 use Rattle.osn_lines.specs.Streams.{Input, Output}
 use Rattle.osn_file_commands.specs.Audit.{Audits, AuditFails}
 use Rattle.osn_file_commands.specs.Replay.{Replays, ReplayFails}
 use Rattle.osn_file_commands.specs.Transcript.{Transcribes, TranscribesNot}
 use Rattle.osn_page_commands.specs.Conversion.{PrintsConversion}
+use Rattle.osn_page_commands.specs.EditionList.{PrintsEditions}
 use Rattle.osn_page_commands.specs.LettersFiles.{RunsLetters}
 use Rattle.osn_page_commands.specs.Page.{PageFails, RunsPage}
 use Rattle.osn_report.specs.Folders.{Folders, ReadsOne, ReadsTwo}
@@ -31,9 +32,8 @@ use Rattle.osn_report.specs.declared.status.Status.{Status}
 use Rattle.osn_report.specs.declared.status.Status.TheVariants as statuses
 use Rattle.osn_serve_commands.specs.InFolder.{RunsServing, opened_by}
 use Rattle.osn_serve_commands.specs.Mode.{mode_by}
-use Rattle.osn_text_commands.specs.InFolder.{PlansInFolder}
+use Rattle.osn_text_commands.specs.InFolder.{PlansInFolder, RunsText}
 use Rattle.osn_text_commands.specs.PublishFolder.{PublishesInFolder}
-use Rattle.osn_text_commands.specs.Text.{PrintsText}
 use Rattle.osn_commands.specs.Completions.{PrintsCompletions}
 use Rattle.osn_commands.specs.Help.{help_on}
 use Rattle.osn_commands.specs.Journal.{with_journal}
@@ -57,8 +57,8 @@ Runs limits (replaying readers schedule) CanFail CanStay d i o e status =
 Runs limits (working script questions) CanFail CanStay d i o e status =
     ReadsTwo script questions CanFail d
     (λ editor readers. PrintsSuch (Transcribes limits editor readers) o e status)
-Runs limits (printing journal page) CanFail CanStay d i o e status =
-    RunsPage limits journal page CanFail d o e status
+Runs limits (printing journal edition page) CanFail CanStay d i o e status =
+    RunsPage limits journal edition page CanFail d o e status
 Runs limits (auditing journal transcript) CanFail CanStay d i o e status =
     ReadsTwo journal transcript CanFail d
     (λ edits told. PrintsSuch (Audits limits edits told) o e status)
@@ -68,8 +68,10 @@ Runs limits (completing shell) CanFail CanStay d i o e status =
     (d.after ≡ d.before) × PrintsCompletions shell o e status
 Runs limits (reading_letters journal asked) CanFail CanStay d i o e status =
     RunsLetters limits journal asked CanFail d i o e status
-Runs limits (writing_text journal code) CanFail CanStay d i o e status =
-    ReadsOne journal CanFail d (λ file. PrintsText limits journal file code o e status)
+Runs limits (listing journal) CanFail CanStay d i o e status =
+    ReadsOne journal CanFail d (λ file. PrintsEditions limits journal file o e status)
+Runs limits (writing_text journal edition code) CanFail CanStay d i o e status =
+    RunsText limits journal edition code CanFail d o e status
 Runs limits (planning journal text) CanFail CanStay d i o e status =
     PlansInFolder limits journal text CanFail d o e status
 Runs limits (publishing journal text onto_newest) CanFail CanStay d i o e status =
@@ -93,14 +95,15 @@ Fails limits (replaying readers schedule) CanFail d path fault =
     FailsOnOne schedule CanFail d (ReplayFails readers) path fault
 Fails limits (working script questions) CanFail d path fault =
     FailsOnTwo script questions CanFail d (TranscribesNot limits) path fault
-Fails limits (printing journal page) CanFail d path fault =
+Fails limits (printing journal edition page) CanFail d path fault =
     PageFails limits journal page CanFail d path fault
 Fails limits (auditing journal transcript) CanFail d path fault =
     FailsOnTwo journal transcript CanFail d (AuditFails limits) path fault
 Fails limits (converting calendar date) CanFail d path fault = ⊥
 Fails limits (completing shell) CanFail d path fault = ⊥
 Fails limits (reading_letters journal asked) CanFail d path fault = IsUnopened journal d path fault
-Fails limits (writing_text journal code) CanFail d path fault = IsUnopened journal d path fault
+Fails limits (listing journal) CanFail d path fault = IsUnopened journal d path fault
+Fails limits (writing_text journal edition code) CanFail d path fault = IsUnopened journal d path fault
 Fails limits (planning journal text) CanFail d path fault = IsUnopened journal d path fault
 Fails limits (publishing journal text onto_newest) CanFail d path fault =
     IsUnopened text d path fault

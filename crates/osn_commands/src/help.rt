@@ -86,7 +86,7 @@ fn words_taken(command: &str) -> usize
 {
     match command {
         "serve" => 0,
-        "letters" | "replay" | "completions" => 1,
+        "letters" | "replay" | "editions" | "completions" => 1,
         "convert" | "territory" | "text" | "plan" | "publish" | "audit" | "desk" => 2,
         "month" => 4,
         _ => 3,

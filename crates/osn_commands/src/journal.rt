@@ -18,6 +18,7 @@ pub(crate) fn words_without(command: &str) -> Option<usize>
         "territory" => Some(0),
         "letters" => Some(0),
         "text" => Some(0),
+        "editions" => Some(0),
         "read" => Some(2),
         "day" => Some(2),
         "year" => Some(2),

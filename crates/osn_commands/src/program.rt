@@ -21,7 +21,7 @@ use osn_file_commands::{audit_in_folder, desk_in_folder, replay_in_folder};
 use osn_folder::{Folder, OpenFailed};
 use osn_invocation::{CommandWords, Invocation, parse_args};
 use osn_lines::{Sink, Source};
-use osn_page_commands::{convert_command, letters_in_folder, page_in_folder};
+use osn_page_commands::{convert_command, editions_in_folder, letters_in_folder, page_in_folder};
 use osn_register::Limits;
 use osn_report::{
     CommandFault, Failure, Status, print_or_report, report_at, tell_misuse, tell_no_memory,
@@ -215,9 +215,13 @@ where
             let made = desk_in_folder(rt, limits, folder, script, questions);
             printed(made, output, errors)
         }
-        CommandWords::Page { journal, page } => {
-            page_in_folder(alloc, limits, folder, journal, page, output, errors)
-        }
+        CommandWords::Page {
+            journal,
+            edition,
+            page,
+        } => page_in_folder(
+            alloc, limits, folder, journal, edition, page, output, errors,
+        ),
         CommandWords::Audit {
             journal,
             transcript,
@@ -231,8 +235,18 @@ where
             );
             opened(journal, done)
         }
-        CommandWords::Text { journal, code } => {
-            let done = text_in_folder(alloc, limits, folder, journal, code, output, errors);
+        CommandWords::Editions { journal } => {
+            let done = editions_in_folder(alloc, limits, folder, journal, output, errors);
+            opened(journal, done)
+        }
+        CommandWords::Text {
+            journal,
+            edition,
+            code,
+        } => {
+            let done = text_in_folder(
+                alloc, limits, folder, journal, edition, code, output, errors,
+            );
             opened(journal, done)
         }
         CommandWords::Plan { journal, text } => {

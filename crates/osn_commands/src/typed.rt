@@ -39,6 +39,7 @@ pub(crate) fn begins_with_journal(command: &str) -> bool
             | "territory"
             | "letters"
             | "text"
+            | "editions"
             | "plan"
             | "publish"
             | "almanac"

@@ -79,53 +79,59 @@ limits_option = value_option (codes "limits")
 abbrev pub json_option : Rule
 json_option = flag_option (codes "json")
 
+-- the option `--edition N`
+abbrev pub edition_option : Rule
+edition_option = value_option (codes "edition")
+
 -- the argument JOURNAL
 abbrev pub journal_arg : Rule
 journal_arg = required_arg (codes "journal")
 
--- `read JOURNAL CODE DATE [--weekday DAY] [--order ORDER] [--strict] [--json] [--journal FILE]
--- [--limits LIMITS]`
+-- `read JOURNAL CODE DATE [--weekday DAY] [--order ORDER] [--strict] [--json] [--edition N]
+-- [--journal FILE] [--limits LIMITS]`
 abbrev pub read_grammar : App
 read_grammar = command_with (codes "read") (journal_arg ∷ required_arg (codes "code")
     ∷ required_arg (codes "date") ∷ value_option (codes "weekday") ∷ value_option (codes "order")
-    ∷ flag_option (codes "strict") ∷ json_option ∷ journal_option ∷ limits_option ∷ [])
+    ∷ flag_option (codes "strict") ∷ json_option ∷ edition_option ∷ journal_option
+    ∷ limits_option ∷ [])
 
 -- `convert CALENDAR DATE`
 abbrev pub convert_grammar : App
 convert_grammar = command_with (codes "convert")
     (required_arg (codes "calendar") ∷ required_arg (codes "date") ∷ [])
 
--- `day JOURNAL CODE DATE [--json] [--journal FILE] [--limits LIMITS]`
+-- `day JOURNAL CODE DATE [--json] [--edition N] [--journal FILE] [--limits LIMITS]`
 abbrev pub day_grammar : App
 day_grammar = command_with (codes "day") (journal_arg ∷ required_arg (codes "code")
-    ∷ required_arg (codes "date") ∷ json_option ∷ journal_option ∷ limits_option ∷ [])
-
--- `month JOURNAL CODE YEAR MONTH [--journal FILE] [--limits LIMITS]`
-abbrev pub month_grammar : App
-month_grammar = command_with (codes "month") (journal_arg ∷ required_arg (codes "code")
-    ∷ required_arg (codes "year") ∷ required_arg (codes "month") ∷ journal_option
+    ∷ required_arg (codes "date") ∷ json_option ∷ edition_option ∷ journal_option
     ∷ limits_option ∷ [])
 
--- `year JOURNAL CODE YEAR [--journal FILE] [--limits LIMITS]`
+-- `month JOURNAL CODE YEAR MONTH [--edition N] [--journal FILE] [--limits LIMITS]`
+abbrev pub month_grammar : App
+month_grammar = command_with (codes "month") (journal_arg ∷ required_arg (codes "code")
+    ∷ required_arg (codes "year") ∷ required_arg (codes "month") ∷ edition_option
+    ∷ journal_option ∷ limits_option ∷ [])
+
+-- `year JOURNAL CODE YEAR [--edition N] [--journal FILE] [--limits LIMITS]`
 abbrev pub year_grammar : App
 year_grammar = command_with (codes "year") (journal_arg ∷ required_arg (codes "code")
-    ∷ required_arg (codes "year") ∷ journal_option ∷ limits_option ∷ [])
+    ∷ required_arg (codes "year") ∷ edition_option ∷ journal_option ∷ limits_option ∷ [])
 
--- `territory JOURNAL [CODE] [--json] [--journal FILE] [--limits LIMITS]`
+-- `territory JOURNAL [CODE] [--json] [--edition N] [--journal FILE] [--limits LIMITS]`
 abbrev pub territory_grammar : App
 territory_grammar = command_with (codes "territory") (journal_arg ∷ optional_arg (codes "code")
-    ∷ json_option ∷ journal_option ∷ limits_option ∷ [])
+    ∷ json_option ∷ edition_option ∷ journal_option ∷ limits_option ∷ [])
 
 -- `letters JOURNAL [--place NAME] [--date NAME] [--year NAME] [--month NAME] [--day NAME]
 -- [--weekday NAME] [--places FILE] [--separator NAME] [--order ORDER] [--strict] [--summary]
--- [--journal FILE] [--limits LIMITS]`
+-- [--edition N] [--journal FILE] [--limits LIMITS]`
 abbrev pub letters_grammar : App
 letters_grammar = command_with (codes "letters") (journal_arg ∷ value_option (codes "place")
     ∷ value_option (codes "date") ∷ value_option (codes "year") ∷ value_option (codes "month")
     ∷ value_option (codes "day") ∷ value_option (codes "weekday") ∷ value_option (codes "places")
     ∷ value_option (codes "separator") ∷ value_option (codes "order")
-    ∷ flag_option (codes "strict") ∷ flag_option (codes "summary") ∷ journal_option
-    ∷ limits_option ∷ [])
+    ∷ flag_option (codes "strict") ∷ flag_option (codes "summary") ∷ edition_option
+    ∷ journal_option ∷ limits_option ∷ [])
 
 -- `serve [--journal FILE] [--save FILE] [--keep FILE] [--upgrade] [--follow FILE] [--readers N]
 -- [--read-only] [--stop-at-refusal] [--limits LIMITS]`
@@ -135,10 +141,10 @@ serve_grammar = command_with (codes "serve") (value_option (codes "journal")
     ∷ value_option (codes "follow") ∷ readers_option ∷ flag_option (codes "read-only")
     ∷ flag_option (codes "stop-at-refusal") ∷ limits_option ∷ [])
 
--- `text JOURNAL [CODE] [--journal FILE] [--limits LIMITS]`
+-- `text JOURNAL [CODE] [--edition N] [--journal FILE] [--limits LIMITS]`
 abbrev pub text_grammar : App
-text_grammar = command_with (codes "text")
-    (journal_arg ∷ optional_arg (codes "code") ∷ journal_option ∷ limits_option ∷ [])
+text_grammar = command_with (codes "text") (journal_arg ∷ optional_arg (codes "code")
+    ∷ edition_option ∷ journal_option ∷ limits_option ∷ [])
 
 -- `plan JOURNAL TEXT [--journal FILE] [--limits LIMITS]`
 abbrev pub plan_grammar : App
@@ -150,6 +156,11 @@ abbrev pub publish_grammar : App
 publish_grammar = command_with (codes "publish") (journal_arg ∷ required_arg (codes "text")
     ∷ flag_option (codes "onto-newest") ∷ journal_option ∷ limits_option ∷ [])
 
+-- `editions JOURNAL [--journal FILE] [--limits LIMITS]`
+abbrev pub editions_grammar : App
+editions_grammar =
+    command_with (codes "editions") (journal_arg ∷ journal_option ∷ limits_option ∷ [])
+
 -- `replay --readers N SCHEDULE [--limits LIMITS]`
 abbrev pub replay_grammar : App
 replay_grammar = command_with (codes "replay") (record readers_option { required = true }
@@ -160,10 +171,10 @@ abbrev pub desk_grammar : App
 desk_grammar = command_with (codes "desk") (required_arg (codes "script")
     ∷ required_arg (codes "questions") ∷ limits_option ∷ [])
 
--- `almanac JOURNAL CODE YEAR [--journal FILE] [--limits LIMITS]`
+-- `almanac JOURNAL CODE YEAR [--edition N] [--journal FILE] [--limits LIMITS]`
 abbrev pub almanac_grammar : App
-almanac_grammar = command_with (codes "almanac")
-    (journal_arg ∷ required_arg (codes "code") ∷ year_arg ∷ journal_option ∷ limits_option ∷ [])
+almanac_grammar = command_with (codes "almanac") (journal_arg ∷ required_arg (codes "code")
+    ∷ year_arg ∷ edition_option ∷ journal_option ∷ limits_option ∷ [])
 
 -- `audit JOURNAL TRANSCRIPT [--journal FILE] [--limits LIMITS]`
 abbrev pub audit_grammar : App
@@ -206,7 +217,8 @@ table_commands =
 -- the others
 abbrev pub other_commands : List App
 other_commands =
-    replay_grammar ∷ desk_grammar ∷ almanac_grammar ∷ audit_grammar ∷ completions_grammar ∷ []
+    editions_grammar ∷ replay_grammar ∷ desk_grammar ∷ almanac_grammar ∷ audit_grammar
+    ∷ completions_grammar ∷ []
 
 -- a program with these commands added
 abbrev pub with_all : App → List App → App

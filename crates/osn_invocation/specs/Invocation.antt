@@ -12,7 +12,7 @@ use Rattle.osn_invocation.specs.declared.invocation.CommandWords.{CommandWords}
 use Rattle.osn_invocation.specs.declared.invocation.CommandWords.TheVariants.{Serve, Replay, Desk}
 use Rattle.osn_invocation.specs.declared.invocation.CommandWords.TheVariants.{Page, Audit, Convert}
 use Rattle.osn_invocation.specs.declared.invocation.CommandWords.TheVariants.{Letters, Completions}
-use Rattle.osn_invocation.specs.declared.invocation.CommandWords.TheVariants.{Plan, Publish}
+use Rattle.osn_invocation.specs.declared.invocation.CommandWords.TheVariants.{Editions, Plan, Publish}
 use Rattle.osn_invocation.specs.declared.invocation.CommandWords.TheVariants as commands
 use Rattle.osn_invocation.specs.declared.invocation.Invocation.{Invocation}
 use Rattle.osn_invocation.specs.declared.letters.DateOptions.{DateOptions}
@@ -54,8 +54,8 @@ pub record DateModel : Type 0 where
 
 -- what is asked for the letters of a table: the names of the columns of places, of the date and of
 -- weekdays, if one is named; the file of the table of places, the separator of fields and the order
--- of a date's three numbers, if these are named; whether a remark is a refusal; and whether the
--- number of rows with each remark is printed at the end
+-- of a date's three numbers, if these are named; the edition, if one is named; whether a remark is a
+-- refusal; and whether the number of rows with each remark is printed at the end
 pub record LettersModel : Type 0 where
   pub place : Text
   pub date : DateModel
@@ -63,25 +63,28 @@ pub record LettersModel : Type 0 where
   pub places : Option Text
   pub separator : Option Text
   pub order : Option Text
+  pub edition : Option Text
   pub strict : Bool
   pub summary : Bool
 
 -- what a command is asked for. The service has a journal, where to save it, where to keep it, which
 -- one it follows, and the rest. A replay has readers and a schedule, a desk a script and questions.
--- A page has a journal and says which page, and an audit has a journal and a transcript. A
--- conversion has a calendar and a date, letters have a journal and the rest, and completions have a
--- shell. The text of a register has a journal, and the code of its one territory if one is named. A
--- plan and the edition that it makes have a journal and a text. Files are named by their paths
+-- A page has a journal, the edition if one is named, and says which page. An audit has a journal and
+-- a transcript. A conversion has a calendar and a date, letters have a journal and the rest, and
+-- completions have a shell. The text of a register has a journal, the edition if one is named, and
+-- the code of its one territory if one is named. A plan and the edition that it makes have a journal
+-- and a text, and the list of editions has a journal. Files are named by their paths
 pub data CommandModel : Type 0 where
   serving : Option Text → Option Text → Option Text → Option Text → ServiceModel → CommandModel
   replaying : ℕ → Text → CommandModel
   working : Text → Text → CommandModel
-  printing : Text → PageWordsModel → CommandModel
+  printing : Text → Option Text → PageWordsModel → CommandModel
   auditing : Text → Text → CommandModel
   converting : Text → Text → CommandModel
   reading_letters : Text → LettersModel → CommandModel
   completing : Text → CommandModel
-  writing_text : Text → Option Text → CommandModel
+  listing : Text → CommandModel
+  writing_text : Text → Option Text → Option Text → CommandModel
   planning : Text → Text → CommandModel
   publishing : Text → Text → Bool → CommandModel
 
@@ -142,9 +145,13 @@ convert_command given =
 abbrev pub completions_command : List Row → CommandModel
 completions_command given = completing (text_of (codes "shell") given)
 
+abbrev pub editions_command : List Row → CommandModel
+editions_command given = listing (text_of (codes "journal") given)
+
 abbrev pub text_command : List Row → CommandModel
 text_command given =
-    writing_text (text_of (codes "journal") given) (first_of (codes "code") given)
+    writing_text (text_of (codes "journal") given) (first_of (codes "edition") given)
+    (first_of (codes "code") given)
 
 abbrev pub plan_command : List Row → CommandModel
 plan_command given = planning (text_of (codes "journal") given) (text_of (codes "text") given)
@@ -175,13 +182,15 @@ letters_command given = reading_letters (text_of (codes "journal") given) (recor
   places = first_of (codes "places") given;
   separator = first_of (codes "separator") given;
   order = first_of (codes "order") given;
+  edition = first_of (codes "edition") given;
   strict = is_given (codes "strict") given;
   summary = is_given (codes "summary") given;
 })
 
 -- a command that prints a page of a journal
 abbrev pub page_command : List Row → PageWordsModel → CommandModel
-page_command given = printing (text_of (codes "journal") given)
+page_command given =
+    printing (text_of (codes "journal") given) (first_of (codes "edition") given)
 
 -- which page each of these commands asks for
 abbrev pub almanac_page : List Row → PageWordsModel
@@ -222,10 +231,11 @@ page_or_serve name given =
 -- what a command of the register's text asks for, by its name, and what another one asks for
 abbrev pub text_or_page : Text → List Row → CommandModel
 text_or_page name given =
-    if bytes_eq name (codes "text") then text_command given
+    if bytes_eq name (codes "editions") then editions_command given
+    else (if bytes_eq name (codes "text") then text_command given
     else (if bytes_eq name (codes "plan") then plan_command given
     else (if bytes_eq name (codes "publish") then publish_command given
-    else page_or_serve name given))
+    else page_or_serve name given)))
 
 -- what a command asks for, by its name
 abbrev pub command_by : Text → List Row → CommandModel
@@ -287,6 +297,7 @@ letters_model given = record {
   places = option_map (λ path. path.now) given.places;
   separator = option_map (λ word. word.now) given.separator;
   order = option_map (λ word. word.now) given.order;
+  edition = option_map (λ word. word.now) given.edition;
   strict = given.strict;
   summary = given.summary;
 }
@@ -298,13 +309,16 @@ command_model (Serve given) =
     (service_model given)
 command_model (Replay readers schedule) = replaying readers schedule.now
 command_model (Desk script questions) = working script.now questions.now
-command_model (Page journal page) = printing journal.now (page_words page)
+command_model (Page journal edition page) =
+    printing journal.now (option_map (λ word. word.now) edition) (page_words page)
 command_model (Audit journal transcript) = auditing journal.now transcript.now
 command_model (Convert calendar date) = converting calendar.now date.now
 command_model (Completions shell) = completing shell.now
 command_model (Letters journal options) = reading_letters journal.now (letters_model options)
-command_model (commands.Text journal code) =
-    writing_text journal.now (option_map (λ code. code.now) code)
+command_model (Editions journal) = listing journal.now
+command_model (commands.Text journal edition code) =
+    writing_text journal.now (option_map (λ word. word.now) edition)
+    (option_map (λ code. code.now) code)
 command_model (Plan journal text) = planning journal.now text.now
 command_model (Publish journal text onto_newest) = publishing journal.now text.now onto_newest
 

@@ -4,7 +4,7 @@ use crate::argument::Argument::{
     self, Flag, Optional, Readers, Required, RequiredReaders, Valued, Year,
 };
 use crate::common::{
-    CODE, DEFAULT_JOURNAL, JOURNAL, JOURNAL_OPTION, JSON, LIMITS, ORDER, PLACE, TEXT,
+    CODE, DEFAULT_JOURNAL, EDITION, JOURNAL, JOURNAL_OPTION, JSON, LIMITS, ORDER, PLACE, TEXT,
 };
 
 /// A command: its name, what help says of it before and after its arguments, and these.
@@ -46,6 +46,7 @@ document, or both years are given. It may be a month, a year, a range or a bound
             ORDER,
             Flag("strict", "Ends with status 1 if the date means no day"),
             JSON,
+            EDITION,
             DEFAULT_JOURNAL,
             LIMITS,
         ],
@@ -89,6 +90,7 @@ is the day number plus 1721425.",
                 "A Gregorian date, a day number, or a Julian day number such as \"JDN 2361222\"",
             ),
             JSON,
+            EDITION,
             DEFAULT_JOURNAL,
             LIMITS,
         ],
@@ -113,6 +115,7 @@ A month that the year has at its beginning and at its end is printed twice.",
                 "MONTH",
                 "The month, 1 to 12 or its name, such as Sept",
             ),
+            EDITION,
             DEFAULT_JOURNAL,
             LIMITS,
         ],
@@ -133,6 +136,7 @@ dated in it. The figures are of the year from 1 January, and the page says so.",
                 "YEAR",
                 "The year as the territory counted it, 1 to 9999",
             ),
+            EDITION,
             DEFAULT_JOURNAL,
             LIMITS,
         ],
@@ -151,6 +155,7 @@ dated in it. The figures are of the year from 1 January, and the page says so.",
                 "The territory whose periods are listed, by its code or its name",
             ),
             JSON,
+            EDITION,
             DEFAULT_JOURNAL,
             LIMITS,
         ],
@@ -218,6 +223,7 @@ edtf, edition and remark.",
                 "summary",
                 "Prints the number of rows with each remark on standard error at the end",
             ),
+            EDITION,
             DEFAULT_JOURNAL,
             LIMITS,
         ],
@@ -281,6 +287,7 @@ A text that was not changed plans no edit. Its first line names the edition that
         arguments: &[
             JOURNAL,
             Optional("code", "CODE", "The code of the only territory to print"),
+            EDITION,
             DEFAULT_JOURNAL,
             LIMITS,
         ],
@@ -317,7 +324,14 @@ Nor does a text that would undo a change of an edition later than its own.",
 ];
 
 /// The other commands.
-pub(crate) const OTHERS: [CommandRow; 5] = [
+pub(crate) const OTHERS: [CommandRow; 6] = [
+    CommandRow {
+        name: "editions",
+        about: "Lists the editions of a journal, with their edits and territories",
+        examples: "Example:
+  ./oldstyle editions examples/samples.journal",
+        arguments: &[JOURNAL, DEFAULT_JOURNAL, LIMITS],
+    },
     CommandRow {
         name: "replay",
         about: "Takes the steps of one editor and of readers, and prints what each gives",
@@ -363,6 +377,7 @@ The command year prints one year alone.",
             JOURNAL,
             CODE,
             Year("The year, 1 to 9999: of the months as counted there, of all else from 1 January"),
+            EDITION,
             DEFAULT_JOURNAL,
             LIMITS,
         ],

@@ -45,3 +45,10 @@ pub(crate) const JOURNAL_OPTION: Argument = Journal("The file of the journal, in
 pub(crate) const DEFAULT_JOURNAL: Argument = Journal(
     "The file of the journal, in place of JOURNAL [default: as oldstyle --help says]",
 );
+
+/// The option `--edition`.
+pub(crate) const EDITION: Argument = Valued(
+    "edition",
+    "N",
+    "The number of the edition to read [default: the newest]",
+);

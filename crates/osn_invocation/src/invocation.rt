@@ -5,19 +5,19 @@ ghost use Rattle.clap.specs.Words.{FailsBy, fault_of, found_of, kind_of, rows_of
 ghost use Rattle.clap.specs.Words.{subcommand_rows_of, takes};
 ghost use Rattle.clap.specs.declared.error.kind.ErrorKind.TheVariants.{OutOfMemory};
 ghost use Rattle.osn_invocation.specs.Grammar.{HasMatches, command_line};
-ghost use Rattle.osn_invocation.specs.Invocation.{almanac_page, audit_command, command_by};
+ghost use Rattle.osn_invocation.specs.Invocation.{almanac_page, command_by};
 ghost use Rattle.osn_invocation.specs.Invocation.{command_model, completions_command};
-ghost use Rattle.osn_invocation.specs.Invocation.{convert_command, day_page, desk_command};
+ghost use Rattle.osn_invocation.specs.Invocation.{convert_command, day_page};
 ghost use Rattle.osn_invocation.specs.Invocation.{invocation_by, invocation_in};
 ghost use Rattle.osn_invocation.specs.Invocation.{model_of, month_page, page_command, page_words};
-ghost use Rattle.osn_invocation.specs.Invocation.{read_page, replay_command, serve_command};
+ghost use Rattle.osn_invocation.specs.Invocation.{read_page, serve_command};
 ghost use Rattle.osn_invocation.specs.Invocation.{territory_page, with_limits, year_page};
 
 use crate::file_words::{audit_of, desk_of, replay_of};
 use crate::given::{is_given, number_of, text_of, value_of};
 use crate::grammar::command_line;
 use crate::letters::{LettersOptions, letters_of};
-use crate::register_text::{plan_of, publish_of, register_text_of};
+use crate::register_text::{editions_of, plan_of, publish_of, register_text_of};
 use clap::{ArgMatches, Error};
 use std::alloc::Global;
 use std::convert::AsStr;
@@ -128,6 +128,8 @@ pub enum CommandWords<'a> {
     Page {
         /// The file of the journal.
         journal: &'a str,
+        /// The word of the edition, if one is named.
+        edition: Option<&'a str>,
         /// Which page.
         page: PageWords<'a>,
     },
@@ -152,10 +154,17 @@ pub enum CommandWords<'a> {
         /// The date, or after `day` a day number.
         date: &'a str,
     },
+    /// To list the editions of a journal.
+    Editions {
+        /// The file of the journal.
+        journal: &'a str,
+    },
     /// To print the territories that a journal published as a text.
     Text {
         /// The file of the journal.
         journal: &'a str,
+        /// The word of the edition, if one is named.
+        edition: Option<&'a str>,
         /// The code of the only territory to print, if one is named.
         code: Option<&'a str>,
     },
@@ -250,6 +259,7 @@ fn command_of<'a>(name: &str, given: &ArgMatches<'a>) -> CommandWords<'a>
         "convert" => convert_of(given),
         "letters" => letters_of(given),
         "completions" => completions_of(given),
+        "editions" => editions_of(given),
         "text" => register_text_of(given),
         "plan" => plan_of(given),
         "publish" => publish_of(given),
@@ -305,6 +315,7 @@ fn page_of<'a>(given: &ArgMatches<'a>, page: PageWords<'a>) -> CommandWords<'a>
 {
     CommandWords::Page {
         journal: text_of(given, "journal"),
+        edition: value_of(given, "edition"),
         page,
     }
 }

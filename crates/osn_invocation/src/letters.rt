@@ -38,6 +38,8 @@ pub struct LettersOptions<'a> {
     pub separator: Option<&'a str>,
     /// The word of the order in which a date's three numbers are read, if it is named.
     pub order: Option<&'a str>,
+    /// The word of the edition, if one is named.
+    pub edition: Option<&'a str>,
     /// Whether a remark is a refusal.
     pub strict: bool,
     /// Whether the number of rows with each remark is printed at the end.
@@ -69,6 +71,7 @@ pub(crate) fn letters_of<'a>(given: &ArgMatches<'a>) -> CommandWords<'a>
             places: value_of(given, "places"),
             separator: value_of(given, "separator"),
             order: value_of(given, "order"),
+            edition: value_of(given, "edition"),
             strict: is_given(given, "strict"),
             summary: is_given(given, "summary"),
         },

@@ -2,12 +2,21 @@
 
 ghost use Rattle.std.specs.Prelude.{◌≡◌};
 ghost use Rattle.clap.specs.Words.{found_of, rows_of};
-ghost use Rattle.osn_invocation.specs.Invocation.{command_model, plan_command, publish_command};
-ghost use Rattle.osn_invocation.specs.Invocation.{text_command};
+ghost use Rattle.osn_invocation.specs.Invocation.{command_model, editions_command, plan_command};
+ghost use Rattle.osn_invocation.specs.Invocation.{publish_command, text_command};
 
 use crate::given::{is_given, text_of, value_of};
 use crate::invocation::CommandWords;
 use clap::ArgMatches;
+
+/// Returns what the argument of `editions` asks for.
+pub(crate) fn editions_of<'a>(given: &ArgMatches<'a>) -> CommandWords<'a>
+    ensures { command_model result ≡ editions_command (rows_of (found_of given.now)) }
+{
+    CommandWords::Editions {
+        journal: text_of(given, "journal"),
+    }
+}
 
 /// Returns what the arguments of `text` ask for.
 pub(crate) fn register_text_of<'a>(given: &ArgMatches<'a>) -> CommandWords<'a>
@@ -15,6 +24,7 @@ pub(crate) fn register_text_of<'a>(given: &ArgMatches<'a>) -> CommandWords<'a>
 {
     CommandWords::Text {
         journal: text_of(given, "journal"),
+        edition: value_of(given, "edition"),
         code: value_of(given, "code"),
     }
 }

@@ -5,13 +5,13 @@ use Rattle.osn_register.specs.declared.limits.Limits.{Limits}
 use Rattle.osn_lines.specs.Streams.{Input, Output}
 use Rattle.osn_page_commands.specs.Letters.{SettingsModel}
 use Rattle.osn_page_commands.specs.LettersFiles.{PrintsTable}
-use Rattle.osn_page_commands.specs.declared.letters.EndRules.{EndRules}
+use Rattle.osn_page_commands.specs.declared.letters.TableRules.{TableRules}
 use Rattle.osn_report.specs.Folders.{Folders}
 use Rattle.osn_report.specs.declared.status.Status.{Status}
 
 module _ (limits : Limits) (journal : List ℕ) (places : Option (Bor (List ℕ)))
     (settings : SettingsModel)
-    (made rules : EndRules) (CanFail : Bool → Type 0) (d : Folders) (i : Input) (o e : Output)
+    (made rules : TableRules) (CanFail : Bool → Type 0) (d : Folders) (i : Input) (o e : Output)
     (status : Status) where
   pub table_alone : places ≡ None → made ≡ rules
       → PrintsTable limits journal None settings made CanFail d i o e status

@@ -1,8 +1,8 @@
 -- A table of letters that ended early ended as the command's contract says.
-use Rattle.std.proofs.Common.{◌≡◌, ℕ, Bool, true, false, List, IfSome, length, subst}
+use Rattle.std.proofs.Common.{◌≡◌, ℕ, Bool, true, false, List, IfSome, subst}
 use Rattle.osn_days.specs.Profile.{newest_rules}
 use Rattle.osn_register.specs.Plain.{LandModel}
-use Rattle.osn_core.specs.Sequential.{ObjectState}
+use Rattle.osn_editions.specs.Edition.{EditionModel}
 use Rattle.osn_letters.specs.Table.{TableBasis, Written, letters_written, EndsEarly, IsWhole}
 use Rattle.osn_letters.specs.declared.fault.LettersFault.{LettersFault}
 use Rattle.osn_letters.specs.RowRemarks.{IsTallyOf}
@@ -11,8 +11,7 @@ use Rattle.osn_lines.specs.Streams.{Input, Output}
 use Rattle.osn_page_commands.specs.Letters.{EndsTable, EndsWhole, IsReason, SettingsModel, TellsEnd}
 use Rattle.osn_page_commands.specs.Letters.{TellsIfAsked}
 use Rattle.osn_page_commands.specs.Letters.{table_of}
-use Rattle.osn_page_commands.specs.Page.{published}
-use Rattle.osn_page_commands.specs.declared.letters.EndRules.{EndRules}
+use Rattle.osn_page_commands.specs.declared.letters.TableRules.{TableRules}
 use Rattle.osn_report.specs.Messages.{TellsIfMade, TellsNothing}
 use Rattle.osn_report.specs.declared.status.Status.{Status}
 
@@ -32,10 +31,10 @@ abbrev table_by : List LandModel → ℕ → SettingsModel → List ℕ → Writ
 table_by lands edition settings = letters_written (basis_by lands edition settings)
 
 -- all was written
-pub whole_table : (s : ObjectState) (settings : SettingsModel) (rules : EndRules)
+pub whole_table : (s : EditionModel) (settings : SettingsModel) (rules : TableRules)
     (tally : TallyModel)
     (lands : List LandModel) (edition : ℕ) (i : Input) (o e : Output) (status : Status)
-    → published s ≡ lands → length s.batches ≡ edition → TellsEnd rules tally e status
+    → s.lands ≡ lands → s.number ≡ edition → TellsEnd rules tally e status
     → IfSome i.bytes (λ text. IsWhole o.old o.new (table_by lands edition settings text))
     → IfSome i.bytes (λ text. IsTallyOf (basis_by lands edition settings) text tally)
     → EndsWhole s settings rules i o e status
@@ -43,10 +42,10 @@ whole_table s settings rules tally lands edition i o e status is counted told wh
     rw (is, counted) (tally, told, whole, counts)
 
 -- what was written by that end, and why
-pub ended_table : (s : ObjectState) (settings : SettingsModel) (lands : List LandModel)
+pub ended_table : (s : EditionModel) (settings : SettingsModel) (lands : List LandModel)
     (edition : ℕ)
     (i : Input) (o : Output) (ended : LettersFault)
-    → published s ≡ lands → length s.batches ≡ edition
+    → s.lands ≡ lands → s.number ≡ edition
     → IfSome i.bytes (λ text. EndsEarly o.old o.new (table_by lands edition settings text) ended)
     → IsReason (table_by lands edition settings) i o ended
     → EndsTable (table_of s settings) i o ended × IsReason (table_of s settings) i o ended

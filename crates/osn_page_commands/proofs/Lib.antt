@@ -4,3 +4,5 @@ pub mod PageLemmas
 pub mod ConversionLemmas
 pub mod PieceLemmas
 pub mod HintLemmas
+pub mod EditionLemmas
+pub mod EditionListLemmas

@@ -1,6 +1,6 @@
 -- A command that prints a page, or reports why there is none, did what its contract says.
 use Rattle.std.proofs.Common.{◌≡◌, Bool, List, ℕ, Option, Some, None, Ok, ◌∙◌, ap, refl, subst₂, inl, inr}
-use Rattle.osn_core.specs.Sequential.{ObjectState}
+use Rattle.osn_editions.specs.Edition.{EditionModel}
 use Rattle.osn_invocation.specs.Invocation.{PageWordsModel}
 use Rattle.osn_lines.specs.Streams.{Output}
 use Rattle.osn_register.specs.Refusal.{IsRefusalOrNoMemory}
@@ -8,8 +8,8 @@ use Rattle.osn_register.specs.declared.limits.Limits.{Limits}
 use Rattle.osn_register.specs.declared.refusal.Refusal.{Refusal}
 use Rattle.osn_register.specs.declared.refusal.Refusal.TheVariants as refusals
 use Rattle.osn_page_commands.specs.PageWords.{land_word, date_text_of, topic_of_words}
-use Rattle.osn_page_commands.specs.Page.{PrintsTopic, RunsPage, PrintsPageOf, PrintsPageOn}
-use Rattle.osn_page_commands.specs.Page.{topic_refusal, topic_text, published, refusal_line}
+use Rattle.osn_page_commands.specs.Page.{PrintsTopic, RunsNumbered, PrintsPageOf, PrintsPageOn}
+use Rattle.osn_page_commands.specs.Page.{topic_refusal, topic_text, refusal_line}
 use Rattle.osn_page_commands.specs.Page.{ended, lacks_strict_day, PrintsTopicText}
 use Rattle.osn_page_commands.specs.declared.place.Place.{Place}
 use Rattle.osn_page_commands.specs.declared.place.Place.TheVariants.{One, NotOne}
@@ -36,13 +36,13 @@ lacks_text (Land page form) text o e status same told = inr (same, told)
 lacks_text (Set given form) text o e status same told = inr (same, told)
 lacks_text (Lands is_json) text o e status same told = inr (same, told)
 
-module _ (s : ObjectState) (path code date : List ℕ) (topic : Topic) (o e : Output)
+module _ (s : EditionModel) (path code date : List ℕ) (topic : Topic) (o e : Output)
     (status : Status)
   where
     -- the page was printed, and a day that was asked for is missing or not
     pub page_made : (printed : Status) (lacks : Bool)
-        → topic_refusal (published s) code topic ≡ None
-        → lacks ≡ lacks_strict_day (published s) code date topic
+        → topic_refusal s.lands code topic ≡ None
+        → lacks ≡ lacks_strict_day s.lands code date topic
         → PrintsTopicText topic (topic_text s code date topic) o e printed
         → status ≡ ended lacks printed
         → PrintsPageOf s path code date topic o e status
@@ -50,30 +50,30 @@ module _ (s : ObjectState) (path code date : List ℕ) (topic : Topic) (o e : Ou
         rw none (printed, h, same ∙ ap (λ x. ended x printed) is)
 
     -- memory ran out, whatever is refused
-    unmade_by : (refused : Option Refusal) → topic_refusal (published s) code topic ≡ refused
+    unmade_by : (refused : Option Refusal) → topic_refusal s.lands code topic ≡ refused
         → o.new ≡ o.old → EndsBy e NoMemory status → PrintsPageOf s path code date topic o e status
     unmade_by (Some refusal) is same told = rw is (same, inr told)
     unmade_by None is same told =
         rw is (
           status,
           lacks_text topic (topic_text s code date topic) o e status same told,
-          unmade_same (lacks_strict_day (published s) code date topic) status told.0,
+          unmade_same (lacks_strict_day s.lands code date topic) status told.0,
         )
 
     pub page_unmade : o.new ≡ o.old → EndsBy e NoMemory status
         → PrintsPageOf s path code date topic o e status
-    page_unmade = unmade_by (topic_refusal (published s) code topic) refl
+    page_unmade = unmade_by (topic_refusal s.lands code topic) refl
 
     -- it is refused
     pub page_refused : (refusal : Refusal) → (refusal ≡ refusals.NoMemory → ⊥) → o.new ≡ o.old
-        → IsRefusalOrNoMemory (topic_refusal (published s) code topic) refusal
+        → IsRefusalOrNoMemory (topic_refusal s.lands code topic) refusal
         → TellsIfMade e statuses.Refused (refusal_line path code topic refusal) status
         → PrintsPageOf s path code date topic o e status
     page_refused refusal other same (inl some) told = rw some (same, told)
     page_refused refusal other same (inr none) told = absurd (other none.0)
 
 -- there was no memory to find what a word names
-pub place_unknown : (s : ObjectState) (path word date : List ℕ) (topic : Topic) (place : Place)
+pub place_unknown : (s : EditionModel) (path word date : List ℕ) (topic : Topic) (place : Place)
     (o e : Output) (status : Status) → o.new ≡ o.old → EndsBy e NoMemory status
     → PrintsPageOn s path word date topic place o e status
 place_unknown s path word date topic (One code) o e status = page_unmade s path code date topic o e
@@ -81,12 +81,13 @@ place_unknown s path word date topic (One code) o e status = page_unmade s path 
 place_unknown s path word date topic (NotOne named) o e status = λ same told. (same, inr told)
 
 -- the page was printed that these words ask for
-pub page_printed : (limits : Limits) (path : List ℕ) (words : PageWordsModel)
+pub page_printed : (limits : Limits) (path : List ℕ) (number : Option ℕ) (words : PageWordsModel)
     (CanFail : Bool → Type 0) (d : Folders) (topic : Topic) (code date : List ℕ) (o e : Output)
     (status : Status) → topic_of_words words ≡ Ok topic → code ≡ land_word words
     → date ≡ date_text_of words
-    → ReadsOne path CanFail d (λ file. PrintsTopic limits path file code date topic o e status)
-    → RunsPage limits path words CanFail d o e status
-page_printed limits path words CanFail d topic code date o e status is same text h =
+    → ReadsOne path CanFail d
+    (λ file. PrintsTopic limits path number file code date topic o e status)
+    → RunsNumbered limits path number words CanFail d o e status
+page_printed limits path number words CanFail d topic code date o e status is same text h =
     inr (rw is (subst₂ (λ c w. ReadsOne path CanFail d
-    (λ file. PrintsTopic limits path file c w topic o e status)) same text h))
+    (λ file. PrintsTopic limits path number file c w topic o e status)) same text h))

@@ -9,6 +9,8 @@ use Rattle.osn_days.specs.Profile.{newest_rules}
 use Rattle.osn_grammar.specs.declared.written.DateOrder.{DateOrder}
 use Rattle.osn_register.specs.declared.limits.Limits.{Limits}
 use Rattle.osn_core.specs.Sequential.{ObjectState}
+use Rattle.osn_editions.specs.Edition.{EditionModel}
+use Rattle.osn_page_commands.specs.Editions.{OnEdition}
 use Rattle.osn_lines.specs.Streams.{Input, Output}
 use Rattle.osn_files.specs.declared.fault.FileFault.{FileFault}
 use Rattle.osn_files.specs.declared.fault.FileFault.TheVariants as file_faults
@@ -27,8 +29,7 @@ use Rattle.osn_letters.specs.declared.fault.LettersFault.{LettersFault}
 use Rattle.osn_letters.specs.declared.fault.LettersFault.TheVariants as ends
 use Rattle.osn_letters.specs.declared.separator.Separator.{Separator}
 use Rattle.osn_letters.specs.declared.settings.TableSettings.{TableSettings}
-use Rattle.osn_page_commands.specs.declared.letters.EndRules.{EndRules}
-use Rattle.osn_page_commands.specs.Page.{published}
+use Rattle.osn_page_commands.specs.declared.letters.TableRules.{TableRules}
 use Rattle.osn_report.specs.Journal.{MakesObject, MakesNoObject}
 use Rattle.osn_shown.specs.Shown.{shown}
 use Rattle.osn_report.specs.Printing.{EndsUnwritten, PrintsNone}
@@ -138,12 +139,12 @@ TellsTable names e ends.NoMemory status = EndsBy e NoMemory status
 
 -- ---- what was written
 
--- what a table is made by, from what an object has published
-abbrev pub basis_of : ObjectState → SettingsModel → TableBasis
+-- what a table is made by, of an edition
+abbrev pub basis_of : EditionModel → SettingsModel → TableBasis
 basis_of s settings = record {
   rules = newest_rules;
-  lands = published s;
-  edition = length s.batches;
+  lands = s.lands;
+  edition = s.number;
   names = settings.names;
   separator = settings.separator;
   order = settings.order;
@@ -151,7 +152,7 @@ basis_of s settings = record {
 }
 
 -- the table that is written of a text
-abbrev pub table_of : ObjectState → SettingsModel → List ℕ → Written
+abbrev pub table_of : EditionModel → SettingsModel → List ℕ → Written
 table_of s settings = letters_written (basis_of s settings)
 
 -- a beginning of the table was written by the time of this end, and all that comes before a record
@@ -182,22 +183,22 @@ TellsIfAsked true text e given status = TellsIfMade e given text status
 
 -- a table with this tally was written whole, and the tally was reported if that is asked for. The
 -- status says whether a row has a remark, if that is asked for
-abbrev pub TellsEnd : EndRules → TallyModel → Output → Status → Type 0
+abbrev pub TellsEnd : TableRules → TallyModel → Output → Status → Type 0
 TellsEnd rules tally e status =
     TellsIfAsked rules.summary (tally_text (codes "oldstyle: letters: ") tally) e
     (status_by rules.strict (has_remarks tally)) status
 
 -- all was written, and the end reported
-abbrev pub EndsWhole : ObjectState → SettingsModel → EndRules → Input → Output → Output → Status
+abbrev pub EndsWhole : EditionModel → SettingsModel → TableRules → Input → Output → Output → Status
     → Type 0
 EndsWhole s settings rules i o e status =
     (tally : TallyModel) × TellsEnd rules tally e status
     × IfSome i.bytes (λ text. IsWhole o.old o.new (table_of s settings text))
     × IfSome i.bytes (λ text. IsTallyOf (basis_of s settings) text tally)
 
--- what was written and reported, by what an object has published: the table whole; or a part of it,
--- and why it ended there
-abbrev pub WritesTable : ObjectState → SettingsModel → EndRules → Input → Output → Output → Status
+-- what was written and reported, by an edition: the table whole; or a part of it, and why it ended
+-- there
+abbrev pub WritesTable : EditionModel → SettingsModel → TableRules → Input → Output → Output → Status
     → Type 0
 WritesTable s settings rules i o e status =
     EndsWhole s settings rules i o e status
@@ -205,10 +206,11 @@ WritesTable s settings rules i o e status =
     × EndsTable (table_of s settings) i o ended × IsReason (table_of s settings) i o ended)
 
 -- how the command ends: the journal is refused, and nothing was written; or it makes an object, and
--- that was done
-abbrev pub PrintsLetters : Limits → Input → SettingsModel → EndRules → Input → Output → Output
+-- that was done by its edition that the rules ask for
+abbrev pub PrintsLetters : Limits → Input → SettingsModel → TableRules → Input → Output → Output
     → Status → Type 0
 PrintsLetters limits journal settings rules i o e status =
     ((fault : FileFault) × MakesNoObject limits journal fault × PrintsNone (File fault) o e status)
     ⊎ ((s : ObjectState) × MakesObject limits journal.bytes s
-    × WritesTable s settings rules i o e status)
+    × OnEdition rules.edition s
+    (λ edition. WritesTable edition settings rules i o e status) o e status)

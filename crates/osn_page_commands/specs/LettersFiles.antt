@@ -13,16 +13,19 @@ use Rattle.osn_register.specs.declared.limits.Limits.{Limits}
 use Rattle.osn_page_commands.specs.Letters.{PrintsLetters, SettingsModel}
 use Rattle.osn_page_commands.specs.Places.{IsPlacesFault, TellsPlaces}
 use Rattle.osn_page_commands.specs.TableWords.{settings_of_options}
-use Rattle.osn_page_commands.specs.declared.letters.EndRules.{EndRules}
+use Rattle.osn_page_commands.specs.declared.letters.TableRules.{TableRules}
 use Rattle.osn_report.specs.Folders.{Folders, IsReadOf, ReadsOne}
+use Rattle.osn_editions.specs.Edition.{edition_of_word}
+use Rattle.osn_page_commands.specs.Editions.{TellsEditionWord}
 use Rattle.osn_report.specs.Messages.{TellsIfMade, TellsMisuse}
 use Rattle.osn_report.specs.Unopened.{unopened_line}
 use Rattle.osn_report.specs.declared.status.Status.{Status}
 use Rattle.osn_report.specs.declared.status.Status.TheVariants as statuses
 
--- what a table that was written whole ends with, by what is asked for
-abbrev pub rules_of : LettersModel → EndRules
-rules_of options = record { strict = options.strict; summary = options.summary }
+-- what is asked for a table besides its columns, by the options and the number of the edition
+abbrev pub rules_of : LettersModel → Option ℕ → TableRules
+rules_of options number =
+    record { edition = number; strict = options.strict; summary = options.summary }
 
 -- the table of places of a path could not be opened, which was reported, and nothing was written
 abbrev pub MissesPlaces : List ℕ → Folders → Output → Output → Status → Type 0
@@ -37,14 +40,14 @@ RefusesPlaces path table o e status =
     × TellsPlaces path e fault status
 
 -- it has these entries, and letters were read by them
-abbrev pub ReadsByEntries : Limits → Input → Input → SettingsModel → EndRules → Input → Output
+abbrev pub ReadsByEntries : Limits → Input → Input → SettingsModel → TableRules → Input → Output
     → Output → Status → Type 0
 ReadsByEntries limits table journal settings rules i o e status =
     (entries : List PlaceEntry) × IfSome table.bytes (λ text. places_in text ≡ Ok entries)
     × PrintsLetters limits journal (record settings { places = entries }) rules i o e status
 
 -- how the command with a table of places ends, once the journal was opened
-abbrev pub PrintsByPlaces : Limits → List ℕ → Input → SettingsModel → EndRules → (Bool → Type 0)
+abbrev pub PrintsByPlaces : Limits → List ℕ → Input → SettingsModel → TableRules → (Bool → Type 0)
     → Folders → Input → Output → Output → Status → Type 0
 PrintsByPlaces limits path journal settings rules CanFail d i o e status =
     MissesPlaces path d o e status
@@ -54,7 +57,7 @@ PrintsByPlaces limits path journal settings rules CanFail d i o e status =
     ⊎ ReadsByEntries limits table journal settings rules i o e status))
 
 -- how the command ends, once the journal was opened, with a table of places or without
-abbrev pub PrintsTable : Limits → List ℕ → Option (List ℕ) → SettingsModel → EndRules
+abbrev pub PrintsTable : Limits → List ℕ → Option (List ℕ) → SettingsModel → TableRules
     → (Bool → Type 0) → Folders → Input → Output → Output → Status → Type 0
 PrintsTable limits journal None settings rules CanFail d i o e status = ReadsOne journal CanFail d
     (λ file. PrintsLetters limits file settings rules i o e status)
@@ -64,12 +67,21 @@ PrintsTable limits journal (Some path) settings rules CanFail d i o e status =
     × PrintsByPlaces limits path file settings rules CanFail
     (record { before = opened; after = d.after }) i o e status
 
--- what the command has done: what the options ask for; or one of them is wrong, which was reported,
--- and no file was opened and nothing written
+-- what the options ask for was done, by the edition of a number, or the newest one; or one of them is
+-- wrong, which was reported, and no file was opened and nothing written
+abbrev pub RunsNumbered : Limits → List ℕ → LettersModel → Option ℕ → (Bool → Type 0) → Folders
+    → Input → Output → Output → Status → Type 0
+RunsNumbered limits journal options number CanFail d i o e status = MatchResult
+    (settings_of_options options)
+    (λ settings. PrintsTable limits journal options.places settings (rules_of options number)
+    CanFail d i o e status)
+    (λ wrong. (d.after ≡ d.before) × (o.new ≡ o.old) × TellsMisuse e wrong.0 wrong.1 status)
+
+-- what the command has done: that, by the word of the edition, if there is one; or it is not the
+-- number of an edition, which was reported, and no file was opened and nothing written
 abbrev pub RunsLetters : Limits → List ℕ → LettersModel → (Bool → Type 0) → Folders → Input → Output
     → Output → Status → Type 0
 RunsLetters limits journal options CanFail d i o e status = MatchResult
-    (settings_of_options options)
-    (λ settings.
-    PrintsTable limits journal options.places settings (rules_of options) CanFail d i o e status)
-    (λ wrong. (d.after ≡ d.before) × (o.new ≡ o.old) × TellsMisuse e wrong.0 wrong.1 status)
+    (edition_of_word options.edition)
+    (λ number. RunsNumbered limits journal options number CanFail d i o e status)
+    (λ typed. (d.after ≡ d.before) × (o.new ≡ o.old) × TellsEditionWord typed e status)

@@ -12,3 +12,5 @@ pub mod Places
 pub mod TableWords
 pub mod LettersFiles
 pub mod AnswerLine
+pub mod Editions
+pub mod EditionList

@@ -1,5 +1,5 @@
 -- The page that a command prints, or why it prints none.
-use Rattle.std.specs.Prelude.{◌≡◌, ◌⊎◌, ◌++◌, ℕ, pos, List, [], ◌∷◌, length, map, codes, Option}
+use Rattle.std.specs.Prelude.{◌≡◌, ◌⊎◌, ◌++◌, ℕ, pos, List, [], ◌∷◌, map, codes, Option}
 use Rattle.std.specs.Prelude.{None, Some, option_map}
 use Rattle.std.specs.Prelude.{Bool, true, false, ◌&&◌, if◌then◌else◌, MatchResult}
 use Rattle.std.specs.Option.{MatchOption}
@@ -20,7 +20,9 @@ use Rattle.osn_register.specs.declared.query.Query.TheVariants as queries
 use Rattle.osn_register.specs.declared.refusal.Refusal.{Refusal}
 use Rattle.osn_register.specs.declared.refusal.Refusal.TheVariants.{BadCode, UnknownLand}
 use Rattle.osn_register.specs.declared.refusal.Refusal.TheVariants.{YearOffRange}
-use Rattle.osn_core.specs.Sequential.{ObjectState, lands_of}
+use Rattle.osn_core.specs.Sequential.{ObjectState}
+use Rattle.osn_editions.specs.Edition.{EditionModel, edition_of_word}
+use Rattle.osn_page_commands.specs.Editions.{OnEdition, TellsEditionWord}
 use Rattle.osn_lines.specs.Streams.{Input, Output}
 use Rattle.osn_files.specs.declared.fault.FileFault.{FileFault}
 use Rattle.osn_folder.specs.Folder.{IsUnopened}
@@ -56,13 +58,9 @@ use Rattle.osn_report.specs.declared.fault.CommandFault.TheVariants.{ReadFault}
 use Rattle.osn_report.specs.declared.status.Status.{Status}
 use Rattle.osn_report.specs.declared.status.Status.TheVariants as statuses
 
--- the territories that an object has published
-abbrev pub published : ObjectState → List LandModel
-published s = lands_of newest_rules s.limits s.batches
-
--- the edition of them, and how many edits wait
-abbrev pub edition_of : ObjectState → Published
-edition_of s = record { edition = length s.batches; pending = length s.pending }
+-- what the heading and the end of a page say of an edition
+abbrev pub heading_of : EditionModel → Published
+heading_of edition = record { edition = edition.number; pending = edition.pending }
 
 -- ---- the page
 
@@ -71,29 +69,27 @@ abbrev pub line_or : List ℕ → Option (List ℕ) → List ℕ
 line_or page None = page
 line_or page (Some line) = line
 
-abbrev pub land_text : ObjectState → List ℕ → List ℕ → Page → Bool → List ℕ
+abbrev pub land_text : EditionModel → List ℕ → List ℕ → Page → Bool → List ℕ
 land_text s code date page is_json = line_or
-    (page_text newest_rules (published s) code (edition_of s) page)
+    (page_text newest_rules s.lands code (heading_of s) page)
     (if is_json then option_map (query_line s) (query_of_page code date page) else None)
 
 -- that on a set of dates
-abbrev pub set_text : ObjectState → List ℕ → List ℕ → Option Weekday → Bool → List ℕ
+abbrev pub set_text : EditionModel → List ℕ → List ℕ → Option Weekday → Bool → List ℕ
 set_text s code date given is_json =
     if is_json then query_line s (query_of_set code date given)
-    else set_page_text newest_rules (published s) code (edition_of s) date given
+    else set_page_text newest_rules s.lands code (heading_of s) date given
 
 -- and on all territories
-abbrev pub lands_text : ObjectState → Bool → List ℕ
+abbrev pub lands_text : EditionModel → Bool → List ℕ
 lands_text s is_json =
     if is_json then query_line s queries.Lands
-    else territories_page (published s) (length s.batches) (length s.pending)
+    else territories_page s.lands s.number s.pending
 
--- the text of what was asked for, from what an object has published, if this is the text of its
--- date
-abbrev pub topic_text : ObjectState → List ℕ → List ℕ → Topic → List ℕ
-topic_text s code date (Almanac year) = almanac newest_rules (published s) code (pos year)
-topic_text s code date (Year year) =
-    year_page newest_rules (published s) code (edition_of s) year
+-- the text of what was asked for, of an edition, if this is the text of its date
+abbrev pub topic_text : EditionModel → List ℕ → List ℕ → Topic → List ℕ
+topic_text s code date (Almanac year) = almanac newest_rules s.lands code (pos year)
+topic_text s code date (Year year) = year_page newest_rules s.lands code (heading_of s) year
 topic_text s code date (Land page form) = land_text s code date page form.is_json
 topic_text s code date (Set given form) = set_text s code date given form.is_json
 topic_text s code date (Lands is_json) = lands_text s is_json
@@ -203,23 +199,23 @@ abbrev pub PrintsPageText : Topic → List ℕ → Bool → Output → Output �
 PrintsPageText topic text lacks o e status =
     (printed : Status) × PrintsTopicText topic text o e printed × (status ≡ ended lacks printed)
 
--- for an object: the page was printed, unless what was asked for is refused, or memory ran out
-abbrev pub PrintsPageOf : ObjectState → List ℕ → List ℕ → List ℕ → Topic → Output → Output
+-- for an edition: the page was printed, unless what was asked for is refused, or memory ran out
+abbrev pub PrintsPageOf : EditionModel → List ℕ → List ℕ → List ℕ → Topic → Output → Output
     → Status → Type 0
 PrintsPageOf s path code date topic o e status =
-    MatchOption (topic_refusal (published s) code topic)
+    MatchOption (topic_refusal s.lands code topic)
     (PrintsPageText topic (topic_text s code date topic)
-    (lacks_strict_day (published s) code date topic) o e status)
+    (lacks_strict_day s.lands code date topic) o e status)
     (λ refusal. IsRefused path code topic refusal o e status)
 
 -- that, on the territory that a word names; or the word names none or several, which was reported
-abbrev pub PrintsPageOn : ObjectState → List ℕ → List ℕ → List ℕ → Topic → Place → Output → Output
+abbrev pub PrintsPageOn : EditionModel → List ℕ → List ℕ → List ℕ → Topic → Place → Output → Output
     → Status → Type 0
 PrintsPageOn s path word date topic (One code) o e status =
     PrintsPageOf s path code date topic o e status
 PrintsPageOn s path word date topic (NotOne named) o e status =
     (o.new ≡ o.old)
-    × TellsIfMade e statuses.Refused (place_lines path word named (map listed (published s))) status
+    × TellsIfMade e statuses.Refused (place_lines path word named (map listed s.lands)) status
 
 -- what the word names: for an almanac it is a code, and the page of all territories is on none
 abbrev pub place_of : Topic → List ℕ → List LandModel → Place
@@ -229,20 +225,21 @@ place_of (Land page form) word lands = place_named word lands
 place_of (Set given form) word lands = place_named word lands
 place_of (Lands is_json) word lands = One word
 
--- for a journal: it makes an object, and that was done
-abbrev pub PrintsTopic : Limits → List ℕ → Input → List ℕ → List ℕ → Topic → Output → Output
-    → Status → Type 0
-PrintsTopic limits path journal word date topic o e status =
+-- for a journal: it makes an object, and that was done with its edition of a number, or the newest
+abbrev pub PrintsTopic : Limits → List ℕ → Option ℕ → Input → List ℕ → List ℕ → Topic → Output
+    → Output → Status → Type 0
+PrintsTopic limits path number journal word date topic o e status =
     (s : ObjectState) × MakesObject limits journal.bytes s
-    × PrintsPageOn s path word date topic (place_of topic word (published s)) o e status
+    × OnEdition number s (λ edition. PrintsPageOn edition path word date topic
+    (place_of topic word edition.lands) o e status) o e status
 
 -- by words: that, once the journal was opened; or a word is not what its place asks for, which was
 -- reported, and no file was opened
-abbrev pub RunsWords : Limits → List ℕ → PageWordsModel → (Bool → Type 0) → Folders → Output
-    → Output → Status → Type 0
-RunsWords limits path words CanFail d o e status = MatchResult (topic_of_words words)
+abbrev pub RunsWords : Limits → List ℕ → Option ℕ → PageWordsModel → (Bool → Type 0) → Folders
+    → Output → Output → Status → Type 0
+RunsWords limits path number words CanFail d o e status = MatchResult (topic_of_words words)
     (λ topic. ReadsOne path CanFail d (λ file.
-    PrintsTopic limits path file (land_word words) (date_text_of words) topic o e status))
+    PrintsTopic limits path number file (land_word words) (date_text_of words) topic o e status))
     (λ misuse. (d.after ≡ d.before) × (o.new ≡ o.old)
     × TellsWord e misuse (wrong_word words misuse) status)
 
@@ -252,10 +249,18 @@ LacksMemory words d o e status =
     (takes_memory words ≡ true) × (d.after ≡ d.before) × (o.new ≡ o.old) × EndsBy e NoMemory status
 
 -- by what it printed and reported: one of these
-abbrev pub RunsPage : Limits → List ℕ → PageWordsModel → (Bool → Type 0) → Folders → Output
-    → Output → Status → Type 0
-RunsPage limits path words CanFail d o e status =
-    LacksMemory words d o e status ⊎ RunsWords limits path words CanFail d o e status
+abbrev pub RunsNumbered : Limits → List ℕ → Option ℕ → PageWordsModel → (Bool → Type 0) → Folders
+    → Output → Output → Status → Type 0
+RunsNumbered limits path number words CanFail d o e status =
+    LacksMemory words d o e status ⊎ RunsWords limits path number words CanFail d o e status
+
+-- that, by the word of the edition, if there is one; or it is not the number of an edition, which
+-- was reported, and no file was opened
+abbrev pub RunsPage : Limits → List ℕ → Option (List ℕ) → PageWordsModel → (Bool → Type 0)
+    → Folders → Output → Output → Status → Type 0
+RunsPage limits path edition words CanFail d o e status = MatchResult (edition_of_word edition)
+    (λ number. RunsNumbered limits path number words CanFail d o e status)
+    (λ typed. (d.after ≡ d.before) × (o.new ≡ o.old) × TellsEditionWord typed e status)
 
 -- ---- why it ended early
 

@@ -1,6 +1,7 @@
 //! The command of a page over the files of a folder: the words are read before the journal is
 //! opened by its path.
-ghost use Rattle.std.specs.Prelude.{◌≡◌, IfErr, IfOk};
+ghost use Rattle.std.specs.Prelude.{◌≡◌, IfErr, IfOk, option_map};
+ghost use Rattle.osn_page_commands.specs.Editions.{OnEdition};
 ghost use Rattle.osn_folder.specs.Folder.{MayFail};
 ghost use Rattle.osn_invocation.specs.Invocation.{page_words};
 ghost use Rattle.osn_lines.specs.Streams.{output_of};
@@ -8,8 +9,11 @@ ghost use Rattle.osn_page_commands.specs.Page as spec;
 ghost use Rattle.osn_report.specs.Folders.{folders_of};
 
 use crate::date_hint::tell_word;
+use crate::edition_lines::{tell_edition_fault, tell_edition_word};
 use crate::page::print_page;
-use crate::page_words::{date_text_of, land_word, topic_of_words, wrong_word};
+use crate::page_words::{Topic, date_text_of, land_word, topic_of_words, wrong_word};
+use osn_core::Object;
+use osn_editions::{edition_of, edition_of_word};
 use osn_files::load_journal;
 use osn_folder::{Folder, OpenFailed, open_named};
 use osn_invocation::PageWords;
@@ -28,27 +32,48 @@ fn unopened(words: PageWords<'_>, cause: OpenFailed) -> CommandFault
     }
 }
 
-/// Runs the command `almanac`, `read`, `day`, `month`, `year` or `territory`: opens the journal of
-/// a path, and prints the page that the words ask for, on what it published under these limits. The
-/// journal is read whole before anything is printed.
-///
-/// If a word is not what its place asks for, standard error says so before a file is opened. If no
-/// page is printed, standard error says why, and the status says it too. With `--strict` a date
-/// that means no day has its page, and the status of a refusal.
+/// Prints the page that was asked for, of the edition of a number, or of the newest one.
+fn print_numbered<W: Sink, E: Sink>(
+    alloc: Global,
+    object: Object,
+    number: Option<u32>,
+    path: &str,
+    word: &str,
+    date: &str,
+    topic: &Topic,
+    output: &mut W,
+    errors: &mut E,
+) -> Status
+    ensures { OnEdition number object (λ edition. spec.PrintsPageOn edition
+        path.now word.now date.now topic.now (spec.place_of topic.now word.now edition.lands)
+        (output_of W.contents W.has_failed W.holds_back output.old output.new)
+        (output_of E.contents E.has_failed E.holds_back errors.old errors.new) result)
+        (output_of W.contents W.has_failed W.holds_back output.old output.new)
+        (output_of E.contents E.has_failed E.holds_back errors.old errors.new) result }
+{
+    match edition_of(alloc, object, number) {
+        Ok(edition) => print_page(alloc, &edition, path, word, date, topic, output, errors),
+        Err(fault) => tell_edition_fault(alloc, errors, fault),
+    }
+}
+
+/// Opens the journal of a path, and prints the page that the words ask for, of its edition of a
+/// number, or of the newest one.
 ///
 /// # Errors
 ///
-/// Why the journal could not be opened, or makes no object. Nothing was written then.
-pub fn page_in_folder<'a, D: Folder, W: Sink, E: Sink>(
+/// As for `page_in_folder`.
+fn numbered_page_in_folder<'a, D: Folder, W: Sink, E: Sink>(
     alloc: Global,
     limits: Limits,
     folder: &mut D,
     journal: &'a str,
+    number: Option<u32>,
     words: PageWords<'_>,
     output: &mut W,
     errors: &mut E,
 ) -> Result<Status, Failure<'a>>
-    ensures ok { IfOk result (spec.RunsPage limits journal.now (page_words words.entry)
+    ensures ok { IfOk result (spec.RunsNumbered limits journal.now number (page_words words.entry)
         (MayFail D.File.has_failed) (folders_of D.known folder.old folder.new)
         (output_of W.contents W.has_failed W.holds_back output.old output.new)
         (output_of E.contents E.has_failed E.holds_back errors.old errors.new)) }
@@ -77,10 +102,52 @@ pub fn page_in_folder<'a, D: Folder, W: Sink, E: Sink>(
     let word = land_word(words);
     let date = date_text_of(words);
     match load_journal(alloc, limits, &mut file) {
-        Ok(object) => Ok(print_page(alloc, &object, journal, word, date, &topic, output, errors)),
+        Ok(object) => Ok(print_numbered(
+            alloc, object, number, journal, word, date, &topic, output, errors,
+        )),
         Err(fault) => Err(Failure {
             path: journal,
             fault: CommandFault::File(fault),
         }),
+    }
+}
+
+/// Runs the command `almanac`, `read`, `day`, `month`, `year` or `territory`: opens the journal of
+/// a path, and prints the page that the words ask for, of the edition that a word names, under
+/// these limits. Without such a word it is the newest one. The journal is read whole before
+/// anything is printed.
+///
+/// If a word is not what its place asks for, standard error says so before a file is opened. If no
+/// page is printed, standard error says why, and the status says it too. With `--strict` a date
+/// that means no day has its page, and the status of a refusal.
+///
+/// # Errors
+///
+/// Why the journal could not be opened, or makes no object. Nothing was written then.
+pub fn page_in_folder<'a, D: Folder, W: Sink, E: Sink>(
+    alloc: Global,
+    limits: Limits,
+    folder: &mut D,
+    journal: &'a str,
+    edition: Option<&str>,
+    words: PageWords<'_>,
+    output: &mut W,
+    errors: &mut E,
+) -> Result<Status, Failure<'a>>
+    ensures ok { IfOk result (spec.RunsPage limits journal.now
+        (option_map (λ word. word.now) edition.entry) (page_words words.entry)
+        (MayFail D.File.has_failed) (folders_of D.known folder.old folder.new)
+        (output_of W.contents W.has_failed W.holds_back output.old output.new)
+        (output_of E.contents E.has_failed E.holds_back errors.old errors.new)) }
+    ensures err { IfErr result (λ failure. spec.PageFails limits journal.now
+        (page_words words.entry) (MayFail D.File.has_failed)
+        (folders_of D.known folder.old folder.new) failure.path.now failure.fault
+        × (output.new ≡ output.old) × (errors.new ≡ errors.old)) }
+{
+    match edition_of_word(edition) {
+        Ok(number) => numbered_page_in_folder(
+            alloc, limits, folder, journal, number, words, output, errors,
+        ),
+        Err(typed) => Ok(tell_edition_word(alloc, errors, typed)),
     }
 }

@@ -1,10 +1,14 @@
 //! The command `letters`.
 ghost use Rattle.std.specs.Prelude.{◌≡◌};
+ghost use Rattle.osn_editions.specs.Edition.{edition_model};
+ghost use Rattle.osn_page_commands.specs.Editions.{OnEdition};
 ghost use Rattle.osn_lines.specs.Streams.{input_of, output_of};
 ghost use Rattle.osn_page_commands.specs.Letters as spec;
 
+use crate::edition_lines::tell_edition_fault;
 use crate::table_faults::tell_table;
 use osn_core::Object;
+use osn_editions::{Edition, edition_of};
 use osn_files::load_journal;
 use osn_letters::{TableSettings, Tally, write_letters};
 use osn_lines::{Progress, Sink, Source};
@@ -12,9 +16,11 @@ use osn_register::Limits;
 use osn_report::{CommandFault, Status, report, tell_line};
 use std::alloc::Global;
 
-/// What a table that was written whole ends with.
+/// What is asked for a table besides its columns.
 #[derive(Clone, Copy, Debug, PartialEq, Eq)]
-pub struct EndRules {
+pub struct TableRules {
+    /// The number of the edition of which it is made, or none for the newest one.
+    pub edition: Option<u32>,
     /// Whether a remark is a refusal.
     pub strict: bool,
     /// Whether it is reported how many rows have each remark.
@@ -33,7 +39,7 @@ fn status_by(is_strict: bool, has_remarks: bool) -> Status
 }
 
 /// Ends a table that was written whole, and reports its tally if that is asked for.
-fn end_whole<E: Sink>(alloc: Global, errors: &mut E, rules: EndRules, tally: &Tally) -> Status
+fn end_whole<E: Sink>(alloc: Global, errors: &mut E, rules: TableRules, tally: &Tally) -> Status
     ensures { spec.TellsEnd rules tally.now
         (output_of E.contents E.has_failed E.holds_back errors.old errors.new) result }
 {
@@ -45,33 +51,61 @@ fn end_whole<E: Sink>(alloc: Global, errors: &mut E, rules: EndRules, tally: &Ta
     }
 }
 
-/// Writes the table, by what an object has published.
+/// Writes the table, by an edition.
 fn write_table<R: Source, W: Sink, E: Sink, P: Progress>(
     alloc: Global,
-    object: &Object,
+    edition: &Edition,
     settings: TableSettings<'_>,
-    rules: EndRules,
+    rules: TableRules,
     input: &mut R,
     output: &mut W,
     errors: &mut E,
     progress: &mut P,
 ) -> Status
-    ensures { spec.WritesTable object.now (spec.settings_model settings.entry) rules
+    ensures { spec.WritesTable (edition_model edition.now)
+        (spec.settings_model settings.entry) rules
         (input_of R.remaining R.has_failed input.old input.new)
         (output_of W.contents W.has_failed W.holds_back output.old output.new)
         (output_of E.contents E.has_failed E.holds_back errors.old errors.new) result }
 {
-    let edition = object.batches().len();
-    let register = object.register();
-    match write_letters(alloc, register, edition, settings, input, output, progress) {
+    let number = edition.number();
+    let register = edition.register();
+    match write_letters(alloc, register, number, settings, input, output, progress) {
         Ok(tally) => end_whole(alloc, errors, rules, &tally),
         Err(fault) => tell_table(alloc, errors, settings.names, &fault),
     }
 }
 
+/// Writes the table, by the edition that the rules ask for.
+fn write_numbered<R: Source, W: Sink, E: Sink, P: Progress>(
+    alloc: Global,
+    object: Object,
+    settings: TableSettings<'_>,
+    rules: TableRules,
+    input: &mut R,
+    output: &mut W,
+    errors: &mut E,
+    progress: &mut P,
+) -> Status
+    ensures { OnEdition rules.edition object (λ edition. spec.WritesTable edition
+        (spec.settings_model settings.entry) rules
+        (input_of R.remaining R.has_failed input.old input.new)
+        (output_of W.contents W.has_failed W.holds_back output.old output.new)
+        (output_of E.contents E.has_failed E.holds_back errors.old errors.new) result)
+        (output_of W.contents W.has_failed W.holds_back output.old output.new)
+        (output_of E.contents E.has_failed E.holds_back errors.old errors.new) result }
+{
+    match edition_of(alloc, object, rules.edition) {
+        Ok(edition) => write_table(
+            alloc, &edition, settings, rules, input, output, errors, progress,
+        ),
+        Err(fault) => tell_edition_fault(alloc, errors, fault),
+    }
+}
+
 /// Runs the command `letters`: writes the table of the input, CSV with a header, with twelve
-/// columns more after its own. These say for each row what its date means, by what the journal
-/// published under these limits. The journal is read whole before a record is, and what comes of a
+/// columns more after its own. These say for each row what its date means, by an edition of the
+/// journal under these limits. The journal is read whole before a record is, and what comes of a
 /// read is written before the next one. The settings name the columns that are read, what separates
 /// the fields, the order of a date's three numbers and the table of places. The progress shows how
 /// much of the table was read.
@@ -84,7 +118,7 @@ pub fn letters_command<J: Source, R: Source, W: Sink, E: Sink, P: Progress>(
     limits: Limits,
     journal: &mut J,
     settings: TableSettings<'_>,
-    rules: EndRules,
+    rules: TableRules,
     input: &mut R,
     output: &mut W,
     errors: &mut E,
@@ -98,8 +132,8 @@ pub fn letters_command<J: Source, R: Source, W: Sink, E: Sink, P: Progress>(
         (output_of E.contents E.has_failed E.holds_back errors.old errors.new) result }
 {
     match load_journal(alloc, limits, journal) {
-        Ok(object) => write_table(
-            alloc, &object, settings, rules, input, output, errors, progress,
+        Ok(object) => write_numbered(
+            alloc, object, settings, rules, input, output, errors, progress,
         ),
         Err(fault) => report(alloc, errors, CommandFault::File(fault)),
     }

@@ -8,9 +8,11 @@ ghost use Rattle.osn_page_commands.specs.Letters.{settings_model};
 ghost use Rattle.osn_page_commands.specs.LettersFiles as spec;
 ghost use Rattle.osn_report.specs.Folders.{folders_of};
 
-use crate::letters::{EndRules, letters_command};
+use crate::edition_lines::tell_edition_word;
+use crate::letters::{TableRules, letters_command};
 use crate::places::tell_places;
 use crate::table_words::settings_of_options;
+use osn_editions::edition_of_word;
 use osn_folder::{Folder, OpenFailed, open_file};
 use osn_invocation::LettersOptions;
 use osn_letters::{TableSettings, read_places};
@@ -19,11 +21,13 @@ use osn_register::Limits;
 use osn_report::{ReadProgress, Status, tell_misuse, tell_unopened};
 use std::alloc::Global;
 
-/// Returns what a table that was written whole ends with, by the options.
-fn rules_of(options: LettersOptions<'_>) -> EndRules
-    ensures { result ≡ spec.rules_of (letters_model options.entry) }
+/// Returns what is asked for a table besides its columns, by the options and the number of the
+/// edition.
+fn rules_of(options: LettersOptions<'_>, number: Option<u32>) -> TableRules
+    ensures { result ≡ spec.rules_of (letters_model options.entry) number }
 {
-    EndRules {
+    TableRules {
+        edition: number,
         strict: options.strict,
         summary: options.summary,
     }
@@ -38,7 +42,7 @@ fn letters_by_places<D: Folder, R: Source, W: Sink, E: Sink, P: Progress>(
     journal: &mut D::File,
     path: &str,
     settings: TableSettings<'_>,
-    rules: EndRules,
+    rules: TableRules,
     input: &mut R,
     output: &mut W,
     errors: &mut E,
@@ -78,6 +82,7 @@ fn letters_by<D: Folder, R: Source, W: Sink, E: Sink, T: Sink + Drop>(
     folder: &mut D,
     journal: &str,
     options: LettersOptions<'_>,
+    number: Option<u32>,
     settings: TableSettings<'_>,
     input: &mut R,
     output: &mut W,
@@ -86,7 +91,7 @@ fn letters_by<D: Folder, R: Source, W: Sink, E: Sink, T: Sink + Drop>(
 ) -> Result<Status, OpenFailed>
     ensures ok { IfOk result (spec.PrintsTable limits journal.now
         (option_map (λ path. path.now) options.entry.places) (settings_model settings.entry)
-        (spec.rules_of (letters_model options.entry)) (MayFail D.File.has_failed)
+        (spec.rules_of (letters_model options.entry) number) (MayFail D.File.has_failed)
         (folders_of D.known folder.old folder.new)
         (input_of R.remaining R.has_failed input.old input.new)
         (output_of W.contents W.has_failed W.holds_back output.old output.new)
@@ -95,7 +100,7 @@ fn letters_by<D: Folder, R: Source, W: Sink, E: Sink, T: Sink + Drop>(
         (D.known folder.old) (D.known folder.new)
         × (output.new ≡ output.old) × (errors.new ≡ errors.old)) }
 {
-    let rules = rules_of(options);
+    let rules = rules_of(options, number);
     let mut file = open_file(folder, journal)?;
     let mut progress = ReadProgress::new(alloc, "letters", terminal);
     match options.places {
@@ -123,6 +128,37 @@ fn letters_by<D: Folder, R: Source, W: Sink, E: Sink, T: Sink + Drop>(
             errors,
             &mut progress,
         )),
+    }
+}
+
+/// Does what the options ask for, by the edition of a number, or the newest one.
+fn numbered_letters_in_folder<D: Folder, R: Source, W: Sink, E: Sink, T: Sink + Drop>(
+    alloc: Global,
+    limits: Limits,
+    folder: &mut D,
+    journal: &str,
+    options: LettersOptions<'_>,
+    number: Option<u32>,
+    input: &mut R,
+    output: &mut W,
+    errors: &mut E,
+    terminal: Option<T>,
+) -> Result<Status, OpenFailed>
+    ensures ok { IfOk result (spec.RunsNumbered limits journal.now (letters_model options.entry)
+        number (MayFail D.File.has_failed) (folders_of D.known folder.old folder.new)
+        (input_of R.remaining R.has_failed input.old input.new)
+        (output_of W.contents W.has_failed W.holds_back output.old output.new)
+        (output_of E.contents E.has_failed E.holds_back errors.old errors.new)) }
+    ensures err { OnErr result (CannotOpen (journal.now ∷ [])
+        (D.known folder.old) (D.known folder.new)
+        × (output.new ≡ output.old) × (errors.new ≡ errors.old)) }
+{
+    match settings_of_options(options) {
+        Ok(settings) => letters_by(
+            alloc, limits, folder, journal, options, number, settings, input, output, errors,
+            terminal,
+        ),
+        Err(wrong) => Ok(tell_misuse(alloc, errors, wrong.misuse, wrong.typed)),
     }
 }
 
@@ -156,10 +192,10 @@ pub fn letters_in_folder<D: Folder, R: Source, W: Sink, E: Sink, T: Sink + Drop>
         (D.known folder.old) (D.known folder.new)
         × (output.new ≡ output.old) × (errors.new ≡ errors.old)) }
 {
-    match settings_of_options(options) {
-        Ok(settings) => letters_by(
-            alloc, limits, folder, journal, options, settings, input, output, errors, terminal,
+    match edition_of_word(options.edition) {
+        Ok(number) => numbered_letters_in_folder(
+            alloc, limits, folder, journal, options, number, input, output, errors, terminal,
         ),
-        Err(wrong) => Ok(tell_misuse(alloc, errors, wrong.misuse, wrong.typed)),
+        Err(typed) => Ok(tell_edition_word(alloc, errors, typed)),
     }
 }

@@ -1,6 +1,7 @@
 //! The commands that print a page on what a journal published.
 ghost use Rattle.std.specs.Prelude.{◌≡◌, IfOk, IfErr, OnOk, None, string_bytes};
 ghost use Rattle.osn_lines.specs.Streams.{output_of};
+ghost use Rattle.osn_editions.specs.Edition.{edition_model};
 ghost use Rattle.osn_register.specs.Plain.{code_refusal};
 ghost use Rattle.osn_register.specs.Refusal.{IsRefusalOrNoMemory};
 ghost use Rattle.osn_page_commands.specs.Page as spec;
@@ -12,8 +13,8 @@ use crate::place::{Place, place_named};
 use crate::place_lines::place_lines;
 use crate::refusal_lines::refusal_line;
 use osn_almanac::{almanac_text, year_page_text};
-use osn_core::Object;
 use osn_days::Weekday;
+use osn_editions::Edition;
 use osn_lines::Sink;
 use osn_pages::{
     Page, Published, has_no_day, page_text, set_has_no_day, set_page_text, territories_page,
@@ -22,13 +23,13 @@ use osn_register::{BorrowedQuery, Refusal, Register};
 use osn_report::{Status, print, print_or_report, tell_line, tell_no_memory};
 use std::alloc::{AllocError, Global};
 
-/// Returns the number of the edition that an object has published, and how many edits wait.
-fn edition_of(object: &Object) -> Published
-    ensures { result ≡ spec.edition_of object.now }
+/// Returns the number of an edition, and how many edits wait.
+fn heading_of(edition: &Edition) -> Published
+    ensures { result ≡ spec.heading_of (edition_model edition.now) }
 {
     Published {
-        edition: object.batches().len(),
-        pending: object.pending().len(),
+        edition: edition.number(),
+        pending: edition.pending(),
     }
 }
 
@@ -36,87 +37,89 @@ fn edition_of(object: &Object) -> Published
 /// of its date.
 fn land_text(
     alloc: Global,
-    object: &Object,
+    edition: &Edition,
     code: &str,
     date: &str,
     page: Page,
     is_json: bool,
 ) -> Result<String, Refusal>
-    ensures lawful { OnOk result (code_refusal (spec.published object.now) code.now ≡ None) }
+    ensures lawful { OnOk result (code_refusal (edition_model edition.now).lands code.now ≡ None) }
     ensures text { IfOk result (λ text. string_bytes text
-        ≡ spec.land_text object.now code.now date.now page is_json) }
+        ≡ spec.land_text (edition_model edition.now) code.now date.now page is_json) }
     ensures refused { IfErr result
-        (IsRefusalOrNoMemory (code_refusal (spec.published object.now) code.now)) }
+        (IsRefusalOrNoMemory (code_refusal (edition_model edition.now).lands code.now)) }
 {
-    let register = object.register();
+    let register = edition.register();
     if !is_json {
-        return page_text(alloc, register, code, edition_of(object), page);
+        return page_text(alloc, register, code, heading_of(edition), page);
     }
     register.land(code)?;
-    match page_line(alloc, object, code, date, &page)? {
+    match page_line(alloc, edition, code, date, &page)? {
         Some(line) => Ok(line),
-        None => page_text(alloc, register, code, edition_of(object), page),
+        None => page_text(alloc, register, code, heading_of(edition), page),
     }
 }
 
 /// Returns the page on a set of dates, or the line of JSON of its answer.
 fn set_text(
     alloc: Global,
-    object: &Object,
+    edition: &Edition,
     code: &str,
     date: &str,
     weekday: Option<Weekday>,
     is_json: bool,
 ) -> Result<String, Refusal>
-    ensures lawful { OnOk result (code_refusal (spec.published object.now) code.now ≡ None) }
+    ensures lawful { OnOk result (code_refusal (edition_model edition.now).lands code.now ≡ None) }
     ensures text { IfOk result (λ text. string_bytes text
-        ≡ spec.set_text object.now code.now date.now weekday is_json) }
+        ≡ spec.set_text (edition_model edition.now) code.now date.now weekday is_json) }
     ensures refused { IfErr result
-        (IsRefusalOrNoMemory (code_refusal (spec.published object.now) code.now)) }
+        (IsRefusalOrNoMemory (code_refusal (edition_model edition.now).lands code.now)) }
 {
-    let register = object.register();
+    let register = edition.register();
     if !is_json {
-        return set_page_text(alloc, register, code, edition_of(object), date, weekday);
+        return set_page_text(alloc, register, code, heading_of(edition), date, weekday);
     }
     register.land(code)?;
-    Ok(set_line(alloc, object, code, date, weekday)?)
+    Ok(set_line(alloc, edition, code, date, weekday)?)
 }
 
 /// Returns the page of all territories, or the line of JSON of the answer.
-fn lands_text(alloc: Global, object: &Object, is_json: bool) -> Result<String, AllocError>
-    ensures { IfOk result (λ text. string_bytes text ≡ spec.lands_text object.now is_json) }
+fn lands_text(alloc: Global, edition: &Edition, is_json: bool) -> Result<String, AllocError>
+    ensures { IfOk result (λ text.
+        string_bytes text ≡ spec.lands_text (edition_model edition.now) is_json) }
 {
     if is_json {
-        query_line(alloc, object, BorrowedQuery::Lands)
+        query_line(alloc, edition, BorrowedQuery::Lands)
     } else {
-        territories_page(alloc, object.register(), edition_of(object))
+        territories_page(alloc, edition.register(), heading_of(edition))
     }
 }
 
-/// Returns what was asked for, on what an object has published. `date` is the text of its date.
+/// Returns what was asked for, of an edition. `date` is the text of its date.
 fn text_of(
     alloc: Global,
-    object: &Object,
+    edition: &Edition,
     code: &str,
     date: &str,
     topic: &Topic,
 ) -> Result<String, Refusal>
     ensures lawful { OnOk result
-        (spec.topic_refusal (spec.published object.now) code.now topic.now ≡ None) }
+        (spec.topic_refusal (edition_model edition.now).lands code.now topic.now ≡ None) }
     ensures text { IfOk result (λ text.
-        string_bytes text ≡ spec.topic_text object.now code.now date.now topic.now) }
+        string_bytes text
+        ≡ spec.topic_text (edition_model edition.now) code.now date.now topic.now) }
     ensures refused { IfErr result (IsRefusalOrNoMemory
-        (spec.topic_refusal (spec.published object.now) code.now topic.now)) }
+        (spec.topic_refusal (edition_model edition.now).lands code.now topic.now)) }
 {
-    let register = object.register();
+    let register = edition.register();
     match *topic {
         Topic::Almanac(year) => almanac_text(alloc, register, code, i64::from(year)),
-        Topic::Year(year) => year_page_text(alloc, register, code, edition_of(object), year),
-        Topic::Land { page, form } => land_text(alloc, object, code, date, page, form.is_json),
+        Topic::Year(year) => year_page_text(alloc, register, code, heading_of(edition), year),
+        Topic::Land { page, form } => land_text(alloc, edition, code, date, page, form.is_json),
         Topic::Set { weekday, form } => {
-            set_text(alloc, object, code, date, weekday, form.is_json)
+            set_text(alloc, edition, code, date, weekday, form.is_json)
         }
-        Topic::Lands { is_json } => Ok(lands_text(alloc, object, is_json)?),
+        Topic::Lands { is_json } => Ok(lands_text(alloc, edition, is_json)?),
     }
 }
 
@@ -148,22 +151,23 @@ fn lacks_set(alloc: Global, register: &Register, code: &str, date: &str) -> Resu
 /// Does the same if the words ask for a day.
 fn lacks_strict_day(
     alloc: Global,
-    object: &Object,
+    edition: &Edition,
     code: &str,
     date: &str,
     topic: &Topic,
 ) -> Result<bool, Refusal>
     ensures value { IfOk result (λ lacks.
-        lacks ≡ spec.lacks_strict_day (spec.published object.now) code.now date.now topic.now) }
+        lacks ≡ spec.lacks_strict_day (edition_model edition.now).lands code.now date.now
+        topic.now) }
     ensures refused { IfErr result (IsRefusalOrNoMemory
-        (spec.topic_refusal (spec.published object.now) code.now topic.now)) }
+        (spec.topic_refusal (edition_model edition.now).lands code.now topic.now)) }
 {
     match *topic {
         Topic::Land { page, form } if form.is_strict => {
-            lacks_day(alloc, object.register(), code, page)
+            lacks_day(alloc, edition.register(), code, page)
         }
         Topic::Set { form, .. } if form.is_strict => {
-            lacks_set(alloc, object.register(), code, date)
+            lacks_set(alloc, edition.register(), code, date)
         }
         _ => Ok(false),
     }
@@ -178,22 +182,23 @@ struct Made {
 /// Returns the page that was asked for, and whether a day that was asked for is missing.
 fn page_of(
     alloc: Global,
-    object: &Object,
+    edition: &Edition,
     code: &str,
     date: &str,
     topic: &Topic,
 ) -> Result<Made, Refusal>
     ensures lawful { OnOk result
-        (spec.topic_refusal (spec.published object.now) code.now topic.now ≡ None) }
+        (spec.topic_refusal (edition_model edition.now).lands code.now topic.now ≡ None) }
     ensures text { IfOk result (λ made.
-        string_bytes made.text ≡ spec.topic_text object.now code.now date.now topic.now) }
+        string_bytes made.text
+        ≡ spec.topic_text (edition_model edition.now) code.now date.now topic.now) }
     ensures lacks { IfOk result (λ made. made.lacks_day
-        ≡ spec.lacks_strict_day (spec.published object.now) code.now date.now topic.now) }
+        ≡ spec.lacks_strict_day (edition_model edition.now).lands code.now date.now topic.now) }
     ensures refused { IfErr result (IsRefusalOrNoMemory
-        (spec.topic_refusal (spec.published object.now) code.now topic.now)) }
+        (spec.topic_refusal (edition_model edition.now).lands code.now topic.now)) }
 {
-    let text = text_of(alloc, object, code, date, topic)?;
-    let lacks_day = lacks_strict_day(alloc, object, code, date, topic)?;
+    let text = text_of(alloc, edition, code, date, topic)?;
+    let lacks_day = lacks_strict_day(alloc, edition, code, date, topic)?;
     Ok(Made { text, lacks_day })
 }
 
@@ -230,7 +235,7 @@ fn print_text_of<W: Sink, E: Sink>(
 /// Prints the page that was asked for, on the territory of a code.
 fn print_page_of<W: Sink, E: Sink>(
     alloc: Global,
-    object: &Object,
+    edition: &Edition,
     path: &str,
     code: &str,
     date: &str,
@@ -238,11 +243,11 @@ fn print_page_of<W: Sink, E: Sink>(
     output: &mut W,
     errors: &mut E,
 ) -> Status
-    ensures { spec.PrintsPageOf object.now path.now code.now date.now topic.now
+    ensures { spec.PrintsPageOf (edition_model edition.now) path.now code.now date.now topic.now
         (output_of W.contents W.has_failed W.holds_back output.old output.new)
         (output_of E.contents E.has_failed E.holds_back errors.old errors.new) result }
 {
-    match page_of(alloc, object, code, date, topic) {
+    match page_of(alloc, edition, code, date, topic) {
         Ok(Made { text, lacks_day }) => {
             ended(lacks_day, print_text_of(topic, text, output, errors))
         }
@@ -258,7 +263,7 @@ fn print_page_of<W: Sink, E: Sink>(
 /// standard error that it names none or several.
 fn print_page_named<W: Sink, E: Sink>(
     alloc: Global,
-    object: &Object,
+    edition: &Edition,
     path: &str,
     word: &str,
     date: &str,
@@ -266,16 +271,16 @@ fn print_page_named<W: Sink, E: Sink>(
     output: &mut W,
     errors: &mut E,
 ) -> Status
-    ensures { spec.PrintsPageOn object.now path.now word.now date.now topic.now
-        (places.place_named word.now (spec.published object.now))
+    ensures { spec.PrintsPageOn (edition_model edition.now) path.now word.now date.now topic.now
+        (places.place_named word.now (edition_model edition.now).lands)
         (output_of W.contents W.has_failed W.holds_back output.old output.new)
         (output_of E.contents E.has_failed E.holds_back errors.old errors.new) result }
 {
-    let register = object.register();
+    let register = edition.register();
     match place_named(alloc, register, word) {
         Ok(Place::One(code)) => {
             let code = code.as_str();
-            print_page_of(alloc, object, path, code, date, topic, output, errors)
+            print_page_of(alloc, edition, path, code, date, topic, output, errors)
         }
         Ok(Place::NotOne(lands)) => {
             let lines = place_lines(alloc, path, word, lands.as_slice(), register);
@@ -285,11 +290,11 @@ fn print_page_named<W: Sink, E: Sink>(
     }
 }
 
-/// Prints the page that was asked for, on what an object has published. The word names its
-/// territory. For an almanac it is a code, and the page of all territories has none.
+/// Prints the page that was asked for, of an edition. The word names its territory. For an almanac
+/// it is a code, and the page of all territories has none.
 pub(crate) fn print_page<W: Sink, E: Sink>(
     alloc: Global,
-    object: &Object,
+    edition: &Edition,
     path: &str,
     word: &str,
     date: &str,
@@ -297,17 +302,17 @@ pub(crate) fn print_page<W: Sink, E: Sink>(
     output: &mut W,
     errors: &mut E,
 ) -> Status
-    ensures { spec.PrintsPageOn object.now path.now word.now date.now topic.now
-        (spec.place_of topic.now word.now (spec.published object.now))
+    ensures { spec.PrintsPageOn (edition_model edition.now) path.now word.now date.now topic.now
+        (spec.place_of topic.now word.now (edition_model edition.now).lands)
         (output_of W.contents W.has_failed W.holds_back output.old output.new)
         (output_of E.contents E.has_failed E.holds_back errors.old errors.new) result }
 {
     match topic {
         Topic::Almanac(_) | Topic::Lands { .. } => {
-            print_page_of(alloc, object, path, word, date, topic, output, errors)
+            print_page_of(alloc, edition, path, word, date, topic, output, errors)
         }
         Topic::Year(_) | Topic::Land { .. } | Topic::Set { .. } => {
-            print_page_named(alloc, object, path, word, date, topic, output, errors)
+            print_page_named(alloc, edition, path, word, date, topic, output, errors)
         }
     }
 }

@@ -1,6 +1,8 @@
 -- What the command `plan` has done over the files of a folder: the journal, and the text.
 use Rattle.std.specs.Prelude.{◌≡◌, ◌⊎◌, Bool, List, [], ◌∷◌, ℕ, Option, Some, None, is_some}
-use Rattle.std.specs.Prelude.{option_map}
+use Rattle.std.specs.Prelude.{MatchResult, option_map}
+use Rattle.osn_editions.specs.Edition.{edition_of_word}
+use Rattle.osn_page_commands.specs.Editions.{TellsEditionWord}
 use Rattle.osn_folder.specs.Folder.{CannotOpen, Changes, IsFileOf, Known, Opens}
 use Rattle.osn_folder.specs.declared.fault.OpenFailed.{OpenFailed}
 use Rattle.osn_lines.specs.Streams.{Input, Output}
@@ -14,12 +16,22 @@ use Rattle.osn_serve_commands.specs.InFolder.{CanFailIf}
 use Rattle.osn_serve_commands.specs.Keep.{first_output, later_output}
 use Rattle.osn_text_commands.specs.Keeping.{TellsHindrance}
 use Rattle.osn_text_commands.specs.Plan.{PrintsPlan}
+use Rattle.osn_text_commands.specs.Text.{PrintsText}
 
 -- the file of this path was opened, and will give these bytes; or it could not be
 abbrev pub IsOpened : List ℕ → Option (Option (List ℕ)) → Option Known → Option Known → Type 0
 IsOpened path None before after = CannotOpen (path ∷ []) before after
 IsOpened path (Some bytes) before after =
     IsFileOf before path bytes × Changes (Opens (path ∷ [])) before after
+
+-- the text of a journal's edition was printed, by the word of the edition, if there is one; or it is
+-- not the number of an edition, which was reported, and no file was opened
+abbrev pub RunsText : Limits → List ℕ → Option (List ℕ) → Option (List ℕ) → (Bool → Type 0)
+    → Folders → Output → Output → Status → Type 0
+RunsText limits journal edition code CanFail d o e status = MatchResult (edition_of_word edition)
+    (λ number. ReadsOne journal CanFail d
+    (λ file. PrintsText limits journal file number code o e status))
+    (λ typed. (d.after ≡ d.before) × (o.new ≡ o.old) × TellsEditionWord typed e status)
 
 -- the text of a path could not be opened, which was reported, and nothing was written
 abbrev pub MissesText : List ℕ → Folders → Output → Output → Status → Type 0

@@ -1,8 +1,10 @@
 -- The text that the command `text` prints of what a journal published, or why it prints none.
-use Rattle.std.specs.Prelude.{◌≡◌, ◌⊎◌, ℕ, List, length, Option, Some, None}
+use Rattle.std.specs.Prelude.{◌≡◌, ◌⊎◌, ℕ, List, Option, Some, None}
 use Rattle.std.specs.Option.{MatchOption}
 use Rattle.osn_days.specs.Profile.{newest_rules}
 use Rattle.osn_core.specs.Sequential.{ObjectState, lands_of}
+use Rattle.osn_editions.specs.Edition.{EditionModel}
+use Rattle.osn_page_commands.specs.Editions.{OnEdition}
 use Rattle.osn_files.specs.declared.fault.FileFault.{FileFault}
 use Rattle.osn_lines.specs.Streams.{Input, Output}
 use Rattle.osn_page_commands.specs.Page.{land_refusal_line}
@@ -28,19 +30,18 @@ PrintsLand edition lands path code o e status = MatchOption (code_refusal lands 
     (λ refusal. (o.new ≡ o.old)
     × TellsIfMade e statuses.Refused (land_refusal_line path code refusal) status)
 
--- the text of all these territories was printed, or what one of a code asks for
-abbrev pub PrintsLands : ℕ → List LandModel → List ℕ → Option (List ℕ) → Output → Output → Status
-    → Type 0
-PrintsLands edition lands path None o e status =
-    PrintsIfMade (register_text newest_rules edition lands) o e status
-PrintsLands edition lands path (Some code) o e status =
-    PrintsLand edition lands path code o e status
+-- the text of all territories of an edition was printed, or what one of a code asks for
+abbrev pub PrintsLands : EditionModel → List ℕ → Option (List ℕ) → Output → Output → Status → Type 0
+PrintsLands edition path None o e status =
+    PrintsIfMade (register_text newest_rules edition.number edition.lands) o e status
+PrintsLands edition path (Some code) o e status =
+    PrintsLand edition.number edition.lands path code o e status
 
 -- for a journal of this path: it is refused; or it makes an object, and that was done for its
--- newest edition
-abbrev pub PrintsText : Limits → List ℕ → Input → Option (List ℕ) → Output → Output → Status
-    → Type 0
-PrintsText limits path journal code o e status =
+-- edition of a number, or the newest one
+abbrev pub PrintsText : Limits → List ℕ → Input → Option ℕ → Option (List ℕ) → Output → Output
+    → Status → Type 0
+PrintsText limits path journal number code o e status =
     ((fault : FileFault) × MakesNoObject limits journal fault × PrintsNoneAt path (File fault) o e status)
     ⊎ ((s : ObjectState) × MakesObject limits journal.bytes s
-    × PrintsLands (length s.batches) (published s) path code o e status)
+    × OnEdition number s (λ edition. PrintsLands edition path code o e status) o e status)

@@ -11,13 +11,44 @@ ghost use Rattle.osn_text_commands.specs.Text.{PrintsText};
 use crate::keeping::tell_hindrance;
 use crate::plan::plan_command;
 use crate::text::text_command;
+use osn_editions::edition_of_word;
 use osn_folder::{Folder, OpenFailed, open_file};
 use osn_lines::Sink;
+use osn_page_commands::tell_edition_word;
 use osn_register::Limits;
 use osn_report::{Status, tell_unopened};
 use std::alloc::Global;
 
-/// Opens the journal of a path, and does what `text_command` does.
+/// Opens the journal of a path, and prints its edition of a number, or the newest one.
+fn numbered_text_in_folder<D: Folder, W: Sink, E: Sink>(
+    alloc: Global,
+    limits: Limits,
+    folder: &mut D,
+    journal: &str,
+    number: Option<u32>,
+    code: Option<&str>,
+    output: &mut W,
+    errors: &mut E,
+) -> Result<Status, OpenFailed>
+    ensures ok { IfOk result (λ status. ReadsOne journal.now (MayFail D.File.has_failed)
+        (folders_of D.known folder.old folder.new)
+        (λ file. PrintsText limits journal.now file number
+        (option_map (λ code. code.now) code.entry)
+        (output_of W.contents W.has_failed W.holds_back output.old output.new)
+        (output_of E.contents E.has_failed E.holds_back errors.old errors.new) status)) }
+    ensures err { OnErr result (CannotOpen (journal.now ∷ [])
+        (D.known folder.old) (D.known folder.new)
+        × (output.new ≡ output.old) × (errors.new ≡ errors.old)) }
+{
+    let mut file = open_file(folder, journal)?;
+    Ok(text_command(
+        alloc, limits, journal, &mut file, number, code, output, errors,
+    ))
+}
+
+/// Opens the journal of a path, and does what `text_command` does for the edition that a word
+/// names, or the newest one. If the word is not a number, standard error says so, and no file is
+/// opened.
 ///
 /// # Errors
 ///
@@ -27,21 +58,26 @@ pub fn text_in_folder<D: Folder, W: Sink, E: Sink>(
     limits: Limits,
     folder: &mut D,
     journal: &str,
+    edition: Option<&str>,
     code: Option<&str>,
     output: &mut W,
     errors: &mut E,
 ) -> Result<Status, OpenFailed>
-    ensures ok { IfOk result (λ status. ReadsOne journal.now (MayFail D.File.has_failed)
-        (folders_of D.known folder.old folder.new)
-        (λ file. PrintsText limits journal.now file (option_map (λ code. code.now) code.entry)
+    ensures ok { IfOk result (spec.RunsText limits journal.now
+        (option_map (λ word. word.now) edition.entry) (option_map (λ code. code.now) code.entry)
+        (MayFail D.File.has_failed) (folders_of D.known folder.old folder.new)
         (output_of W.contents W.has_failed W.holds_back output.old output.new)
-        (output_of E.contents E.has_failed E.holds_back errors.old errors.new) status)) }
+        (output_of E.contents E.has_failed E.holds_back errors.old errors.new)) }
     ensures err { OnErr result (CannotOpen (journal.now ∷ [])
         (D.known folder.old) (D.known folder.new)
         × (output.new ≡ output.old) × (errors.new ≡ errors.old)) }
 {
-    let mut file = open_file(folder, journal)?;
-    Ok(text_command(alloc, limits, journal, &mut file, code, output, errors))
+    match edition_of_word(edition) {
+        Ok(number) => numbered_text_in_folder(
+            alloc, limits, folder, journal, number, code, output, errors,
+        ),
+        Err(typed) => Ok(tell_edition_word(alloc, errors, typed)),
+    }
 }
 
 /// Opens the journal of a path, if one is there.

@@ -121,6 +121,24 @@ returns-in-Letters-clause-err g c =
       why.2,
     )) c.opened.ensures.err
 
+pub returns-in-Editions-clause-ok : goal.returns-in-Editions-clause-ok
+returns-in-Editions-clause-ok g c =
+    IfOk-weaker c.opened-in-Editions.result _ _
+    (λ status h. ran c.args.limits c.args.command _ _ _ _ _ _ _ status c.in-Editions.is
+    (if_done c.editions_in_folder-done.result status _ h c.editions_in_folder-done.ensures.ok))
+    c.opened-in-Editions.ensures.ok
+
+pub returns-in-Editions-clause-err : goal.returns-in-Editions-clause-err
+returns-in-Editions-clause-err g c =
+    IfErr-weaker c.opened-in-Editions.result _ _
+    (λ failure h.
+    let why = not_done c.editions_in_folder-done.result h.0 _ h.1
+    c.editions_in_folder-done.ensures.err in (
+      failed c.args.limits c.args.command _ _ _ _ _ c.in-Editions.is (h.2, (h.0, h.3), why.0),
+      why.1,
+      why.2,
+    )) c.opened-in-Editions.ensures.err
+
 pub returns-in-Text-clause-ok : goal.returns-in-Text-clause-ok
 returns-in-Text-clause-ok g c =
     IfOk-weaker c.opened-in-Text.result _ _

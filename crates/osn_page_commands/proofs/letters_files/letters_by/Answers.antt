@@ -13,7 +13,7 @@ returns-in-None-clause-ok g c =
     let new = c.letters_command.new in
     table_alone c.args.limits c.args.journal.now c.args.options.places
     (settings_model c.args.settings)
-    c.rules_of-rules.result (rules_of (letters_model c.args.options))
+    c.rules_of-rules.result (rules_of (letters_model c.args.options) c.args.number)
     (MayFail g.D.File.Source.has_failed)
     (folders_of g.D.Folder.known c.args.folder.now c.open_file.new.folder)
     (input_of g.R.Source.remaining g.R.Source.has_failed c.args.input.now new.input)
@@ -34,7 +34,7 @@ returns-clause-ok g c =
     let new = c.letters_by_places.new in
     table_placed c.args.limits c.args.journal.now c.args.options.places
     (settings_model c.args.settings)
-    c.rules_of-rules.result (rules_of (letters_model c.args.options))
+    c.rules_of-rules.result (rules_of (letters_model c.args.options) c.args.number)
     (MayFail g.D.File.Source.has_failed)
     (folders_of g.D.Folder.known c.args.folder.now new.folder)
     (input_of g.R.Source.remaining g.R.Source.has_failed c.args.input.now new.input)

@@ -1,4 +1,5 @@
 use Rattle.std.proofs.Common.{subst}
+use Rattle.osn_editions.specs.Edition.{edition_model}
 use Rattle.osn_lines.specs.Streams.{output_of}
 use Rattle.osn_page_commands.specs.Page.{PrintsTopicText}
 use Rattle.osn_page_commands.proofs.PageLemmas.{page_made}
@@ -6,7 +7,7 @@ use Rattle.osn_page_commands.proofs.page.print_page_of.Goals as goal
 
 pub returns-in-Ok : goal.returns-in-Ok
 returns-in-Ok g c =
-    let s = c.args.object.now in
+    let s = edition_model c.args.edition.now in
     let wrote = output_of g.W.Sink.contents g.W.Sink.has_failed g.W.Sink.holds_back
     c.args.output.now c.print_text_of.new.output in
     let told = output_of g.E.Sink.contents g.E.Sink.has_failed g.E.Sink.holds_back

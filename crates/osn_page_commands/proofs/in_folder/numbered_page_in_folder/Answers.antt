@@ -3,7 +3,7 @@ use Rattle.osn_folder.specs.Folder.{MayFail}
 use Rattle.osn_invocation.specs.Invocation.{page_words}
 use Rattle.osn_lines.specs.Streams.{input_of, output_of}
 use Rattle.osn_page_commands.proofs.PageLemmas.{page_printed}
-use Rattle.osn_page_commands.proofs.in_folder.page_in_folder.Goals as goal
+use Rattle.osn_page_commands.proofs.in_folder.numbered_page_in_folder.Goals as goal
 use Rattle.osn_report.proofs.FileLemmas.{file_fault}
 use Rattle.osn_report.specs.Folders.{folders_of}
 
@@ -14,10 +14,10 @@ returns-in-Err-open_named-clause-err g c =
 
 pub returns-in-Ok-load_journal-clause-ok : goal.returns-in-Ok-load_journal-clause-ok
 returns-in-Ok-load_journal-clause-ok g c =
-    let new = c.print_page.new in
+    let new = c.print_numbered.new in
     let file = g.D.File.Source in
     let left = c.load_journal.new.source in
-    page_printed c.args.limits c.args.journal.now (page_words c.args.words)
+    page_printed c.args.limits c.args.journal.now c.args.number (page_words c.args.words)
     (MayFail file.has_failed)
     (folders_of g.D.Folder.known c.args.folder.now c.open_named.new.folder)
     c.in-Ok-Ok.topic c.land_word-word.result.now c.date_text_of-date.result.now
@@ -25,7 +25,7 @@ returns-in-Ok-load_journal-clause-ok g c =
     new.output)
     (output_of g.E.Sink.contents g.E.Sink.has_failed g.E.Sink.holds_back c.args.errors.now
     new.errors)
-    c.print_page.result (sym c.in-Ok-Ok.ensures.value ∙ c.in-Ok-Ok.field-0-is)
+    c.print_numbered.result (sym c.in-Ok-Ok.ensures.value ∙ c.in-Ok-Ok.field-0-is)
     c.land_word-word.ensures c.date_text_of-date.ensures (
       c.in-Ok.ensures.ok,
       input_of file.remaining file.has_failed c.in-Ok.file left,
@@ -33,7 +33,7 @@ returns-in-Ok-load_journal-clause-ok g c =
       (
         c.in-Ok-load_journal.object,
         c.in-Ok-load_journal.ensures.file.made,
-        c.print_page.ensures,
+        c.print_numbered.ensures,
       ),
     )
 
