@@ -52,15 +52,15 @@ def request(op, **members):
 
 PUBLISH = request("publish")
 
-EDITS, LANDS = 20_000, 500
+EDITS, TERRITORIES = 20_000, 500
 
 
 def edit(number):
     """The edit of that number, counted from 0. What a turn adds goes at its end, or stays."""
-    code = f"T{number % LANDS:05}"
-    turn, phase = divmod(number // LANDS, 5)
-    day, year = 500_000 + turn * 1_000 + number % LANDS, 1500 + turn
-    if number < LANDS:
+    code = f"T{number % TERRITORIES:05}"
+    turn, phase = divmod(number // TERRITORIES, 5)
+    day, year = 500_000 + turn * 1_000 + number % TERRITORIES, 1500 + turn
+    if number < TERRITORIES:
         return request("add_land", code=code, name=f"Territory {code}", **JULIAN)
     if phase == 0:
         return request("alter_change", code=code, day=1, **GREGORIAN)
@@ -93,7 +93,7 @@ def regime(number, styles):
     return {"calendar": CALENDARS[number % 3], "style": style, "rule": RULES[number % 2]}
 
 
-def land_edits(code, opening, changes):
+def territory_edits(code, opening, changes):
     """The edits of a territory with its opening regime, and its changes by their days."""
     yield request("add_land", code=code, name=f"Territory {code}", **opening)
     for day, words in changes:
@@ -104,15 +104,15 @@ def many_territories(count, styles=STYLES, line=SHORT):
     """500 territories with `count` changes each, spread over all days up to the last one, of all
     regimes of these styles."""
     edits = []
-    for place in range(LANDS):
+    for place in range(TERRITORIES):
         days = [(change * line.apart + place * 37, change) for change in range(1, count + 1)]
         changes = [(day, regime(place + change, styles)) for day, change in days]
-        edits += land_edits(f"T{place:05}", regime(place, styles), changes)
+        edits += territory_edits(f"T{place:05}", regime(place, styles), changes)
     return edits
 
 
-def land(n):
-    return f"T{n * 7 % LANDS:05}"
+def territory(n):
+    return f"T{n * 7 % TERRITORIES:05}"
 
 
 def year(n, line=SHORT):

@@ -183,12 +183,12 @@ ALTERED = [f'{{"op":"alter_change","code":"RM","day":1,{regime}}}'
 LOOK = '{"step":"look","op":"lands","reader":1}'
 ASKED = '{"op":"lands","reader":1}'
 LONG_JOURNAL = ['{"journal":2}', ADD_ROME, PUBLISH, *map(padded, ALTERED * 500)]
-TOLD = '{"ask":{"op":"lands","reader":1},"reply":{"answer":{"lands":[]},"edition":0,"reader":1}}'
+RECORD = '{"ask":{"op":"lands","reader":1},"reply":{"answer":{"lands":[]},"edition":0,"reader":1}}'
 LONG_FILES = {
     "long.journal": LONG_JOURNAL,
     "long.schedule": [padded(LOOK)] * 1_000,
     "long.questions": [padded(ASKED)] * 1_000,
-    "long.transcript": [padded(TOLD)] * 1_000,
+    "long.transcript": [padded(RECORD)] * 1_000,
     "empty.script": LONG_JOURNAL[:2],
 }
 TRIES = 20

@@ -1,7 +1,7 @@
 //! The calendar change register, as a program over files and the standard streams.
 #![tactic(auto)]
 
-use osn_commands::{run, tell_no_words};
+use osn_commands::{report_no_words, run};
 use osn_folder::Disk;
 use osn_lines::Plain;
 use osn_report::{StandardOutput, end_output};
@@ -98,7 +98,7 @@ fn main(rt: HostRuntime) -> ExitCode {
                 terminal,
             )
         }
-        Err(why) => tell_no_words(&why, &mut errors),
+        Err(why) => report_no_words(&why, &mut errors),
     };
     let status = end_output(&mut errors, status, output.cause());
     ExitCode::from(status.code())

@@ -2,8 +2,8 @@
 use Rattle.std.proofs.Common.{◌≡◌, ◌<◌, ◌-◌, ℕ, suc, List, [], ◌∷◌, ◌++◌, length, get_or, refl}
 use Rattle.std.proofs.Common.{sym, ap, ◌∙◌, arith, append-nil}
 use Rattle.std.specs.List.{flat_map}
-use Rattle.osn_days.specs.Profile.{Profile}
-use Rattle.osn_lands.specs.declared.dated.DatedDay.{DatedDay}
+use Rattle.osn_days.specs.Rules.{Rules}
+use Rattle.osn_territory.specs.declared.dated.DatedDay.{DatedDay}
 use Rattle.osn_almanac.specs.declared.year_days.Part.{Part}
 use Rattle.osn_almanac.specs.YearPage as spec
 
@@ -21,7 +21,7 @@ last_at x [] d = refl
 last_at x (next ∷ days) d = last_at next days d
 
 -- the line of days by the first and the last of them
-pub line_of_ends : (p : Profile) (part : Part) (year : ℕ) (days : List DatedDay)
+pub line_of_ends : (p : Rules) (part : Part) (year : ℕ) (days : List DatedDay)
     (first last : DatedDay) → 0 < length days → first ≡ get_or days 0 first
     → last ≡ get_or days (length days - 1) last
     → spec.part_line p part year first last (length days) ≡ spec.piece_line p part year days

@@ -16,17 +16,17 @@ use Rattle.osn_days.specs.CalendarWords.{calendar_word}
 use Rattle.osn_days.specs.Chain.{date_of}
 use Rattle.osn_days.specs.DateText.{text_of_date}
 use Rattle.osn_days.specs.Month.{month_name}
-use Rattle.osn_days.specs.Profile.{Profile}
-use Rattle.osn_lands.specs.declared.period.Period.{Period}
-use Rattle.osn_lands.specs.Dated.{dated_day, dated_on, dated_text}
-use Rattle.osn_lands.specs.Easters.{easters}
-use Rattle.osn_lands.specs.Exceptions.{exception_of}
-use Rattle.osn_lands.specs.StyleWords.{style_word}
-use Rattle.osn_lands.specs.Territory.{TerritoryModel, periods_of, reading}
+use Rattle.osn_days.specs.Rules.{Rules}
+use Rattle.osn_territory.specs.declared.period.Period.{Period}
+use Rattle.osn_territory.specs.Dated.{dated_day, dated_on, dated_text}
+use Rattle.osn_territory.specs.Easters.{easters}
+use Rattle.osn_territory.specs.Exceptions.{exception_of}
+use Rattle.osn_territory.specs.StyleWords.{style_word}
+use Rattle.osn_territory.specs.Territory.{TerritoryModel, periods_of, reading}
 use Rattle.osn_register.specs.declared.refusal.Refusal.{Refusal}
 use Rattle.osn_register.specs.Answer.{period_source, easter_source, easter_refusal}
 use Rattle.osn_register.specs.Named.{named_of}
-use Rattle.osn_register.specs.Plain.{LandModel, sources_of}
+use Rattle.osn_register.specs.Plain.{EntryModel, sources_of}
 use Rattle.osn_register.specs.Sources.{SourcesModel}
 use Rattle.osn_pages.specs.SourceLine.{source_text}
 use Rattle.osn_written.specs.declared.feast.Feast.{Feast}
@@ -48,7 +48,7 @@ letters_if None = []
 letters_if (Some letters) = letters_text letters
 
 -- the Sunday letters of a year in a calendar, if it has any
-abbrev pub letters_in : Profile → Calendar → ℕ → List ℕ
+abbrev pub letters_in : Rules → Calendar → ℕ → List ℕ
 letters_in p calendar year = letters_if (letters_of p calendar year)
 
 unfoldable pub cycles_line : ℕ → List ℕ
@@ -57,19 +57,19 @@ cycles_line year =
     ++ (decimal (golden_number year)
     ++ (codes ", indiction " ++ (decimal (indiction year) ++ codes "\n")))
 
-unfoldable pub julian_line : Profile → ℕ → List ℕ
+unfoldable pub julian_line : Rules → ℕ → List ℕ
 julian_line p year =
     codes "Julian epact "
     ++ (decimal (julian_epact year)
     ++ (codes ", Sunday letter " ++ (letters_in p Julian year ++ codes "\n")))
 
-unfoldable pub gregorian_line : Profile → ℕ → List ℕ
+unfoldable pub gregorian_line : Rules → ℕ → List ℕ
 gregorian_line p year =
     codes "Gregorian epact "
     ++ (epact_text (gregorian_epact year)
     ++ (codes ", Sunday letter " ++ (letters_in p Gregorian year ++ codes "\n")))
 
-abbrev pub figures_lines : Profile → ℕ → List ℕ
+abbrev pub figures_lines : Rules → ℕ → List ℕ
 figures_lines p year = cycles_line year ++ (julian_line p year ++ gregorian_line p year)
 
 -- ---- the changes
@@ -80,7 +80,7 @@ is_change_in year period =
     nat_lt 1 period.first && int_eq (date_of Gregorian period.first).year (pos year)
 
 -- the day as the new regime dates it, and how that regime reckons
-unfoldable pub change_line : Profile → Period → List ℕ
+unfoldable pub change_line : Rules → Period → List ℕ
 change_line p period =
     codes "From "
     ++ (dated_text (dated_day p period.regime period.first)
@@ -93,13 +93,13 @@ change_line p period =
     ++ (codes " style, " ++ (rule_word period.regime.rule ++ codes " rule\n")))))))))
 
 -- that line and that of the source, if the change is one of the year
-abbrev pub change_lines : Profile → Option SourcesModel → ℕ → Period → List ℕ
+abbrev pub change_lines : Rules → Option SourcesModel → ℕ → Period → List ℕ
 change_lines p sources year period =
     if is_change_in year period then
     change_line p period ++ source_text (period_source sources period.first)
     else []
 
-abbrev pub changes_text : Profile → TerritoryModel → Option SourcesModel → ℕ → List ℕ
+abbrev pub changes_text : Rules → TerritoryModel → Option SourcesModel → ℕ → List ℕ
 changes_text p t sources year = flat_map (change_lines p sources year) (periods_of p t)
 
 -- ---- Easter and the feasts counted from it
@@ -112,21 +112,21 @@ easter_heading t year (easter ∷ more) =
     if is_some (exception_of t year) then codes "Easter listed\n" else codes "Easter by rule\n"
 
 -- a day that has a name, with its date in the territory
-unfoldable pub dated_line : Profile → TerritoryModel → List ℕ → ℕ → List ℕ
+unfoldable pub dated_line : Rules → TerritoryModel → List ℕ → ℕ → List ℕ
 dated_line p t name d = day_columns name d ++ (dated_text (dated_on p t d) ++ codes "\n")
 
-abbrev pub feast_line_on : Profile → TerritoryModel → List ℕ → Option ℕ → List ℕ
+abbrev pub feast_line_on : Rules → TerritoryModel → List ℕ → Option ℕ → List ℕ
 feast_line_on p t name None = absent_line name (codes "off the line")
 feast_line_on p t name (Some d) = dated_line p t name d
 
 -- a feast of a year with that Easter, if its day is on the line
-abbrev pub feast_line : Profile → TerritoryModel → ℕ → Feast → List ℕ
+abbrev pub feast_line : Rules → TerritoryModel → ℕ → Feast → List ℕ
 feast_line p t easter feast = feast_line_on p t (feast_name feast) (feast_day p easter feast)
 
-abbrev pub feast_lines : Profile → TerritoryModel → ℕ → List ℕ
+abbrev pub feast_lines : Rules → TerritoryModel → ℕ → List ℕ
 feast_lines p t easter = flat_map (feast_line p t easter) feasts
 
-abbrev pub easters_text : Profile → TerritoryModel → Option SourcesModel → ℕ → List ℕ
+abbrev pub easters_text : Rules → TerritoryModel → Option SourcesModel → ℕ → List ℕ
 easters_text p t sources year =
     easter_heading t year (easters p t year)
     ++ (source_text (easter_source sources year)
@@ -145,34 +145,34 @@ lines_of_month month [] = absent_line (month_name month) (codes "none")
 lines_of_month month (d ∷ days) = flat_map (month_day_line month) (d ∷ days)
 
 -- the month of the year as the territory counts it
-abbrev pub month_lines : Profile → TerritoryModel → ℕ → ℕ → List ℕ
+abbrev pub month_lines : Rules → TerritoryModel → ℕ → ℕ → List ℕ
 month_lines p t year month =
     lines_of_month month (reading p t (record { year = pos year; month = month; day = 1 }))
 
 abbrev pub months : List ℕ
 months = 1 ∷ 2 ∷ 3 ∷ 4 ∷ 5 ∷ 6 ∷ 7 ∷ 8 ∷ 9 ∷ 10 ∷ 11 ∷ 12 ∷ []
 
-abbrev pub months_text : Profile → TerritoryModel → ℕ → List ℕ
+abbrev pub months_text : Rules → TerritoryModel → ℕ → List ℕ
 months_text p t year = flat_map (month_lines p t year) months
 
 -- ---- the whole
 
-abbrev pub year_lines : Profile → TerritoryModel → Option SourcesModel → ℕ → List ℕ
+abbrev pub year_lines : Rules → TerritoryModel → Option SourcesModel → ℕ → List ℕ
 year_lines p t sources year =
     figures_lines p year
     ++ (changes_text p t sources year ++ (easters_text p t sources year ++ months_text p t year))
 
-abbrev pub almanac_of : Profile → Option (List ℕ × TerritoryModel) → Option SourcesModel → List ℕ
+abbrev pub almanac_of : Rules → Option (List ℕ × TerritoryModel) → Option SourcesModel → List ℕ
     → ℕ → List ℕ
 almanac_of p None sources code year = []
 almanac_of p (Some named) sources code year =
     heading named.0 code year ++ year_lines p named.1 sources year
 
 -- the almanac of a year that is not refused
-unfoldable pub almanac : Profile → List LandModel → List ℕ → ℤ → List ℕ
-almanac p lands code year =
-    almanac_of p (named_of code lands) (sources_of code lands) code (unsigned_abs year)
+unfoldable pub almanac : Rules → List EntryModel → List ℕ → ℤ → List ℕ
+almanac p territories code year =
+    almanac_of p (named_of code territories) (sources_of code territories) code (unsigned_abs year)
 
 -- why there is no almanac: what refuses a query of the territory's Easters
-abbrev pub almanac_refusal : Profile → List LandModel → List ℕ → ℤ → Option Refusal
+abbrev pub almanac_refusal : Rules → List EntryModel → List ℕ → ℤ → Option Refusal
 almanac_refusal = easter_refusal

@@ -12,18 +12,18 @@ use Rattle.osn_computus.specs.RuleWords.{rule_word}
 use Rattle.osn_days.specs.declared.calendar.Calendar.TheVariants.{Gregorian}
 use Rattle.osn_days.specs.CalendarWords.{calendar_word}
 use Rattle.osn_days.specs.Chain.{date_of, days_with_date}
-use Rattle.osn_days.specs.Profile.{Profile}
-use Rattle.osn_lands.specs.declared.dated.DatedDay.{DatedDay}
-use Rattle.osn_lands.specs.declared.period.Period.{Period}
-use Rattle.osn_lands.specs.declared.regime.Regime.{Regime}
-use Rattle.osn_lands.specs.Dated.{dated_on}
-use Rattle.osn_lands.specs.Easters.{easters}
-use Rattle.osn_lands.specs.Runs.{days_of_year}
-use Rattle.osn_lands.specs.StyleWords.{beginning_of_year}
-use Rattle.osn_lands.specs.Territory.{TerritoryModel, periods_of, regime_at}
+use Rattle.osn_days.specs.Rules.{Rules}
+use Rattle.osn_territory.specs.declared.dated.DatedDay.{DatedDay}
+use Rattle.osn_territory.specs.declared.period.Period.{Period}
+use Rattle.osn_territory.specs.declared.regime.Regime.{Regime}
+use Rattle.osn_territory.specs.Dated.{dated_on}
+use Rattle.osn_territory.specs.Easters.{easters}
+use Rattle.osn_territory.specs.Runs.{days_of_year}
+use Rattle.osn_territory.specs.StyleWords.{beginning_of_year}
+use Rattle.osn_territory.specs.Territory.{TerritoryModel, periods_of, regime_at}
 use Rattle.osn_register.specs.Answer.{period_source, easter_source}
 use Rattle.osn_register.specs.Named.{named_of}
-use Rattle.osn_register.specs.Plain.{LandModel, sources_of, is_off_years}
+use Rattle.osn_register.specs.Plain.{EntryModel, sources_of, is_off_years}
 use Rattle.osn_register.specs.Sources.{SourcesModel}
 use Rattle.osn_pages.specs.declared.page.Published.{Published}
 use Rattle.osn_pages.specs.Grid.{pieces_of, is_next}
@@ -56,13 +56,13 @@ last_of x [] = x
 last_of x (next ∷ days) = last_of next days
 
 -- that days begin or end with the line of days, so that the year may have had more
-abbrev pub line_ends : Profile → ℕ → ℕ → List ℕ
+abbrev pub line_ends : Rules → ℕ → ℕ → List ℕ
 line_ends p first last =
     (if first == 1 then codes "its first day is the first of the line of days\n" else [])
     ++ (if last == p.high then codes "its last day is the last of the line of days\n" else [])
 
 -- the year 1731 went there from .. to ..: 366 days
-unfoldable pub run_line : Profile → ℕ → DatedDay → DatedDay → ℕ → List ℕ
+unfoldable pub run_line : Rules → ℕ → DatedDay → DatedDay → ℕ → List ℕ
 run_line p year first last count =
     year_ends year first last
     ++ (codes ": " ++ (count_line count ++ line_ends p first.day last.day))
@@ -88,11 +88,11 @@ month_line first last count =
     ++ (gregorian_days first.day last.day ++ (codes " Gregorian    " ++ count_line count)))
 
 -- the line of days that follow one another, by the first and the last of them
-abbrev pub part_line : Profile → Part → ℕ → DatedDay → DatedDay → ℕ → List ℕ
+abbrev pub part_line : Rules → Part → ℕ → DatedDay → DatedDay → ℕ → List ℕ
 part_line p Run year first last count = run_line p year first last count
 part_line p Month year first last count = month_line first last count
 
-abbrev pub piece_line : Profile → Part → ℕ → List DatedDay → List ℕ
+abbrev pub piece_line : Rules → Part → ℕ → List DatedDay → List ℕ
 piece_line p part year [] = []
 piece_line p part year (first ∷ days) =
     part_line p part year first (last_of first days) (length (first ∷ days))
@@ -102,11 +102,11 @@ unfoldable pub parts_of : Part → List DatedDay → List (List DatedDay)
 parts_of part = pieces_of (goes_on part)
 
 -- a line each
-abbrev pub pieces_text : Profile → Part → ℕ → List DatedDay → List ℕ
+abbrev pub pieces_text : Rules → Part → ℕ → List DatedDay → List ℕ
 pieces_text p part year days = flat_map (piece_line p part year) (parts_of part days)
 
 -- the runs of the year's days and then its months, or that no day had the year
-abbrev pub days_lines : Profile → ℕ → List DatedDay → List ℕ
+abbrev pub days_lines : Rules → ℕ → List DatedDay → List ℕ
 days_lines p year [] = empty_year_line year
 days_lines p year (day ∷ days) =
     pieces_text p Run year (day ∷ days) ++ pieces_text p Month year (day ∷ days)
@@ -118,11 +118,11 @@ abbrev pub is_between : ℤ → ℤ → ℤ → Bool
 is_between before year after =
     (int_le before year && int_le year after) || (int_le after year && int_le year before)
 
-abbrev pub year_on : Profile → TerritoryModel → ℕ → ℤ
+abbrev pub year_on : Rules → TerritoryModel → ℕ → ℤ
 year_on p t d = (dated_on p t d).label.year
 
 -- the change is in the year, ends it or skips it
-abbrev pub is_change_of : Profile → TerritoryModel → ℕ → ℕ → Bool
+abbrev pub is_change_of : Rules → TerritoryModel → ℕ → ℕ → Bool
 is_change_of p t year change =
     is_between (year_on p t (change - 1)) (pos year) (year_on p t change)
 
@@ -139,7 +139,7 @@ turned_lines old new =
     ++ turned_if_other (codes "the rule of Easter") (rule_word old.rule) (rule_word new.rule))
 
 -- the day before a change and the day of the change, and how many dates were left out or came twice
-unfoldable pub followed_line : Profile → TerritoryModel → ℕ → List ℕ
+unfoldable pub followed_line : Rules → TerritoryModel → ℕ → List ℕ
 followed_line p t change =
     followed (dated_on p t (change - 1)) (dated_on p t change)
     ++ (gap_words (days_with_date p (regime_at t (change - 1)).calendar
@@ -147,37 +147,37 @@ followed_line p t change =
     ++ codes "\n")
 
 -- that line, the source, and what changed
-unfoldable pub change_lines : Profile → TerritoryModel → Option SourcesModel → ℕ → List ℕ
+unfoldable pub change_lines : Rules → TerritoryModel → Option SourcesModel → ℕ → List ℕ
 change_lines p t sources change =
     followed_line p t change
     ++ (source_text (period_source sources change)
     ++ turned_lines (regime_at t (change - 1)) (regime_at t change))
 
 -- those of the change with which a period begins, if it is one of the year
-abbrev pub change_lines_if : Profile → TerritoryModel → Option SourcesModel → ℕ → Period → List ℕ
+abbrev pub change_lines_if : Rules → TerritoryModel → Option SourcesModel → ℕ → Period → List ℕ
 change_lines_if p t sources year period =
     if nat_lt 1 period.first && is_change_of p t year period.first then
     change_lines p t sources period.first
     else []
 
-abbrev pub changes_text : Profile → TerritoryModel → Option SourcesModel → ℕ → List ℕ
+abbrev pub changes_text : Rules → TerritoryModel → Option SourcesModel → ℕ → List ℕ
 changes_text p t sources year =
     flat_map (change_lines_if p t sources year) (periods_of p t)
 
 -- ---- feasts
 
 -- the territory dates the day in the year
-abbrev pub is_in_year : Profile → TerritoryModel → ℕ → ℕ → Bool
+abbrev pub is_in_year : Rules → TerritoryModel → ℕ → ℕ → Bool
 is_in_year p t year d = int_eq (year_on p t d) (pos year)
 
 -- the Easters of a year from 1 January, of which only the years of figures have any
-abbrev pub easters_of : Profile → TerritoryModel → ℕ → List YearEaster
+abbrev pub easters_of : Rules → TerritoryModel → ℕ → List YearEaster
 easters_of p t n =
     if is_off_years p (pos n) then []
     else map (λ d. record { january_year = n; day = d }) (easters p t n)
 
 -- those of the years from 1 January whose feasts the year can have
-abbrev pub easters_about : Profile → TerritoryModel → ℕ → List YearEaster
+abbrev pub easters_about : Rules → TerritoryModel → ℕ → List YearEaster
 easters_about p t year =
     easters_of p t (year - 1) ++ (easters_of p t year ++ easters_of p t (year + 1))
 
@@ -192,31 +192,31 @@ feast_lines sources n f x =
     feast_name f ++ (codes ": " ++ (plain_day_line x ++ feast_source sources n f))
 
 -- the same if the territory dated the feast's day in the year
-abbrev pub feast_on : Profile → TerritoryModel → Option SourcesModel → ℕ → ℕ → Feast → Option ℕ
+abbrev pub feast_on : Rules → TerritoryModel → Option SourcesModel → ℕ → ℕ → Feast → Option ℕ
     → List ℕ
 feast_on p t sources year n f None = []
 feast_on p t sources year n f (Some d) =
     if is_in_year p t year d then feast_lines sources n f (dated_on p t d) else []
 
-abbrev pub feast_text : Profile → TerritoryModel → Option SourcesModel → ℕ → YearEaster → Feast
+abbrev pub feast_text : Rules → TerritoryModel → Option SourcesModel → ℕ → YearEaster → Feast
     → List ℕ
 feast_text p t sources year easter f =
     feast_on p t sources year easter.january_year f (feast_day p easter.day f)
 
-abbrev pub feasts_of : Profile → TerritoryModel → Option SourcesModel → ℕ → YearEaster → List ℕ
+abbrev pub feasts_of : Rules → TerritoryModel → Option SourcesModel → ℕ → YearEaster → List ℕ
 feasts_of p t sources year easter = flat_map (feast_text p t sources year easter) feasts
 
 -- one of these Easters fell in the year
-abbrev pub has_easter : Profile → TerritoryModel → ℕ → List YearEaster → Bool
+abbrev pub has_easter : Rules → TerritoryModel → ℕ → List YearEaster → Bool
 has_easter p t year easters = list_any (λ easter. is_in_year p t year easter.day) easters
 
-abbrev pub no_easter_line : Profile → TerritoryModel → ℕ → List YearEaster → List ℕ
+abbrev pub no_easter_line : Rules → TerritoryModel → ℕ → List YearEaster → List ℕ
 no_easter_line p t year easters =
     if has_easter p t year easters then []
     else codes "no Easter fell in that year\n"
 
 -- the feasts that the territory dated in the year, and that no Easter was among them
-abbrev pub feasts_text : Profile → TerritoryModel → Option SourcesModel → ℕ → List ℕ
+abbrev pub feasts_text : Rules → TerritoryModel → Option SourcesModel → ℕ → List ℕ
 feasts_text p t sources year =
     flat_map (feasts_of p t sources year) (easters_about p t year)
     ++ no_easter_line p t year (easters_about p t year)
@@ -236,13 +236,13 @@ year_heading year name code edition =
     heading (codes "the year " ++ decimal year) name code edition
 
 -- the lines of a territory's year, its days first, its figures as in the almanac
-abbrev pub year_lines : Profile → TerritoryModel → Option SourcesModel → ℕ → List ℕ
+abbrev pub year_lines : Rules → TerritoryModel → Option SourcesModel → ℕ → List ℕ
 year_lines p t sources year =
     days_lines p year (map (dated_on p t) (days_of_year p t (pos year)))
     ++ (changes_text p t sources year
     ++ (feasts_text p t sources year ++ (figures_heading year ++ figures_lines p year)))
 
-abbrev pub year_page_of : Profile → Option (List ℕ × TerritoryModel) → Option SourcesModel
+abbrev pub year_page_of : Rules → Option (List ℕ × TerritoryModel) → Option SourcesModel
     → List ℕ → Published → ℕ → List ℕ
 year_page_of p None sources code published year = []
 year_page_of p (Some named) sources code published year =
@@ -250,6 +250,6 @@ year_page_of p (Some named) sources code published year =
     ++ (year_lines p named.1 sources year ++ pending_line published.pending)
 
 -- the text of the page. A code that no territory has is refused
-abbrev pub year_page : Profile → List LandModel → List ℕ → Published → ℕ → List ℕ
-year_page p lands code published year =
-    year_page_of p (named_of code lands) (sources_of code lands) code published year
+abbrev pub year_page : Rules → List EntryModel → List ℕ → Published → ℕ → List ℕ
+year_page p territories code published year =
+    year_page_of p (named_of code territories) (sources_of code territories) code published year

@@ -1,6 +1,6 @@
 //! The almanac of a territory and year, part by part.
 ghost use Rattle.std.specs.Prelude.{◌≡◌, ◌++◌, None, IfOk, IfErr, OnOk, string_bytes};
-ghost use Rattle.osn_days.specs.Profile.{newest_rules};
+ghost use Rattle.osn_days.specs.Rules.{newest_rules};
 ghost use Rattle.osn_register.specs.Plain.{sources_of};
 ghost use Rattle.osn_register.specs.Refusal.{IsRefusalOrNoMemory};
 ghost use Rattle.osn_almanac.specs.Almanac as spec;
@@ -10,8 +10,8 @@ use crate::easters::push_easters;
 use crate::figures::push_figures;
 use crate::months::push_months;
 use osn_days::Year;
-use osn_lands::Territory;
 use osn_register::{Refusal, Register};
+use osn_territory::Territory;
 use std::alloc::{AllocError, Global};
 use std::fmt::Write;
 
@@ -38,7 +38,7 @@ fn push_year(
 ) -> Result<(), AllocError>
     ensures { OnOk result (string_bytes out.new ≡ string_bytes out.old
         ++ spec.year_lines newest_rules territory.now
-        (sources_of code.now register.now.lands) year) }
+        (sources_of code.now register.now.territories) year) }
 {
     push_figures(alloc, out, year)?;
     push_changes(out, territory, register, code, year)?;
@@ -56,7 +56,7 @@ fn text_of(
     year: Year,
 ) -> Result<String, AllocError>
     ensures { IfOk result (λ s. string_bytes s ≡ spec.heading name.now code.now year
-        ++ spec.year_lines newest_rules territory.now (sources_of code.now register.now.lands)
+        ++ spec.year_lines newest_rules territory.now (sources_of code.now register.now.territories)
         year) }
 {
     let mut text = String::with_capacity(alloc, ROOM)?;
@@ -81,13 +81,13 @@ pub fn almanac_text(
     year: i64,
 ) -> Result<String, Refusal>
     ensures lawful { OnOk result
-        (spec.almanac_refusal newest_rules register.now.lands code.now year ≡ None) }
+        (spec.almanac_refusal newest_rules register.now.territories code.now year ≡ None) }
     ensures text { IfOk result
-        (λ s. string_bytes s ≡ spec.almanac newest_rules register.now.lands code.now year) }
+        (λ s. string_bytes s ≡ spec.almanac newest_rules register.now.territories code.now year) }
     ensures refused { IfErr result (IsRefusalOrNoMemory
-        (spec.almanac_refusal newest_rules register.now.lands code.now year)) }
+        (spec.almanac_refusal newest_rules register.now.territories code.now year)) }
 {
-    let (name, territory) = register.land(code)?;
+    let (name, territory) = register.territory(code)?;
     let Some(year) = Year::new(year) else {
         return Err(Refusal::YearOffRange);
     };

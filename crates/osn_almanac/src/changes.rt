@@ -1,15 +1,15 @@
 //! The changes that fall in the year, with their sources.
 ghost use Rattle.std.specs.Prelude.{◌≡◌, ◌++◌, OnOk, string_bytes};
 ghost use Rattle.std.specs.List.{flat_map};
-ghost use Rattle.osn_days.specs.Profile.{newest_rules};
+ghost use Rattle.osn_days.specs.Rules.{newest_rules};
 ghost use Rattle.osn_register.specs.Plain.{sources_of};
 ghost use Rattle.osn_almanac.specs.Almanac as spec;
 
 use crate::year_days::label_year;
 use osn_days::{Calendar, Day, Keyword, Year, date_of};
-use osn_lands::{Period, Territory, dated_day};
 use osn_pages::push_source;
 use osn_register::Register;
+use osn_territory::{Period, Territory, dated_day};
 use std::alloc::AllocError;
 use std::fmt::Write;
 
@@ -48,7 +48,7 @@ fn push_change_if(
 ) -> Result<(), AllocError>
     ensures { OnOk result (string_bytes out.new ≡ string_bytes out.old
         ++ spec.change_lines newest_rules
-        (sources_of code.now register.now.lands) year period.now) }
+        (sources_of code.now register.now.territories) year period.now) }
 {
     if !is_change_in(year, period) {
         return Ok(());
@@ -67,7 +67,7 @@ fn push_changes_among(
 ) -> Result<(), AllocError>
     ensures { OnOk result (string_bytes out.new ≡ string_bytes out.old
         ++ flat_map (spec.change_lines newest_rules
-        (sources_of code.now register.now.lands) year) periods.now) }
+        (sources_of code.now register.now.territories) year) periods.now) }
 {
     for period in periods {
         push_change_if(out, register, code, year, period)?;
@@ -85,7 +85,7 @@ pub(crate) fn push_changes(
 ) -> Result<(), AllocError>
     ensures { OnOk result (string_bytes out.new ≡ string_bytes out.old
         ++ spec.changes_text newest_rules territory.now
-        (sources_of code.now register.now.lands) year) }
+        (sources_of code.now register.now.territories) year) }
 {
     push_changes_among(out, register, code, year, territory.periods())
 }

@@ -1,16 +1,16 @@
 //! The Easters of the year, with their source, and the feasts that are counted from them.
 ghost use Rattle.std.specs.Prelude.{◌≡◌, ◌++◌, OnOk, string_bytes};
 ghost use Rattle.std.specs.List.{flat_map};
-ghost use Rattle.osn_days.specs.Profile.{newest_rules};
+ghost use Rattle.osn_days.specs.Rules.{newest_rules};
 ghost use Rattle.osn_register.specs.Plain.{sources_of};
 ghost use Rattle.osn_almanac.specs.Almanac as spec;
 
 use crate::columns::{push_absent, push_day};
 use crate::feasts::FEASTS;
 use osn_days::{Day, Year};
-use osn_lands::Territory;
 use osn_pages::push_source;
 use osn_register::Register;
+use osn_territory::Territory;
 use osn_written::Feast;
 use std::alloc::AllocError;
 use std::fmt::Write;
@@ -100,7 +100,7 @@ pub(crate) fn push_easters(
 ) -> Result<(), AllocError>
     ensures { OnOk result (string_bytes out.new ≡ string_bytes out.old
         ++ spec.easters_text newest_rules territory.now
-        (sources_of code.now register.now.lands) year) }
+        (sources_of code.now register.now.territories) year) }
 {
     let easters = territory.easters(year)?;
     out.push_str(easter_heading(territory, year, easters.as_slice()))?;

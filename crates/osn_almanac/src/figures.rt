@@ -1,6 +1,6 @@
 //! The figures of the year.
 ghost use Rattle.std.specs.Prelude.{◌≡◌, ◌≢◌, ◌++◌, IfOk, OnOk, string_bytes};
-ghost use Rattle.osn_days.specs.Profile.{newest_rules};
+ghost use Rattle.osn_days.specs.Rules.{newest_rules};
 ghost use Rattle.osn_days.specs.declared.calendar.Calendar.TheVariants.{Swedish};
 ghost use Rattle.osn_almanac.specs.Almanac as spec;
 

@@ -1,13 +1,13 @@
 //! The first days of the months.
 ghost use Rattle.std.specs.Prelude.{◌≡◌, ◌++◌, OnOk, string_bytes};
 ghost use Rattle.std.specs.List.{flat_map};
-ghost use Rattle.osn_days.specs.Profile.{newest_rules};
+ghost use Rattle.osn_days.specs.Rules.{newest_rules};
 ghost use Rattle.osn_almanac.specs.Almanac as spec;
 
 use crate::columns::{push_absent, push_day};
 use crate::year_days::label_year;
 use osn_days::{Calendar, Day, Year, date_of, date_text, month_name};
-use osn_lands::{Label, Territory};
+use osn_territory::{Label, Territory};
 use std::alloc::{AllocError, Global};
 use std::fmt::Write;
 

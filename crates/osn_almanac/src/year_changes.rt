@@ -1,15 +1,15 @@
 //! The changes that a year has, as a territory counted it, that end it or that pass it over.
 ghost use Rattle.std.specs.Prelude.{◌≡◌, ◌++◌, ◌<◌, ◌-◌, OnOk, string_bytes};
 ghost use Rattle.std.specs.List.{flat_map};
-ghost use Rattle.osn_days.specs.Profile.{newest_rules};
+ghost use Rattle.osn_days.specs.Rules.{newest_rules};
 ghost use Rattle.osn_register.specs.Plain.{sources_of};
 ghost use Rattle.osn_almanac.specs.YearPage as spec;
 
 use crate::year_days::label_year;
 use osn_days::{Day, Keyword, Year, date_of, day_of};
-use osn_lands::{Period, Regime, Territory};
 use osn_pages::{Followed, push_gap, push_source, push_turned};
 use osn_register::Register;
+use osn_territory::{Period, Regime, Territory};
 use std::alloc::AllocError;
 use std::fmt::Write;
 
@@ -111,7 +111,7 @@ fn push_change(
     requires { 1 < change }
     ensures { OnOk result (string_bytes out.new ≡ string_bytes out.old
         ++ spec.change_lines newest_rules territory.now
-        (sources_of code.now register.now.lands) change) }
+        (sources_of code.now register.now.territories) change) }
 {
     let last = day_before(change);
     push_followed(out, territory, last, change)?;
@@ -130,7 +130,7 @@ fn push_change_if(
 ) -> Result<(), AllocError>
     ensures { OnOk result (string_bytes out.new ≡ string_bytes out.old
         ++ spec.change_lines_if newest_rules territory.now
-        (sources_of code.now register.now.lands) year period.now) }
+        (sources_of code.now register.now.territories) year period.now) }
 {
     if period.first > Day::FIRST && is_change_of(territory, year, period.first) {
         return push_change(out, territory, register, code, period.first);
@@ -149,7 +149,7 @@ fn push_changes_among(
 ) -> Result<(), AllocError>
     ensures { OnOk result (string_bytes out.new ≡ string_bytes out.old
         ++ flat_map (spec.change_lines_if newest_rules territory.now
-        (sources_of code.now register.now.lands) year)
+        (sources_of code.now register.now.territories) year)
         periods.now) }
 {
     for period in periods {
@@ -168,7 +168,7 @@ pub(crate) fn push_changes(
 ) -> Result<(), AllocError>
     ensures { OnOk result (string_bytes out.new ≡ string_bytes out.old
         ++ spec.changes_text newest_rules territory.now
-        (sources_of code.now register.now.lands) year) }
+        (sources_of code.now register.now.territories) year) }
 {
     push_changes_among(out, territory, register, code, year, territory.periods())
 }

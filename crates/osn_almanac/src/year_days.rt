@@ -1,16 +1,16 @@
 //! The days of a year as a territory counted it, by the months in which they were lived.
 ghost use Rattle.std.specs.Prelude.{◌≡◌, ◌<◌, ◌≤◌, ◌∷◌, ◌++◌, OnOk, IfOk, string_bytes, map};
 ghost use Rattle.std.specs.Prelude.{length, take, drop, pos};
-ghost use Rattle.osn_days.specs.Profile.{newest_rules};
+ghost use Rattle.osn_days.specs.Rules.{newest_rules};
 ghost use Rattle.osn_days.specs.declared.calendar.Calendar.TheVariants.{Gregorian};
-ghost use Rattle.osn_lands.specs.Dated.{dated_on};
-ghost use Rattle.osn_lands.specs.Runs.{days_of_year};
+ghost use Rattle.osn_territory.specs.Dated.{dated_on};
+ghost use Rattle.osn_territory.specs.Runs.{days_of_year};
 ghost use Rattle.osn_pages.specs.Grid.{is_next};
 ghost use Rattle.osn_almanac.specs.YearPage as spec;
 
 use osn_days::{Calendar, Day, Year};
-use osn_lands::{DatedDay, Territory};
 use osn_pages::{DayInCalendar, NamedDay, YearEnds, dated_days, push_count, push_empty_year};
+use osn_territory::{DatedDay, Territory};
 use std::alloc::{AllocError, Global};
 use std::fmt::Write;
 

@@ -1,16 +1,16 @@
 //! The feasts that a territory dated in a year, as it counted the year.
 ghost use Rattle.std.specs.Prelude.{◌≡◌, ◌++◌, IfOk, OnOk, string_bytes, map};
 ghost use Rattle.std.specs.List.{flat_map};
-ghost use Rattle.osn_days.specs.Profile.{newest_rules};
+ghost use Rattle.osn_days.specs.Rules.{newest_rules};
 ghost use Rattle.osn_register.specs.Plain.{sources_of};
 ghost use Rattle.osn_almanac.specs.YearPage as spec;
 
 use crate::feasts::FEASTS;
 use crate::year_days::label_year;
 use osn_days::{Day, Year};
-use osn_lands::{DatedDay, Territory};
 use osn_pages::{push_day, push_source};
 use osn_register::Register;
+use osn_territory::{DatedDay, Territory};
 use osn_written::Feast;
 use std::alloc::{AllocError, Global};
 use std::fmt::Write;
@@ -78,7 +78,7 @@ fn push_feast_source(
 ) -> Result<(), AllocError>
     ensures { OnOk result (string_bytes out.new
         ≡ string_bytes out.old ++ spec.feast_source
-        (sources_of code.now register.now.lands) january_year feast) }
+        (sources_of code.now register.now.territories) january_year feast) }
 {
     match feast {
         Feast::Easter => push_source(out, register.easter_source(code, january_year)),
@@ -99,7 +99,7 @@ fn push_feast_lines(
     ensures { OnOk result (string_bytes out.new
         ≡ string_bytes out.old
         ++ spec.feast_lines
-        (sources_of code.now register.now.lands) easter.now.january_year feast dated) }
+        (sources_of code.now register.now.territories) easter.now.january_year feast dated) }
 {
     write!(out, "{}: ", feast.name())?;
     push_day(out, dated)?;
@@ -118,7 +118,7 @@ fn push_feast(
 ) -> Result<(), AllocError>
     ensures { OnOk result (string_bytes out.new ≡ string_bytes out.old
         ++ spec.feast_text newest_rules territory.now
-        (sources_of code.now register.now.lands) year easter.now feast) }
+        (sources_of code.now register.now.territories) year easter.now feast) }
 {
     match feast.day(easter.day) {
         Some(day) if is_in_year(territory, year, day) => {
@@ -140,7 +140,7 @@ fn push_feasts_among(
 ) -> Result<(), AllocError>
     ensures { OnOk result (string_bytes out.new ≡ string_bytes out.old ++ flat_map
         (spec.feast_text newest_rules territory.now
-        (sources_of code.now register.now.lands) year easter.now) feasts.now) }
+        (sources_of code.now register.now.territories) year easter.now) feasts.now) }
 {
     for feast in feasts {
         push_feast(out, territory, register, code, year, easter, *feast)?;
@@ -159,7 +159,7 @@ fn push_feasts_of(
 ) -> Result<(), AllocError>
     ensures { OnOk result (string_bytes out.new ≡ string_bytes out.old ++ flat_map
         (spec.feasts_of newest_rules territory.now
-        (sources_of code.now register.now.lands) year) easters.now) }
+        (sources_of code.now register.now.territories) year) easters.now) }
 {
     for easter in easters {
         push_feasts_among(out, territory, register, code, year, easter, &FEASTS)?;
@@ -203,7 +203,7 @@ pub(crate) fn push_feasts(
 ) -> Result<(), AllocError>
     ensures { OnOk result (string_bytes out.new ≡ string_bytes out.old
         ++ spec.feasts_text newest_rules territory.now
-        (sources_of code.now register.now.lands) year) }
+        (sources_of code.now register.now.territories) year) }
 {
     let easters = easters_about(alloc, territory, year)?;
     push_feasts_of(out, territory, register, code, year, easters.as_slice())?;

@@ -1,6 +1,6 @@
 //! The page of a year as a territory counted it.
 ghost use Rattle.std.specs.Prelude.{◌≡◌, ◌++◌, None, IfOk, IfErr, OnOk, string_bytes};
-ghost use Rattle.osn_days.specs.Profile.{newest_rules};
+ghost use Rattle.osn_days.specs.Rules.{newest_rules};
 ghost use Rattle.osn_register.specs.Plain.{code_refusal, sources_of};
 ghost use Rattle.osn_register.specs.Refusal.{IsRefusalOrNoMemory};
 ghost use Rattle.osn_pages.specs.Heading.{pending_line};
@@ -11,9 +11,9 @@ use crate::year_changes::push_changes;
 use crate::year_days::push_days;
 use crate::year_feasts::push_feasts;
 use osn_days::Year;
-use osn_lands::Territory;
-use osn_pages::{Published, push_land_heading, push_pending};
+use osn_pages::{Published, push_pending, push_territory_heading};
 use osn_register::{Refusal, Register};
+use osn_territory::Territory;
 use std::alloc::{AllocError, Global};
 use std::fmt::Write;
 
@@ -33,7 +33,7 @@ fn push_heading(
         ≡ string_bytes out.old ++ spec.year_heading year name.now code.now edition) }
 {
     write!(out, "the year {} in ", year.number())?;
-    push_land_heading(out, name, code, edition)
+    push_territory_heading(out, name, code, edition)
 }
 
 /// Appends of which year the figures are.
@@ -56,7 +56,7 @@ fn push_year(
 ) -> Result<(), AllocError>
     ensures { OnOk result (string_bytes out.new ≡ string_bytes out.old
         ++ spec.year_lines newest_rules territory.now
-        (sources_of code.now register.now.lands) year) }
+        (sources_of code.now register.now.territories) year) }
 {
     push_days(alloc, out, territory, year)?;
     push_changes(out, territory, register, code, year)?;
@@ -78,7 +78,7 @@ fn text_of(
     ensures { IfOk result (λ s. string_bytes s
         ≡ spec.year_heading year name.now code.now published.edition
         ++ (spec.year_lines newest_rules territory.now
-        (sources_of code.now register.now.lands) year ++ pending_line published.pending)) }
+        (sources_of code.now register.now.territories) year ++ pending_line published.pending)) }
 {
     let mut text = String::with_capacity(alloc, ROOM)?;
     push_heading(&mut text, year, name, code, published.edition)?;
@@ -102,12 +102,12 @@ pub fn year_page_text(
     published: Published,
     year: Year,
 ) -> Result<String, Refusal>
-    ensures lawful { OnOk result (code_refusal register.now.lands code.now ≡ None) }
+    ensures lawful { OnOk result (code_refusal register.now.territories code.now ≡ None) }
     ensures text { IfOk result (λ s. string_bytes s
-        ≡ spec.year_page newest_rules register.now.lands code.now published year) }
+        ≡ spec.year_page newest_rules register.now.territories code.now published year) }
     ensures refused { IfErr result
-        (IsRefusalOrNoMemory (code_refusal register.now.lands code.now)) }
+        (IsRefusalOrNoMemory (code_refusal register.now.territories code.now)) }
 {
-    let (name, territory) = register.land(code)?;
+    let (name, territory) = register.territory(code)?;
     Ok(text_of(alloc, register, code, name, territory, published, year)?)
 }

@@ -3,10 +3,10 @@ use Rattle.std.proofs.Common.{◌≡◌, ℕ, ◌+◌, ◌-◌, ◌<◌, ◌≤�
 use Rattle.std.proofs.Common.{take, drop, refl, sym, ap, subst, ◌∙◌, arith, append_assoc, None}
 use Rattle.std.specs.List.{slice_range}
 use Rattle.std.proofs.lemmas.List.{drop_more, drop-take, take-take, take-append-drop}
-use Rattle.osn_days.specs.Profile.{newest_rules}
+use Rattle.osn_days.specs.Rules.{newest_rules}
 use Rattle.osn_register.specs.declared.edit.Edit.{Edit}
 use Rattle.osn_register.specs.declared.limits.Limits.{Limits}
-use Rattle.osn_register.specs.Plain.{LandModel, refusal, effect, applied_all}
+use Rattle.osn_register.specs.Plain.{EntryModel, refusal, effect, applied_all}
 use Rattle.osn_register.specs.Lawful.{AreLawful}
 use Rattle.osn_core.specs.Sequential.{joined}
 use Rattle.osn_core.proofs.Lawful.{applied_all-append, applied-lawful, AreLawful-front}
@@ -18,7 +18,7 @@ pub left_from : {A : Type 0} (xs : List A) (i : ℕ) (x : A) → i < length xs �
 left_from xs i x within is = drop_more xs i x within ∙ ap (λ y. y ∷ drop (i + 1) xs) (sym is)
 
 -- of lawful edits the next one is lawful, and those after it are so after its effect
-pub next_lawful : (limits : Limits) (old : List LandModel) (es : List Edit) (i : ℕ) (e : Edit)
+pub next_lawful : (limits : Limits) (old : List EntryModel) (es : List Edit) (i : ℕ) (e : Edit)
     → i < length es → e ≡ get_or es i e → AreLawful newest_rules limits old (drop i es)
     → (refusal newest_rules limits old e ≡ None)
     × AreLawful newest_rules limits (effect old e) (drop (i + 1) es)
@@ -26,7 +26,7 @@ next_lawful limits old es i e within is lawful =
     subst (AreLawful newest_rules limits old) (left_from es i e within is) lawful
 
 -- one lawful edit more is applied
-pub edit_more : (limits : Limits) (old new all : List LandModel) (es : List Edit) (i : ℕ)
+pub edit_more : (limits : Limits) (old new all : List EntryModel) (es : List Edit) (i : ℕ)
     (e : Edit) → i < length es → e ≡ get_or es i e → new ≡ effect old e
     → AreLawful newest_rules limits old (drop i es)
     → applied_all newest_rules limits old (drop i es) ≡ all
@@ -38,7 +38,7 @@ edit_more limits old new all es i e within is one lawful so_far =
     ∙ (sym (ap (applied_all newest_rules limits old) (left_from es i e within is)) ∙ so_far)
 
 -- of lawful batches the next one is lawful, and those after it are so after its edits
-pub next_batch_lawful : (limits : Limits) (old : List LandModel) (bs : List (List Edit)) (i : ℕ)
+pub next_batch_lawful : (limits : Limits) (old : List EntryModel) (bs : List (List Edit)) (i : ℕ)
     (b : List Edit) → i < length bs → b ≡ get_or bs i b
     → AreLawful newest_rules limits old (joined (drop i bs))
     → AreLawful newest_rules limits old b
@@ -54,7 +54,7 @@ next_batch_lawful limits old bs i b within is lawful =
     )
 
 -- one batch more is applied
-pub batch_more : (limits now : Limits) (old new all : List LandModel) (bs : List (List Edit))
+pub batch_more : (limits now : Limits) (old new all : List EntryModel) (bs : List (List Edit))
     (i : ℕ) (b : List Edit) → i < length bs → b ≡ get_or bs i b → now ≡ limits
     → new ≡ applied_all newest_rules now old b
     → applied_all newest_rules limits old (joined (drop i bs)) ≡ all
@@ -82,12 +82,12 @@ parts bs from to order =
     ∙ (take-append-drop from (take (from + (to - from)) bs) ∙ ap (λ n. take n bs) whole))
 
 -- a register of the first batches, to which those between are applied, is that of more batches
-pub lands_on : (limits : Limits) (bs : List (List Edit)) (from to : ℕ)
-    (old new : List LandModel) → from ≤ to
+pub territories_on : (limits : Limits) (bs : List (List Edit)) (from to : ℕ)
+    (old new : List EntryModel) → from ≤ to
     → old ≡ applied_all newest_rules limits [] (joined (take from bs))
     → new ≡ applied_all newest_rules limits old (joined (slice_range bs from to))
     → new ≡ applied_all newest_rules limits [] (joined (take to bs))
-lands_on limits bs from to old new order was one =
+territories_on limits bs from to old new order was one =
     one
     ∙ (ap (λ ls. applied_all newest_rules limits ls (joined (slice_range bs from to))) was
     ∙ (sym (applied_all-append newest_rules limits [] (joined (take from bs))
@@ -98,7 +98,7 @@ lands_on limits bs from to old new order was one =
 
 -- of lawful batches those between two are lawful after the first ones
 pub lawful_between : (limits : Limits) (bs : List (List Edit)) (from to : ℕ)
-    (old : List LandModel) → from ≤ to
+    (old : List EntryModel) → from ≤ to
     → old ≡ applied_all newest_rules limits [] (joined (take from bs))
     → AreLawful newest_rules limits [] (joined bs)
     → AreLawful newest_rules limits old (joined (slice_range bs from to))

@@ -6,7 +6,7 @@ use Rattle.std.specs.List.{All}
 use Rattle.std.specs.Prelude.{take, nat_lt, if◌then◌else◌}
 use Rattle.std.proofs.lemmas.Bool.{ltb-false}
 use Rattle.std.proofs.lemmas.List.{length-map, length-take-le, get_or-set_same, map-set}
-use Rattle.osn_days.specs.Profile.{newest_rules}
+use Rattle.osn_days.specs.Rules.{newest_rules}
 use Rattle.osn_register.specs.declared.edit.Edit.{Edit}
 use Rattle.osn_register.specs.declared.limits.Limits.{Limits}
 use Rattle.osn_register.specs.declared.answer.Answer.{Answer}
@@ -14,26 +14,26 @@ use Rattle.osn_register.specs.declared.query.Query.{Query}
 use Rattle.osn_register.specs.Plain.{folded}
 use Rattle.osn_core.specs.declared.step.Reply.{Reply}
 use Rattle.osn_register.specs.Lawful.{AreLawful}
-use Rattle.osn_core.specs.Sequential.{ObjectState, lands_of, joined, reply_at, IsSound}
+use Rattle.osn_core.specs.Sequential.{ObjectState, territories_of, joined, reply_at, IsSound}
 use Rattle.osn_core.proofs.Lawful.{AreLawful-front}
 use Rattle.osn_format.specs.declared.wire_fault.WireFault.TheVariants.{UnknownEdition, EditionFell}
 use Rattle.osn_audit.specs.Audit.{known_edition}
 use Rattle.osn_audit.specs.Standing.{Standing}
-use Rattle.osn_audit.specs.declared.follower.Follower.{Follower}
+use Rattle.osn_audit.specs.declared.follower.RegisterCursor.{RegisterCursor}
 use Rattle.osn_audit.specs.declared.followers.Place.{Place}
 use Rattle.osn_audit.specs.InsideFollower.{IsAt}
 use Rattle.osn_audit.specs.InsideFollowers.{IsPlace}
 
 -- the empty register is at edition 0
-pub IsAt-first : (limits given : Limits) (batches : List (List Edit)) (f : Follower)
+pub IsAt-first : (limits given : Limits) (batches : List (List Edit)) (f : RegisterCursor)
     → given ≡ limits → f.edition ≡ 0 → f.register ≡ folded newest_rules given [] →
     IsAt limits batches f
 IsAt-first limits given batches f same edition register = record {
   there = omega (arith, edition);
   same = ap (λ r. r.limits) register ∙ same;
-  lands =
-      ap (λ r. r.lands) register
-      ∙ sym (ap (λ n. lands_of newest_rules limits (take n batches)) edition);
+  territories =
+      ap (λ r. r.territories) register
+      ∙ sym (ap (λ n. territories_of newest_rules limits (take n batches)) edition);
 }
 
 -- the batches of a sound object are lawful

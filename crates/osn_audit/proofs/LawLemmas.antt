@@ -10,7 +10,7 @@ use Rattle.std.proofs.lemmas.List.{length-set, get_or-set_same}
 use Rattle.std.proofs.lemmas.Slice.Eq.{bytes_eq-Decides}
 use Rattle.serde_json.specs.Data.{Data}
 use Rattle.serde_json.specs.Written.{has_float}
-use Rattle.osn_days.specs.Profile.{newest_rules}
+use Rattle.osn_days.specs.Rules.{newest_rules}
 use Rattle.osn_register.specs.declared.limits.Limits.{Limits}
 use Rattle.osn_lines.specs.Lines.{lines}
 use Rattle.osn_core.specs.History.{NeverFalls}
@@ -204,12 +204,12 @@ agrees_by s ls n (Ok final) is h =
 -- what an audit without a fault says, if both inputs are known
 pub agreed_on : (limits : Limits) (journal transcript : Option (List ℕ)) (s : ObjectState) (n : ℕ)
     → IfSome journal (λ edits. load newest_rules limits (lines edits) ≡ Ok s)
-    → IfSome transcript (λ told. agreed_lines s (lines told) ≡ Ok n)
-    → IfSome journal (λ edits. IfSome transcript (λ told. (n ≡ length (lines told))
+    → IfSome transcript (λ answers. agreed_lines s (lines answers) ≡ Ok n)
+    → IfSome journal (λ edits. IfSome transcript (λ answers. (n ≡ length (lines answers))
     × (object : ObjectState) × (load newest_rules limits (lines edits) ≡ Ok object)
-    × Agrees object (lines told)))
+    × Agrees object (lines answers)))
 agreed_on limits None transcript s n loaded agrees = tt
 agreed_on limits (Some edits) None s n loaded agrees = tt
-agreed_on limits (Some edits) (Some told) s n loaded agrees =
-    let all = agrees_by s (lines told) n _ refl agrees in
+agreed_on limits (Some edits) (Some answers) s n loaded agrees =
+    let all = agrees_by s (lines answers) n _ refl agrees in
     (all.0, s, loaded, all.1)

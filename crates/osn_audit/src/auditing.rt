@@ -3,7 +3,7 @@ ghost use Rattle.std.specs.Prelude.{◌≡◌, ◌<◌, ◌≤◌, ◌-◌, Ok, 
 ghost use Rattle.std.specs.Prelude.{true, false, length, slice_set, take};
 ghost use Rattle.serde_json.specs.View.{view};
 ghost use Rattle.serde_json.specs.Written.{has_float as spec_has_float};
-ghost use Rattle.osn_days.specs.Profile.{newest_rules};
+ghost use Rattle.osn_days.specs.Rules.{newest_rules};
 ghost use Rattle.osn_core.specs.Sequential.{reply_at};
 ghost use Rattle.osn_reply.specs.declared.outcome.Outcome.TheVariants.{Replied};
 ghost use Rattle.osn_request.specs.LineQuery.{line_query};

@@ -1,6 +1,6 @@
 //! A register that advances from edition to edition.
 ghost use Rattle.std.specs.Prelude.{◌≡◌, ◌≤◌, [], IfOk, OnOk, length, take};
-ghost use Rattle.osn_days.specs.Profile.{newest_rules};
+ghost use Rattle.osn_days.specs.Rules.{newest_rules};
 ghost use Rattle.osn_register.specs.BorrowedQuery.{as_query};
 ghost use Rattle.osn_register.specs.Plain.{applied_all, folded};
 ghost use Rattle.osn_register.specs.Lawful.{AreLawful};
@@ -14,9 +14,9 @@ use std::mem;
 
 /// Applies edits that are lawful, each in its turn, without another check.
 fn admit_edits(register: &mut Register, edits: &[Edit]) -> Result<(), AllocError>
-    requires { AreLawful newest_rules register.old.limits register.old.lands edits.now }
+    requires { AreLawful newest_rules register.old.limits register.old.territories edits.now }
     ensures { OnOk result (register.new ≡ record register.old {
-      lands = applied_all newest_rules register.old.limits register.old.lands edits.now;
+      territories = applied_all newest_rules register.old.limits register.old.territories edits.now;
     }) }
 {
     for edit in edits {
@@ -27,9 +27,11 @@ fn admit_edits(register: &mut Register, edits: &[Edit]) -> Result<(), AllocError
 
 /// Applies the edits of batches, which are lawful, each in its turn.
 fn admit_batches(register: &mut Register, batches: &[Batch]) -> Result<(), AllocError>
-    requires { AreLawful newest_rules register.old.limits register.old.lands (joined batches.now) }
+    requires { AreLawful newest_rules register.old.limits register.old.territories
+        (joined batches.now) }
     ensures { OnOk result (register.new ≡ record register.old {
-      lands = applied_all newest_rules register.old.limits register.old.lands (joined batches.now);
+      territories = applied_all newest_rules register.old.limits register.old.territories
+          (joined batches.now);
     }) }
 {
     for batch in batches {
@@ -40,25 +42,25 @@ fn admit_batches(register: &mut Register, batches: &[Batch]) -> Result<(), Alloc
 
 /// A register, and the edition that it is at.
 #[derive(Drop)]
-pub(crate) struct Follower {
+pub(crate) struct RegisterCursor {
     pub(crate) edition: u32,
     pub(crate) register: Register,
 }
 
-impl Follower {
+impl RegisterCursor {
     /// Returns a follower at edition 0, which is empty.
-    pub(crate) fn new(alloc: Global, limits: Limits) -> Follower
+    pub(crate) fn new(alloc: Global, limits: Limits) -> RegisterCursor
         ensures edition { result.edition ≡ 0 }
         ensures register { result.register ≡ folded newest_rules limits [] }
     {
-        Follower {
+        RegisterCursor {
             edition: 0,
             register: Register::new(alloc, limits),
         }
     }
 
     /// Returns the follower at an edition that is not before its own.
-    fn at(self, batches: &[Batch], edition: u32) -> Result<Follower, AllocError>
+    fn at(self, batches: &[Batch], edition: u32) -> Result<RegisterCursor, AllocError>
         requires at { IsAt self.register.limits batches.now self }
         requires lawful { AreLawful newest_rules self.register.limits [] (joined batches.now) }
         requires from { self.edition ≤ edition }
@@ -71,7 +73,7 @@ impl Follower {
             &mut register,
             &batches[self.edition as usize..edition as usize],
         )?;
-        Ok(Follower { edition, register })
+        Ok(RegisterCursor { edition, register })
     }
 
     /// Advances to an edition of the object that is not before its own, and returns the answer to a
@@ -91,7 +93,7 @@ impl Follower {
         ensures edition { self.new.edition ≤ edition }
         ensures at { IsAt object.now.limits object.now.batches self.new }
     {
-        let none = Follower::new(alloc, object.register().limits());
+        let none = RegisterCursor::new(alloc, object.register().limits());
         let before = mem::replace(self, none);
         let after = before.at(object.batches(), edition)?;
         let answer = after.register.answer_borrowed(query)?;

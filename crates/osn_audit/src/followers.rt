@@ -2,12 +2,12 @@
 //! and one for each reader with a reply of an earlier edition.
 ghost use Rattle.std.specs.Prelude.{◌≡◌, ◌<◌, ◌≤◌, ◌-◌, Ok, Err, IfOk, OnOk, MatchResult, length};
 ghost use Rattle.std.specs.Prelude.{take, slice_set};
-ghost use Rattle.osn_days.specs.Profile.{newest_rules};
+ghost use Rattle.osn_days.specs.Rules.{newest_rules};
 ghost use Rattle.osn_register.specs.BorrowedQuery.{as_query};
 ghost use Rattle.osn_core.specs.Sequential.{reply_at};
 ghost use Rattle.osn_audit.specs.Audit.{known_edition, last_of, no_replies};
 
-use crate::follower::Follower;
+use crate::follower::RegisterCursor;
 use osn_core::{MOST_READERS, Object, Reply};
 use osn_format::WireFault;
 use osn_register::{Answer, BorrowedQuery};
@@ -20,7 +20,7 @@ struct Place {
     /// The edition of the reader's last reply.
     last: u32,
     /// The register of an edition that is not after that.
-    own: Follower,
+    own: RegisterCursor,
 }
 
 /// The object of a journal, and registers of it. Each register only advances from edition to
@@ -30,7 +30,7 @@ pub(crate) struct Followers {
     alloc: Global,
     object: Object,
     /// The register of the greatest edition that a reply named.
-    latest: Follower,
+    latest: RegisterCursor,
     places: Vec<Place>,
 }
 
@@ -55,10 +55,10 @@ impl Followers {
         let limits = object.register().limits();
         let mut places = Vec::with_capacity(alloc, MOST_READERS as usize)?;
         for _ in 0..MOST_READERS {
-            let own = Follower::new(alloc, limits);
+            let own = RegisterCursor::new(alloc, limits);
             places.push(Place { last: 0, own })?;
         }
-        let latest = Follower::new(alloc, limits);
+        let latest = RegisterCursor::new(alloc, limits);
         Ok(Followers {
             alloc,
             object,

@@ -1,6 +1,6 @@
 //! Compares a transcript with a journal.
 ghost use Rattle.std.specs.Prelude.{◌≡◌, Ok, length, IfOk, IfSome};
-ghost use Rattle.osn_days.specs.Profile.{newest_rules};
+ghost use Rattle.osn_days.specs.Rules.{newest_rules};
 ghost use Rattle.osn_core.specs.Sequential.{ObjectState};
 ghost use Rattle.osn_lines.specs.Lines.{lines};
 ghost use Rattle.osn_files.specs.Files.{ReadsFile};

@@ -4,7 +4,7 @@
 use crate::compare::same;
 use osn_computus::Rule;
 use osn_days::{Calendar, Day};
-use osn_lands::{Label, Regime, Style, day_of_label, dual_text, label_of};
+use osn_territory::{Label, Regime, Style, day_of_label, dual_text, label_of};
 use std::alloc::{AllocError, Global};
 use std::process::Abort;
 

@@ -7,4 +7,4 @@ mod compare;
 #[cfg(test)]
 mod labels;
 #[cfg(test)]
-mod lands;
+mod territories;

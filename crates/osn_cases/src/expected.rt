@@ -73,8 +73,8 @@ impl Expected {
         if line == "!" {
             return self.errors.add(number, "");
         }
-        if let Some(told) = line.strip_prefix("! ") {
-            return self.errors.add(number, told);
+        if let Some(text) = line.strip_prefix("! ") {
+            return self.errors.add(number, text);
         }
         for _blank in 0..blanks {
             self.output.add(number, "")?;

@@ -48,10 +48,10 @@ pub show_runs : (typed args : List (List ℕ)) (error : Error) (CanFail : Bool �
     → ShowsOrEnds (kind_of error) (help_on (kind_of error) typed) o e status
     → RunsWords typed args CanFail CanStay d i o e status
 show_runs typed args error CanFail CanStay d i o e status kind same (inl first) = inr (same, inl first)
-show_runs typed args error CanFail CanStay d i o e status (inl memory) same (inr shown) =
-    absurd (shown.0 memory)
-show_runs typed args error CanFail CanStay d i o e status (inr among) same (inr shown) =
-    inr (same, inr (kind_of error, among, shown.1))
+show_runs typed args error CanFail CanStay d i o e status (inl memory) same (inr escaped) =
+    absurd (escaped.0 memory)
+show_runs typed args error CanFail CanStay d i o e status (inr among) same (inr escaped) =
+    inr (same, inr (kind_of error, among, escaped.1))
 
 -- why what was run ended early is why these words did
 pub failed : (limits : Limits) (given found : CommandWords) (CanFail : Bool → Type 0)
@@ -103,6 +103,6 @@ pub show_typed : (typed args : List (List ℕ)) (error : Error) (help : List ℕ
     → HasKind (fault_of command_line args) error → d.after ≡ d.before
     → help ≡ help_on (kind_of error) typed → ShowsOrEnds (kind_of error) help o e status
     → RunsWords typed args CanFail CanStay d i o e status
-show_typed typed args error help CanFail CanStay d i o e status kind same is shown =
+show_typed typed args error help CanFail CanStay d i o e status kind same is escaped =
     show_runs typed args error CanFail CanStay d i o e status kind same
-    (subst (λ help. ShowsOrEnds (kind_of error) help o e status) is shown)
+    (subst (λ help. ShowsOrEnds (kind_of error) help o e status) is escaped)

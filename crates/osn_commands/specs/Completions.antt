@@ -4,14 +4,14 @@ use Rattle.osn_completions.specs.Completions.{completions, shell_named}
 use Rattle.osn_completions.specs.declared.shell.Shell.{Shell}
 use Rattle.osn_lines.specs.Streams.{Output}
 use Rattle.osn_report.specs.Printing.{PrintsIfMade}
-use Rattle.osn_report.specs.Messages.{TellsMisuse}
+use Rattle.osn_report.specs.Messages.{ReportsMisuse}
 use Rattle.osn_report.specs.declared.misuse.Misuse.TheVariants as misuses
 use Rattle.osn_report.specs.declared.status.Status.{Status}
 
 -- the text of this shell was printed; for no shell, the word was reported
 abbrev pub PrintsFor : Option Shell → List ℕ → Output → Output → Status → Type 0
 PrintsFor (Some shell) word o e status = PrintsIfMade (completions shell) o e status
-PrintsFor None word o e status = (o.new ≡ o.old) × TellsMisuse e misuses.Shell word status
+PrintsFor None word o e status = (o.new ≡ o.old) × ReportsMisuse e misuses.Shell word status
 
 -- how the command ends: it printed the text of the shell of this word, or reported that no shell
 -- has it

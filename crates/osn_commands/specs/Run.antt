@@ -25,7 +25,7 @@ use Rattle.osn_page_commands.specs.Page.{PageFails, RunsPage}
 use Rattle.osn_report.specs.Folders.{Folders, ReadsOne, ReadsTwo}
 use Rattle.osn_report.specs.Failure.{FailsOnOne, FailsOnTwo, IsNotRead}
 use Rattle.osn_report.specs.Printing.{Prints, PrintsNoneAt, PrintsOrReports}
-use Rattle.osn_report.specs.Messages.{EndsBy, TellsLine, TellsMisuse}
+use Rattle.osn_report.specs.Messages.{EndsBy, ReportsLine, ReportsMisuse}
 use Rattle.osn_report.specs.declared.fault.CommandFault.{CommandFault}
 use Rattle.osn_report.specs.declared.fault.CommandFault.TheVariants.{NotOpened, NoMemory}
 use Rattle.osn_report.specs.declared.status.Status.{Status}
@@ -61,7 +61,7 @@ Runs limits (printing journal edition page) CanFail CanStay d i o e status =
     RunsPage limits journal edition page CanFail d o e status
 Runs limits (auditing journal transcript) CanFail CanStay d i o e status =
     ReadsTwo journal transcript CanFail d
-    (λ edits told. PrintsSuch (Audits limits edits told) o e status)
+    (λ edits answers. PrintsSuch (Audits limits edits answers) o e status)
 Runs limits (converting calendar date) CanFail CanStay d i o e status =
     (d.after ≡ d.before) × PrintsConversion calendar date o e status
 Runs limits (completing shell) CanFail CanStay d i o e status =
@@ -80,8 +80,8 @@ Runs limits (publishing journal text onto_newest) CanFail CanStay d i o e status
 -- ---- why a command ended early
 
 -- the file of a path could not be opened, which the line says with the path
-abbrev pub IsUnopened : List ℕ → Folders → List ℕ → CommandFault → Type 0
-IsUnopened file d path fault =
+abbrev pub IsOpenFailure : List ℕ → Folders → List ℕ → CommandFault → Type 0
+IsOpenFailure file d path fault =
     (path ≡ file) × ((cause : OpenFailed) × (fault ≡ NotOpened cause))
     × CannotOpen (file ∷ []) d.before d.after
 
@@ -101,12 +101,14 @@ Fails limits (auditing journal transcript) CanFail d path fault =
     FailsOnTwo journal transcript CanFail d (AuditFails limits) path fault
 Fails limits (converting calendar date) CanFail d path fault = ⊥
 Fails limits (completing shell) CanFail d path fault = ⊥
-Fails limits (reading_letters journal asked) CanFail d path fault = IsUnopened journal d path fault
-Fails limits (listing journal) CanFail d path fault = IsUnopened journal d path fault
-Fails limits (writing_text journal edition code) CanFail d path fault = IsUnopened journal d path fault
-Fails limits (planning journal text) CanFail d path fault = IsUnopened journal d path fault
+Fails limits (reading_letters journal asked) CanFail d path fault =
+    IsOpenFailure journal d path fault
+Fails limits (listing journal) CanFail d path fault = IsOpenFailure journal d path fault
+Fails limits (writing_text journal edition code) CanFail d path fault =
+    IsOpenFailure journal d path fault
+Fails limits (planning journal text) CanFail d path fault = IsOpenFailure journal d path fault
 Fails limits (publishing journal text onto_newest) CanFail d path fault =
-    IsUnopened text d path fault
+    IsOpenFailure text d path fault
 
 -- ---- a run
 
@@ -123,7 +125,7 @@ abbrev pub Shows : ErrorKind → List ℕ → Output → Output → Status → T
 Shows kind help o e status =
     (text : List ℕ)
     × ((IsHelp kind × Prints text o e status)
-    ⊎ ((IsHelp kind → ⊥) × (o.new ≡ o.old) × TellsLine e statuses.Misused (text ++ help) status))
+    ⊎ ((IsHelp kind → ⊥) × (o.new ≡ o.old) × ReportsLine e statuses.Misused (text ++ help) status))
 
 -- that, or memory ran out first
 abbrev pub ShowsOrEnds : ErrorKind → List ℕ → Output → Output → Status → Type 0
@@ -145,7 +147,7 @@ abbrev pub RunsInvocation : InvocationModel → (Bool → Type 0) → Type 0 →
 RunsInvocation asked CanFail CanStay d i o e status = MatchResult (limits_of_words asked.limits)
     (λ limits. RunsUnder limits asked.command CanFail CanStay d i o e status)
     (λ misuse. (d.after ≡ d.before) × (o.new ≡ o.old)
-    × TellsMisuse e misuse (unwrap_or asked.limits []) status)
+    × ReportsMisuse e misuse (unwrap_or asked.limits []) status)
 
 -- what a run does with these words, which mean the typed ones. If the grammar takes them it does what
 -- they ask for. Otherwise it shows what is wrong, with the help for a common mistake, or help that

@@ -4,7 +4,7 @@ ghost use Rattle.osn_lines.specs.Streams.{output_of};
 
 use osn_completions::{completions, shell_named};
 use osn_lines::Sink;
-use osn_report::{Misuse, Status, print, tell_misuse};
+use osn_report::{Misuse, Status, print, report_misuse};
 use std::alloc::Global;
 
 /// Runs the command `completions`: prints the text by which the shell of this word completes the
@@ -23,6 +23,6 @@ pub(crate) fn completions_command<W: Sink, E: Sink>(
 {
     match shell_named(shell) {
         Some(found) => print(completions(alloc, found), output, errors),
-        None => tell_misuse(alloc, errors, Misuse::Shell, shell),
+        None => report_misuse(alloc, errors, Misuse::Shell, shell),
     }
 }

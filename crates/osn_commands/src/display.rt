@@ -4,21 +4,21 @@ ghost use Rattle.std.specs.IoError.{error_kind};
 ghost use Rattle.clap.specs.Words.{kind_of};
 ghost use Rattle.osn_commands.specs.Run.{ShowsOrEnds};
 ghost use Rattle.osn_lines.specs.Streams.{output_of};
-ghost use Rattle.osn_report.specs.Messages.{TellsNoWords};
+ghost use Rattle.osn_report.specs.Messages.{ReportsNoWords};
 
 use clap::Error;
 use clap::error::ErrorKind;
 use osn_lines::Sink;
-use osn_report::{Status, print, tell_no_memory, write_line};
-use osn_shown::ShownLines;
+use osn_report::{Status, print, report_no_memory, write_line};
+use osn_shown::EscapedLines;
 use std::alloc::{AllocError, Global};
 use std::io;
 
 /// Returns what is wrong with the arguments, followed by the help.
-fn with_help(shown: String, help: &str) -> Result<String, AllocError>
-    ensures { IfOk result (λ text. string_bytes text ≡ string_bytes shown ++ help.now) }
+fn with_help(escaped: String, help: &str) -> Result<String, AllocError>
+    ensures { IfOk result (λ text. string_bytes text ≡ string_bytes escaped ++ help.now) }
 {
-    let mut text = shown;
+    let mut text = escaped;
     text.push_str(help)?;
     Ok(text)
 }
@@ -38,19 +38,19 @@ pub(crate) fn show<W: Sink, E: Sink>(
 {
     let kind = error.kind();
     if kind == ErrorKind::OutOfMemory {
-        return tell_no_memory(errors);
+        return report_no_memory(errors);
     }
     let Ok(text) = format!(in alloc; "{error}") else {
-        return tell_no_memory(errors);
+        return report_no_memory(errors);
     };
     match kind {
         ErrorKind::DisplayHelp | ErrorKind::DisplayVersion => { print(Ok(text), output, errors) }
         _ => {
-            let Ok(shown) = format!(in alloc; "{}", ShownLines(text.as_str())) else {
-                return tell_no_memory(errors);
+            let Ok(escaped) = format!(in alloc; "{}", EscapedLines(text.as_str())) else {
+                return report_no_memory(errors);
             };
-            let Ok(text) = with_help(shown, help) else {
-                return tell_no_memory(errors);
+            let Ok(text) = with_help(escaped, help) else {
+                return report_no_memory(errors);
             };
             write_line(errors, text.as_str());
             Status::Misused
@@ -60,12 +60,12 @@ pub(crate) fn show<W: Sink, E: Sink>(
 
 /// Reports on standard error that the arguments could not be read: because memory ran out, or
 /// because one of them is not UTF-8.
-pub fn tell_no_words<E: Sink>(why: &io::Error, errors: &mut E) -> Status
-    ensures { TellsNoWords (output_of E.contents E.has_failed E.holds_back errors.old errors.new)
+pub fn report_no_words<E: Sink>(why: &io::Error, errors: &mut E) -> Status
+    ensures { ReportsNoWords (output_of E.contents E.has_failed E.holds_back errors.old errors.new)
         (error_kind why.now) result }
 {
     if why.kind() == io::ErrorKind::OutOfMemory {
-        return tell_no_memory(errors);
+        return report_no_memory(errors);
     }
     write_line(errors, "error: a word of the command line is not UTF-8\n");
     Status::Misused

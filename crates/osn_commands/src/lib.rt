@@ -11,5 +11,5 @@ mod limits;
 mod program;
 mod typed;
 
-pub use display::tell_no_words;
+pub use display::report_no_words;
 pub use program::run;

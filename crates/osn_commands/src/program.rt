@@ -24,7 +24,7 @@ use osn_lines::{Sink, Source};
 use osn_page_commands::{convert_command, editions_in_folder, letters_in_folder, page_in_folder};
 use osn_register::Limits;
 use osn_report::{
-    CommandFault, Failure, Status, print_or_report, report_at, tell_misuse, tell_no_memory,
+    CommandFault, Failure, Status, print_or_report, report_at, report_misuse, report_no_memory,
 };
 use osn_serve_commands::serve_in_folder;
 use osn_text_commands::{plan_in_folder, publish_in_folder, text_in_folder};
@@ -63,7 +63,7 @@ where
 {
     match with_journal(rt.alloc(), args, default_journal) {
         Ok(words) => run_words(rt, folder, args, &words, input, output, errors, terminal),
-        Err(_) => tell_no_memory(errors),
+        Err(_) => report_no_memory(errors),
     }
 }
 
@@ -133,7 +133,7 @@ where
         Ok(limits) => limits,
         Err(misuse) => {
             let typed = as_typed(invocation.limits);
-            return tell_misuse(alloc, errors, misuse, typed);
+            return report_misuse(alloc, errors, misuse, typed);
         }
     };
     let command = invocation.command;

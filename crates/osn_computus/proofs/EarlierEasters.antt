@@ -3,7 +3,7 @@ use Rattle.std.proofs.Common.{◌≡◌, ◌≢◌, ℕ, ◌+◌, ◌-◌, ◌*�
 use Rattle.std.proofs.Common.{Some, sym, ap, ◌∙◌, arith}
 use Rattle.osn_days.specs.declared.calendar.Calendar.{Calendar}
 use Rattle.osn_days.specs.declared.calendar.Calendar.TheVariants as calendars
-use Rattle.osn_days.specs.Profile.{first_rules, newest_rules}
+use Rattle.osn_days.specs.Rules.{first_rules, newest_rules}
 use Rattle.osn_days.specs.Line.{IsYear}
 use Rattle.osn_computus.specs.declared.rule.Rule.{Rule}
 use Rattle.osn_computus.specs.declared.rule.Rule.TheVariants.{Julian, Gregorian}

@@ -5,7 +5,7 @@ use Rattle.std.specs.List.{find}
 use Rattle.std.specs.Option.{option_map}
 use Rattle.osn_days.specs.declared.calendar.Calendar.{Calendar}
 use Rattle.osn_days.specs.declared.calendar.Calendar.TheVariants.{Julian, Gregorian, Swedish}
-use Rattle.osn_days.specs.Profile.{first_rules, newest_rules}
+use Rattle.osn_days.specs.Rules.{first_rules, newest_rules}
 use Rattle.osn_days.specs.Line.{line, IsYear}
 use Rattle.osn_days.proofs.ChainFacts.{julian_by_months, gregorian_by_months}
 use Rattle.osn_days.proofs.RangeFacts.{found_on_line, find_on_both}

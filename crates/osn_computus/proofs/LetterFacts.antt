@@ -9,7 +9,7 @@ use Rattle.std.specs.Option.{option_to_list}
 use Rattle.osn_days.specs.declared.date.Date.{Date}
 use Rattle.osn_days.specs.declared.calendar.Calendar.{Calendar}
 use Rattle.osn_days.specs.declared.calendar.Calendar.TheVariants.{Julian, Gregorian, Swedish}
-use Rattle.osn_days.specs.Profile.{newest_rules}
+use Rattle.osn_days.specs.Rules.{newest_rules}
 use Rattle.osn_days.specs.Line.{weekday, IsDay, IsYear}
 use Rattle.osn_days.specs.Chain.{is_leap, month_length, chain, date_of, days_with_date}
 use Rattle.osn_days.proofs.ChainFacts.{chain_apart, chain_rises}

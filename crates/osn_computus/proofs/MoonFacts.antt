@@ -9,7 +9,7 @@ use Rattle.std.specs.Option.{option_to_list}
 use Rattle.osn_days.specs.declared.date.Date.{Date}
 use Rattle.osn_days.specs.declared.calendar.Calendar.{Calendar}
 use Rattle.osn_days.specs.declared.calendar.Calendar.TheVariants.{Swedish}
-use Rattle.osn_days.specs.Profile.{newest_rules}
+use Rattle.osn_days.specs.Rules.{newest_rules}
 use Rattle.osn_days.specs.Line.{IsDay, IsYear, weekday}
 use Rattle.osn_days.specs.Chain.{chain, date_of, same_date, days_with_date}
 use Rattle.osn_days.proofs.ChainFacts.{julian_by_months, gregorian_by_months, date_apart, days_one}

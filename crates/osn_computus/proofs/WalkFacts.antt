@@ -4,7 +4,7 @@ use Rattle.std.proofs.Common.{◌≡◌, ◌≢◌, ℕ, zero, suc, ◌+◌, ◌
 use Rattle.std.proofs.Common.{nat_lt, refl, ap, ◌∙◌, arith, ℤ, pos, ◌+ℤ◌}
 use Rattle.std.proofs.lemmas.Bool.Decides.{nat_tests}
 use Rattle.osn_days.specs.declared.date.Date.{Date}
-use Rattle.osn_days.specs.Profile.{newest_rules}
+use Rattle.osn_days.specs.Rules.{newest_rules}
 use Rattle.osn_days.specs.declared.calendar.Calendar.{Calendar}
 use Rattle.osn_days.specs.declared.calendar.Calendar.TheVariants.{Julian, Gregorian, Swedish}
 use Rattle.osn_days.specs.Chain.{month_length, next, chain}

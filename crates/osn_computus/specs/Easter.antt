@@ -7,7 +7,7 @@ use Rattle.std.specs.Option.{option_map, option_and_then}
 use Rattle.osn_days.specs.declared.date.Date.{Date}
 use Rattle.osn_days.specs.declared.calendar.Calendar.{Calendar}
 use Rattle.osn_days.specs.declared.calendar.Calendar.TheVariants as calendar
-use Rattle.osn_days.specs.Profile.{Profile}
+use Rattle.osn_days.specs.Rules.{Rules}
 use Rattle.osn_days.specs.Line.{line, weekday}
 use Rattle.osn_days.specs.Chain.{date_of, same_date}
 use Rattle.osn_computus.specs.declared.rule.Rule.{Rule}
@@ -25,12 +25,12 @@ abbrev pub date_in : ℕ → MonthDay → Date
 date_in y m = record { year = pos y; month = m.month; day = m.day }
 
 -- the day of the line with a date
-unfoldable pub day_with : Profile → Calendar → Date → Option ℕ
+unfoldable pub day_with : Rules → Calendar → Date → Option ℕ
 day_with p c date = find (λ d. same_date (date_of c d) date) (line p)
 
 -- the full moon of the table, or the fourteenth day of the moon, 13 days after the new moon of the
 -- labels
-unfoldable pub paschal_moon : Profile → Rule → ℕ → Option ℕ
+unfoldable pub paschal_moon : Rules → Rule → ℕ → Option ℕ
 paschal_moon p Julian y =
     option_and_then (λ m. day_with p (calendar_of Julian) (date_in y m))
     (julian_full_moon (golden_number y))
@@ -39,11 +39,11 @@ paschal_moon p Gregorian y =
     (option_and_then (λ m. day_with p (calendar_of Gregorian) (date_in y m))
     (gregorian_new_moon (gregorian_epact y)))
 
-unfoldable pub first_sunday_after : Profile → ℕ → Option ℕ
+unfoldable pub first_sunday_after : Rules → ℕ → Option ℕ
 first_sunday_after p moon = find (λ d. nat_lt moon d && (weekday d == 0)) (line p)
 
 -- the day that is Easter of the year
-unfoldable pub easter_of : Profile → Rule → ℕ → Option ℕ
+unfoldable pub easter_of : Rules → Rule → ℕ → Option ℕ
 easter_of p rule y = option_and_then (first_sunday_after p) (paschal_moon p rule y)
 
 -- one of the seven days after a day

@@ -8,7 +8,7 @@ use Rattle.std.specs.Ordering.{int_eq}
 use Rattle.osn_days.specs.declared.date.Date.{Date}
 use Rattle.osn_days.specs.declared.calendar.Calendar.{Calendar}
 use Rattle.osn_days.specs.declared.calendar.Calendar.TheVariants.{Julian, Gregorian, Swedish}
-use Rattle.osn_days.specs.Profile.{Profile}
+use Rattle.osn_days.specs.Rules.{Rules}
 use Rattle.osn_days.specs.Line.{line, weekday, IsDay}
 use Rattle.osn_days.specs.Chain.{first_date, chain, date_of}
 use Rattle.osn_computus.specs.declared.letter.Letter.{Letter}
@@ -86,13 +86,13 @@ is_sunday_of c y low high d =
     && (int_eq date.year (pos y) && (nat_le low date.month && nat_le date.month high))
 
 -- the letter of the first of those Sundays
-unfoldable pub letter_of_sundays : Profile → Calendar → ℕ → ℕ → ℕ → Option Letter
+unfoldable pub letter_of_sundays : Rules → Calendar → ℕ → ℕ → ℕ → Option Letter
 letter_of_sundays p c y low high =
     option_map (letter_of c) (find (is_sunday_of c y low high) (line p))
 
 -- the letter of the Sundays of January, and of the Sundays from March to December, in a calendar
 -- that has letters
-unfoldable pub letters_of : Profile → Calendar → ℕ → Option Letters
+unfoldable pub letters_of : Rules → Calendar → ℕ → Option Letters
 letters_of p c y =
     if has_letters c then
     option_and_then
@@ -103,7 +103,7 @@ letters_of p c y =
     else None
 
 -- each Sunday of the year has the letter, save a 29 February
-abbrev pub AreSundayLetters : Profile → Calendar → ℕ → Letters → Type 0
+abbrev pub AreSundayLetters : Rules → Calendar → ℕ → Letters → Type 0
 AreSundayLetters p c y letters =
     (d : ℕ) → IsDay p d → (date_of c d).year ≡ pos y → weekday d ≡ 0
     → is_leap_day (date_of c d) ≡ false

@@ -1,6 +1,6 @@
 //! Easter by both rules.
 ghost use Rattle.std.specs.Prelude.{◌≡◌, ◌≤◌, ◌+◌, Some, IsSomeAnd};
-ghost use Rattle.osn_days.specs.Profile.{first_rules, newest_rules};
+ghost use Rattle.osn_days.specs.Rules.{first_rules, newest_rules};
 ghost use Rattle.osn_days.specs.Line.{IsDay, IsYear, weekday};
 ghost use Rattle.osn_days.specs.Chain.{date_of};
 ghost use Rattle.osn_computus.specs.Easter as feast;

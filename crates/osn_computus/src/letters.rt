@@ -1,7 +1,7 @@
 //! The Sunday letters of a year, and how they are written.
 ghost use Rattle.std.specs.Prelude.{◌≡◌, ◌≢◌, ◌↔◌, ◌+◌, ◌%◌, pos, false, Some, IsNone, IfSome};
 ghost use Rattle.std.specs.Prelude.{IfOk, string_bytes};
-ghost use Rattle.osn_days.specs.Profile.{first_rules, newest_rules};
+ghost use Rattle.osn_days.specs.Rules.{first_rules, newest_rules};
 ghost use Rattle.osn_days.specs.Line.{IsYear};
 ghost use Rattle.osn_days.specs.Chain as chain;
 ghost use Rattle.osn_days.specs.declared.calendar.Calendar.TheVariants.{Swedish};

@@ -1,6 +1,6 @@
 //! The paschal moon by both rules.
 ghost use Rattle.std.specs.Prelude.{◌≡◌, ◌+◌, ◌<◌, Some};
-ghost use Rattle.osn_days.specs.Profile.{newest_rules};
+ghost use Rattle.osn_days.specs.Rules.{newest_rules};
 ghost use Rattle.osn_days.specs.Line.{IsYear};
 ghost use Rattle.osn_computus.specs.Figures as figure;
 ghost use Rattle.osn_computus.specs.Moon.{after_march_1, julian_full_moon, gregorian_new_moon};

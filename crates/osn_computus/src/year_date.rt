@@ -1,6 +1,6 @@
 //! The date of a month and a day in a year.
 ghost use Rattle.std.specs.Prelude.{◌≡◌};
-ghost use Rattle.osn_days.specs.Profile.{newest_rules};
+ghost use Rattle.osn_days.specs.Rules.{newest_rules};
 ghost use Rattle.osn_days.specs.Line.{IsYear};
 ghost use Rattle.osn_computus.specs.Easter as feast;
 

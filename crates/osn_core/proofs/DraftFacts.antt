@@ -6,15 +6,16 @@ use Rattle.std.proofs.Common.{sym, ap, ◌∙◌, List, arith, append_assoc, app
 use Rattle.std.proofs.lemmas.Bool.{false≢true}
 use Rattle.std.proofs.lemmas.Bool.Decides.{nat_tests}
 use Rattle.std.proofs.lemmas.List.Sums.{sum_by-append}
-use Rattle.osn_days.specs.Profile.{Profile, newest_rules}
+use Rattle.osn_days.specs.Rules.{Rules, newest_rules}
 use Rattle.osn_register.specs.declared.edit.Edit.{Edit}
 use Rattle.osn_register.specs.declared.refusal.Refusal.{Refusal}
 use Rattle.osn_register.specs.declared.refusal.Refusal.TheVariants.{NothingPending, JournalFull}
 use Rattle.osn_register.specs.declared.refusal.Refusal.TheVariants.{EditionsFull}
 use Rattle.osn_register.specs.Plain.{applied_all, effect, refusal}
 use Rattle.osn_register.specs.Refusal.{or_else}
-use Rattle.osn_core.specs.Sequential.{ObjectState, joined, lands_of, draft_lands, edits_in}
-use Rattle.osn_core.specs.Sequential.{with_edition, with_pending, stage_refusal, publish_refusal}
+use Rattle.osn_core.specs.Sequential.{ObjectState, joined, territories_of, draft_territories}
+use Rattle.osn_core.specs.Sequential.{edits_in, with_edition, with_pending, stage_refusal}
+use Rattle.osn_core.specs.Sequential.{publish_refusal}
 use Rattle.osn_core.specs.Draft.{DraftState, object_of, IsDraftOf, edit_refusal, edition_refusal}
 use Rattle.osn_core.specs.Draft.{draft_with_edit, draft_with_edition}
 use Rattle.osn_core.proofs.Batches.{joined-push}
@@ -34,15 +35,15 @@ or_else-none None b h = (refl, h)
 or_else-none (Some f) b h = absurd (false≢true (sym (ap is_some h)))
 
 -- an edit that may be staged is lawful in it
-pub lawful_in_draft : (p : Profile) (s : ObjectState) (e : Edit) → stage_refusal p s e ≡ None →
-    refusal p s.limits (draft_lands p s) e ≡ None
-lawful_in_draft p s e none = (or_else-none (refusal p s.limits (draft_lands p s) e) _ none).0
+pub lawful_in_draft : (p : Rules) (s : ObjectState) (e : Edit) → stage_refusal p s e ≡ None →
+    refusal p s.limits (draft_territories p s) e ≡ None
+lawful_in_draft p s e none = (or_else-none (refusal p s.limits (draft_territories p s) e) _ none).0
 
 -- with the edit it is that of the object with the edit
-pub draft_with : (p : Profile) (s : ObjectState) (e : Edit) → stage_refusal p s e ≡ None →
-    effect (draft_lands p s) e ≡ draft_lands p (with_pending s e)
+pub draft_with : (p : Rules) (s : ObjectState) (e : Edit) → stage_refusal p s e ≡ None →
+    effect (draft_territories p s) e ≡ draft_territories p (with_pending s e)
 draft_with p s e none =
-    sym (applied-lawful p s.limits (draft_lands p s) e (lawful_in_draft p s e none))
+    sym (applied-lawful p s.limits (draft_territories p s) e (lawful_in_draft p s e none))
     ∙ sym (applied_all-append p s.limits [] (joined s.batches ++ s.pending) (e ∷ []))
     ∙ ap (applied_all p s.limits []) (append_assoc (joined s.batches) s.pending (e ∷ []))
 
@@ -50,13 +51,13 @@ pub edits_with : (s : ObjectState) (e : Edit) → edits_in (with_pending s e) �
 edits_with s e = omega (arith, length-append s.pending (e ∷ []))
 
 -- it is the register of the next edition
-pub draft_register : (p : Profile) (s : ObjectState) →
-    draft_lands p s ≡ lands_of p s.limits (s.batches ++ s.pending ∷ [])
+pub draft_register : (p : Rules) (s : ObjectState) →
+    draft_territories p s ≡ territories_of p s.limits (s.batches ++ s.pending ∷ [])
 draft_register p s = ap (λ es. applied_all p s.limits [] es) (sym (joined-push s.batches s.pending))
 
 -- once that is published, it is the register of all edits still
-pub draft_published : (p : Profile) (s : ObjectState) →
-    draft_lands p s ≡ draft_lands p (with_edition s)
+pub draft_published : (p : Rules) (s : ObjectState) →
+    draft_territories p s ≡ draft_territories p (with_edition s)
 draft_published p s = draft_register p s
     ∙ ap (λ es. applied_all p s.limits [] es)
     (sym (append-nil (joined (s.batches ++ s.pending ∷ []))))
@@ -71,8 +72,9 @@ pub edit_refused : (d : DraftState) (bs : List (List Edit)) (e : Edit) → IsDra
 edit_refused d bs e h =
     let limits = d.register.limits in
     ap (λ ls. or_else (refusal newest_rules limits ls e)
-    (cond (nat_lt d.edits limits.edits) None (Some JournalFull))) h.lands
-    ∙ ap (λ n. or_else (refusal newest_rules limits (draft_lands newest_rules (object_of d bs)) e)
+    (cond (nat_lt d.edits limits.edits) None (Some JournalFull))) h.territories
+    ∙ ap (λ n. or_else (refusal newest_rules limits
+    (draft_territories newest_rules (object_of d bs)) e)
     (cond (nat_lt n limits.edits) None (Some JournalFull))) h.edits
 
 -- and so is an edition
@@ -86,7 +88,7 @@ pub has_room : (d : DraftState) (e : Edit) → edit_refusal d e ≡ None →
     d.edits < d.register.limits.edits
 has_room d e none =
     let limits = d.register.limits in
-    let allowed = or_else-none (refusal newest_rules limits d.register.lands e)
+    let allowed = or_else-none (refusal newest_rules limits d.register.territories e)
     (cond (nat_lt d.edits limits.edits) None (Some JournalFull)) none in
     let room : nat_lt d.edits limits.edits ≡ true = test_passed _ _ allowed.1 in
     grind (arith, nat_tests)
@@ -107,7 +109,7 @@ pub edit_staged : (d : DraftState) (bs : List (List Edit)) (e : Edit) → IsDraf
 edit_staged d bs e h lawful =
     let s = object_of d bs in
     record {
-      lands = ap (λ ls. effect ls e) h.lands
+      territories = ap (λ ls. effect ls e) h.territories
           ∙ draft_with newest_rules s e (sym (edit_refused d bs e h) ∙ lawful);
       edits = omega (arith, h.edits, edits_with s e);
       editions = h.editions;
@@ -119,7 +121,7 @@ pub edition_made : (d : DraftState) (bs : List (List Edit)) → IsDraftOf d bs �
 edition_made d bs h =
     let s = object_of d bs in
     record {
-      lands = h.lands ∙ draft_published newest_rules s;
+      territories = h.territories ∙ draft_published newest_rules s;
       edits = h.edits ∙ edits_published s;
       editions = omega (arith, h.editions, length-append bs (d.pending ∷ []));
     }

@@ -1,7 +1,7 @@
 -- Over every list of steps, the editor gets what the sequential object gives it on the history.
 use Rattle.std.proofs.Common.{◌≡◌, ℕ, ◌-◌, ◌+◌, ◌==◌, Bool, true, false, List, []}
 use Rattle.std.proofs.Common.{◌∷◌, ◌++◌, length, Option, Some, None, refl, sym, ap, ◌∙◌}
-use Rattle.osn_days.specs.Profile.{Profile}
+use Rattle.osn_days.specs.Rules.{Rules}
 use Rattle.osn_register.specs.declared.refusal.Refusal.{Refusal}
 use Rattle.osn_register.specs.declared.query.Query.{Query}
 use Rattle.osn_register.specs.declared.edit.Edit.{Edit}
@@ -64,7 +64,7 @@ check_quiet live n (Some (Marked q side)) = entering_quiet (side == live) live n
 check_quiet live n (Some (Entered q side k)) = refl
 check_quiet live n (Some (Answered side k)) = refl
 
-answer_quiet : (p : Profile) (s : ObjectState) (a : ℕ) (at : Option ReaderState) →
+answer_quiet : (p : Rules) (s : ObjectState) (a : ℕ) (at : Option ReaderState) →
     is_editors (out_at (answer p s a) at) ≡ false
 answer_quiet p s a None = refl
 answer_quiet p s a (Some Idle) = refl
@@ -102,12 +102,12 @@ publish_loud n None = refl
 publish_loud n (Some f) = refl
 
 -- an ask gives the editor nothing
-ask_skipped : (p : Profile) (s : ObjectState) (a : ℕ) (l : Option Query) (calls : List Call) →
+ask_skipped : (p : Rules) (s : ObjectState) (a : ℕ) (l : Option Query) (calls : List Call) →
     editor_outs (outs_to p s (ask_of l a ++ calls)) ≡ editor_outs (outs_to p s calls)
 ask_skipped p s a None calls = refl
 ask_skipped p s a (Some q) calls = refl
 
-check_skipped : (p : Profile) (s : ObjectState) (looks : Looks) (a : ℕ) (out : Out)
+check_skipped : (p : Rules) (s : ObjectState) (looks : Looks) (a : ℕ) (out : Out)
     (calls : List Call) → editor_outs (outs_to p s (call_of looks (Check a) out ++ calls))
     ≡ editor_outs (outs_to p s calls)
 check_skipped p s looks a Says.NotNow calls = refl
@@ -120,7 +120,7 @@ check_skipped p s looks a (Says.Published n) calls = refl
 check_skipped p s looks a (Says.Refused f) calls = refl
 check_skipped p s looks a (Says.Replied to reply) calls = refl
 
-stage_same : (p : Profile) (looks : Looks) (c : CoreState) (e : Edit) (phase : Phase)
+stage_same : (p : Rules) (looks : Looks) (c : CoreState) (e : Edit) (phase : Phase)
     (calls : List Call) (outs : List Out) →
     editor_outs outs
     ≡ editor_outs
@@ -139,7 +139,7 @@ stage_same p looks c e Ready calls outs h =
 stage_same p looks c e Draining calls outs h = h
 stage_same p looks c e Claimed calls outs h = h
 
-published_same : (p : Profile) (c : CoreState) (f : Option Refusal) → publish_refusal c.object ≡ f →
+published_same : (p : Rules) (c : CoreState) (f : Option Refusal) → publish_refusal c.object ≡ f →
     (calls : List Call) → editor_outs (outs_to p (with_published f c).object calls)
     ≡ editor_outs (outs_to p (publish_after c.object) calls)
 published_same p c None is calls = refl
@@ -147,7 +147,7 @@ published_same p c (Some g) is calls =
     sym (ap (λ f. editor_outs (outs_to p (state_unless f (with_edition c.object) c.object) calls))
     is)
 
-publish_same : (p : Profile) (looks : Looks) (c : CoreState) (phase : Phase)
+publish_same : (p : Rules) (looks : Looks) (c : CoreState) (phase : Phase)
     (calls : List Call) (outs : List Out) →
     editor_outs outs
     ≡ editor_outs (outs_to p (core_in phase (with_published (publish_refusal c.object) c) c).object
@@ -166,7 +166,7 @@ publish_same p looks c Ready calls outs h =
 publish_same p looks c Draining calls outs h = h
 publish_same p looks c Claimed calls outs h = h
 
-step_same : (p : Profile) (looks : Looks) (c : CoreState) (step : Step) (calls : List Call)
+step_same : (p : Rules) (looks : Looks) (c : CoreState) (step : Step) (calls : List Call)
     (outs : List Out) →
     editor_outs outs ≡ editor_outs (outs_to p (core_after p c step).object calls) →
     editor_outs (out_of p c step ∷ outs)
@@ -194,7 +194,7 @@ step_same p looks c Absorb calls outs h =
     skips _ outs (absorb_quiet (c.control.lag == 0) c.control.phase) ∙ h
 
 -- whatever the steps, the editor gets what the sequential object gives it
-pub editor_outs_of_run : (p : Profile) (looks : Looks) (c : CoreState) (steps : List Step) →
+pub editor_outs_of_run : (p : Rules) (looks : Looks) (c : CoreState) (steps : List Step) →
     editor_outs (outs_of p c steps)
     ≡ editor_outs (outs_to p c.object (calls_of looks steps (outs_of p c steps)))
 editor_outs_of_run p looks c [] = refl

@@ -3,7 +3,7 @@
 use Rattle.std.proofs.Common.{◌≡◌, ℕ, ◌+◌, ◌≤◌, ◌==◌, true, false, if◌then◌else◌, List, []}
 use Rattle.std.proofs.Common.{◌∷◌, ◌++◌, map, length, Option, Some, None, refl, sym, subst, arith}
 use Rattle.std.proofs.Common.{le_refl, length-append, ap, ◌∙◌}
-use Rattle.osn_days.specs.Profile.{Profile}
+use Rattle.osn_days.specs.Rules.{Rules}
 use Rattle.osn_register.specs.declared.limits.Limits.{Limits}
 use Rattle.osn_register.specs.declared.refusal.Refusal.{Refusal}
 use Rattle.osn_register.specs.declared.edit.Edit.{Edit}
@@ -33,7 +33,7 @@ published_batches : (s : ObjectState) (f : Option Refusal) →
 published_batches s None = omega (arith, length-append s.batches (s.pending ∷ []))
 published_batches s (Some f) = le_refl _
 
-editions_rise : (p : Profile) (r : ℕ) (s : ObjectState) (calls : List Call) (floor : ℕ) →
+editions_rise : (p : Rules) (r : ℕ) (s : ObjectState) (calls : List Call) (floor : ℕ) →
     floor ≤ length s.batches → NeverFalls floor (editions (replies_to r (outs_to p s calls)))
 editions_rise p r s [] floor low = tt
 editions_rise p r s (Stages e ∷ cs) floor low =
@@ -64,7 +64,7 @@ begin_rises floor [] ys h = tt
 begin_rises floor (x ∷ xs) ys h = (h.0, begin_rises x.edition xs ys h.1)
 
 -- from the first state on
-pub outs_begin : (p : Profile) (limits : Limits) (readers : ℕ) (steps : List Step) (r : ℕ) →
+pub outs_begin : (p : Rules) (limits : Limits) (readers : ℕ) (steps : List Step) (r : ℕ) →
     let outs = outs_of p (first_core limits readers) steps in
     Begin (replies_to r outs) (replies_to r (outs_to p (opened limits) (history steps outs)))
 outs_begin p limits readers steps r =
@@ -80,7 +80,7 @@ outs_begin p limits readers steps r =
           ∙ ap (λ l. l ++ replies_to r (outs_to p (opened limits) (history steps outs))) none;
     }
 
-pub outs_rise : (p : Profile) (limits : Limits) (readers : ℕ) (steps : List Step) (r : ℕ) →
+pub outs_rise : (p : Rules) (limits : Limits) (readers : ℕ) (steps : List Step) (r : ℕ) →
     NeverFalls 0 (editions_to r (outs_of p (first_core limits readers) steps))
 outs_rise p limits readers steps r =
     let outs = outs_of p (first_core limits readers) steps in

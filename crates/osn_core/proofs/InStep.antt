@@ -5,11 +5,11 @@ use Rattle.std.proofs.Common.{append-nil, length-append}
 use Rattle.std.specs.List.{All}
 use Rattle.std.proofs.lemmas.List.{get_or-append-add}
 use Rattle.std.proofs.lemmas.List.Elements.{All-push}
-use Rattle.osn_days.specs.Profile.{newest_rules}
+use Rattle.osn_days.specs.Rules.{newest_rules}
 use Rattle.osn_register.specs.declared.limits.Limits.{Limits}
 use Rattle.osn_register.specs.declared.edit.Edit.{Edit}
 use Rattle.osn_register.specs.Lawful.{AreLawful}
-use Rattle.osn_register.specs.Plain.{LandModel, RegisterModel, refusal, effect, applied_all}
+use Rattle.osn_register.specs.Plain.{EntryModel, RegisterModel, refusal, effect, applied_all}
 use Rattle.osn_core.specs.Sequential.{joined, last_batch, without_last, HasLawfulSource}
 use Rattle.osn_core.specs.Draft.{DraftState, object_of, edit_refusal, edition_refusal}
 use Rattle.osn_core.specs.Draft.{draft_with_edit, draft_with_edition}
@@ -21,7 +21,8 @@ use Rattle.osn_core.proofs.DraftFacts.{has_room, has_edits, edit_staged, edition
 use Rattle.osn_core.proofs.Lawful.{AreLawful-push, AreLawful-front, lawful_at, applied_at}
 
 abbrev register_of : Limits → List Edit → RegisterModel
-register_of limits es = record { limits = limits; lands = applied_all newest_rules limits [] es }
+register_of limits es =
+    record { limits = limits; territories = applied_all newest_rules limits [] es }
 
 -- if any edit is pending, the standby lacks none
 pub none_lacked : (d : DraftState) (bs : List (List Edit)) (lag : ℕ) (other : RegisterModel) →
@@ -130,16 +131,16 @@ published_lawful d bs lag other h =
 -- it is lawful there
 pub lawful_next : (d : DraftState) (bs : List (List Edit)) (lag : ℕ) (other : RegisterModel)
     (e : Edit) → AreInStep d bs lag other → IsNext bs lag e →
-    refusal newest_rules other.limits other.lands e ≡ None
+    refusal newest_rules other.limits other.territories e ≡ None
 lawful_next d bs lag other e h at =
-    ap (λ (r : RegisterModel). refusal newest_rules r.limits r.lands e) h.other_is
+    ap (λ (r : RegisterModel). refusal newest_rules r.limits r.territories e) h.other_is
     ∙ lawful_at newest_rules d.register.limits [] (joined bs) (length (joined bs) - lag) e at.within
     at.is (published_lawful d bs lag other h)
 
 -- the standby has taken it
 pub one_absorbed : (d : DraftState) (bs : List (List Edit)) (lag : ℕ) (other after : RegisterModel)
     (e : Edit) → AreInStep d bs lag other → IsNext bs lag e →
-    after ≡ record other { lands = effect other.lands e } →
+    after ≡ record other { territories = effect other.territories e } →
     AreInStep d bs (lag - 1) after
 one_absorbed d bs lag other after e h at is =
     let limits = d.register.limits in
@@ -147,8 +148,8 @@ one_absorbed d bs lag other after e h at is =
       draft = h.draft;
       other_is =
           is
-          ∙ ap (λ (r : RegisterModel). record r { lands = effect r.lands e }) h.other_is
-          ∙ ap (λ (ls : List LandModel). record { limits = limits; lands = ls })
+          ∙ ap (λ (r : RegisterModel). record r { territories = effect r.territories e }) h.other_is
+          ∙ ap (λ (ls : List EntryModel). record { limits = limits; territories = ls })
           (applied_at newest_rules limits [] (joined bs) (length (joined bs) - lag) e at.within
           at.is (published_lawful d bs lag other h)
           ∙ ap (λ n. applied_all newest_rules limits [] (take n (joined bs))) at.more);

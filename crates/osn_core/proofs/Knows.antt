@@ -4,7 +4,7 @@ use Rattle.std.proofs.Common.{◌≡◌, ℕ, zero, suc, ◌≤◌, ◌==◌, in
 use Rattle.std.proofs.Common.{if◌then◌else◌, List, [], ◌∷◌, ◌++◌, length, slice_get}
 use Rattle.std.proofs.Common.{◌-◌, Option, Some, None, refl, sym, ap, subst, ◌∙◌, arith, le_refl}
 use Rattle.std.proofs.Common.{length-append}
-use Rattle.osn_days.specs.Profile.{Profile}
+use Rattle.osn_days.specs.Rules.{Rules}
 use Rattle.osn_register.specs.declared.refusal.Refusal.{Refusal}
 use Rattle.osn_register.specs.declared.query.Query.{Query}
 use Rattle.osn_register.specs.declared.edit.Edit.{Edit}
@@ -106,7 +106,7 @@ check_known looks n a live (Marked q s) h = entering_known looks n a live (s == 
 check_known looks n a live (Entered q s k) h = h
 check_known looks n a live (Answered s k) h = h
 
-answer_known : (p : Profile) (o : ObjectState) (looks : Looks) (n a : ℕ) (x : ReaderState) →
+answer_known : (p : Rules) (o : ObjectState) (looks : Looks) (n a : ℕ) (x : ReaderState) →
     Knows looks n a (Some x) → Knows looks n a (Some (answer p o a x).at)
 answer_known p o looks n a Idle h = h
 answer_known p o looks n a (Noted q s) h = h
@@ -137,7 +137,7 @@ same_staged : (s : ObjectState) (e : Edit) (f : Option Refusal) →
 same_staged s e None = refl
 same_staged s e (Some f) = refl
 
-stage_known : (p : Profile) (looks : Looks) (c : CoreState) (e : Edit) (f : Option Refusal)
+stage_known : (p : Rules) (looks : Looks) (c : CoreState) (e : Edit) (f : Option Refusal)
     (phase : Phase) → AllKnown looks (length c.object.batches) c.control.readers →
     AllKnown looks
     (length (core_in phase (record c { object = state_unless f (with_pending c.object e) c.object })
@@ -174,7 +174,7 @@ publish_known looks c Ready h r =
 publish_known looks c Draining h r = h r
 publish_known looks c Claimed h r = h r
 
-pub step_known : (p : Profile) (looks : Looks) (c : CoreState) (step : Step) →
+pub step_known : (p : Rules) (looks : Looks) (c : CoreState) (step : Step) →
     AllKnown looks (length c.object.batches) c.control.readers →
     AllKnown (looks_after looks step (out_of p c step))
     (length (core_after p c step).object.batches) (core_after p c step).control.readers

@@ -2,70 +2,76 @@
 use Rattle.std.proofs.Common.{◌≡◌, ℕ, ◌+◌, ◌<◌, List, [], ◌∷◌, ◌++◌, length, get_or, take, drop}
 use Rattle.std.proofs.Common.{None, sym, ap, subst, refl, ◌∙◌}
 use Rattle.std.proofs.lemmas.List.{drop_more, take_more, take-append-drop}
-use Rattle.osn_days.specs.Profile.{Profile}
+use Rattle.osn_days.specs.Rules.{Rules}
 use Rattle.osn_register.specs.declared.limits.Limits.{Limits}
 use Rattle.osn_register.specs.declared.edit.Edit.{Edit}
 use Rattle.osn_register.specs.Lawful.{AreLawful}
-use Rattle.osn_register.specs.Plain.{LandModel, refusal, effect, applied, applied_all}
+use Rattle.osn_register.specs.Plain.{EntryModel, refusal, effect, applied, applied_all}
 use Rattle.osn_register.specs.Plain.{unless_refused}
 
-pub applied_all-append : (p : Profile) (limits : Limits) (lands : List LandModel)
+pub applied_all-append : (p : Rules) (limits : Limits) (territories : List EntryModel)
     (es fs : List Edit) →
-    applied_all p limits lands (es ++ fs) ≡ applied_all p limits (applied_all p limits lands es) fs
-applied_all-append p limits lands [] fs = refl
-applied_all-append p limits lands (e ∷ es) fs = applied_all-append p limits
-    (applied p limits lands e) es fs
+    applied_all p limits territories (es ++ fs)
+    ≡ applied_all p limits (applied_all p limits territories es) fs
+applied_all-append p limits territories [] fs = refl
+applied_all-append p limits territories (e ∷ es) fs = applied_all-append p limits
+    (applied p limits territories e) es fs
 
-pub applied-lawful : (p : Profile) (limits : Limits) (lands : List LandModel) (e : Edit) →
-    refusal p limits lands e ≡ None → applied p limits lands e ≡ effect lands e
-applied-lawful p limits lands e none = ap (λ r. unless_refused r (effect lands e) lands) none
+pub applied-lawful : (p : Rules) (limits : Limits) (territories : List EntryModel) (e : Edit) →
+    refusal p limits territories e ≡ None → applied p limits territories e ≡ effect territories e
+applied-lawful p limits territories e none =
+    ap (λ r. unless_refused r (effect territories e) territories) none
 
-pub AreLawful-push : (p : Profile) (limits : Limits) (lands : List LandModel) (es : List Edit)
-    (e : Edit) → AreLawful p limits lands es → refusal p limits (applied_all p limits lands es) e ≡
-    None → AreLawful p limits lands (es ++ e ∷ [])
-AreLawful-push p limits lands [] e lawful none = (none, tt)
-AreLawful-push p limits lands (d ∷ es) e lawful none = (
+pub AreLawful-push : (p : Rules) (limits : Limits) (territories : List EntryModel) (es : List Edit)
+    (e : Edit) → AreLawful p limits territories es →
+    refusal p limits (applied_all p limits territories es) e ≡
+    None → AreLawful p limits territories (es ++ e ∷ [])
+AreLawful-push p limits territories [] e lawful none = (none, tt)
+AreLawful-push p limits territories (d ∷ es) e lawful none = (
   lawful.0,
-  AreLawful-push p limits (effect lands d) es e lawful.1
+  AreLawful-push p limits (effect territories d) es e lawful.1
       (subst (λ ls. refusal p limits (applied_all p limits ls es) e ≡ None)
-      (applied-lawful p limits lands d lawful.0) none),
+      (applied-lawful p limits territories d lawful.0) none),
 )
 
 -- of edits that are lawful in turn the first ones are
-pub AreLawful-front : (p : Profile) (limits : Limits) (lands : List LandModel) (es fs : List Edit) →
-    AreLawful p limits lands (es ++ fs) → AreLawful p limits lands es
-AreLawful-front p limits lands [] fs lawful = tt
-AreLawful-front p limits lands (e ∷ es) fs lawful =
-    (lawful.0, AreLawful-front p limits (effect lands e) es fs lawful.1)
+pub AreLawful-front : (p : Rules) (limits : Limits) (territories : List EntryModel)
+    (es fs : List Edit) →
+    AreLawful p limits territories (es ++ fs) → AreLawful p limits territories es
+AreLawful-front p limits territories [] fs lawful = tt
+AreLawful-front p limits territories (e ∷ es) fs lawful =
+    (lawful.0, AreLawful-front p limits (effect territories e) es fs lawful.1)
 
 -- and so are those after them
-pub AreLawful-after : (p : Profile) (limits : Limits) (lands : List LandModel) (es fs : List Edit)
-    → AreLawful p limits lands (es ++ fs) → AreLawful p limits (applied_all p limits lands es) fs
-AreLawful-after p limits lands [] fs lawful = lawful
-AreLawful-after p limits lands (e ∷ es) fs lawful =
-    AreLawful-after p limits (applied p limits lands e) es fs
-    (subst (λ ls. AreLawful p limits ls (es ++ fs)) (sym (applied-lawful p limits lands e lawful.0))
-    lawful.1)
+pub AreLawful-after : (p : Rules) (limits : Limits) (territories : List EntryModel)
+    (es fs : List Edit)
+    → AreLawful p limits territories (es ++ fs) →
+    AreLawful p limits (applied_all p limits territories es) fs
+AreLawful-after p limits territories [] fs lawful = lawful
+AreLawful-after p limits territories (e ∷ es) fs lawful =
+    AreLawful-after p limits (applied p limits territories e) es fs
+    (subst (λ ls. AreLawful p limits ls (es ++ fs))
+    (sym (applied-lawful p limits territories e lawful.0)) lawful.1)
 
 -- the edit at a place is lawful after those before it
-pub lawful_at : (p : Profile) (limits : Limits) (lands : List LandModel) (es : List Edit) (i : ℕ)
-    (e : Edit) → i < length es → get_or es i e ≡ e → AreLawful p limits lands es →
-    refusal p limits (applied_all p limits lands (take i es)) e ≡ None
-lawful_at p limits lands es i e within is lawful =
-    let behind = AreLawful-after p limits lands (take i es) (drop i es)
-    (subst (AreLawful p limits lands) (sym (take-append-drop i es)) lawful) in
+pub lawful_at : (p : Rules) (limits : Limits) (territories : List EntryModel) (es : List Edit)
+    (i : ℕ) (e : Edit) → i < length es → get_or es i e ≡ e → AreLawful p limits territories es →
+    refusal p limits (applied_all p limits territories (take i es)) e ≡ None
+lawful_at p limits territories es i e within is lawful =
+    let behind = AreLawful-after p limits territories (take i es) (drop i es)
+    (subst (AreLawful p limits territories) (sym (take-append-drop i es)) lawful) in
     let left : drop i es ≡ e ∷ drop (i + 1) es =
     drop_more es i e within ∙ ap (λ x. x ∷ drop (i + 1) es) is in
-    (subst (AreLawful p limits (applied_all p limits lands (take i es))) left behind).0
+    (subst (AreLawful p limits (applied_all p limits territories (take i es))) left behind).0
 
 -- with it, they lead to its effect on what those before it lead to
-pub applied_at : (p : Profile) (limits : Limits) (lands : List LandModel) (es : List Edit) (i : ℕ)
-    (e : Edit) → i < length es → get_or es i e ≡ e → AreLawful p limits lands es →
-    effect (applied_all p limits lands (take i es)) e
-    ≡ applied_all p limits lands (take (i + 1) es)
-applied_at p limits lands es i e within is lawful =
-    sym (applied-lawful p limits (applied_all p limits lands (take i es)) e
-    (lawful_at p limits lands es i e within is lawful))
-    ∙ sym (applied_all-append p limits lands (take i es) (e ∷ []))
-    ∙ ap (applied_all p limits lands)
+pub applied_at : (p : Rules) (limits : Limits) (territories : List EntryModel) (es : List Edit)
+    (i : ℕ) (e : Edit) → i < length es → get_or es i e ≡ e → AreLawful p limits territories es →
+    effect (applied_all p limits territories (take i es)) e
+    ≡ applied_all p limits territories (take (i + 1) es)
+applied_at p limits territories es i e within is lawful =
+    sym (applied-lawful p limits (applied_all p limits territories (take i es)) e
+    (lawful_at p limits territories es i e within is lawful))
+    ∙ sym (applied_all-append p limits territories (take i es) (e ∷ []))
+    ∙ ap (applied_all p limits territories)
     (ap (λ x. take i es ++ x ∷ []) (sym is) ∙ sym (take_more es i e within))

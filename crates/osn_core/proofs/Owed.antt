@@ -2,7 +2,7 @@
 use Rattle.std.proofs.Common.{◌≡◌, ℕ, ◌==◌, inl, inr, if◌then◌else◌, List, [], ◌∷◌, ◌++◌}
 use Rattle.std.proofs.Common.{length, take, Option, Some, None, refl, sym, ap, subst, ◌∙◌, le_refl}
 use Rattle.std.proofs.lemmas.List.{take_all, take-append-le}
-use Rattle.osn_days.specs.Profile.{Profile}
+use Rattle.osn_days.specs.Rules.{Rules}
 use Rattle.osn_register.specs.declared.refusal.Refusal.{Refusal}
 use Rattle.osn_register.specs.declared.query.Query.{Query}
 use Rattle.osn_register.specs.declared.edit.Edit.{Edit}
@@ -18,7 +18,7 @@ use Rattle.osn_core.proofs.Standing.{same_or_not, test_same, test_other, put_her
 use Rattle.osn_core.proofs.Knows.{Knows}
 
 -- the reply that a reader has asked for and has not got yet
-abbrev pub owed : Profile → ObjectState → Option ReaderState → List Reply
+abbrev pub owed : Rules → ObjectState → Option ReaderState → List Reply
 owed p s None = []
 owed p s (Some Idle) = []
 owed p s (Some (Noted q side)) = []
@@ -27,7 +27,7 @@ owed p s (Some (Entered q side k)) = reply_at p s.limits (take k s.batches) q �
 owed p s (Some (Answered side k)) = []
 
 -- a reader is put in a state in which it is owed what it was owed before
-pub still_owed : (p : Profile) (s : ObjectState) (readers : List ReaderState) (a r : ℕ)
+pub still_owed : (p : Rules) (s : ObjectState) (readers : List ReaderState) (a r : ℕ)
     (x y : ReaderState) → reader_at readers a ≡ Some x → owed p s (Some y) ≡ owed p s (Some x) →
     (rest : List Reply) → owed p s (reader_at (set_reader readers a y) r) ++ rest
     ≡ owed p s (reader_at readers r) ++ rest
@@ -48,7 +48,7 @@ if_other : (a r : ℕ) (reply : Reply) → (a ≡ r → ⊥) →
 if_other a r reply ne = ap (λ b. if b then reply ∷ [] else []) (test_other a r ne)
 
 -- a reader enters: it is owed the reply that the object gives it there
-pub enters : (p : Profile) (s : ObjectState) (readers : List ReaderState) (a r side : ℕ)
+pub enters : (p : Rules) (s : ObjectState) (readers : List ReaderState) (a r side : ℕ)
     (q : Query) →
     reader_at readers a ≡ Some (Marked q side) → (rest : List Reply) →
     owed p s (reader_at (set_reader readers a (Entered q side (length s.batches))) r) ++ rest
@@ -71,7 +71,7 @@ enters p s readers a r side q is rest =
     ]
 
 -- a reader is answered: it gets what it was owed
-pub answers : (p : Profile) (s : ObjectState) (readers : List ReaderState) (a r side k : ℕ)
+pub answers : (p : Rules) (s : ObjectState) (readers : List ReaderState) (a r side k : ℕ)
     (q : Query) → reader_at readers a ≡ Some (Entered q side k) → (rest : List Reply) →
     (if a == r then reply_at p s.limits (take k s.batches) q ∷ [] else [])
     ++ (owed p s (reader_at (set_reader readers a (Answered side k)) r) ++ rest)
@@ -93,7 +93,7 @@ answers p s readers a r side k q is rest =
     ]
 
 -- what the editor stages and publishes changes nothing of what readers are owed
-pub owed_staged : (p : Profile) (s : ObjectState) (e : Edit) (f : Option Refusal)
+pub owed_staged : (p : Rules) (s : ObjectState) (e : Edit) (f : Option Refusal)
     (at : Option ReaderState) → owed p (state_unless f (with_pending s e) s) at ≡ owed p s at
 owed_staged p s e None None = refl
 owed_staged p s e None (Some Idle) = refl
@@ -103,7 +103,7 @@ owed_staged p s e None (Some (Entered q side k)) = refl
 owed_staged p s e None (Some (Answered side k)) = refl
 owed_staged p s e (Some f) at = refl
 
-pub owed_published : (p : Profile) (s : ObjectState) (looks : Looks) (r : ℕ)
+pub owed_published : (p : Rules) (s : ObjectState) (looks : Looks) (r : ℕ)
     (at : Option ReaderState) → Knows looks (length s.batches) r at →
     owed p (with_edition s) at ≡ owed p s at
 owed_published p s looks r None h = refl

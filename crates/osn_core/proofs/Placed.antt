@@ -6,19 +6,20 @@ use Rattle.std.proofs.Common.{append-nil}
 use Rattle.std.proofs.lemmas.Bool.{false≢true}
 use Rattle.std.proofs.lemmas.Bool.Decides.{nat_tests}
 use Rattle.std.proofs.lemmas.List.{take_all}
-use Rattle.osn_days.specs.Profile.{newest_rules}
-use Rattle.osn_register.specs.Plain.{LandModel, applied_all}
+use Rattle.osn_days.specs.Rules.{newest_rules}
+use Rattle.osn_register.specs.Plain.{EntryModel, applied_all}
 use Rattle.osn_register.specs.declared.query.Query.{Query}
 use Rattle.osn_core.specs.declared.phase.Phase.{Phase}
 use Rattle.osn_core.specs.declared.phase.Phase.TheVariants.{Ready, Draining, Claimed}
 use Rattle.osn_core.specs.declared.reader.ReaderState.{ReaderState}
 use Rattle.osn_core.specs.declared.reader.ReaderState.TheVariants.{Idle, Noted, Marked, Entered}
 use Rattle.osn_core.specs.declared.reader.ReaderState.TheVariants.{Answered}
-use Rattle.osn_core.specs.Sequential.{ObjectState, joined, lands_of, without_last}
+use Rattle.osn_core.specs.Sequential.{ObjectState, joined, territories_of, without_last}
 use Rattle.osn_core.specs.Control.{reader_at, look, pin, check, leave, entering, marks, is_marked}
 use Rattle.osn_core.specs.Machine.{CoreState}
-use Rattle.osn_core.specs.LiveAndStandby.{standby_lands, side_lands, edition_lands, IsSeenBy}
-use Rattle.osn_core.specs.LiveAndStandbyInside.{lagging_lands}
+use Rattle.osn_core.specs.LiveAndStandby.{standby_territories, side_territories}
+use Rattle.osn_core.specs.LiveAndStandby.{edition_territories, IsSeenBy}
+use Rattle.osn_core.specs.LiveAndStandbyInside.{lagging_territories}
 use Rattle.osn_core.specs.CoreInside.{IsLag, IsIn, IsPlaced, IsCore}
 use Rattle.osn_core.proofs.Batches.{without_none, without_batch}
 use Rattle.osn_core.proofs.Standing.{test_same, test_other}
@@ -147,37 +148,38 @@ ready_placed live n (Some (Answered s k)) h = ready_in live n s k h
 
 -- what the standby shows, by the phase
 lagging_is : (s : ObjectState) (lag : ℕ) → s.pending ≡ [] →
-    lagging_lands newest_rules (record { object = s; lag = lag })
+    lagging_territories newest_rules (record { object = s; lag = lag })
     ≡ applied_all newest_rules s.limits [] (without_last lag (joined s.batches))
 lagging_is s lag none = ap (λ es. applied_all newest_rules s.limits [] (without_last lag es))
     (ap (λ es. joined s.batches ++ es) none ∙ append-nil (joined s.batches))
 
 standby_register : (s : ObjectState) (lag : ℕ) (phase : Phase) → IsLag s lag phase →
-    lagging_lands newest_rules (record { object = s; lag = lag })
-    ≡ standby_lands newest_rules s lag phase
+    lagging_territories newest_rules (record { object = s; lag = lag })
+    ≡ standby_territories newest_rules s lag phase
 standby_register s lag Ready h = ap (applied_all newest_rules s.limits [])
     (without_none (joined s.batches ++ s.pending) lag h)
 standby_register s lag Draining h = lagging_is s lag h.0
 standby_register s lag Claimed h = lagging_is s lag h
 
 pub standby_side : (c : CoreState) (side : ℕ) → IsCore c → (side == c.control.side) ≡ false →
-    lagging_lands newest_rules (record { object = c.object; lag = c.control.lag })
-    ≡ side_lands newest_rules c side
+    lagging_territories newest_rules (record { object = c.object; lag = c.control.lag })
+    ≡ side_territories newest_rules c side
 standby_side c side h other =
     standby_register c.object c.control.lag c.control.phase h.lag
-    ∙ sym (ap (λ b. if b then lands_of newest_rules c.object.limits c.object.batches
-    else standby_lands newest_rules c.object c.control.lag c.control.phase) other)
+    ∙ sym (ap (λ b. if b then territories_of newest_rules c.object.limits c.object.batches
+    else standby_territories newest_rules c.object c.control.lag c.control.phase) other)
 
 pub live_side : (c : CoreState) (side : ℕ) → (side == c.control.side) ≡ true →
-    lands_of newest_rules c.object.limits c.object.batches ≡ side_lands newest_rules c side
+    territories_of newest_rules c.object.limits c.object.batches
+    ≡ side_territories newest_rules c side
 live_side c side same =
-    sym (ap (λ b. if b then lands_of newest_rules c.object.limits c.object.batches
-    else standby_lands newest_rules c.object c.control.lag c.control.phase) same)
+    sym (ap (λ b. if b then territories_of newest_rules c.object.limits c.object.batches
+    else standby_territories newest_rules c.object c.control.lag c.control.phase) same)
 
 -- while the standby is draining it lacks the last batch
 draining_is : (s : ObjectState) (lag : ℕ) (phase : Phase) (k : ℕ) → IsLag s lag phase →
     phase ≡ Draining → k + 1 ≡ length s.batches →
-    standby_lands newest_rules s lag phase ≡ edition_lands newest_rules s k
+    standby_territories newest_rules s lag phase ≡ edition_territories newest_rules s k
 draining_is s lag Ready k h is all = cc
 draining_is s lag Draining k h is all =
     ap (applied_all newest_rules s.limits [])
@@ -187,34 +189,34 @@ draining_is s lag Claimed k h is all = cc
 -- whoever is in a side sees in it the editions that it entered with
 seen_in : (c : CoreState) (side s k : ℕ) → IsCore c →
     IsIn c.control.side c.control.phase (length c.object.batches) s k → s ≡ side →
-    side_lands newest_rules c side ≡ edition_lands newest_rules c.object k
+    side_territories newest_rules c side ≡ edition_territories newest_rules c.object k
 seen_in c side s k h there same = elim there [
   | inl (live, all) ↦
       sym (live_side c side (test_same side c.control.side (sym same ∙ live)))
-      ∙ ap (lands_of newest_rules c.object.limits)
+      ∙ ap (territories_of newest_rules c.object.limits)
       (sym (take_all k c.object.batches (omega (arith, all))))
   | inr (standby, draining, all) ↦
-      ap (λ b. if b then lands_of newest_rules c.object.limits c.object.batches
-      else standby_lands newest_rules c.object c.control.lag c.control.phase)
+      ap (λ b. if b then territories_of newest_rules c.object.limits c.object.batches
+      else standby_territories newest_rules c.object c.control.lag c.control.phase)
       (test_other side c.control.side (λ e. omega (arith, h.side, e, same, standby)))
       ∙ draining_is c.object c.control.lag c.control.phase k h.lag draining all
 ]
 
-seen_at : (c : CoreState) (side : ℕ) (lands : List LandModel) (at : Option ReaderState) →
-    IsCore c → lands ≡ side_lands newest_rules c side →
+seen_at : (c : CoreState) (side : ℕ) (territories : List EntryModel) (at : Option ReaderState) →
+    IsCore c → territories ≡ side_territories newest_rules c side →
     IsPlaced c.control.side c.control.phase (length c.object.batches) at →
-    IsSeenBy newest_rules c.object side lands at
-seen_at c side lands None h is there = tt
-seen_at c side lands (Some Idle) h is there = tt
-seen_at c side lands (Some (Noted q s)) h is there = tt
-seen_at c side lands (Some (Marked q s)) h is there = tt
-seen_at c side lands (Some (Entered q s k)) h is there =
+    IsSeenBy newest_rules c.object side territories at
+seen_at c side territories None h is there = tt
+seen_at c side territories (Some Idle) h is there = tt
+seen_at c side territories (Some (Noted q s)) h is there = tt
+seen_at c side territories (Some (Marked q s)) h is there = tt
+seen_at c side territories (Some (Entered q s k)) h is there =
     λ same. is ∙ seen_in c side s k h there same
-seen_at c side lands (Some (Answered s k)) h is there =
+seen_at c side territories (Some (Answered s k)) h is there =
     λ same. is ∙ seen_in c side s k h there same
 
-pub seen_by : (c : CoreState) (side : ℕ) (lands : List LandModel) (reader : ℕ) → IsCore c →
-    lands ≡ side_lands newest_rules c side →
-    IsSeenBy newest_rules c.object side lands (reader_at c.control.readers reader)
-seen_by c side lands reader h is =
-    seen_at c side lands (reader_at c.control.readers reader) h is (h.readers reader)
+pub seen_by : (c : CoreState) (side : ℕ) (territories : List EntryModel) (reader : ℕ) → IsCore c →
+    territories ≡ side_territories newest_rules c side →
+    IsSeenBy newest_rules c.object side territories (reader_at c.control.readers reader)
+seen_by c side territories reader h is =
+    seen_at c side territories (reader_at c.control.readers reader) h is (h.readers reader)

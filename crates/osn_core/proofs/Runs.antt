@@ -4,7 +4,7 @@ use Rattle.std.proofs.Common.{◌≡◌, ℕ, ◌+◌, ◌==◌, Bool, true, fal
 use Rattle.std.proofs.Common.{List, [], ◌∷◌, ◌++◌, length, Option, Some}
 use Rattle.std.proofs.Common.{None, refl, sym, ap, ◌∙◌, ◌-◌, append_assoc}
 use Rattle.std.proofs.Common.{append-nil}
-use Rattle.osn_days.specs.Profile.{Profile}
+use Rattle.osn_days.specs.Rules.{Rules}
 use Rattle.osn_register.specs.declared.refusal.Refusal.{Refusal}
 use Rattle.osn_register.specs.declared.query.Query.{Query}
 use Rattle.osn_register.specs.declared.edit.Edit.{Edit}
@@ -32,7 +32,7 @@ use Rattle.osn_core.proofs.Owed.{owed, still_owed, enters, answers, owed_staged,
 
 -- the replies that are given and owed after a step are those owed before, and the object's reply to
 -- its call
-abbrev Settles : Profile → ℕ → Looks → CoreState → Step → Type 0
+abbrev Settles : Rules → ℕ → Looks → CoreState → Step → Type 0
 Settles p r looks c step = (calls : List Call) →
     reply_to r (out_of p c step)
     ++ (owed p (core_after p c step).object (reader_at (core_after p c step).control.readers r)
@@ -40,7 +40,7 @@ Settles p r looks c step = (calls : List Call) →
     ≡ owed p c.object (reader_at c.control.readers r)
     ++ replies_to r (outs_to p c.object (call_of looks step (out_of p c step) ++ calls))
 
-look_settles : (p : Profile) (s : ObjectState) (readers : List ReaderState) (a r live : ℕ)
+look_settles : (p : Rules) (s : ObjectState) (readers : List ReaderState) (a r live : ℕ)
     (q : Query) (looks : Looks) (at : Option ReaderState) → reader_at readers a ≡ at →
     (calls : List Call) →
     reply_to r (out_at (look live q) at)
@@ -64,7 +64,7 @@ look_settles p s readers a r live q looks (Some (Answered side k)) is calls =
     still_owed p s readers a r (Answered side k) (Answered side k) is refl
     (replies_to r (outs_to p s calls))
 
-pin_settles : (p : Profile) (s : ObjectState) (readers : List ReaderState) (a r : ℕ)
+pin_settles : (p : Rules) (s : ObjectState) (readers : List ReaderState) (a r : ℕ)
     (looks : Looks) (at : Option ReaderState) → reader_at readers a ≡ at → (calls : List Call) →
     reply_to r (out_at pin at)
     ++ (owed p s (reader_at (readers_after pin at readers a) r) ++ replies_to r (outs_to p s calls))
@@ -86,7 +86,7 @@ pin_settles p s readers a r looks (Some (Answered side k)) is calls =
     still_owed p s readers a r (Answered side k) (Answered side k) is refl
     (replies_to r (outs_to p s calls))
 
-entering_settles : (p : Profile) (s : ObjectState) (readers : List ReaderState)
+entering_settles : (p : Rules) (s : ObjectState) (readers : List ReaderState)
     (a r live side : ℕ) (q : Query) (looks : Looks) (b : Bool) →
     reader_at readers a ≡ Some (Marked q side) → looks a ≡ Some q → (calls : List Call) →
     reply_to r (entering b live (length s.batches) q side).out
@@ -104,7 +104,7 @@ entering_settles p s readers a r live side q looks false is looked calls =
     still_owed p s readers a r (Marked q side) (Noted q live) is refl
     (replies_to r (outs_to p s calls))
 
-check_settles : (p : Profile) (s : ObjectState) (readers : List ReaderState) (a r live : ℕ)
+check_settles : (p : Rules) (s : ObjectState) (readers : List ReaderState) (a r live : ℕ)
     (looks : Looks) (at : Option ReaderState) → reader_at readers a ≡ at →
     Knows looks (length s.batches) a at → (calls : List Call) →
     reply_to r (out_at (check live (length s.batches)) at)
@@ -128,7 +128,7 @@ check_settles p s readers a r live looks (Some (Answered side k)) is h calls =
     still_owed p s readers a r (Answered side k) (Answered side k) is refl
     (replies_to r (outs_to p s calls))
 
-answer_settles : (p : Profile) (s : ObjectState) (readers : List ReaderState) (a r : ℕ)
+answer_settles : (p : Rules) (s : ObjectState) (readers : List ReaderState) (a r : ℕ)
     (looks : Looks) (at : Option ReaderState) → reader_at readers a ≡ at → (calls : List Call) →
     reply_to r (out_at (answer p s a) at)
     ++ (owed p s (reader_at (readers_after (answer p s a) at readers a) r)
@@ -150,7 +150,7 @@ answer_settles p s readers a r looks (Some (Answered side k)) is calls =
     still_owed p s readers a r (Answered side k) (Answered side k) is refl
     (replies_to r (outs_to p s calls))
 
-leave_settles : (p : Profile) (s : ObjectState) (readers : List ReaderState) (a r : ℕ)
+leave_settles : (p : Rules) (s : ObjectState) (readers : List ReaderState) (a r : ℕ)
     (looks : Looks) (at : Option ReaderState) → reader_at readers a ≡ at → (calls : List Call) →
     reply_to r (out_at leave at)
     ++ (owed p s (reader_at (readers_after leave at readers a) r)
@@ -191,7 +191,7 @@ pub publish_calls : (looks : Looks) (n : ℕ) (f : Option Refusal) →
 publish_calls looks n None = refl
 publish_calls looks n (Some f) = refl
 
-stage_settles : (p : Profile) (r : ℕ) (looks : Looks) (c : CoreState) (e : Edit) (phase : Phase)
+stage_settles : (p : Rules) (r : ℕ) (looks : Looks) (c : CoreState) (e : Edit) (phase : Phase)
     (calls : List Call) →
     reply_to r (out_in phase (stage_out p c.object e))
     ++ (owed p (core_in phase (record c { object = stage_after p c.object e }) c).object
@@ -214,7 +214,7 @@ stage_settles p r looks c e Ready calls =
 stage_settles p r looks c e Draining calls = refl
 stage_settles p r looks c e Claimed calls = refl
 
-published_settles : (p : Profile) (r : ℕ) (looks : Looks) (c : CoreState) (f : Option Refusal) →
+published_settles : (p : Rules) (r : ℕ) (looks : Looks) (c : CoreState) (f : Option Refusal) →
     publish_refusal c.object ≡ f →
     Knows looks (length c.object.batches) r (reader_at c.control.readers r) →
     (calls : List Call) →
@@ -247,7 +247,7 @@ published_settles p r looks c (Some g) is h calls =
     ∙ sym (ap (λ cs. owed p s at ++ replies_to r (outs_to p s (cs ++ calls)))
     (publish_calls looks n (publish_refusal s)))
 
-publish_settles : (p : Profile) (r : ℕ) (looks : Looks) (c : CoreState) (phase : Phase) →
+publish_settles : (p : Rules) (r : ℕ) (looks : Looks) (c : CoreState) (phase : Phase) →
     Knows looks (length c.object.batches) r (reader_at c.control.readers r) →
     (calls : List Call) →
     reply_to r (out_in phase (publish_out c.object))
@@ -275,7 +275,7 @@ absorb_silent r b Draining = refl
 absorb_silent r true Claimed = refl
 absorb_silent r false Claimed = refl
 
-step_settles : (p : Profile) (r : ℕ) (looks : Looks) (c : CoreState) (step : Step) →
+step_settles : (p : Rules) (r : ℕ) (looks : Looks) (c : CoreState) (step : Step) →
     AllKnown looks (length c.object.batches) c.control.readers → Settles p r looks c step
 step_settles p r looks c (Look a q) h calls =
     look_settles p c.object c.control.readers a r c.control.side q looks
@@ -303,7 +303,7 @@ step_settles p r looks c Absorb h calls =
     (absorb_silent r (c.control.lag == 0) c.control.phase)
 
 -- whatever the steps, a reader gets the first of what it is owed and of what the object gives it
-pub replies_of_run : (p : Profile) (r : ℕ) (looks : Looks) (c : CoreState) (steps : List Step) →
+pub replies_of_run : (p : Rules) (r : ℕ) (looks : Looks) (c : CoreState) (steps : List Step) →
     AllKnown looks (length c.object.batches) c.control.readers →
     (rest : List Reply) × (replies_to r (outs_of p c steps) ++ rest
     ≡ owed p c.object (reader_at c.control.readers r)

@@ -1,7 +1,7 @@
 -- A draft: what of the sequential object the next edit and the next edition depend on.
 use Rattle.std.specs.Prelude.{ℕ, ◌≡◌, ◌+◌, ◌==◌, nat_lt, if◌then◌else◌, List, [], ◌∷◌, ◌++◌, length}
 use Rattle.std.specs.Prelude.{Option, Some, None}
-use Rattle.osn_days.specs.Profile.{newest_rules}
+use Rattle.osn_days.specs.Rules.{newest_rules}
 use Rattle.osn_register.specs.declared.limits.Limits.{Limits}
 use Rattle.osn_register.specs.declared.edit.Edit.{Edit}
 use Rattle.osn_register.specs.declared.refusal.Refusal.{Refusal}
@@ -9,7 +9,7 @@ use Rattle.osn_register.specs.declared.refusal.Refusal.TheVariants.{NothingPendi
 use Rattle.osn_register.specs.declared.refusal.Refusal.TheVariants.{EditionsFull}
 use Rattle.osn_register.specs.Refusal.{or_else}
 use Rattle.osn_register.specs.Plain.{RegisterModel, refusal, effect}
-use Rattle.osn_core.specs.Sequential.{ObjectState, draft_lands, edits_in}
+use Rattle.osn_core.specs.Sequential.{ObjectState, draft_territories, edits_in}
 
 -- the register of all edits, the pending ones, and how many edits and editions there are
 pub record DraftState : Type 0 where
@@ -20,7 +20,7 @@ pub record DraftState : Type 0 where
 
 abbrev pub first_draft : Limits → DraftState
 first_draft limits = record {
-  register = record { limits = limits; lands = [] };
+  register = record { limits = limits; territories = [] };
   pending = [];
   edits = 0;
   editions = 0;
@@ -29,7 +29,7 @@ first_draft limits = record {
 -- the first refusal of an edit, the same as that of the sequential object
 abbrev pub edit_refusal : DraftState → Edit → Option Refusal
 edit_refusal d e =
-    or_else (refusal newest_rules d.register.limits d.register.lands e)
+    or_else (refusal newest_rules d.register.limits d.register.territories e)
     (if nat_lt d.edits d.register.limits.edits then None else Some JournalFull)
 
 -- the first refusal of a publish, the same as that of the sequential object
@@ -41,7 +41,7 @@ edition_refusal d =
 -- one edit more that is pending
 abbrev pub draft_with_edit : DraftState → Edit → DraftState
 draft_with_edit d e = record {
-  register = record d.register { lands = effect d.register.lands e };
+  register = record d.register { territories = effect d.register.territories e };
   pending = d.pending ++ e ∷ [];
   edits = d.edits + 1;
   editions = d.editions;
@@ -58,6 +58,6 @@ object_of d batches =
 
 -- the draft of the sequential object with these batches
 pub record IsDraftOf (d : DraftState) (batches : List (List Edit)) : Type 0 where
-  pub lands : d.register.lands ≡ draft_lands newest_rules (object_of d batches)
+  pub territories : d.register.territories ≡ draft_territories newest_rules (object_of d batches)
   pub edits : d.edits ≡ edits_in (object_of d batches)
   pub editions : d.editions ≡ length batches

@@ -4,7 +4,7 @@
 use Rattle.std.specs.Prelude.{◌≡◌, ℕ, ◌≤◌, ◌==◌, if◌then◌else◌, Bool, true, false, List, [], ◌∷◌}
 use Rattle.std.specs.Prelude.{◌++◌, map, Option, Some, None}
 use Rattle.std.specs.List.{filter}
-use Rattle.osn_days.specs.Profile.{Profile}
+use Rattle.osn_days.specs.Rules.{Rules}
 use Rattle.osn_register.specs.declared.edit.Edit.{Edit}
 use Rattle.osn_register.specs.declared.query.Query.{Query}
 use Rattle.osn_core.specs.declared.step.Reply.{Reply}
@@ -22,18 +22,18 @@ pub data Call : Type 0 where
   Asks : ℕ → Query → Call
 
 -- what the sequential object answers a call, and what it leaves
-abbrev pub out_to : Profile → ObjectState → Call → Out
+abbrev pub out_to : Rules → ObjectState → Call → Out
 out_to p s (Stages edit) = stage_out p s edit
 out_to p s Publishes = publish_out s
 out_to p s (Asks reader query) = Replied reader (reply_at p s.limits s.batches query)
 
-abbrev pub state_after : Profile → ObjectState → Call → ObjectState
+abbrev pub state_after : Rules → ObjectState → Call → ObjectState
 state_after p s (Stages edit) = stage_after p s edit
 state_after p s Publishes = publish_after s
 state_after p s (Asks reader query) = s
 
 -- what it answers the calls, run on them in order
-abbrev pub outs_to : Profile → ObjectState → List Call → List Out
+abbrev pub outs_to : Rules → ObjectState → List Call → List Out
 outs_to p s [] = []
 outs_to p s (call ∷ calls) = out_to p s call ∷ outs_to p (state_after p s call) calls
 

@@ -1,10 +1,10 @@
 -- How a draft and another register keep the sequential object's state. One is the live register,
 -- and the other a standby that may still lack the end of the last batch.
 use Rattle.std.specs.Prelude.{◌≡◌, ℕ, ◌≤◌, ◌⊎◌, List, [], ◌++◌, length}
-use Rattle.osn_days.specs.Profile.{Profile, newest_rules}
+use Rattle.osn_days.specs.Rules.{Rules, newest_rules}
 use Rattle.osn_register.specs.declared.limits.Limits.{Limits}
 use Rattle.osn_register.specs.declared.edit.Edit.{Edit}
-use Rattle.osn_register.specs.Plain.{LandModel, RegisterModel, applied_all}
+use Rattle.osn_register.specs.Plain.{EntryModel, RegisterModel, applied_all}
 use Rattle.osn_core.specs.declared.live_and_standby.LiveAndStandby.TheInside.{Inside}
 use Rattle.osn_core.specs.Sequential.{ObjectState, opened, joined, IsSound, last_batch}
 use Rattle.osn_core.specs.Sequential.{without_last}
@@ -19,8 +19,8 @@ abbrev pub first_copies : Limits → CopiesState
 first_copies limits = record { object = opened limits; lag = 0 }
 
 -- the territories of all edits, published and pending, except the last ones
-abbrev pub lagging_lands : Profile → CopiesState → List LandModel
-lagging_lands p c = applied_all p c.object.limits []
+abbrev pub lagging_territories : Rules → CopiesState → List EntryModel
+lagging_territories p c = applied_all p c.object.limits []
     (without_last c.lag (joined c.object.batches ++ c.object.pending))
 
 abbrev pub copies_in : Inside → CopiesState
@@ -34,7 +34,8 @@ pub record AreInStep (d : DraftState) (batches : List (List Edit)) (lag : ℕ) (
   pub other_is : other ≡
       record {
         limits = d.register.limits;
-        lands = applied_all newest_rules d.register.limits [] (without_last lag (joined batches));
+        territories = applied_all newest_rules d.register.limits []
+            (without_last lag (joined batches));
       }
   pub lag_is_of_last : lag ≤ length (last_batch batches)
   pub caught_up : (d.pending ≡ []) ⊎ (lag ≡ 0)

@@ -1,11 +1,11 @@
 -- The machine: what each step gives, and what it leaves, from control and the sequential object.
 use Rattle.std.specs.Prelude.{ℕ, Bool, true, false, ◌-◌, ◌==◌, ◌&&◌, nat_le, if◌then◌else◌, List}
 use Rattle.std.specs.Prelude.{[], ◌∷◌, length, take, Option, Some, None}
-use Rattle.osn_days.specs.Profile.{Profile}
+use Rattle.osn_days.specs.Rules.{Rules}
 use Rattle.osn_register.specs.declared.limits.Limits.{Limits}
 use Rattle.osn_register.specs.declared.refusal.Refusal.{Refusal}
 use Rattle.osn_register.specs.declared.refusal.Refusal.TheVariants.{BadCount}
-use Rattle.osn_register.specs.Query.{names_land}
+use Rattle.osn_register.specs.Query.{names_territory}
 use Rattle.osn_register.specs.Answer.{takes_memory}
 use Rattle.osn_core.specs.declared.phase.Phase.{Phase}
 use Rattle.osn_core.specs.declared.phase.Phase.TheVariants.{Ready, Draining}
@@ -34,7 +34,7 @@ abbrev pub first_core : Limits → ℕ → CoreState
 first_core limits readers = record { object = opened limits; control = first_control readers }
 
 -- a reader that has entered gets the sequential object's reply under the editions of that time
-abbrev pub answer : Profile → ObjectState → ℕ → ReaderState → Move
+abbrev pub answer : Rules → ObjectState → ℕ → ReaderState → Move
 answer p s reader (Entered query side edition) = record {
   out = Says.Replied reader (reply_at p s.limits (take edition s.batches) query);
   at = Answered side edition;
@@ -42,7 +42,7 @@ answer p s reader (Entered query side edition) = record {
 answer p s reader at = stays at
 
 -- what a step of a reader does with the reader's state. A step of the editor does nothing with it
-abbrev pub move_of : Profile → CoreState → Step → ReaderState → Move
+abbrev pub move_of : Rules → CoreState → Step → ReaderState → Move
 move_of p c (Look reader query) at = look c.control.side query at
 move_of p c (Pin reader) at = pin at
 move_of p c (Check reader) at = check c.control.side (length c.object.batches) at
@@ -55,10 +55,10 @@ abbrev pub out_in : Phase → Out → Out
 out_in Ready out = out
 out_in phase out = Says.NotNow
 
-abbrev pub reader_out : Profile → CoreState → Step → ℕ → Out
+abbrev pub reader_out : Rules → CoreState → Step → ℕ → Out
 reader_out p c step reader = out_at (move_of p c step) (reader_at c.control.readers reader)
 
-abbrev pub out_of : Profile → CoreState → Step → Out
+abbrev pub out_of : Rules → CoreState → Step → Out
 out_of p c (Look reader query) = reader_out p c (Look reader query) reader
 out_of p c (Pin reader) = reader_out p c (Pin reader) reader
 out_of p c (Check reader) = reader_out p c (Check reader) reader
@@ -77,7 +77,7 @@ abbrev pub step_takes_memory : Step → Out → Bool
 step_takes_memory step Says.NotNow = false
 step_takes_memory step (Says.Refused f) = false
 step_takes_memory step Says.Ready = false
-step_takes_memory (Look reader query) out = names_land query
+step_takes_memory (Look reader query) out = names_territory query
 step_takes_memory (Pin reader) out = false
 step_takes_memory (Check reader) out = false
 step_takes_memory (Leave reader) out = false
@@ -101,7 +101,7 @@ with_published None c = record {
 }
 with_published (Some f) c = c
 
-abbrev pub with_move : Profile → CoreState → Step → ℕ → CoreState
+abbrev pub with_move : Rules → CoreState → Step → ℕ → CoreState
 with_move p c step reader = record c {
   control = record c.control {
     readers = readers_after (move_of p c step) (reader_at c.control.readers reader)
@@ -109,7 +109,7 @@ with_move p c step reader = record c {
   };
 }
 
-abbrev pub core_after : Profile → CoreState → Step → CoreState
+abbrev pub core_after : Rules → CoreState → Step → CoreState
 core_after p c (Look reader query) = with_move p c (Look reader query) reader
 core_after p c (Pin reader) = with_move p c (Pin reader) reader
 core_after p c (Check reader) = with_move p c (Check reader) reader
@@ -132,6 +132,6 @@ core_after p c Absorb = record c {
 }
 
 -- the outs of a list of steps
-abbrev pub outs_of : Profile → CoreState → List Step → List Out
+abbrev pub outs_of : Rules → CoreState → List Step → List Out
 outs_of p c [] = []
 outs_of p c (step ∷ steps) = out_of p c step ∷ outs_of p (core_after p c step) steps

@@ -2,7 +2,7 @@
 use Rattle.std.specs.Prelude.{ℕ, ◌+◌, ◌-◌, ◌≤◌, ◌<◌, nat_lt, slice_get, unwrap_or, ◌==◌}
 use Rattle.std.specs.Prelude.{if◌then◌else◌, List, [], ◌∷◌, ◌++◌, length, take, Option, Some, None}
 use Rattle.std.specs.List.{sum_by, All}
-use Rattle.osn_days.specs.Profile.{Profile}
+use Rattle.osn_days.specs.Rules.{Rules}
 use Rattle.osn_register.specs.declared.limits.Limits.{Limits}
 use Rattle.osn_register.specs.declared.edit.Edit.{Edit}
 use Rattle.osn_register.specs.declared.query.Query.{Query}
@@ -11,7 +11,7 @@ use Rattle.osn_register.specs.declared.refusal.Refusal.TheVariants.{NothingPendi
 use Rattle.osn_register.specs.declared.refusal.Refusal.TheVariants.{EditionsFull}
 use Rattle.osn_register.specs.Refusal.{or_else}
 use Rattle.osn_register.specs.Lawful.{AreLawful, source_given}
-use Rattle.osn_register.specs.Plain.{LandModel, refusal, applied_all}
+use Rattle.osn_register.specs.Plain.{EntryModel, refusal, applied_all}
 use Rattle.osn_register.specs.Answer.{answer}
 use Rattle.osn_register.specs.Sources.{IsGiven}
 use Rattle.osn_core.specs.declared.step.Reply.{Reply}
@@ -40,20 +40,20 @@ abbrev pub without_last : ℕ → List Edit → List Edit
 without_last count edits = take (length edits - count) edits
 
 -- the territories of the published edits
-abbrev pub lands_of : Profile → Limits → List (List Edit) → List LandModel
-lands_of p limits batches = applied_all p limits [] (joined batches)
+abbrev pub territories_of : Rules → Limits → List (List Edit) → List EntryModel
+territories_of p limits batches = applied_all p limits [] (joined batches)
 
 -- the territories of all published and pending edits
-abbrev pub draft_lands : Profile → ObjectState → List LandModel
-draft_lands p s = applied_all p s.limits [] (joined s.batches ++ s.pending)
+abbrev pub draft_territories : Rules → ObjectState → List EntryModel
+draft_territories p s = applied_all p s.limits [] (joined s.batches ++ s.pending)
 
 -- how many edits there are, published and pending
 abbrev pub edits_in : ObjectState → ℕ
 edits_in s = sum_by (λ b. length b) s.batches + length s.pending
 
-abbrev pub stage_refusal : Profile → ObjectState → Edit → Option Refusal
+abbrev pub stage_refusal : Rules → ObjectState → Edit → Option Refusal
 stage_refusal p s e =
-    or_else (refusal p s.limits (draft_lands p s) e)
+    or_else (refusal p s.limits (draft_territories p s) e)
     (if nat_lt (edits_in s) s.limits.edits then None else Some JournalFull)
 
 abbrev pub publish_refusal : ObjectState → Option Refusal
@@ -78,10 +78,10 @@ out_unless None out = out
 out_unless (Some f) out = Refused f
 
 -- what staging an edit gives, and what it leaves
-abbrev pub stage_out : Profile → ObjectState → Edit → Out
+abbrev pub stage_out : Rules → ObjectState → Edit → Out
 stage_out p s e = out_unless (stage_refusal p s e) (Staged (length s.pending + 1))
 
-abbrev pub stage_after : Profile → ObjectState → Edit → ObjectState
+abbrev pub stage_after : Rules → ObjectState → Edit → ObjectState
 stage_after p s e = state_unless (stage_refusal p s e) (with_pending s e) s
 
 -- what a publish gives, and what it leaves
@@ -92,9 +92,9 @@ abbrev pub publish_after : ObjectState → ObjectState
 publish_after s = state_unless (publish_refusal s) (with_edition s) s
 
 -- the reply to a query under these batches
-abbrev pub reply_at : Profile → Limits → List (List Edit) → Query → Reply
+abbrev pub reply_at : Rules → Limits → List (List Edit) → Query → Reply
 reply_at p limits batches q =
-    record { edition = length batches; answer = answer p (lands_of p limits batches) q }
+    record { edition = length batches; answer = answer p (territories_of p limits batches) q }
 
 -- an edit gives no source, or one that may be given
 abbrev pub HasLawfulSource : Edit → Type 0
@@ -106,7 +106,7 @@ NoneEmpty [] = Unit {0}
 NoneEmpty (b ∷ bs) = (0 < length b) × NoneEmpty bs
 
 -- what holds of every object
-pub record IsSound (p : Profile) (s : ObjectState) : Type 0 where
+pub record IsSound (p : Rules) (s : ObjectState) : Type 0 where
   pub lawful : AreLawful p s.limits [] (joined s.batches ++ s.pending)
   pub none_empty : NoneEmpty s.batches
   pub edits : edits_in s ≤ s.limits.edits

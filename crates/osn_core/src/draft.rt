@@ -1,7 +1,7 @@
 //! All edits of a sequential object, published and pending: their register, those that are pending,
 //! and the counts that limits are set to.
 ghost use Rattle.std.specs.Prelude.{◌≡◌, ◌+◌, length, None, IfOk, OnOk, OnErr};
-ghost use Rattle.osn_register.specs.Refusal.{IsTestOf};
+ghost use Rattle.osn_register.specs.Refusal.{IsCheckOf};
 ghost use Rattle.osn_core.specs.Draft.{first_draft, edit_refusal, edition_refusal, draft_with_edit};
 ghost use Rattle.osn_core.specs.Draft.{draft_with_edition};
 ghost use Rattle.osn_core.specs.Sequential.{HasLawfulSource};
@@ -81,7 +81,7 @@ impl Draft {
     ///
     /// The first refusal that applies.
     pub fn check(&self, edit: &Edit) -> Result<u32, Refusal>
-        ensures test { IsTestOf (edit_refusal self.now edit.now) result }
+        ensures test { IsCheckOf (edit_refusal self.now edit.now) result }
         ensures count { IfOk result (λ n. n ≡ length self.now.pending + 1) }
     {
         self.register.check(edit)?;
@@ -118,7 +118,7 @@ impl Draft {
     ///
     /// The first refusal that applies.
     pub fn check_publish(&self) -> Result<u32, Refusal>
-        ensures test { IsTestOf (edition_refusal self.now) result }
+        ensures test { IsCheckOf (edition_refusal self.now) result }
         ensures edition { IfOk result (λ n. n ≡ self.now.editions + 1) }
     {
         if self.pending.is_empty() {

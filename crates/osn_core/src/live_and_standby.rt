@@ -1,12 +1,12 @@
 //! The sequential object over two registers, which a publish exchanges.
 ghost use Rattle.std.specs.Prelude.{◌≡◌, ◌<◌, ◌≤◌, ◌+◌, ◌-◌, length, get_or, None, IfOk, OnOk};
 ghost use Rattle.std.specs.Prelude.{OnErr};
-ghost use Rattle.osn_days.specs.Profile.{newest_rules};
-ghost use Rattle.osn_register.specs.Refusal.{IsTestOf};
+ghost use Rattle.osn_days.specs.Rules.{newest_rules};
+ghost use Rattle.osn_register.specs.Refusal.{IsCheckOf};
 ghost use Rattle.osn_core.specs.Sequential.{with_pending, with_edition, stage_refusal};
-ghost use Rattle.osn_core.specs.Sequential.{publish_refusal, lands_of, last_batch, IsSound};
+ghost use Rattle.osn_core.specs.Sequential.{publish_refusal, territories_of, last_batch, IsSound};
 ghost use Rattle.osn_core.specs.Sequential.{HasLawfulSource};
-ghost use Rattle.osn_core.specs.LiveAndStandbyInside.{first_copies, lagging_lands};
+ghost use Rattle.osn_core.specs.LiveAndStandbyInside.{first_copies, lagging_territories};
 
 use crate::batch::Batch;
 use crate::draft::Draft;
@@ -54,8 +54,8 @@ impl LiveAndStandby {
 
     /// Returns the register of the batches.
     pub fn live(&self) -> &Register
-        ensures lands { result.now.lands
-            ≡ lands_of newest_rules self.now.object.limits self.now.object.batches }
+        ensures territories { result.now.territories
+            ≡ territories_of newest_rules self.now.object.limits self.now.object.batches }
         ensures limits { result.now.limits ≡ self.now.object.limits }
     {
         if self.draft.pending().is_empty() {
@@ -67,7 +67,7 @@ impl LiveAndStandby {
 
     /// Returns the register of all edits except those that it lacks.
     pub fn standby(&self) -> &Register
-        ensures lands { result.now.lands ≡ lagging_lands newest_rules self.now }
+        ensures territories { result.now.territories ≡ lagging_territories newest_rules self.now }
         ensures limits { result.now.limits ≡ self.now.object.limits }
     {
         if self.draft.pending().is_empty() {
@@ -108,7 +108,7 @@ impl LiveAndStandby {
 
     /// Returns how many edits would be pending if this one were staged now, or the first refusal.
     pub fn check(&self, edit: &Edit) -> Result<u32, Refusal>
-        ensures test { IsTestOf (stage_refusal newest_rules self.now.object edit.now) result }
+        ensures test { IsCheckOf (stage_refusal newest_rules self.now.object edit.now) result }
         ensures count { IfOk result (λ n. n ≡ length self.now.object.pending + 1) }
     {
         self.draft.check(edit)
@@ -145,7 +145,7 @@ impl LiveAndStandby {
 
     /// Returns the edition that a publish would make now, or the first refusal.
     pub fn check_publish(&self) -> Result<u32, Refusal>
-        ensures test { IsTestOf (publish_refusal self.now.object) result }
+        ensures test { IsCheckOf (publish_refusal self.now.object) result }
         ensures edition { IfOk result (λ n. n ≡ length self.now.object.batches + 1) }
     {
         self.draft.check_publish()

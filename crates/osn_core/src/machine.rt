@@ -1,9 +1,9 @@
 //! One editor and its readers over two copies of the register, a step at a time.
 ghost use Rattle.std.specs.Prelude.{◌≡◌, ◌<◌, ℕ, true, None, IfOk, IfErr, OnOk, OnErr};
 ghost use Rattle.osn_register.specs.Refusal.{IsRefusalOrNoMemory};
-ghost use Rattle.osn_days.specs.Profile.{newest_rules};
+ghost use Rattle.osn_days.specs.Rules.{newest_rules};
 ghost use Rattle.osn_core.specs.Control.{reader_at};
-ghost use Rattle.osn_core.specs.LiveAndStandby.{side_lands, IsSeenBy};
+ghost use Rattle.osn_core.specs.LiveAndStandby.{side_territories, IsSeenBy};
 ghost use Rattle.osn_core.specs.Machine.{first_core, out_of, core_after, step_takes_memory};
 ghost use Rattle.osn_core.specs.Machine.{readers_refusal};
 
@@ -70,9 +70,10 @@ impl Core {
     /// Returns the copy of a side, 0 or 1.
     pub fn side(&self, side: u8) -> &Register
         requires { side < 2 }
-        ensures lands { result.now.lands ≡ side_lands newest_rules self.now side }
+        ensures territories { result.now.territories ≡ side_territories newest_rules self.now side }
         ensures limits { result.now.limits ≡ self.now.object.limits }
-        ensures readers { (reader : ℕ) → IsSeenBy newest_rules self.now.object side result.now.lands
+        ensures readers { (reader : ℕ) →
+            IsSeenBy newest_rules self.now.object side result.now.territories
             (reader_at self.now.control.readers reader) }
     {
         if side == self.side {

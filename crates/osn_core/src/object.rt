@@ -1,11 +1,11 @@
 //! The sequential object: the published batches with their register, and the pending edits.
 ghost use Rattle.std.specs.Prelude.{◌≡◌, ◌+◌, true, length, None, IfOk, IfErr, OnOk, OnErr};
-ghost use Rattle.osn_days.specs.Profile.{newest_rules};
-ghost use Rattle.osn_register.specs.Refusal.{IsTestOf, IsRefusalOrNoMemory};
+ghost use Rattle.osn_days.specs.Rules.{newest_rules};
+ghost use Rattle.osn_register.specs.Refusal.{IsCheckOf, IsRefusalOrNoMemory};
 ghost use Rattle.osn_register.specs.BorrowedQuery.{as_query};
 ghost use Rattle.osn_register.specs.Answer.{refusal_in, query_refusal, takes_memory};
 ghost use Rattle.osn_core.specs.Sequential.{opened, with_pending, with_edition, stage_refusal};
-ghost use Rattle.osn_core.specs.Sequential.{publish_refusal, reply_at, lands_of, IsSound};
+ghost use Rattle.osn_core.specs.Sequential.{publish_refusal, reply_at, territories_of, IsSound};
 ghost use Rattle.osn_core.specs.Sequential.{HasLawfulSource};
 
 use crate::batch::Batch;
@@ -44,7 +44,8 @@ impl Object {
 
     /// Returns the published register.
     pub fn register(&self) -> &Register
-        ensures lands { result.now.lands ≡ lands_of newest_rules self.now.limits self.now.batches }
+        ensures territories { result.now.territories
+            ≡ territories_of newest_rules self.now.limits self.now.batches }
         ensures limits { result.now.limits ≡ self.now.limits }
     {
         self.copies.live()
@@ -77,7 +78,7 @@ impl Object {
         // as a law: only the definition's refusals refuse a query
         ensures refused { IfOk result (λ r. refusal_in r.answer
             ≡ query_refusal newest_rules
-            (lands_of newest_rules self.now.limits self.now.batches) query.now) }
+            (territories_of newest_rules self.now.limits self.now.batches) query.now) }
         ensures memory { OnErr result (takes_memory
             (reply_at newest_rules self.now.limits self.now.batches query.now).answer ≡ true) }
     {
@@ -94,7 +95,7 @@ impl Object {
             ≡ reply_at newest_rules self.now.limits self.now.batches (as_query query.entry)) }
         ensures refused { IfOk result (λ r. refusal_in r.answer
             ≡ query_refusal newest_rules
-            (lands_of newest_rules self.now.limits self.now.batches) (as_query query.entry)) }
+            (territories_of newest_rules self.now.limits self.now.batches) (as_query query.entry)) }
         ensures memory { OnErr result (takes_memory
             (reply_at newest_rules self.now.limits self.now.batches (as_query query.entry)).answer
             ≡ true) }
@@ -113,7 +114,7 @@ impl Object {
     ///
     /// The first refusal that applies.
     pub fn check(&self, edit: &Edit) -> Result<u32, Refusal>
-        ensures test { IsTestOf (stage_refusal newest_rules self.now edit.now) result }
+        ensures test { IsCheckOf (stage_refusal newest_rules self.now edit.now) result }
         ensures count { IfOk result (λ n. n ≡ length self.now.pending + 1) }
     {
         self.copies.check(edit)
@@ -160,7 +161,7 @@ impl Object {
     ///
     /// The first refusal that applies.
     pub fn check_publish(&self) -> Result<u32, Refusal>
-        ensures test { IsTestOf (publish_refusal self.now) result }
+        ensures test { IsCheckOf (publish_refusal self.now) result }
         ensures edition { IfOk result (λ n. n ≡ length self.now.batches + 1) }
     {
         self.copies.check_publish()

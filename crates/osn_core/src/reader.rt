@@ -1,6 +1,6 @@
 //! The state of a reader, and how its steps change it.
 ghost use Rattle.std.specs.Prelude.{◌≡◌, ◌==◌, true, IfOk, OnOk, OnErr};
-ghost use Rattle.osn_register.specs.Query.{names_land};
+ghost use Rattle.osn_register.specs.Query.{names_territory};
 ghost use Rattle.osn_core.specs.Control.{look, pin, entering, check, leave, marks};
 
 use crate::step::Out;
@@ -45,7 +45,7 @@ impl ReaderState {
         ensures out { IfOk result (λ o. o ≡ (look live query.now self.old).out) }
         ensures ok { OnOk result (self.new ≡ (look live query.now self.old).at) }
         ensures err { OnErr result (self.new ≡ self.old) }
-        ensures memory { OnErr result (names_land query.now ≡ true) }
+        ensures memory { OnErr result (names_territory query.now ≡ true) }
         ensures idle { OnErr result (self.old ≡ ReaderState.Idle) }
     {
         match self {

@@ -2,7 +2,7 @@
 ghost use Rattle.std.specs.Prelude.{◌≡◌, ℕ, [], ◌∷◌, ◌++◌, None, IfOk, IfErr, OnOk};
 ghost use Rattle.osn_register.specs.Refusal.{IsRefusalOrNoMemory};
 ghost use Rattle.osn_register.specs.declared.refusal.Refusal.TheVariants.{NoMemory};
-ghost use Rattle.osn_days.specs.Profile.{newest_rules};
+ghost use Rattle.osn_days.specs.Rules.{newest_rules};
 ghost use Rattle.osn_core.specs.Sequential.{opened};
 ghost use Rattle.osn_core.specs.Machine.{first_core, out_of, core_after, outs_of, readers_refusal};
 ghost use Rattle.osn_core.specs.History.{history, outs_to, editor_outs, replies_to, Begin};

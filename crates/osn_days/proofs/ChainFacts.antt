@@ -11,7 +11,7 @@ use Rattle.std.proofs.lemmas.Bool.{ltb-true}
 use Rattle.osn_days.specs.declared.date.Date.{Date}
 use Rattle.osn_days.specs.declared.calendar.Calendar.{Calendar}
 use Rattle.osn_days.specs.declared.calendar.Calendar.TheVariants.{Julian, Gregorian, Swedish}
-use Rattle.osn_days.specs.Profile.{Profile}
+use Rattle.osn_days.specs.Rules.{Rules}
 use Rattle.osn_days.specs.Line.{line, IsDay}
 use Rattle.osn_days.specs.Chain.{month_length, next, next_by_months, february, march_1, first_date}
 use Rattle.osn_days.specs.Chain.{chain, date_of, same_date, days_with_date}
@@ -210,7 +210,7 @@ date_apart c date d e dl el is apart =
     (same_date_is (date_of c e) date too ∙ sym (same_date_is (date_of c d) date is)))
 
 -- the days with a date are the one that has it
-pub days_one : (p : Profile) (c : Calendar) (date : Date) (d : ℕ) → IsDay p d
+pub days_one : (p : Rules) (c : Calendar) (date : Date) (d : ℕ) → IsDay p d
     → same_date (date_of c d) date ≡ true → days_with_date p c date ≡ d ∷ []
 unfolding days_with_date line
 days_one p c date d on is =
@@ -218,7 +218,7 @@ days_one p c date d on is =
     (λ e low high apart. date_apart c date d e on.0 low is apart)
 
 -- or none
-pub days_none : (p : Profile) (c : Calendar) (date : Date)
+pub days_none : (p : Rules) (c : Calendar) (date : Date)
     → ((d : ℕ) → IsDay p d → same_date (date_of c d) date ≡ false) → days_with_date p c date ≡ []
 unfolding days_with_date line
 days_none p c date none =

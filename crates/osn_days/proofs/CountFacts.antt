@@ -12,7 +12,7 @@ use Rattle.std.proofs.lemmas.Bool.{ltb-true, ltb-false}
 use Rattle.osn_days.specs.declared.date.Date.{Date}
 use Rattle.osn_days.specs.declared.calendar.Calendar.{Calendar}
 use Rattle.osn_days.specs.declared.calendar.Calendar.TheVariants.{Julian, Gregorian, Swedish}
-use Rattle.osn_days.specs.Profile.{Profile}
+use Rattle.osn_days.specs.Rules.{Rules}
 use Rattle.osn_days.specs.Line.{IsDay, IsOnLine}
 use Rattle.osn_days.specs.Chain.{month_length, next_by_months, first_date, chain, date_of}
 use Rattle.osn_days.specs.Chain.{same_date, days_with_date}
@@ -158,14 +158,14 @@ date_of_count c count k d n s low e =
     rw place found.1)
 
 -- so that is the day with the date
-pub days_of_count : (p : Profile) (c : Calendar) (count : Date → ℕ) → IsCount c count
+pub days_of_count : (p : Rules) (c : Calendar) (count : Date → ℕ) → IsCount c count
     → (d : Date) (n : ℕ) → IsReal c d → IsDay p n → count d + 1 ≡ n + count (first_date c)
     → n ∷ [] ≡ days_with_date p c d
 days_of_count p c count k d n s on e =
     sym (days_one p c d n on (rw (date_of_count c count k d n s on.0 e) (same_date_self d)))
 
 -- a date that no day has
-pub days_not : (p : Profile) (c : Calendar) (d : Date) → c ≢ Swedish
+pub days_not : (p : Rules) (c : Calendar) (d : Date) → c ≢ Swedish
     → ((n : ℕ) → IsDay p n → IsReal c d → date_of c n ≡ d → ⊥) → [] ≡ days_with_date p c d
 days_not p c d h none =
     sym (days_none p c d (λ n on. false_from_ne_true (same_date (date_of c n) d)
@@ -173,7 +173,7 @@ days_not p c d h none =
     none n on (rw same at (chain_real c (n - 1) h)) same)))
 
 -- the day of a number that a count gives, if the number is on the line
-pub days_at_count : (p : Profile) (c : Calendar) (count : Date → ℕ) → IsCount c count → (d : Date)
+pub days_at_count : (p : Rules) (c : Calendar) (count : Date → ℕ) → IsCount c count → (d : Date)
     (z : ℤ) → (pos 1 ≤ℤ z → IsReal c d) → (z +ℤ pos (count (first_date c))) ≡ pos (count d + 1)
     → (day : Option ℕ) → (IsSome day ↔ IsOnLine p z) → IfSome day (λ n. pos n ≡ z)
     → option_to_list day ≡ days_with_date p c d

@@ -8,7 +8,7 @@ use Rattle.jiff_core.proofs.CalendarLemmas.{day_count-lt_year}
 use Rattle.osn_days.specs.declared.date.Date.{Date}
 use Rattle.osn_days.specs.declared.calendar.Calendar.{Calendar}
 use Rattle.osn_days.specs.declared.calendar.Calendar.TheVariants.{Julian, Gregorian, Swedish}
-use Rattle.osn_days.specs.Profile.{first_rules}
+use Rattle.osn_days.specs.Rules.{first_rules}
 use Rattle.osn_days.specs.Line.{IsDay, IsYearNumber}
 use Rattle.osn_days.specs.Chain.{date_of}
 use Rattle.osn_days.proofs.ChainFacts.{julian_by_months, gregorian_by_months, chain_small}

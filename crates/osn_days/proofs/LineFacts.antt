@@ -7,7 +7,7 @@ use Rattle.std.proofs.lemmas.Bool.{false_from_ne_true}
 use Rattle.osn_days.specs.declared.date.Date.{Date}
 use Rattle.osn_days.specs.declared.calendar.Calendar.{Calendar}
 use Rattle.osn_days.specs.declared.calendar.Calendar.TheVariants.{Julian, Gregorian, Swedish}
-use Rattle.osn_days.specs.Profile.{Profile, newest_rules}
+use Rattle.osn_days.specs.Rules.{Rules, newest_rules}
 use Rattle.osn_days.specs.Line.{line, IsDay, IsYearNumber}
 use Rattle.osn_days.specs.Chain.{date_of, same_date, days_with_date}
 use Rattle.osn_days.proofs.ChainFacts.{julian_by_months, gregorian_by_months, chain_small}
@@ -73,19 +73,19 @@ date_of_injective c m n low_m low_n e =
     ]
 
 -- a day is the only one with its date
-pub one_day : (p : Profile) (c : Calendar) (d : Date) (n : ℕ) → IsDay p n → date_of c n ≡ d
+pub one_day : (p : Rules) (c : Calendar) (d : Date) (n : ℕ) → IsDay p n → date_of c n ≡ d
     → n ∷ [] ≡ days_with_date p c d
 one_day p c d n on is = sym (days_one p c d n on (rw is (same_date_self d)))
 
 -- a date that no day has
-pub no_day : (p : Profile) (c : Calendar) (d : Date) → ((n : ℕ) → IsDay p n → date_of c n ≡ d → ⊥)
+pub no_day : (p : Rules) (c : Calendar) (d : Date) → ((n : ℕ) → IsDay p n → date_of c n ≡ d → ⊥)
     → [] ≡ days_with_date p c d
 no_day p c d none =
     sym (days_none p c d (λ n on. false_from_ne_true (same_date (date_of c n) d)
     (λ is. none n on (same_date_is (date_of c n) d is))))
 
 -- the day with a date has that date
-pub day_with_date : (p : Profile) (c : Calendar) (d : Date) (n : ℕ) → n ∷ [] ≡ days_with_date p c d
+pub day_with_date : (p : Rules) (c : Calendar) (d : Date) (n : ℕ) → n ∷ [] ≡ days_with_date p c d
     → IsDay p n × (date_of c n ≡ d)
 unfolding days_with_date line
 day_with_date p c d n e =
@@ -93,12 +93,12 @@ day_with_date p c d n e =
     ((omega arith, omega arith), same_date_is (date_of c n) d found.2)
 
 -- and the date of a day is that of this day alone
-pub day_of_date : (p : Profile) (c : Calendar) (n : ℕ) → IsDay p n
+pub day_of_date : (p : Rules) (c : Calendar) (n : ℕ) → IsDay p n
     → n ∷ [] ≡ days_with_date p c (date_of c n)
 day_of_date p c n on = sym (days_one p c (date_of c n) n on (same_date_self (date_of c n)))
 
 -- a date with no day is that of none
-pub no_day_with_date : (p : Profile) (c : Calendar) (d : Date) (n : ℕ) → [] ≡ days_with_date p c d
+pub no_day_with_date : (p : Rules) (c : Calendar) (d : Date) (n : ℕ) → [] ≡ days_with_date p c d
     → IsDay p n → date_of c n ≡ d → ⊥
 no_day_with_date p c d n none on is =
     let one = day_of_date p c n on in

@@ -11,7 +11,7 @@ use Rattle.std.proofs.lemmas.Bool.Decides.{Decides-eqb}
 use Rattle.std.proofs.lemmas.List.{append-nil}
 use Rattle.std.proofs.lemmas.List.Elements.{filter-append}
 use Rattle.std.specs.List.{range_with_len, find, list_any}
-use Rattle.osn_days.specs.Profile.{Profile}
+use Rattle.osn_days.specs.Rules.{Rules}
 use Rattle.osn_days.specs.Line.{line, IsDay}
 
 -- a row of numbers is its two parts
@@ -342,12 +342,12 @@ find_other test a (suc n) (suc m) d found within =
 
 -- the same over the line
 
-pub find_on_line : (p : Profile) (test : ℕ → Bool) (d : ℕ) → IsDay p d → test d ≡ true →
+pub find_on_line : (p : Rules) (test : ℕ → Bool) (d : ℕ) → IsDay p d → test d ≡ true →
     ((e : ℕ) → 1 ≤ e → e < d → test e ≡ false) → find test (line p) ≡ Some d
 unfolding line
 find_on_line p test d on is before = find_first test 1 p.high d on.0 (omega arith) is before
 
-pub find_on_both : (p q : Profile) (test : ℕ → Bool) (d : ℕ) → find test (line p) ≡ Some d →
+pub find_on_both : (p q : Rules) (test : ℕ → Bool) (d : ℕ) → find test (line p) ≡ Some d →
     d ≤ q.high → find test (line q) ≡ Some d
 unfolding line
 find_on_both p q test d found within = find_other test 1 p.high q.high d found (omega arith)
@@ -365,13 +365,13 @@ find_any test (a ∷ xs) =
     any_found (test a) a (find test xs) (list_any test xs) (find_any test xs)
 
 -- a day of the line that the search finds
-pub record PassingDay (p : Profile) (test : ℕ → Bool) : Type 0 where
+pub record PassingDay (p : Rules) (test : ℕ → Bool) : Type 0 where
   pub day : ℕ
   pub on : IsDay p day
   pub passes : test day ≡ true
   pub is : find test (line p) ≡ Some day
 
-passing_day_by : (p : Profile) (test : ℕ → Bool) (d : ℕ) (found : Option ℕ) → IsDay p d →
+passing_day_by : (p : Rules) (test : ℕ → Bool) (d : ℕ) (found : Option ℕ) → IsDay p d →
     test d ≡ true → find test (line p) ≡ found → PassingDay p test
 unfolding line
 passing_day_by p test d None on passes is =
@@ -381,6 +381,6 @@ passing_day_by p test d (Some e) on passes is =
     let at = find_in test 1 p.high e is in
     record { day = e; on = (at.0, omega (arith, at.1)); passes = at.2; is = is }
 
-pub found_on_line : (p : Profile) (test : ℕ → Bool) (d : ℕ) → IsDay p d → test d ≡ true →
+pub found_on_line : (p : Rules) (test : ℕ → Bool) (d : ℕ) → IsDay p d → test d ≡ true →
     PassingDay p test
 found_on_line p test d on passes = passing_day_by p test d (find test (line p)) on passes refl

@@ -8,7 +8,7 @@ use Rattle.std.specs.Ordering.{int_eq}
 use Rattle.osn_days.specs.declared.date.Date.{Date}
 use Rattle.osn_days.specs.declared.calendar.Calendar.{Calendar}
 use Rattle.osn_days.specs.declared.calendar.Calendar.TheVariants.{Julian, Gregorian, Swedish}
-use Rattle.osn_days.specs.Profile.{Profile}
+use Rattle.osn_days.specs.Rules.{Rules}
 use Rattle.osn_days.specs.Line.{line}
 
 -- every fourth year; in the Gregorian calendar only every fourth of the centuries. The Swedish
@@ -69,5 +69,5 @@ abbrev pub date_of : Calendar → ℕ → Date
 date_of c d = chain c (d - 1)
 
 -- the days of the line that have the date
-unfoldable pub days_with_date : Profile → Calendar → Date → List ℕ
+unfoldable pub days_with_date : Rules → Calendar → Date → List ℕ
 days_with_date p c date = filter (λ d. same_date (date_of c d) date) (line p)

@@ -1,4 +1,4 @@
-pub mod Profile
+pub mod Rules
 pub mod Line
 pub mod Chain
 pub mod Weekday

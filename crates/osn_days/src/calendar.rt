@@ -1,7 +1,7 @@
 //! The three calendars with their words, and the dates of days by them, both ways.
 ghost use Rattle.std.specs.Prelude.{◌≡◌};
 ghost use Rattle.std.specs.Option.{option_to_list};
-ghost use Rattle.osn_days.specs.Profile.{newest_rules};
+ghost use Rattle.osn_days.specs.Rules.{newest_rules};
 ghost use Rattle.osn_days.specs.Line.{IsYearNumber};
 ghost use Rattle.osn_days.specs.Chain as chain;
 ghost use Rattle.osn_days.specs.CalendarWords as words;

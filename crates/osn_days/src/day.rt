@@ -1,6 +1,6 @@
 //! The days of the line by their numbers, with the ends of the line.
 ghost use Rattle.std.specs.Prelude.{◌≡◌, ◌↔◌, ◌≤◌, ℕ, pos, ◌+ℤ◌, IsSome, IfSome};
-ghost use Rattle.osn_days.specs.Profile.{newest_rules};
+ghost use Rattle.osn_days.specs.Rules.{newest_rules};
 ghost use Rattle.osn_days.specs.Line.{IsDay, IsOnLine, weekday, julian_day};
 ghost use Rattle.osn_days.specs.Weekday.{weekday_numbered};
 
@@ -23,7 +23,7 @@ pub struct Day {
 
 impl Model for Day {
     ghost use Rattle.std.specs.Prelude.{ℕ};
-    ghost use Rattle.osn_days.specs.Profile.{newest_rules};
+    ghost use Rattle.osn_days.specs.Rules.{newest_rules};
     ghost use Rattle.osn_days.specs.Line.{IsDay};
 
     ghost Value = { ℕ };

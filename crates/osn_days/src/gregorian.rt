@@ -1,7 +1,7 @@
 //! The Gregorian calendar, which is `jiff`'s, with the count of the days between two of its dates.
 ghost use Rattle.std.specs.Prelude.{◌≡◌, ◌↔◌, pos, IsSome, IfSome};
 ghost use Rattle.std.specs.Option.{option_to_list};
-ghost use Rattle.osn_days.specs.Profile.{newest_rules};
+ghost use Rattle.osn_days.specs.Rules.{newest_rules};
 ghost use Rattle.osn_days.specs.Line.{IsYearNumber};
 ghost use Rattle.osn_days.specs.Chain as chain;
 ghost use Rattle.jiff_core.specs.Calendar.{IsDate};

@@ -1,6 +1,6 @@
 //! The years counted from 1 January by their numbers, with the first and the last.
 ghost use Rattle.std.specs.Prelude.{◌≡◌, ◌↔◌, pos, ◌≤ℤ◌, IsSome, IfSome};
-ghost use Rattle.osn_days.specs.Profile.{newest_rules};
+ghost use Rattle.osn_days.specs.Rules.{newest_rules};
 ghost use Rattle.osn_days.specs.Line.{IsYear, IsYearNumber};
 
 use std::marker::Model;
@@ -13,7 +13,7 @@ pub struct Year {
 
 impl Model for Year {
     ghost use Rattle.std.specs.Prelude.{ℕ};
-    ghost use Rattle.osn_days.specs.Profile.{newest_rules};
+    ghost use Rattle.osn_days.specs.Rules.{newest_rules};
     ghost use Rattle.osn_days.specs.Line.{IsYear};
 
     ghost Value = { ℕ };

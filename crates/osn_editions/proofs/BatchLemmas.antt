@@ -1,15 +1,15 @@
 -- Batches of edits that are applied in turn.
 use Rattle.std.proofs.Common.{◌≡◌, ℕ, ◌+◌, ◌<◌, List, ◌∷◌, length, get_or, drop, sym, ap, ◌∙◌}
 use Rattle.std.proofs.lemmas.List.{drop_more}
-use Rattle.osn_days.specs.Profile.{newest_rules}
+use Rattle.osn_days.specs.Rules.{newest_rules}
 use Rattle.osn_register.specs.declared.edit.Edit.{Edit}
 use Rattle.osn_register.specs.declared.limits.Limits.{Limits}
-use Rattle.osn_register.specs.Plain.{LandModel, applied_all}
+use Rattle.osn_register.specs.Plain.{EntryModel, applied_all}
 use Rattle.osn_core.specs.Sequential.{joined}
 use Rattle.osn_core.proofs.Lawful.{applied_all-append}
 
 -- one batch more is applied
-pub batch_more : (limits now : Limits) (old new all : List LandModel) (bs : List (List Edit))
+pub batch_more : (limits now : Limits) (old new all : List EntryModel) (bs : List (List Edit))
     (i : ℕ) (b : List Edit) → i < length bs → b ≡ get_or bs i b → now ≡ limits
     → new ≡ applied_all newest_rules now old b
     → applied_all newest_rules limits old (joined (drop i bs)) ≡ all

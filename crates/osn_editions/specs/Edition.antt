@@ -1,11 +1,11 @@
 -- The editions of the object of a journal, and the word that names one.
 use Rattle.std.specs.Prelude.{◌≡◌, ℕ, true, nat_le, if◌then◌else◌, List, [], length, take}
 use Rattle.std.specs.Prelude.{Option, Some, None, is_some, Result, Ok, Err}
-use Rattle.osn_core.specs.Sequential.{ObjectState, lands_of}
+use Rattle.osn_core.specs.Sequential.{ObjectState, territories_of}
 use Rattle.osn_core.specs.declared.step.Reply.{Reply}
-use Rattle.osn_days.specs.Profile.{newest_rules}
+use Rattle.osn_days.specs.Rules.{newest_rules}
 use Rattle.osn_register.specs.Answer.{answer}
-use Rattle.osn_register.specs.Plain.{LandModel}
+use Rattle.osn_register.specs.Plain.{EntryModel}
 use Rattle.osn_register.specs.declared.query.Query.{Query}
 use Rattle.osn_written.specs.WrittenDate.{number_of}
 use Rattle.osn_editions.specs.declared.edition.Edition.{Edition}
@@ -17,14 +17,14 @@ use Rattle.osn_editions.specs.declared.edition.EditionFault.TheVariants.{TooLate
 
 -- what a page is made of: the territories, the number of their edition, and how many edits wait
 pub record EditionModel : Type 0 where
-  pub lands : List LandModel
+  pub territories : List EntryModel
   pub number : ℕ
   pub pending : ℕ
 
 -- what an object has published, with its pending edits
 abbrev pub newest_edition : ObjectState → EditionModel
 newest_edition s = record {
-  lands = lands_of newest_rules s.limits s.batches;
+  territories = territories_of newest_rules s.limits s.batches;
   number = length s.batches;
   pending = length s.pending;
 }
@@ -45,13 +45,13 @@ edition_of (Some number) s =
 -- the reply to a query of an edition, which is that of the object, if the edition is its newest one
 abbrev pub reply_in : EditionModel → Query → Reply
 reply_in edition query =
-    record { edition = edition.number; answer = answer newest_rules edition.lands query }
+    record { edition = edition.number; answer = answer newest_rules edition.territories query }
 
 -- what is kept of an edition
 abbrev pub edition_model : Edition → EditionModel
 edition_model (Newest s) = newest_edition s
 edition_model (Numbered register number) =
-    record { lands = register.lands; number = number; pending = 0 }
+    record { territories = register.territories; number = number; pending = 0 }
 
 -- why there is none
 abbrev pub IsEditionFault : Option ℕ → ObjectState → EditionFault → Type 0

@@ -1,7 +1,7 @@
 //! An edition of the object of a journal.
 ghost use Rattle.std.specs.Prelude.{◌≡◌, ◌≤◌, IfErr, IfOk, OnOk, Some, length, take};
-ghost use Rattle.osn_days.specs.Profile.{newest_rules};
-ghost use Rattle.osn_core.specs.Sequential.{joined, lands_of};
+ghost use Rattle.osn_days.specs.Rules.{newest_rules};
+ghost use Rattle.osn_core.specs.Sequential.{joined, territories_of};
 ghost use Rattle.osn_register.specs.BorrowedQuery.{as_query};
 ghost use Rattle.osn_register.specs.Plain.{applied_all};
 ghost use Rattle.osn_editions.specs.Edition as spec;
@@ -52,7 +52,7 @@ pub enum Edition {
 impl Edition {
     /// Returns the register.
     pub fn register(&self) -> &Register
-        ensures { result.now.lands ≡ (spec.edition_model self.now).lands }
+        ensures { result.now.territories ≡ (spec.edition_model self.now).territories }
     {
         match self {
             Edition::Newest(object) => object.register(),
@@ -102,7 +102,8 @@ impl Edition {
 /// Applies the edits of batches, each in its turn.
 fn apply_batches(register: &mut Register, batches: &[Batch]) -> Result<(), AllocError>
     ensures { OnOk result (register.new ≡ record register.old {
-      lands = applied_all newest_rules register.old.limits register.old.lands (joined batches.now);
+      territories = applied_all newest_rules register.old.limits register.old.territories
+          (joined batches.now);
     }) }
 {
     for batch in batches {
@@ -114,8 +115,8 @@ fn apply_batches(register: &mut Register, batches: &[Batch]) -> Result<(), Alloc
 /// Returns the register of the first batches of an object, as many as this.
 fn early_register(alloc: Global, object: &Object, count: usize) -> Result<Register, AllocError>
     requires { count ≤ length object.now.batches }
-    ensures { IfOk result (λ register. register.lands
-        ≡ lands_of newest_rules object.now.limits (take count object.now.batches)) }
+    ensures { IfOk result (λ register. register.territories
+        ≡ territories_of newest_rules object.now.limits (take count object.now.batches)) }
 {
     let mut register = Register::new(alloc, object.register().limits());
     apply_batches(&mut register, &object.batches()[..count])?;

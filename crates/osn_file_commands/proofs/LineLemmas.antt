@@ -59,11 +59,11 @@ reader_end reader (q ∷ qs) ms (inr e) = rw e refl
 -- the lines of readers, of whom this is the first
 pub readers_front : (reader next : ℕ) (ls : List (Vec Query Global)) (ms : List (Vec Reply Global))
     (qs : Vec Query Global) (lists : List (Vec Query Global))
-    (rs : Vec Reply Global) (told : List (Vec Reply Global))
-    → ls ≡ qs ∷ lists → ms ≡ rs ∷ told → next ≡ reader + 1
+    (rs : Vec Reply Global) (answers : List (Vec Reply Global))
+    → ls ≡ qs ∷ lists → ms ≡ rs ∷ answers → next ≡ reader + 1
     → transcript_from reader ls ms
-    ≡ reader_lines reader qs.items rs.items ++ transcript_from next lists told
-readers_front reader next ls ms qs lists rs told e k n = rw (e, k, n) refl
+    ≡ reader_lines reader qs.items rs.items ++ transcript_from next lists answers
+readers_front reader next ls ms qs lists rs answers e k n = rw (e, k, n) refl
 
 pub readers_end : (reader : ℕ) (ls : List (Vec Query Global)) (ms : List (Vec Reply Global))
     → (ls ≡ []) ⊎ (ms ≡ []) → transcript_from reader ls ms ≡ []

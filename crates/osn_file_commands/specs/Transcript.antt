@@ -1,7 +1,7 @@
 -- The text of a desk, and why there is none.
 use Rattle.std.specs.Prelude.{◌≡◌, ◌⊎◌, ℕ, ◌+◌, List, [], ◌∷◌, ◌++◌, length, map, Vec}
 use Rattle.std.specs.declared.alloc.Global.{Global}
-use Rattle.osn_days.specs.Profile.{newest_rules}
+use Rattle.osn_days.specs.Rules.{newest_rules}
 use Rattle.osn_register.specs.declared.limits.Limits.{Limits}
 use Rattle.osn_register.specs.declared.query.Query.{Query}
 use Rattle.osn_core.specs.declared.command.Command.{Command}
@@ -47,8 +47,8 @@ MakeDesk editor readers commands lists =
     × Makes questions readers.bytes (map (λ qs. qs.items) lists)
 
 -- the text of a desk has the lines of its replies
-abbrev pub DeskTells : Limits → List Command → List (Vec Query Global) → List ℕ → Type 0
-DeskTells limits commands lists text =
+abbrev pub DeskAnswers : Limits → List Command → List (Vec Query Global) → List ℕ → Type 0
+DeskAnswers limits commands lists text =
     (IsBadCount (length lists) → ⊥) × (all : List (Vec Reply Global))
     × AreAll newest_rules limits (editions_of newest_rules limits commands) lists all
     × (text ≡ transcript_from 1 lists all)
@@ -65,7 +65,7 @@ DeskFails limits commands lists fault =
 abbrev pub Transcribes : Limits → Input → Input → List ℕ → Type 0
 Transcribes limits editor readers text =
     (commands : List Command) × (lists : List (Vec Query Global))
-    × MakeDesk editor readers commands lists × DeskTells limits commands lists text
+    × MakeDesk editor readers commands lists × DeskAnswers limits commands lists text
 
 -- why there is none: the files make no desk; or they make one, and it has no text
 abbrev pub TranscribesNot : Limits → Input → Input → CommandFault → Type 0

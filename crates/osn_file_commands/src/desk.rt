@@ -1,7 +1,7 @@
 //! The command `desk`.
 ghost use Rattle.std.specs.Prelude.{IfErr, IfOk, string_bytes};
 ghost use Rattle.osn_lines.specs.Streams.{input_of};
-ghost use Rattle.osn_file_commands.specs.Transcript.{DeskFails, DeskTells, MakeDesk, MakeNoDesk};
+ghost use Rattle.osn_file_commands.specs.Transcript.{DeskFails, DeskAnswers, MakeDesk, MakeNoDesk};
 ghost use Rattle.osn_file_commands.specs.Transcript.{Transcribes, TranscribesNot};
 
 use crate::transcript::transcript;
@@ -41,12 +41,12 @@ fn desk_text<R: Threads + Wait + AllocGlobal>(
     lists: &[Vec<Query>],
 ) -> Result<String, CommandFault>
     ensures ok { IfOk result
-        (λ text. DeskTells limits commands.now lists.now (string_bytes text)) }
+        (λ text. DeskAnswers limits commands.now lists.now (string_bytes text)) }
     ensures err { IfErr result (DeskFails limits commands.now lists.now) }
 {
     let alloc = rt.alloc();
     match run_desk(rt, alloc, limits, &OpenGate, commands, lists) {
-        Ok(told) => Ok(transcript(alloc, lists, &told)?),
+        Ok(answers) => Ok(transcript(alloc, lists, &answers)?),
         Err(fault) => Err(CommandFault::Desk(fault)),
     }
 }

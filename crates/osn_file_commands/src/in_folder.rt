@@ -94,11 +94,11 @@ pub fn audit_in_folder<'a, D: Folder, T: Sink + Drop>(
         (MayFail D.File.has_failed) (folders_of D.known folder.old folder.new)
         (AuditFails limits) failure.path.now failure.fault) }
 {
-    let (mut edits, told) = open_both(folder, journal, transcript)?;
+    let (mut edits, answers) = open_both(folder, journal, transcript)?;
     let progress = ReadProgress::new(alloc, "transcript", terminal);
-    let mut told = ProgressSource::new(told, progress);
-    match audit_command(alloc, limits, &mut edits, &mut told) {
+    let mut answers = ProgressSource::new(answers, progress);
+    match audit_command(alloc, limits, &mut edits, &mut answers) {
         Ok(text) => Ok(text),
-        Err(fault) => Err(failure_of_two(fault, journal, transcript, told.failed())),
+        Err(fault) => Err(failure_of_two(fault, journal, transcript, answers.failed())),
     }
 }

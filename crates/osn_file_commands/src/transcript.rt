@@ -29,15 +29,15 @@ fn push_reader(
 pub(crate) fn transcript(
     alloc: Global,
     lists: &[Vec<Query>],
-    told: &[Vec<Reply>],
+    answers: &[Vec<Reply>],
 ) -> Result<String, AllocError>
     requires { length lists.now ≤ 64 }
     ensures { IfOk result
-        (λ text. string_bytes text ≡ spec.transcript_from 1 lists.now told.now) }
+        (λ text. string_bytes text ≡ spec.transcript_from 1 lists.now answers.now) }
 {
     let mut text = String::new(alloc);
     let mut reader = 0u32;
-    for (questions, replies) in lists.iter().zip(told) {
+    for (questions, replies) in lists.iter().zip(answers) {
         reader += 1;
         push_reader(alloc, &mut text, reader, questions, replies)?;
     }

@@ -8,12 +8,12 @@ use Rattle.std.proofs.lemmas.Bool.{and_parts, false≢true}
 use Rattle.serde_json.specs.Data.{Data, object, Members}
 use Rattle.serde_json.specs.Read.{of_json}
 use Rattle.serde_json.specs.Written.{compact_text, outline}
-use Rattle.osn_lands.specs.Territory.{TerritoryModel}
+use Rattle.osn_territory.specs.Territory.{TerritoryModel}
 use Rattle.osn_lines.specs.Lines.{lines}
 use Rattle.osn_register.specs.declared.refusal.Refusal.{Refusal}
 use Rattle.osn_register.specs.Code.{is_code}
 use Rattle.osn_register.specs.Plain as plain
-use Rattle.osn_register.specs.Plain.{LandModel, refusal}
+use Rattle.osn_register.specs.Plain.{EntryModel, refusal}
 use Rattle.osn_register.specs.Refusal.{or_else}
 use Rattle.osn_core.specs.declared.command.Command.{Command}
 use Rattle.osn_format.specs.declared.version.Version.{Version}
@@ -62,7 +62,7 @@ pub record IsLawfulIn (code : List ℕ) (refused : TerritoryModel → Option Ref
   pub territory : TerritoryModel
   pub lawful : refused territory ≡ None
 
-found_lawful : (code : List ℕ) (o : Option LandModel) (refused : TerritoryModel → Option Refusal)
+found_lawful : (code : List ℕ) (o : Option EntryModel) (refused : TerritoryModel → Option Refusal)
     → is_code code ≡ true → is_none o ≡ false
     → plain.inside refused (option_map (λ l. l.territory) o) ≡ None → IsLawfulIn code refused
 found_lawful code None refused c h e = absurd (false≢true (sym h))
@@ -72,13 +72,14 @@ found_lawful code (Some l) refused c h e = record {
   lawful = e;
 }
 
-pub lawful_in : (lands : List LandModel) (code : List ℕ) (refused : TerritoryModel → Option Refusal)
-    → plain.refusal_in lands code refused ≡ None → IsLawfulIn code refused
-lawful_in lands code refused h =
-    let parts = both_none (plain.code_refusal lands code) _ h in
+pub lawful_in : (territories : List EntryModel) (code : List ℕ)
+    (refused : TerritoryModel → Option Refusal)
+    → plain.refusal_in territories code refused ≡ None → IsLawfulIn code refused
+lawful_in territories code refused h =
+    let parts = both_none (plain.code_refusal territories code) _ h in
     let first = next_test (not (is_code code)) _ _ parts.0 in
-    let second = next_test (is_none (plain.land_of code lands)) _ _ first.1 in
-    found_lawful code (plain.land_of code lands) refused (un_not _ first.0) second.0 parts.1
+    let second = next_test (is_none (plain.entry_of code territories)) _ _ first.1 in
+    found_lawful code (plain.entry_of code territories) refused (un_not _ first.0) second.0 parts.1
 
 -- a number that is not outside a range from 1 on
 pub record IsWithin (high : ℕ) (z : ℤ) : Type 0 where

@@ -12,15 +12,15 @@ use Rattle.json.proofs.Printed.Utf8.{IsUtf8-are_ascii, are_ascii}
 use Rattle.serde_json.specs.Data.{Data, Members, string}
 use Rattle.osn_days.specs.declared.calendar.Calendar.{Calendar}
 use Rattle.osn_days.specs.declared.calendar.Calendar.TheVariants as calendars
-use Rattle.osn_days.specs.Profile.{newest_rules}
+use Rattle.osn_days.specs.Rules.{newest_rules}
 use Rattle.osn_days.specs.CalendarWords.{calendar_word, calendar_named}
 use Rattle.osn_computus.specs.declared.rule.Rule.{Rule}
 use Rattle.osn_computus.specs.declared.rule.Rule.TheVariants as rules
 use Rattle.osn_computus.specs.RuleWords.{rule_word, rule_named}
-use Rattle.osn_lands.specs.declared.regime.Regime.{Regime}
-use Rattle.osn_lands.specs.declared.style.Style.{Style}
-use Rattle.osn_lands.specs.declared.style.Style.TheVariants as styles
-use Rattle.osn_lands.specs.StyleWords.{style_word, style_named}
+use Rattle.osn_territory.specs.declared.regime.Regime.{Regime}
+use Rattle.osn_territory.specs.declared.style.Style.{Style}
+use Rattle.osn_territory.specs.declared.style.Style.TheVariants as styles
+use Rattle.osn_territory.specs.StyleWords.{style_word, style_named}
 use Rattle.osn_register.specs.Code.{is_code, is_name, is_code_byte, is_capital}
 use Rattle.osn_register.specs.Sources.{IsGiven, is_source}
 use Rattle.osn_format.specs.Json.{source_member}

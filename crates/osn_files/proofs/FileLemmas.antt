@@ -13,7 +13,7 @@ use Rattle.osn_files.specs.declared.fault.FileFault.TheVariants.{NoMemory, ReadF
 use Rattle.osn_files.specs.declared.fault.LineFault.{LineFault}
 use Rattle.osn_files.specs.declared.fault.Role.{Role}
 use Rattle.osn_files.specs.Faults.{MatchFileFault}
-use Rattle.osn_files.specs.Files.{ReadsFile, SparesRead}
+use Rattle.osn_files.specs.Files.{ReadsFile, AcceptsRead}
 
 -- what follows for each input that is known
 pub if_some : {P Q : List ℕ → Type 0} (o : Option (List ℕ)) → ((x : List ℕ) → P x → Q x)
@@ -69,8 +69,8 @@ if_fault (Err e) (Err f) P same h = subst P same h
 
 module _ {A B : Type 0} (rule : Rule A) (rule_too : Rule B)
     (same : (ls : List (List ℕ)) → IsSameFault (rule ls) (rule_too ls)) where
-  spares_too : (old new : Option (List ℕ)) (most : ℕ) → SparesRead rule old new most
-      → SparesRead rule_too old new most
+  spares_too : (old new : Option (List ℕ)) (most : ℕ) → AcceptsRead rule old new most
+      → AcceptsRead rule_too old new most
   spares_too old new most h = record {
     earlier = h.earlier;
     last = h.last;
@@ -82,10 +82,10 @@ module _ {A B : Type 0} (rule : Rule A) (rule_too : Rule B)
   }
 
   fault_too : (role : Role) (old new : Option (List ℕ)) (fault : FileFault)
-      → MatchFileFault fault (SparesRead rule old new 65536) (SparesRead rule old new 0)
+      → MatchFileFault fault (AcceptsRead rule old new 65536) (AcceptsRead rule old new 0)
       (λ named line why.
       (named ≡ role) × IfSome old (λ bytes. rule (lines bytes) ≡ Err (line, why)))
-      → MatchFileFault fault (SparesRead rule_too old new 65536) (SparesRead rule_too old new 0)
+      → MatchFileFault fault (AcceptsRead rule_too old new 65536) (AcceptsRead rule_too old new 0)
       (λ named line why.
       (named ≡ role) × IfSome old (λ bytes. rule_too (lines bytes) ≡ Err (line, why)))
   fault_too role old new NoMemory h = spares_too old new 65536 h
@@ -99,7 +99,7 @@ module _ {A B : Type 0} (rule : Rule A) (rule_too : Rule B)
 module _ {A : Type 0} (rule : Rule A) (old new : Option (List ℕ)) (n : ℕ) where
   -- no line of those that were taken is refused, and those are all that ended
   pub spares_all : HasRead old new n
-      → IfSome old (λ bytes. IfErr (rule (lines bytes)) (λ e. n < e.0)) → SparesRead rule old new 0
+      → IfSome old (λ bytes. IfErr (rule (lines bytes)) (λ e. n < e.0)) → AcceptsRead rule old new 0
   spares_all h spared = record {
     earlier = h.read;
     last = [];
@@ -114,7 +114,7 @@ module _ {A : Type 0} (rule : Rule A) (old new : Option (List ℕ)) (n : ℕ) wh
   -- and those are all that ended before the last bytes
   pub spares_most : HasKeptUp old new n
       → IfSome old (λ bytes. IfErr (rule (lines bytes)) (λ e. n < e.0))
-      → SparesRead rule old new 65536
+      → AcceptsRead rule old new 65536
   spares_most h spared = record {
     earlier = h.earlier;
     last = h.last;
@@ -135,7 +135,7 @@ some_spared rule (Some bytes) first =
 
 -- if nothing was read, no line has ended
 pub spares_nothing : {A : Type 0} (rule : Rule A) (input : Option (List ℕ)) (most : ℕ)
-    → ((ls : List (List ℕ)) → IfErr (rule ls) (λ e. 0 < e.0)) → SparesRead rule input input most
+    → ((ls : List (List ℕ)) → IfErr (rule ls) (λ e. 0 < e.0)) → AcceptsRead rule input input most
 spares_nothing rule input most first = record {
   earlier = [];
   last = [];

@@ -3,14 +3,14 @@ use Rattle.std.proofs.Common.{◌≡◌, ℕ, ◌+◌, ◌==◌, cond, nat_lt, L
 use Rattle.std.proofs.Common.{drop, Option, Some, None, Result, Ok, Err, refl, sym, ap, subst}
 use Rattle.std.proofs.Common.{◌∙◌, append-nil, append_assoc}
 use Rattle.std.proofs.lemmas.List.{take-append-drop}
-use Rattle.osn_days.specs.Profile.{Profile, newest_rules}
+use Rattle.osn_days.specs.Rules.{Rules, newest_rules}
 use Rattle.osn_register.specs.declared.edit.Edit.{Edit}
 use Rattle.osn_register.specs.declared.limits.Limits.{Limits}
 use Rattle.osn_register.specs.declared.refusal.Refusal.{Refusal}
 use Rattle.osn_register.specs.declared.refusal.Refusal.TheVariants.{NothingPending, JournalFull}
 use Rattle.osn_register.specs.declared.refusal.Refusal.TheVariants.{EditionsFull}
 use Rattle.osn_register.specs.Lawful.{AreLawful}
-use Rattle.osn_register.specs.Plain.{LandModel, refusal, applied_all}
+use Rattle.osn_register.specs.Plain.{EntryModel, refusal, applied_all}
 use Rattle.osn_register.specs.Refusal.{or_else}
 use Rattle.osn_core.specs.declared.command.Command.{Command}
 use Rattle.osn_core.specs.declared.command.Command.TheVariants.{Stage, Publish}
@@ -23,12 +23,13 @@ use Rattle.osn_format.specs.declared.version.Version.{Version}
 use Rattle.osn_request.specs.Request.{object_of}
 use Rattle.osn_files.specs.declared.fault.LineFault.{LineFault}
 use Rattle.osn_files.specs.Commands.{command_in}
-use Rattle.osn_files.specs.GreaterLimits.{AreGreater, MakeSameLands, LoadsUnderGreater, with_limits}
+use Rattle.osn_files.specs.GreaterLimits.{AreGreater, MakeSameTerritories, LoadsUnderGreater}
+use Rattle.osn_files.specs.GreaterLimits.{with_limits}
 use Rattle.osn_files.specs.Journal.{unless_refused, after_command, after_object, load}
 use Rattle.osn_files.specs.Turns.{on_read, go_on, in_turn}
 use Rattle.osn_files.specs.Version.{version_of}
 use Rattle.osn_files.proofs.CommandFacts.{next_test, both_none}
-use Rattle.osn_files.proofs.GreaterFacts.{room_passes, refusal_under, lands_under}
+use Rattle.osn_files.proofs.GreaterFacts.{room_passes, refusal_under, territories_under}
 
 abbrev edits_of : ObjectState → List Edit
 edits_of s = joined s.batches ++ s.pending
@@ -49,7 +50,7 @@ edition_first s edition =
     ∙ (ap (λ es. es ++ s.pending) (joined-both front rest)
     ∙ append_assoc (joined front) (joined rest) s.pending)
 
-module _ (p : Profile) {limits greater : Limits} (more : AreGreater limits greater) where
+module _ (p : Rules) {limits greater : Limits} (more : AreGreater limits greater) where
   -- an object under these limits, and under the greater ones
   abbrev smaller : ObjectState → ObjectState
   smaller s = with_limits s limits
@@ -80,7 +81,7 @@ module _ (p : Profile) {limits greater : Limits} (more : AreGreater limits great
   }
   not_refused (Some f) q new made passes lawful h = absurd (cc)
 
-  abbrev draft : Limits → ObjectState → List LandModel
+  abbrev draft : Limits → ObjectState → List EntryModel
   draft l s = applied_all p l [] (edits_of s)
 
   stage_passes : (s : ObjectState) (e : Edit) → IsLawful s
@@ -88,7 +89,8 @@ module _ (p : Profile) {limits greater : Limits} (more : AreGreater limits great
   stage_passes s e lawful h =
       let parts = both_none (refusal p limits (draft limits s) e) _ h in
       let none : refusal p greater (draft greater s) e ≡ None =
-      subst (λ lands. refusal p greater lands e ≡ None) (lands_under p more [] (edits_of s) lawful)
+      subst (λ territories. refusal p greater territories e ≡ None)
+      (territories_under p more [] (edits_of s) lawful)
       (refusal_under p more (draft limits s) e parts.0) in
       ap (λ r. or_else r (cond (nat_lt (edits_in s) greater.edits) None (Some JournalFull))) none
       ∙ room_passes limits.edits greater.edits (edits_in s) JournalFull more.edits parts.1
@@ -195,13 +197,14 @@ module _ (p : Profile) {limits greater : Limits} (more : AreGreater limits great
 -- each edition has the same territories under both limits
 same_edition : (limits greater : Limits) → AreGreater limits greater → (s : ObjectState)
     → AreLawful newest_rules limits [] (edits_of s) → (edition : ℕ)
-    → MakeSameLands limits greater (joined (take edition s.batches))
+    → MakeSameTerritories limits greater (joined (take edition s.batches))
 same_edition limits greater more s lawful edition =
     let front = joined (take edition s.batches) in
     let rest = joined (drop edition s.batches) ++ s.pending in
     let all : AreLawful newest_rules limits [] (front ++ rest) =
     subst (AreLawful newest_rules limits []) (edition_first s edition) lawful in
-    lands_under newest_rules more [] front (AreLawful-front newest_rules limits [] front rest all)
+    territories_under newest_rules more [] front
+    (AreLawful-front newest_rules limits [] front rest all)
 
 -- what limits load, greater ones load
 pub loads_same : (limits : Limits) (ls : List (List ℕ)) → LoadsUnderGreater limits ls
@@ -210,8 +213,8 @@ loads_same limits ls = λ greater more object is.
     let loaded = load_under newest_rules more ls object is in
     let same : object ≡ with_limits loaded.now limits = cc in (
       loaded.also ∙ ap (λ t. Ok (with_limits t greater)) (sym same),
-      λ edition. subst (λ t. MakeSameLands limits greater (joined (take edition t.batches)))
+      λ edition. subst (λ t. MakeSameTerritories limits greater (joined (take edition t.batches)))
           (sym same) (same_edition limits greater more loaded.now loaded.lawful edition),
-      subst (λ t. MakeSameLands limits greater (edits_of t)) (sym same)
-          (lands_under newest_rules more [] (edits_of loaded.now) loaded.lawful),
+      subst (λ t. MakeSameTerritories limits greater (edits_of t)) (sym same)
+          (territories_under newest_rules more [] (edits_of loaded.now) loaded.lawful),
     )

@@ -4,11 +4,11 @@ use Rattle.std.proofs.Common.{◌≡◌, ℕ, suc, ◌≤◌, ◌<◌, ◌==◌,
 use Rattle.std.proofs.Common.{nat_lt, ℤ, List, [], ◌∷◌, length, Option, Some, None, is_some}
 use Rattle.std.proofs.Common.{unsigned_abs, refl, sym, ap, ◌∙◌, arith}
 use Rattle.std.proofs.lemmas.Bool.{leb-false, lt-leb, ltb-true, lt-ltb, false≢true}
-use Rattle.osn_days.specs.Profile.{Profile}
-use Rattle.osn_lands.specs.declared.regime.Regime.{Regime}
-use Rattle.osn_lands.specs.Changes.{starts_on}
-use Rattle.osn_lands.specs.Exceptions.{exception_of}
-use Rattle.osn_lands.specs.Territory.{TerritoryModel}
+use Rattle.osn_days.specs.Rules.{Rules}
+use Rattle.osn_territory.specs.declared.regime.Regime.{Regime}
+use Rattle.osn_territory.specs.Changes.{starts_on}
+use Rattle.osn_territory.specs.Exceptions.{exception_of}
+use Rattle.osn_territory.specs.Territory.{TerritoryModel}
 use Rattle.osn_register.specs.declared.edit.Edit.{Edit}
 use Rattle.osn_register.specs.declared.edit.Edit.TheVariants.{AddLand, AddChange, AlterChange}
 use Rattle.osn_register.specs.declared.edit.Edit.TheVariants.{DropChange, AddException}
@@ -18,7 +18,7 @@ use Rattle.osn_register.specs.declared.refusal.Refusal.{Refusal}
 use Rattle.osn_register.specs.Code.{is_code, is_name}
 use Rattle.osn_register.specs.Lawful.{AreLawful}
 use Rattle.osn_register.specs.Plain as plain
-use Rattle.osn_register.specs.Plain.{LandModel, refusal, effect, applied_all}
+use Rattle.osn_register.specs.Plain.{EntryModel, refusal, effect, applied_all}
 use Rattle.osn_register.specs.Refusal.{or_else}
 use Rattle.osn_core.proofs.Lawful.{applied-lawful}
 use Rattle.osn_files.specs.GreaterLimits.{AreGreater}
@@ -56,18 +56,23 @@ inside_both : (f g : TerritoryModel → Option Refusal)
 inside_both f g each None h = refl
 inside_both f g each (Some t) h = each t h
 
-module _ (p : Profile) {limits greater : Limits} (more : AreGreater limits greater) where
-  add_land_passes : (lands : List LandModel) (code name : List ℕ) (r : Regime)
-      → plain.add_land_refusal p limits lands code name r ≡ None
-      → plain.add_land_refusal p greater lands code name r ≡ None
-  add_land_passes lands code name r h =
+module _ (p : Rules) {limits greater : Limits} (more : AreGreater limits greater) where
+  add_land_passes : (territories : List EntryModel) (code name : List ℕ) (r : Regime)
+      → plain.add_land_refusal p limits territories code name r ≡ None
+      → plain.add_land_refusal p greater territories code name r ≡ None
+  add_land_passes territories code name r h =
       let a = next_test (not (is_code code)) _ _ h in
       let b = next_test (not (is_name name)) _ _ a.1 in
-      let c = next_test (is_some (plain.land_of code lands)) _ _ b.1 in
+      let c = next_test (is_some (plain.entry_of code territories)) _ _ b.1 in
       let d = next_test (plain.is_style_refused p r) _ _ c.1 in
-      let e = next_test (nat_le limits.lands (length lands)) _ _ d.1 in
-      rw (a.0, b.0, c.0, d.0, not_reached limits.lands greater.lands (length lands) more.lands e.0)
-      refl
+      let e = next_test (nat_le limits.lands (length territories)) _ _ d.1 in
+      rw (
+        a.0,
+        b.0,
+        c.0,
+        d.0,
+        not_reached limits.lands greater.lands (length territories) more.lands e.0,
+      ) refl
 
   add_change_passes : (day : ℤ) (r : Regime) (t : TerritoryModel)
       → plain.add_change_refusal p limits day r t ≡ None
@@ -94,32 +99,34 @@ module _ (p : Profile) {limits greater : Limits} (more : AreGreater limits great
       not_reached limits.exceptions greater.exceptions (length t.exceptions) more.exceptions d.0 in
       rw (a.0, b.0, c.0, below) refl
 
-  in_territory : (lands : List LandModel) (code : List ℕ) (f g : TerritoryModel → Option Refusal)
-      → ((t : TerritoryModel) → f t ≡ None → g t ≡ None)
-      → plain.refusal_in lands code f ≡ None → plain.refusal_in lands code g ≡ None
-  in_territory lands code f g each h =
-      let parts = both_none (plain.code_refusal lands code) _ h in
-      ap (λ r. or_else r (plain.inside g (plain.territory_of code lands))) parts.0
-      ∙ inside_both f g each (plain.territory_of code lands) parts.1
+  in_territory : (territories : List EntryModel) (code : List ℕ)
+      (f g : TerritoryModel → Option Refusal) → ((t : TerritoryModel) → f t ≡ None → g t ≡ None)
+      → plain.refusal_in territories code f ≡ None → plain.refusal_in territories code g ≡ None
+  in_territory territories code f g each h =
+      let parts = both_none (plain.code_refusal territories code) _ h in
+      ap (λ r. or_else r (plain.inside g (plain.territory_of code territories))) parts.0
+      ∙ inside_both f g each (plain.territory_of code territories) parts.1
 
   -- an edit that limits don't refuse
-  pub refusal_under : (lands : List LandModel) (e : Edit) → refusal p limits lands e ≡ None
-      → refusal p greater lands e ≡ None
-  refusal_under lands (AddLand code name r source) h = add_land_passes lands code name r h
-  refusal_under lands (AddChange code day r source) h =
-      in_territory lands code _ _ (add_change_passes day r) h
-  refusal_under lands (AlterChange code day r source) h = h
-  refusal_under lands (DropChange code day) h = h
-  refusal_under lands (AddException code year day source) h =
-      in_territory lands code _ _ (add_exception_passes year day) h
-  refusal_under lands (DropException code year) h = h
+  pub refusal_under : (territories : List EntryModel) (e : Edit) → refusal p limits territories e
+      ≡ None → refusal p greater territories e ≡ None
+  refusal_under territories (AddLand code name r source) h =
+      add_land_passes territories code name r h
+  refusal_under territories (AddChange code day r source) h =
+      in_territory territories code _ _ (add_change_passes day r) h
+  refusal_under territories (AlterChange code day r source) h = h
+  refusal_under territories (DropChange code day) h = h
+  refusal_under territories (AddException code year day source) h =
+      in_territory territories code _ _ (add_exception_passes year day) h
+  refusal_under territories (DropException code year) h = h
 
   -- edits that are lawful in turn make the same territories
-  pub lands_under : (lands : List LandModel) (es : List Edit) → AreLawful p limits lands es
-      → applied_all p limits lands es ≡ applied_all p greater lands es
-  lands_under lands [] h = refl
-  lands_under lands (e ∷ es) h =
-      ap (λ ls. applied_all p limits ls es) (applied-lawful p limits lands e h.0)
-      ∙ (lands_under (effect lands e) es h.1
+  pub territories_under : (territories : List EntryModel) (es : List Edit) →
+      AreLawful p limits territories es
+      → applied_all p limits territories es ≡ applied_all p greater territories es
+  territories_under territories [] h = refl
+  territories_under territories (e ∷ es) h =
+      ap (λ ls. applied_all p limits ls es) (applied-lawful p limits territories e h.0)
+      ∙ (territories_under (effect territories e) es h.1
       ∙ sym (ap (λ ls. applied_all p greater ls es)
-      (applied-lawful p greater lands e (refusal_under lands e h.0))))
+      (applied-lawful p greater territories e (refusal_under territories e h.0))))

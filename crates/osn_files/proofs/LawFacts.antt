@@ -10,21 +10,21 @@ use Rattle.std.proofs.lemmas.List.Elements.{All-nil, All-cons, All-head, All-tai
 use Rattle.std.proofs.lemmas.List.Sums.{sum_by-append}
 use Rattle.serde_json.specs.Data.{Data}
 use Rattle.serde_json.specs.Written.{compact_text}
-use Rattle.osn_days.specs.Profile.{Profile, newest_rules}
+use Rattle.osn_days.specs.Rules.{Rules, newest_rules}
 use Rattle.osn_lines.specs.Lines.{lines}
 use Rattle.osn_register.specs.declared.edit.Edit.{Edit}
 use Rattle.osn_register.specs.declared.limits.Limits.{Limits}
 use Rattle.osn_register.specs.declared.refusal.Refusal.TheVariants.{NothingPending, JournalFull}
 use Rattle.osn_register.specs.declared.refusal.Refusal.TheVariants.{EditionsFull}
 use Rattle.osn_register.specs.Lawful.{AreLawful}
-use Rattle.osn_register.specs.Plain.{LandModel, refusal, effect, applied, applied_all}
+use Rattle.osn_register.specs.Plain.{EntryModel, refusal, effect, applied, applied_all}
 use Rattle.osn_register.specs.Plain.{unless_refused}
 use Rattle.osn_register.specs.Refusal.{or_else}
 use Rattle.osn_core.specs.declared.command.Command.{Command}
 use Rattle.osn_core.specs.declared.command.Command.TheVariants.{Stage, Publish}
 use Rattle.osn_core.specs.Sequential.{ObjectState, HasLawfulSource, opened, joined, edits_in}
 use Rattle.osn_core.specs.Sequential.{NoneEmpty, IsSound, stage_refusal, publish_refusal}
-use Rattle.osn_core.specs.Sequential.{draft_lands}
+use Rattle.osn_core.specs.Sequential.{draft_territories}
 use Rattle.osn_core.proofs.Batches.{joined-push}
 use Rattle.osn_request.specs.Request.{object_of}
 use Rattle.osn_format.specs.declared.version.Version.{Version}
@@ -49,36 +49,38 @@ IsOwn version e = HasEdit version e × HasLawfulSource e
 abbrev pub at : Limits → List (List Edit) → List Edit → ObjectState
 at limits done pend = record { limits = limits; batches = done; pending = pend }
 
-abbrev lands_at : Limits → List Edit → List LandModel
-lands_at limits es = applied_all newest_rules limits [] es
+abbrev territories_at : Limits → List Edit → List EntryModel
+territories_at limits es = applied_all newest_rules limits [] es
 
-applied_all-append : (limits : Limits) (lands : List LandModel) (es fs : List Edit)
-    → applied_all newest_rules limits lands (es ++ fs)
-    ≡ applied_all newest_rules limits (applied_all newest_rules limits lands es) fs
-applied_all-append limits lands [] fs = refl
-applied_all-append limits lands (e ∷ es) fs =
-    applied_all-append limits (applied newest_rules limits lands e) es fs
+applied_all-append : (limits : Limits) (territories : List EntryModel) (es fs : List Edit)
+    → applied_all newest_rules limits territories (es ++ fs)
+    ≡ applied_all newest_rules limits (applied_all newest_rules limits territories es) fs
+applied_all-append limits territories [] fs = refl
+applied_all-append limits territories (e ∷ es) fs =
+    applied_all-append limits (applied newest_rules limits territories e) es fs
 
-applied-lawful : (limits : Limits) (lands : List LandModel) (e : Edit)
-    → refusal newest_rules limits lands e ≡ None
-    → applied newest_rules limits lands e ≡ effect lands e
-applied-lawful limits lands e none = ap (λ r. unless_refused r (effect lands e) lands) none
+applied-lawful : (limits : Limits) (territories : List EntryModel) (e : Edit)
+    → refusal newest_rules limits territories e ≡ None
+    → applied newest_rules limits territories e ≡ effect territories e
+applied-lawful limits territories e none =
+    ap (λ r. unless_refused r (effect territories e) territories) none
 
 -- the first of edits that are lawful in turn are so
-pub lawful_front : (p : Profile) (limits : Limits) (lands : List LandModel) (es fs : List Edit)
-    → AreLawful p limits lands (es ++ fs) → AreLawful p limits lands es
-lawful_front p limits lands [] fs h = tt
-lawful_front p limits lands (e ∷ es) fs h = (h.0, lawful_front p limits (effect lands e) es fs h.1)
+pub lawful_front : (p : Rules) (limits : Limits) (territories : List EntryModel) (es fs : List Edit)
+    → AreLawful p limits territories (es ++ fs) → AreLawful p limits territories es
+lawful_front p limits territories [] fs h = tt
+lawful_front p limits territories (e ∷ es) fs h =
+    (h.0, lawful_front p limits (effect territories e) es fs h.1)
 
 -- and so are the others after them
-pub lawful_rest : (limits : Limits) (lands : List LandModel) (es fs : List Edit)
-    → AreLawful newest_rules limits lands (es ++ fs)
-    → AreLawful newest_rules limits (applied_all newest_rules limits lands es) fs
-lawful_rest limits lands [] fs h = h
-lawful_rest limits lands (e ∷ es) fs h =
-    lawful_rest limits (applied newest_rules limits lands e) es fs
+pub lawful_rest : (limits : Limits) (territories : List EntryModel) (es fs : List Edit)
+    → AreLawful newest_rules limits territories (es ++ fs)
+    → AreLawful newest_rules limits (applied_all newest_rules limits territories es) fs
+lawful_rest limits territories [] fs h = h
+lawful_rest limits territories (e ∷ es) fs h =
+    lawful_rest limits (applied newest_rules limits territories e) es fs
     (subst (λ ls. AreLawful newest_rules limits ls (es ++ fs))
-    (sym (applied-lawful limits lands e h.0)) h.1)
+    (sym (applied-lawful limits territories e h.0)) h.1)
 
 -- what holds of each of some edits holds of the first ones, and of those after them
 pub each_first : (P : Edit → Type 0) (es fs : List Edit) → All P (es ++ fs) → All P es
@@ -91,7 +93,7 @@ each_after P [] fs h = h
 each_after P (e ∷ es) fs h = each_after P es fs (All-tail P e (es ++ fs) h)
 
 stage_passes : (s : ObjectState) (e : Edit)
-    → refusal newest_rules s.limits (draft_lands newest_rules s) e ≡ None
+    → refusal newest_rules s.limits (draft_territories newest_rules s) e ≡ None
     → edits_in s < s.limits.edits
     → stage_refusal newest_rules s e ≡ None
 stage_passes s e lawful room =
@@ -126,7 +128,7 @@ module _ (version : Version) where
   -- lawful edits that there is room for are all staged
   run_edits : (limits : Limits) (done : List (List Edit)) (pend es : List Edit) (more : List ℕ)
       (t : ObjectState) → All (IsOwn version) es
-      → AreLawful newest_rules limits (lands_at limits (joined done ++ pend)) es
+      → AreLawful newest_rules limits (territories_at limits (joined done ++ pend)) es
       → edits_in (at limits done pend) + length es ≤ limits.edits
       → ((m : ℕ) → run version m (at limits done (pend ++ es)) (lines more) ≡ Ok t)
       → (n : ℕ) → run version n (at limits done pend) (lines (edits_text es ++ more)) ≡ Ok t
@@ -135,17 +137,17 @@ module _ (version : Version) where
   run_edits limits done pend (e ∷ es) more t own lawful room rest n =
       let s = at limits done pend in
       let first = All-head (IsOwn version) e es own in
-      let grown : lands_at limits (joined done ++ (pend ++ e ∷ []))
-      ≡ effect (lands_at limits (joined done ++ pend)) e =
-      ap (lands_at limits) (sym (append_assoc (joined done) pend (e ∷ [])))
+      let grown : territories_at limits (joined done ++ (pend ++ e ∷ []))
+      ≡ effect (territories_at limits (joined done ++ pend)) e =
+      ap (territories_at limits) (sym (append_assoc (joined done) pend (e ∷ [])))
       ∙ (applied_all-append limits [] (joined done ++ pend) (e ∷ [])
-      ∙ applied-lawful limits (lands_at limits (joined done ++ pend)) e lawful.0) in
+      ∙ applied-lawful limits (territories_at limits (joined done ++ pend)) e lawful.0) in
       let passes = stage_passes s e lawful.0 (omega (arith, room)) in
       ap (λ text. run version n s (lines text))
       (append_assoc (line_text (edit_data e)) (edits_text es) more)
       ∙ run_line s (at limits done (pend ++ e ∷ [])) t (edit_data e) (Stage e)
       (edits_text es ++ more)
-      (Says-lawful version limits (lands_at limits (joined done ++ pend)) e first.0 first.1
+      (Says-lawful version limits (territories_at limits (joined done ++ pend)) e first.0 first.1
       lawful.0)
       (ap (λ r. journal.unless_refused r (at limits done (pend ++ e ∷ []))) passes)
       (run_edits limits done (pend ++ e ∷ []) es more t (All-tail (IsOwn version) e es own)
@@ -158,7 +160,7 @@ module _ (version : Version) where
   -- batches of them that there is room for are all published
   run_batches : (limits : Limits) (done bs : List (List Edit)) (pend : List Edit) (more : List ℕ)
       (t : ObjectState) → All (IsOwn version) (joined bs ++ pend)
-      → AreLawful newest_rules limits (lands_at limits (joined done)) (joined bs ++ pend)
+      → AreLawful newest_rules limits (territories_at limits (joined done)) (joined bs ++ pend)
       → NoneEmpty bs
       → sum_by (λ b. length b) done + sum_by (λ b. length b) bs ≤ limits.edits
       → length done + length bs ≤ limits.editions
@@ -175,21 +177,23 @@ module _ (version : Version) where
       let owned : All (IsOwn version) (b ++ (joined bs ++ pend)) =
       subst (All (IsOwn version)) (append_assoc b (joined bs) pend) own in
       let all :
-      AreLawful newest_rules limits (lands_at limits (joined done)) (b ++ (joined bs ++ pend)) =
-      subst (AreLawful newest_rules limits (lands_at limits (joined done)))
+      AreLawful newest_rules limits (territories_at limits (joined done))
+      (b ++ (joined bs ++ pend)) =
+      subst (AreLawful newest_rules limits (territories_at limits (joined done)))
       (append_assoc b (joined bs) pend) lawful in
-      let first : AreLawful newest_rules limits (lands_at limits (joined done ++ [])) b =
-      subst (λ es. AreLawful newest_rules limits (lands_at limits es) b)
+      let first : AreLawful newest_rules limits (territories_at limits (joined done ++ [])) b =
+      subst (λ es. AreLawful newest_rules limits (territories_at limits es) b)
       (sym (append-nil (joined done)))
-      (lawful_front newest_rules limits (lands_at limits (joined done)) b (joined bs ++ pend)
+      (lawful_front newest_rules limits (territories_at limits (joined done)) b (joined bs ++ pend)
       all) in
-      let grown : lands_at limits (joined (done ++ b ∷ []))
-      ≡ applied_all newest_rules limits (lands_at limits (joined done)) b =
-      ap (lands_at limits) (joined-push done b) ∙ applied_all-append limits [] (joined done) b in
-      let others : AreLawful newest_rules limits (lands_at limits (joined (done ++ b ∷ [])))
+      let grown : territories_at limits (joined (done ++ b ∷ []))
+      ≡ applied_all newest_rules limits (territories_at limits (joined done)) b =
+      ap (territories_at limits) (joined-push done b)
+      ∙ applied_all-append limits [] (joined done) b in
+      let others : AreLawful newest_rules limits (territories_at limits (joined (done ++ b ∷ [])))
       (joined bs ++ pend) =
       subst (λ ls. AreLawful newest_rules limits ls (joined bs ++ pend)) (sym grown)
-      (lawful_rest limits (lands_at limits (joined done)) b (joined bs ++ pend) all) in
+      (lawful_rest limits (territories_at limits (joined done)) b (joined bs ++ pend) all) in
       let total : sum_by (λ (c : List Edit). length c) (b ∷ bs)
       ≡ (0 + length b) + sum_by (λ (c : List Edit). length c) bs =
       sum_by-append (λ (c : List Edit). length c) (b ∷ []) bs in
@@ -226,7 +230,7 @@ module _ (version : Version) where
       (sym (append-nil (edits_text s.pending)))
       ∙ run_edits s.limits s.batches [] s.pending [] s
       (each_after (IsOwn version) (joined s.batches) s.pending own)
-      (subst (λ es. AreLawful newest_rules s.limits (lands_at s.limits es) s.pending)
+      (subst (λ es. AreLawful newest_rules s.limits (territories_at s.limits es) s.pending)
       (sym (append-nil (joined s.batches)))
       (lawful_rest s.limits [] (joined s.batches) s.pending h.lawful))
       (omega (arith, h.edits))

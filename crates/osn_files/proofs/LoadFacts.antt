@@ -4,12 +4,12 @@ use Rattle.std.proofs.Common.{Some, None, Result, Ok, Err, refl, sym, ap, subst,
 use Rattle.std.proofs.Common.{append_assoc}
 use Rattle.serde_json.specs.Data.{Data}
 use Rattle.serde_json.specs.Written.{compact_text}
-use Rattle.osn_days.specs.Profile.{newest_rules}
+use Rattle.osn_days.specs.Rules.{newest_rules}
 use Rattle.osn_register.specs.declared.edit.Edit.{Edit}
 use Rattle.osn_register.specs.declared.limits.Limits.{Limits}
 use Rattle.osn_register.specs.Plain.{refusal}
 use Rattle.osn_core.specs.Sequential.{ObjectState, IsSound, opened, with_pending, with_edition}
-use Rattle.osn_core.specs.Sequential.{draft_lands}
+use Rattle.osn_core.specs.Sequential.{draft_territories}
 use Rattle.osn_lines.specs.Lines.{lines, EndsWithFeed}
 use Rattle.osn_lines.proofs.FeedLemmas.{lines-append}
 use Rattle.osn_format.specs.declared.version.Version.{Version}
@@ -113,10 +113,10 @@ pub loads_by_lines : (version : Version) (limits : Limits) (s : ObjectState) (te
     → IsJournalOf version limits s text → LoadsByLines version limits s text
 loads_by_lines version limits s text h = record {
   edit = λ e has given lawful.
-      let lands = draft_lands newest_rules s in
+      let territories = draft_territories newest_rules s in
       let says =
-      Says-lawful version s.limits lands e has given
-      (both_none (refusal newest_rules s.limits lands e) _ lawful).0 in
+      Says-lawful version s.limits territories e has given
+      (both_none (refusal newest_rules s.limits territories e) _ lawful).0 in
       IsJournalOf-line version limits s (with_pending s e) text (edit_data e) says.line
       (ap (λ r. on_read r (after_command newest_rules s)) says.command
       ∙ ap (λ r. journal.unless_refused r (with_pending s e)) lawful)

@@ -2,14 +2,14 @@
 use Rattle.std.proofs.Common.{◌≡◌, List, [], ◌∷◌, false, Option, Some, None}
 use Rattle.std.proofs.Common.{option_and_then, if◌then◌else◌, Result, Ok, Err, refl, subst}
 use Rattle.serde_json.specs.Data.{Data}
-use Rattle.osn_days.specs.Profile.{first_rules}
+use Rattle.osn_days.specs.Rules.{first_rules}
 use Rattle.osn_days.specs.CalendarWords.{calendar_named}
 use Rattle.osn_computus.specs.RuleWords.{rule_named}
-use Rattle.osn_lands.specs.declared.regime.Regime.{Regime}
-use Rattle.osn_lands.specs.declared.style.Style.{Style}
-use Rattle.osn_lands.specs.declared.style.Style.TheVariants as styles
-use Rattle.osn_lands.specs.Style.{is_from_easter}
-use Rattle.osn_lands.specs.StyleWords.{style_named, style_written, has_style}
+use Rattle.osn_territory.specs.declared.regime.Regime.{Regime}
+use Rattle.osn_territory.specs.declared.style.Style.{Style}
+use Rattle.osn_territory.specs.declared.style.Style.TheVariants as styles
+use Rattle.osn_territory.specs.Style.{is_from_easter}
+use Rattle.osn_territory.specs.StyleWords.{style_named, style_written, has_style}
 use Rattle.osn_register.specs.declared.edit.Edit.{Edit}
 use Rattle.osn_register.specs.declared.edit.Edit.TheVariants.{AddLand, AddChange, AlterChange}
 use Rattle.osn_register.specs.declared.edit.Edit.TheVariants.{DropChange, AddException}

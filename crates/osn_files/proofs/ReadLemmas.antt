@@ -323,7 +323,7 @@ spared_first step state begun input n taken spares count first =
     first
 
 -- if the lines ended early, the file has the fault that is returned
-pub interrupted : {F A T S : Type 0} (step : Rule F A) (state : F → A) (begun now : Reading F)
+pub ended_early : {F A T S : Type 0} (step : Rule F A) (state : F → A) (begun now : Reading F)
     (view : T → A) (role : Role) (n : ℕ) (cause : TakeFault LineStop)
     (remaining : S → Option (List ℕ)) (has_failed : S → Bool) (old new : S)
     → MatchFault cause (TakesFirst (Reads step state) begun now (remaining old) n)
@@ -335,7 +335,7 @@ pub interrupted : {F A T S : Type 0} (step : Rule F A) (state : F → A) (begun 
     (IsReadFault (has_failed new) (remaining old)) (λ _. has_failed new ≡ has_failed old)
     → ReadsFile role (goes_on step state begun 1) view (Err (file_fault role n cause)) remaining
     has_failed old new
-interrupted step state begun now view role n ends.NoMemory remaining has_failed old new h recent
+ended_early step state begun now view role n ends.NoMemory remaining has_failed old new h recent
     reason =
     record {
       made = tt;
@@ -349,7 +349,7 @@ interrupted step state begun now view role n ends.NoMemory remaining has_failed 
           h.count h.first);
       reason = reason;
     }
-interrupted step state begun now view role n ends.ReadFault remaining has_failed old new h recent
+ended_early step state begun now view role n ends.ReadFault remaining has_failed old new h recent
     reason =
     record {
       made = tt;
@@ -362,7 +362,7 @@ interrupted step state begun now view role n ends.ReadFault remaining has_failed
           (h.first.takes begun [] (begun_so step state begun))) h.first.count h.first.first);
       reason = reason;
     }
-interrupted step state begun now view role n (ends.Stopped NoMemory) remaining has_failed old new h
+ended_early step state begun now view role n (ends.Stopped NoMemory) remaining has_failed old new h
     recent reason =
     record {
       made = tt;
@@ -374,7 +374,7 @@ interrupted step state begun now view role n (ends.Stopped NoMemory) remaining h
           (h.stops begun [] (begun_so step state begun)) h.count h.first);
       reason = reason;
     }
-interrupted step state begun now view role n (ends.Stopped (Fault f)) remaining has_failed old new h
+ended_early step state begun now view role n (ends.Stopped (Fault f)) remaining has_failed old new h
     recent reason =
     record {
       made = tt;

@@ -4,7 +4,7 @@ use Rattle.std.proofs.Common.{Option, Some, None, Result, Ok, Err, refl, sym, ap
 use Rattle.std.proofs.Common.{◌∙◌, arith, append-nil, append_assoc}
 use Rattle.std.proofs.lemmas.List.{take-append-drop}
 use Rattle.serde_json.specs.Data.{Data}
-use Rattle.osn_days.specs.Profile.{Profile, first_rules, newest_rules}
+use Rattle.osn_days.specs.Rules.{Rules, first_rules, newest_rules}
 use Rattle.osn_register.specs.declared.edit.Edit.{Edit}
 use Rattle.osn_register.specs.declared.limits.Limits.{Limits}
 use Rattle.osn_register.specs.declared.refusal.Refusal.{Refusal}
@@ -14,7 +14,7 @@ use Rattle.osn_register.specs.Plain.{RegisterModel, refusal, applied_all}
 use Rattle.osn_register.specs.Refusal.{or_else}
 use Rattle.osn_core.specs.declared.command.Command.{Command}
 use Rattle.osn_core.specs.declared.command.Command.TheVariants.{Stage, Publish}
-use Rattle.osn_core.specs.Sequential.{ObjectState, opened, joined, draft_lands, edits_in}
+use Rattle.osn_core.specs.Sequential.{ObjectState, opened, joined, draft_territories, edits_in}
 use Rattle.osn_core.specs.Sequential.{stage_refusal, publish_refusal, with_pending, with_edition}
 use Rattle.osn_core.proofs.Batches.{joined-push}
 use Rattle.osn_core.proofs.Lawful.{AreLawful-push}
@@ -61,7 +61,8 @@ same_front limits s es fs old are =
     let lawful =
     lawful_front first_rules limits [] es fs
     (subst (AreLawful first_rules limits []) are old.lawful) in
-    ap (λ lands. let r : RegisterModel = record { limits = limits; lands = lands } in r)
+    ap (λ territories. let r : RegisterModel =
+    record { limits = limits; territories = territories } in r)
     (applied_passes first_rules newest_rules limits [] es newest_longer fixed lawful)
 
 same_all : (limits : Limits) (s : ObjectState) → IsOld limits s
@@ -96,7 +97,7 @@ record Goes (limits : Limits) (r : Result ObjectState LineFault) (made : ObjectS
   old : IsOld limits made
 
 IsOld-pending : (limits : Limits) (s : ObjectState) (e : Edit) → IsOld limits s → HasFixed e
-    → refusal first_rules limits (draft_lands first_rules s) e ≡ None
+    → refusal first_rules limits (draft_territories first_rules s) e ≡ None
     → IsOld limits (with_pending s e)
 IsOld-pending limits s e old fixed none =
     let grown : all_edits s ++ e ∷ [] ≡ all_edits (with_pending s e) =
@@ -129,19 +130,19 @@ stage_goes limits s made e old fixed is =
     let passed = not_refused (stage_refusal first_rules s e) (with_pending s e) made is in
     let room = cond (nat_lt (edits_in s) s.limits.edits) None (Some JournalFull) in
     let parts =
-    both_none (refusal first_rules s.limits (draft_lands first_rules s) e) room passed.0 in
-    let none : refusal first_rules limits (draft_lands first_rules s) e ≡ None =
-    subst (λ l. refusal first_rules l (draft_lands first_rules s) e ≡ None) old.limits_are
+    both_none (refusal first_rules s.limits (draft_territories first_rules s) e) room passed.0 in
+    let none : refusal first_rules limits (draft_territories first_rules s) e ≡ None =
+    subst (λ l. refusal first_rules l (draft_territories first_rules s) e ≡ None) old.limits_are
     parts.0 in
-    let drafts : draft_lands first_rules s ≡ draft_lands newest_rules s =
+    let drafts : draft_territories first_rules s ≡ draft_territories newest_rules s =
     subst (λ l. applied_all first_rules l [] (all_edits s)
     ≡ applied_all newest_rules l [] (all_edits s)) (sym old.limits_are)
     (applied_passes first_rules newest_rules limits [] (all_edits s) newest_longer old.fixed
     old.lawful) in
-    let newest : refusal newest_rules s.limits (draft_lands newest_rules s) e ≡ None =
-    subst (λ lands. refusal newest_rules s.limits lands e ≡ None) drafts
-    (refusal_passes first_rules newest_rules s.limits (draft_lands first_rules s) e newest_longer
-    fixed parts.0) in
+    let newest : refusal newest_rules s.limits (draft_territories newest_rules s) e ≡ None =
+    subst (λ territories. refusal newest_rules s.limits territories e ≡ None) drafts
+    (refusal_passes first_rules newest_rules s.limits (draft_territories first_rules s) e
+    newest_longer fixed parts.0) in
     let passes : stage_refusal newest_rules s e ≡ None =
     ap (λ r. or_else r room) newest ∙ parts.1 in
     record {
@@ -172,7 +173,7 @@ line_goes limits s made (Ok d) old is =
     read_goes limits s made (command_in First d) old (fixed_command d) is
 line_goes limits s made (Err f) old is = absurd (cc)
 
-abbrev after_first_head : Profile → ℕ → ObjectState → List (List ℕ)
+abbrev after_first_head : Rules → ℕ → ObjectState → List (List ℕ)
     → Result ObjectState (ℕ × LineFault)
 after_first_head p n s ls = in_turn (after_object p) n (Some First) s ls
 
@@ -215,7 +216,7 @@ lines_end limits n s made (l ∷ ls) old is =
     is
 
 -- the object that is loaded after a head
-abbrev after_head : Profile → Limits → List (List ℕ) → Result Version WireFault
+abbrev after_head : Rules → Limits → List (List ℕ) → Result Version WireFault
     → Result ObjectState (ℕ × LineFault)
 after_head p limits rest r =
     go_on 1 (on_read r Ok) (λ v. in_turn (after_object p) 2 (Some v) (opened limits) rest)

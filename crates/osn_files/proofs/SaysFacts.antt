@@ -9,15 +9,15 @@ use Rattle.serde_json.specs.Data.{no_members}
 use Rattle.serde_json.specs.Read.{of_json}
 use Rattle.serde_json.specs.Written.{compact_text, outline}
 use Rattle.serde_json.proofs.Numbers.{number_of-decimal}
-use Rattle.osn_days.specs.Profile.{newest_rules}
-use Rattle.osn_lands.specs.declared.regime.Regime.{Regime}
+use Rattle.osn_days.specs.Rules.{newest_rules}
+use Rattle.osn_territory.specs.declared.regime.Regime.{Regime}
 use Rattle.osn_register.specs.declared.edit.Edit.{Edit}
 use Rattle.osn_register.specs.declared.edit.Edit.TheVariants.{AddLand, AddChange, AlterChange}
 use Rattle.osn_register.specs.declared.edit.Edit.TheVariants.{DropChange, AddException}
 use Rattle.osn_register.specs.declared.edit.Edit.TheVariants.{DropException}
 use Rattle.osn_register.specs.declared.limits.Limits.{Limits}
 use Rattle.osn_register.specs.Code.{is_code, is_name}
-use Rattle.osn_register.specs.Plain.{LandModel, refusal}
+use Rattle.osn_register.specs.Plain.{EntryModel, refusal}
 use Rattle.osn_register.specs.Sources.{IsGiven, is_source}
 use Rattle.osn_core.specs.Sequential.{HasLawfulSource}
 use Rattle.osn_core.specs.declared.command.Command.TheVariants.{Stage, Publish}
@@ -52,18 +52,18 @@ IsReadBack e = of_json (outline (edit_data e)) ≡ Some (edit_data e)
 abbrev IsReadAs : Edit → Type 0
 IsReadAs e = command_in newest_version (edit_data e) ≡ Ok (Stage e)
 
-land_back : (code name : List ℕ) (r : Regime) (source : Option (List ℕ))
+territory_back : (code name : List ℕ) (r : Regime) (source : Option (List ℕ))
     → IsReadBack (AddLand code name r source)
-land_back code name r None = refl
-land_back code name r (Some source) = refl
+territory_back code name r None = refl
+territory_back code name r (Some source) = refl
 
-land_read : (code name : List ℕ) (r : Regime) (source : Option (List ℕ)) → IsGiven source
+territory_read : (code name : List ℕ) (r : Regime) (source : Option (List ℕ)) → IsGiven source
     → IsReadAs (AddLand code name r source)
 unfolding add_land_of
-land_read code name r None given =
+territory_read code name r None given =
     let d = edit_data (AddLand code name r None) in
     rw (regime_of-words d r refl refl refl) refl
-land_read code name r (Some source) given =
+territory_read code name r (Some source) given =
     let d = edit_data (AddLand code name r (Some source)) in
     let good : is_source source ≡ true = given in
     rw (regime_of-words d r refl refl refl, good) refl
@@ -82,8 +82,8 @@ Says-add_land code name r source c n given =
     (Fit-member (codes "style") _ _ _ _ refl (Fits-style r.style)
     Fit-none)))))) in
     record {
-      line = IsLine-fit _ _ fit (omega arith) (land_back code name r source);
-      command = land_read code name r source given;
+      line = IsLine-fit _ _ fit (omega arith) (territory_back code name r source);
+      command = territory_read code name r source given;
     }
 
 -- a change of a regime, by its op: its line, and the line is read back
@@ -223,29 +223,29 @@ abbrev SaysItself : Edit → Type 0
 SaysItself e = Says newest_version (edit_data e) (Stage e)
 
 -- the line of a lawful edit says the edit by the newest rules
-says_newest : (limits : Limits) (lands : List LandModel) (e : Edit) → HasLawfulSource e
-    → refusal newest_rules limits lands e ≡ None → SaysItself e
-says_newest limits lands (AddLand code name r source) given h =
+says_newest : (limits : Limits) (territories : List EntryModel) (e : Edit) → HasLawfulSource e
+    → refusal newest_rules limits territories e ≡ None → SaysItself e
+says_newest limits territories (AddLand code name r source) given h =
     let code_good = next_test (not (is_code code)) _ _ h in
     let name_good = next_test (not (is_name name)) _ _ code_good.1 in
     Says-add_land code name r source (un_not _ code_good.0) (un_not _ name_good.0) given
-says_newest limits lands (AddChange code day r source) given h =
-    let it = lawful_in lands code _ h in
+says_newest limits territories (AddChange code day r source) given h =
+    let it = lawful_in territories code _ h in
     let on = within newest_rules.high day (next_test _ _ _ it.lawful).0 in
     subst (λ z. SaysItself (AddChange code z r source)) (sym on.is)
     (Says-add_change code on.number r source it.code_is (omega (arith, on.low)) given)
-says_newest limits lands (AlterChange code day r source) given h =
-    let it = lawful_in lands code _ h in
+says_newest limits territories (AlterChange code day r source) given h =
+    let it = lawful_in territories code _ h in
     let on = within newest_rules.high day (next_test _ _ _ it.lawful).0 in
     subst (λ z. SaysItself (AlterChange code z r source)) (sym on.is)
     (Says-alter_change code on.number r source it.code_is (omega (arith, on.low)) given)
-says_newest limits lands (DropChange code day) given h =
-    let it = lawful_in lands code _ h in
+says_newest limits territories (DropChange code day) given h =
+    let it = lawful_in territories code _ h in
     let on = within newest_rules.high day (next_test _ _ _ it.lawful).0 in
     subst (λ z. SaysItself (DropChange code z)) (sym on.is)
     (Says-drop_change code on.number it.code_is (omega (arith, on.low)))
-says_newest limits lands (AddException code year day source) given h =
-    let it = lawful_in lands code _ h in
+says_newest limits territories (AddException code year day source) given h =
+    let it = lawful_in territories code _ h in
     let first = next_test _ _ _ it.lawful in
     let on = within newest_rules.high day first.0 in
     let in_year = within newest_rules.last_year year (next_test _ _ _ first.1).0 in
@@ -253,18 +253,18 @@ says_newest limits lands (AddException code year day source) given h =
     (subst (λ z. SaysItself (AddException code (pos in_year.number) z source)) (sym on.is)
     (Says-add_exception code in_year.number on.number source it.code_is
     (omega (arith, in_year.low)) (omega (arith, on.low)) given))
-says_newest limits lands (DropException code year) given h =
-    let it = lawful_in lands code _ h in
+says_newest limits territories (DropException code year) given h =
+    let it = lawful_in territories code _ h in
     let in_year = within newest_rules.last_year year (next_test _ _ _ it.lawful).0 in
     subst (λ z. SaysItself (DropException code z)) (sym in_year.is)
     (Says-drop_exception code in_year.number it.code_is (omega (arith, in_year.low)))
 
 -- and by those of each version that has the edit
-pub Says-lawful : (version : Version) (limits : Limits) (lands : List LandModel) (e : Edit)
-    → HasEdit version e → HasLawfulSource e → refusal newest_rules limits lands e ≡ None
+pub Says-lawful : (version : Version) (limits : Limits) (territories : List EntryModel) (e : Edit)
+    → HasEdit version e → HasLawfulSource e → refusal newest_rules limits territories e ≡ None
     → Says version (edit_data e) (Stage e)
-Says-lawful version limits lands e has given h =
-    let says = says_newest limits lands e given h in
+Says-lawful version limits territories e has given h =
+    let says = says_newest limits territories e given h in
     record { line = says.line; command = edit_command version (edit_data e) e has says.command }
 
 small_number : (version : Version) → version_number version < 10 ^ 8

@@ -8,12 +8,12 @@ use Rattle.std.proofs.lemmas.List.Elements.{All-nil, All-cons}
 use Rattle.std.proofs.lemmas.List.Folds.{list_any-append}
 use Rattle.serde_json.specs.Data.{Data}
 use Rattle.serde_json.specs.Find.{get}
-use Rattle.osn_days.specs.Profile.{Profile, newest_rules}
+use Rattle.osn_days.specs.Rules.{Rules, newest_rules}
 use Rattle.osn_days.specs.CalendarWords.{calendar_named}
-use Rattle.osn_lands.specs.declared.regime.Regime.{Regime}
-use Rattle.osn_lands.specs.declared.style.Style.{Style}
-use Rattle.osn_lands.specs.declared.style.Style.TheVariants as styles
-use Rattle.osn_lands.specs.StyleWords.{has_style, style_written}
+use Rattle.osn_territory.specs.declared.regime.Regime.{Regime}
+use Rattle.osn_territory.specs.declared.style.Style.{Style}
+use Rattle.osn_territory.specs.declared.style.Style.TheVariants as styles
+use Rattle.osn_territory.specs.StyleWords.{has_style, style_written}
 use Rattle.osn_register.specs.declared.edit.Edit.{Edit}
 use Rattle.osn_register.specs.declared.edit.Edit.TheVariants.{AddLand, AddChange, AlterChange}
 use Rattle.osn_register.specs.declared.edit.Edit.TheVariants.{DropChange, AddException}
@@ -139,12 +139,12 @@ has_own_edits s =
 abbrev style_if : Style → Bool → Result Style WireFault
 style_if style has = or_fault (BadField members.Style) (if has then Some style else None)
 
-abbrev style_in : Profile → Option Style → Result Style WireFault
+abbrev style_in : Rules → Option Style → Result Style WireFault
 style_in p o =
     or_fault (BadField members.Style)
     (option_and_then (λ style. if has_style p style then Some style else None) o)
 
-style_named_by : (p : Profile) (o : Option Style) (s : Style) → has_style p s ≡ true
+style_named_by : (p : Rules) (o : Option Style) (s : Style) → has_style p s ≡ true
     → style_in newest_rules o ≡ Ok s → style_in p o ≡ Ok s
 style_named_by p None s has h = absurd (cc)
 style_named_by p (Some style) s has h =
@@ -152,7 +152,7 @@ style_named_by p (Some style) s has h =
     let same : style ≡ s = cc in
     ap (style_if style) (ap (has_style p) same ∙ has) ∙ read
 
-style_by : (p : Profile) (d : Data) (s : Style) → has_style p s ≡ true
+style_by : (p : Rules) (d : Data) (s : Style) → has_style p s ≡ true
     → style_at newest_rules d ≡ Ok s → style_at p d ≡ Ok s
 style_by p d s has h =
     same_first (text_at members.Style d) _ _ s h

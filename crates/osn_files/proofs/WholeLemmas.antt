@@ -6,10 +6,10 @@ use Rattle.std.proofs.Common.{take-suc, eq-eqb, ne_eqb, append-nil}
 use Rattle.std.proofs.lemmas.List.Sums.{fold-append}
 use Rattle.std.specs.Io.KnownBytes.{Consumes, IsAtEnd}
 use Rattle.osn_lines.specs.Ended.{with_byte, ended_length}
-use Rattle.osn_files.specs.WholePart.{ended_count}
+use Rattle.osn_files.specs.CountedPrefix.{ended_count}
 use Rattle.osn_files.specs.LastLineInside.{IsFrontOf}
-use Rattle.osn_files.specs.WholePartInside.{IsCountOf, IsMeasureOf}
-use Rattle.osn_files.specs.declared.last_line.LineFront.{LineFront}
+use Rattle.osn_files.specs.CountedPrefixInside.{IsCountOf, IsMeasureOf}
+use Rattle.osn_files.specs.declared.last_line.PartialLine.{PartialLine}
 use Rattle.osn_files.specs.declared.whole_lines.Count.{Count}
 
 -- after a line feed all lines are ended
@@ -30,7 +30,7 @@ ended_count-next : (b : ℕ) (bs : List ℕ)
 ended_count-next b bs = fold-append (λ n c. n + cond (c == 10) 1 0) 0 bs (b ∷ [])
 
 -- nothing is measured yet
-pub nothing_measured : (front : LineFront) → IsFrontOf front []
+pub nothing_measured : (front : PartialLine) → IsFrontOf front []
     → IsMeasureOf (record { count = record { read = 0; ended = 0; lines = 0 }; front = front }) []
 nothing_measured front none = record {
   count = record { read = refl; ended = refl; lines = refl };

@@ -1,7 +1,7 @@
 -- What the first version guarantees is kept: a journal of that version has the same editions under
 -- the newest rules. This project's profile.
 use Rattle.std.specs.Prelude.{◌≡◌, ℕ, List, [], ◌∷◌, ◌++◌, take, Ok}
-use Rattle.osn_days.specs.Profile.{first_rules, newest_rules}
+use Rattle.osn_days.specs.Rules.{first_rules, newest_rules}
 use Rattle.osn_register.specs.declared.edit.Edit.{Edit}
 use Rattle.osn_register.specs.declared.limits.Limits.{Limits}
 use Rattle.osn_register.specs.Plain.{folded}

@@ -10,7 +10,7 @@ use Rattle.osn_files.specs.Faults.{MatchFileFault, FailsByFault}
 
 -- The rule refuses no line that ended in the earlier bytes of those that were read of a source. The
 -- last ones are at most this many.
-pub record SparesRead {A : Type 0} (rule : List (List ℕ) → Result A (ℕ × LineFault))
+pub record AcceptsRead {A : Type 0} (rule : List (List ℕ) → Result A (ℕ × LineFault))
     (old new : Option (List ℕ)) (most : ℕ) : Type 0 where
   pub earlier : List ℕ
   pub last : List ℕ
@@ -35,8 +35,8 @@ pub record ReadsFile {A T S : Type 0} (role : Role)
   -- fault. A read fault is returned only if no line that had ended is refused. NoMemory is returned
   -- only if no line is refused that had ended before the last 65,536 bytes were read
   pub fault : IfErr result (λ fault. MatchFileFault fault
-      (SparesRead rule (remaining old) (remaining new) 65536)
-      (SparesRead rule (remaining old) (remaining new) 0) (λ named line why.
+      (AcceptsRead rule (remaining old) (remaining new) 65536)
+      (AcceptsRead rule (remaining old) (remaining new) 0) (λ named line why.
       (named ≡ role)
       × IfSome (remaining old) (λ input. rule (lines input) ≡ Err (line, why))))
   -- after a read fault the source failed, or gave no end in 4,294,967,295 reads; otherwise it is as

@@ -1,7 +1,7 @@
 -- A journal stays good when limits are raised: lines that limits load are loaded under greater ones
 -- too, as the same object. This project's profile.
 use Rattle.std.specs.Prelude.{◌≡◌, ◌≤◌, ℕ, List, [], ◌++◌, take, Ok}
-use Rattle.osn_days.specs.Profile.{newest_rules}
+use Rattle.osn_days.specs.Rules.{newest_rules}
 use Rattle.osn_register.specs.declared.edit.Edit.{Edit}
 use Rattle.osn_register.specs.declared.limits.Limits.{Limits}
 use Rattle.osn_register.specs.Plain.{applied_all}
@@ -21,8 +21,8 @@ abbrev pub with_limits : ObjectState → Limits → ObjectState
 with_limits s limits = record s { limits = limits }
 
 -- edits in turn make the same territories under both limits
-abbrev pub MakeSameLands : Limits → Limits → List Edit → Type 0
-MakeSameLands limits greater es =
+abbrev pub MakeSameTerritories : Limits → Limits → List Edit → Type 0
+MakeSameTerritories limits greater es =
     applied_all newest_rules limits [] es ≡ applied_all newest_rules greater [] es
 
 -- Lines that are loaded as an object under limits are loaded under greater ones as the same object
@@ -34,5 +34,5 @@ LoadsUnderGreater limits lines =
     (greater : Limits) → AreGreater limits greater → (object : ObjectState)
     → load newest_rules limits lines ≡ Ok object
     → (load newest_rules greater lines ≡ Ok (with_limits object greater))
-    × ((edition : ℕ) → MakeSameLands limits greater (joined (take edition object.batches)))
-    × MakeSameLands limits greater (joined object.batches ++ object.pending)
+    × ((edition : ℕ) → MakeSameTerritories limits greater (joined (take edition object.batches)))
+    × MakeSameTerritories limits greater (joined object.batches ++ object.pending)

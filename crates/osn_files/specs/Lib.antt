@@ -16,6 +16,6 @@ pub mod Loaded
 pub mod GreaterLimits
 pub mod LastLine
 pub mod LastLineInside
-pub mod WholePart
-pub mod WholePartInside
+pub mod CountedPrefix
+pub mod CountedPrefixInside
 pub mod WrittenInside

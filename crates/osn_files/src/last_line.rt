@@ -64,16 +64,16 @@ fn is_unfinished(alloc: Global, lines: u64, bytes: &[u8]) -> Result<bool, AllocE
 /// The first bytes after the last line feed, as many as a line has at most and one more. No more
 /// are needed for the state of the last line.
 #[derive(Drop)]
-pub(crate) struct LineFront {
+pub(crate) struct PartialLine {
     bytes: Vec<u8>,
 }
 
-impl LineFront {
+impl PartialLine {
     /// Returns one without bytes.
-    pub(crate) fn new(alloc: Global) -> LineFront
+    pub(crate) fn new(alloc: Global) -> PartialLine
         ensures { IsFrontOf result [] }
     {
-        LineFront {
+        PartialLine {
             bytes: Vec::new(alloc),
         }
     }

@@ -32,7 +32,7 @@ pub use reading::{LineFold, read_lines};
 pub use schedule::read_schedule;
 pub use script::read_script;
 pub use stop::LineStop;
-pub use whole_lines::{WholePart, whole_part};
+pub use whole_lines::{CountedPrefix, counted_prefix};
 pub use written::{
     give_source, head_line, journal_text, journal_text_of, with_edit, with_edits, with_publish,
 };

@@ -20,7 +20,7 @@ use crate::stop::LineStop;
 use crate::version::version_of;
 use json::Scratch;
 use osn_format::{Version, WireFault};
-use osn_lines::{Interrupted, Line, LineTaker, Source, TakeFault, take_lines};
+use osn_lines::{EndedEarly, Line, LineTaker, Source, TakeFault, take_lines};
 use osn_request::{LineObject, object_in, text_of};
 use std::alloc::{AllocError, Global};
 
@@ -209,7 +209,7 @@ impl<F: LineFold> LineTaker for Reading<F> {
 }
 
 /// Returns the fault of a file of this role, if the reading of its lines ended early.
-fn fault_of(role: Role, end: Interrupted<TakeFault<LineStop>>) -> FileFault
+fn fault_of(role: Role, end: EndedEarly<TakeFault<LineStop>>) -> FileFault
     requires { end.lines < 2 ^ 63 }
     ensures { result ≡ file_fault role end.lines end.cause }
 {

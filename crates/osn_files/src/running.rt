@@ -1,6 +1,6 @@
 //! Runs the lines of a journal on its object.
 ghost use Rattle.std.specs.Prelude.{◌≡◌, Ok, OnOk, IfErr, is_ok, true};
-ghost use Rattle.osn_days.specs.Profile.{newest_rules};
+ghost use Rattle.osn_days.specs.Rules.{newest_rules};
 ghost use Rattle.osn_core.specs.declared.command.Command.TheVariants.{Stage, Publish};
 ghost use Rattle.osn_files.specs.Journal.{after_command};
 ghost use Rattle.osn_files.specs.Stops.{Stops};
@@ -53,7 +53,7 @@ fn run(object: &mut Object, command: Command) -> Result<(), LineStop>
 
 impl LineFold for Object {
     ghost use Rattle.std.specs.Prelude.{is_ok};
-    ghost use Rattle.osn_days.specs.Profile.{newest_rules};
+    ghost use Rattle.osn_days.specs.Rules.{newest_rules};
     ghost use Rattle.osn_core.specs.Sequential.{ObjectState};
     ghost use Rattle.osn_files.specs.Commands.{command_in};
     ghost use Rattle.osn_files.specs.Journal.{after_object};

@@ -4,18 +4,18 @@ ghost use Rattle.std.specs.Prelude.{IfErr, IfOk, IfSome, OnOk};
 ghost use Rattle.std.specs.Io.KnownBytes.{IsAtEnd};
 ghost use Rattle.osn_lines.specs.Faults.{IsReadFault};
 ghost use Rattle.osn_files.specs.Faults.{MatchFileFault};
-ghost use Rattle.osn_files.specs.WholePart.{IsWholePart};
-ghost use Rattle.osn_files.specs.WholePartInside.{IsCountOf, IsMeasureOf};
+ghost use Rattle.osn_files.specs.CountedPrefix.{IsCountedPrefix};
+ghost use Rattle.osn_files.specs.CountedPrefixInside.{IsCountOf, IsMeasureOf};
 
 use crate::fault::FileFault;
-use crate::last_line::{LastLine, LineFront};
+use crate::last_line::{LastLine, PartialLine};
 use osn_lines::{Source, read_buffer};
 use std::alloc::{AllocError, Global};
 
 /// How much of a file counts: the lines that a line feed ends, and a last one that lacks it, unless
 /// that was not finished.
 #[derive(Clone, Copy, Debug, PartialEq, Eq)]
-pub struct WholePart {
+pub struct CountedPrefix {
     /// How many bytes the lines that count have.
     pub bytes: u64,
     /// How many lines count.
@@ -40,7 +40,7 @@ struct Count {
 struct Measure {
     count: Count,
     /// The bytes after the last line feed.
-    front: LineFront,
+    front: PartialLine,
 }
 
 /// Returns the count with the next byte of the file.
@@ -112,21 +112,21 @@ fn measure_piece(measure: &mut Measure, piece: &[u8]) -> Result<(), AllocError>
 }
 
 /// Returns how much counts of a file that was measured to its end.
-fn part_of(alloc: Global, measure: &Measure) -> Result<WholePart, AllocError>
+fn part_of(alloc: Global, measure: &Measure) -> Result<CountedPrefix, AllocError>
     requires { measure.now.count.lines < 2 ^ 62 }
     ensures part { IfOk result (λ part. (input : List ℕ) → IsMeasureOf measure.now input →
-        IsWholePart part input) }
+        IsCountedPrefix part input) }
     ensures few { IfOk result (λ part. part.lines < 2 ^ 63) }
 {
     let Count { read, ended, lines } = measure.count;
     let last = measure.front.last_line(alloc, lines)?;
     Ok(match last {
-        LastLine::LacksFeed => WholePart {
+        LastLine::LacksFeed => CountedPrefix {
             bytes: read,
             lines: lines + 1,
             last,
         },
-        LastLine::Ended | LastLine::Unfinished => WholePart {
+        LastLine::Ended | LastLine::Unfinished => CountedPrefix {
             bytes: ended,
             lines,
             last,
@@ -142,8 +142,8 @@ fn part_of(alloc: Global, measure: &Measure) -> Result<WholePart, AllocError>
 ///
 /// Returns `ReadFault` if the source failed, or didn't end within 4,294,967,295 reads, and
 /// `NoMemory` if memory ran out.
-pub fn whole_part<R: Source>(alloc: Global, source: &mut R) -> Result<WholePart, FileFault>
-    ensures ok { IfOk result (λ part. IfSome (R.remaining source.old) (IsWholePart part)) }
+pub fn counted_prefix<R: Source>(alloc: Global, source: &mut R) -> Result<CountedPrefix, FileFault>
+    ensures ok { IfOk result (λ part. IfSome (R.remaining source.old) (IsCountedPrefix part)) }
     // Another line can be counted.
     ensures few { IfOk result (λ part. part.lines < 2 ^ 63) }
     ensures end { OnOk result (IsAtEnd (R.remaining source.new)) }
@@ -162,7 +162,7 @@ pub fn whole_part<R: Source>(alloc: Global, source: &mut R) -> Result<WholePart,
             ended: 0,
             lines: 0,
         },
-        front: LineFront::new(alloc),
+        front: PartialLine::new(alloc),
     };
     for _call in 0..u32::MAX {
         let Ok(read) = source.read(&mut buffer) else {

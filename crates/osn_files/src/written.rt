@@ -2,7 +2,7 @@
 ghost use Rattle.std.specs.Prelude.{◌≡◌, ◌++◌, Ok, IfOk, OnOk, string_bytes, codes};
 ghost use Rattle.std.specs.List.{list_any};
 ghost use Rattle.serde_json.specs.Data.{Data, Members};
-ghost use Rattle.osn_days.specs.Profile.{newest_rules};
+ghost use Rattle.osn_days.specs.Rules.{newest_rules};
 ghost use Rattle.osn_lines.specs.Lines.{lines};
 ghost use Rattle.osn_core.specs.Sequential.{IsSound};
 ghost use Rattle.osn_register.specs.declared.edit.Edit.TheVariants as edits;
@@ -18,8 +18,8 @@ use json::Writer;
 use osn_core::{Batch, Object};
 use osn_days::Keyword;
 use osn_format::{Member, Version, write_signed, write_text};
-use osn_lands::Regime;
 use osn_register::{Edit, Source, Text};
+use osn_territory::Regime;
 use std::alloc::{AllocError, Global};
 
 /// The room that a journal gets at first.

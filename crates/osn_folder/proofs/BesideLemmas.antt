@@ -33,7 +33,7 @@ saved_beside path place one two backup text (Some k) (Some p) (Some m) (Some n) 
     subst (λ x. BacksUpSafely x backup k m) e
     (subst (λ j. BacksUpSafely one backup j m) found.0 backs) in
     subst (λ x. SavesBesideAt x backup text k n) found.1 (record {
-      moment = m;
+      session_state = m;
       backs_up = first;
       saves = subst (λ x. SavesAt x None text m n) f saves;
       crash = subst (λ x. IsSafelySavedAt x text m n) f crash;
@@ -65,7 +65,7 @@ left_beside path place one two backup given text fault (Some k) (Some p) (Some m
     (subst (λ j. BacksUpSafely one backup j m) found.0 backs) in
     subst (λ x. CannotSaveBesideAt x text fault k n) found.1 (inr (record {
       backup = backup;
-      moment = m;
+      session_state = m;
       after = a;
       backs_up = first;
       fails = subst (λ x. CannotSaveAt x None text fault m a) f fails;

@@ -131,11 +131,11 @@ BacksUpSafely place backup k n =
 -- left at the place what it might have left before. From that moment on it left the old file, if
 -- one was there, at the other path.
 pub record SavesBesideAt (place backup text : List ℕ) (k n : Known) : Type 0 where
-  pub moment : Known
-  pub backs_up : BacksUpSafely place backup k moment
-  pub saves : SavesAt place None text moment n
-  pub crash : IsSafelySavedAt place text moment n
-  pub stays : k.paths.is_stream place ≡ false → k.at place ≢ None → StaysSure backup moment n
+  pub session_state : Known
+  pub backs_up : BacksUpSafely place backup k session_state
+  pub saves : SavesAt place None text session_state n
+  pub crash : IsSafelySavedAt place text session_state n
+  pub stays : k.paths.is_stream place ≡ false → k.at place ≢ None → StaysSure backup session_state n
 
 -- a backup is removed if the text isn't at its place
 abbrev pub GivesUp : List ℕ → SaveFault → Known → Known → Type 0
@@ -149,12 +149,13 @@ GivesUp backup (saves.Changed unfinished) k n =
 -- The old file was at another path, and then it isn't sure that the text was saved, by this fault.
 pub record LeavesBesideAt (place text : List ℕ) (fault : SaveFault) (k n : Known) : Type 0 where
   pub backup : List ℕ
-  pub moment : Known
+  pub session_state : Known
   pub after : Known
-  pub backs_up : BacksUpSafely place backup k moment
-  pub fails : CannotSaveAt place None text fault moment after
-  pub crash : IsSafelyLeftAt place text fault moment after
-  pub stays : k.paths.is_stream place ≡ false → k.at place ≢ None → StaysSure backup moment after
+  pub backs_up : BacksUpSafely place backup k session_state
+  pub fails : CannotSaveAt place None text fault session_state after
+  pub crash : IsSafelyLeftAt place text fault session_state after
+  pub stays : k.paths.is_stream place ≡ false → k.at place ≢ None →
+      StaysSure backup session_state after
   pub ended : GivesUp backup fault after n
 
 -- it isn't sure that the text was saved: the old file could not be put at another path, and nothing

@@ -109,8 +109,9 @@ IsFirstMissed paths path None = IsOneOf paths path
 IsFirstMissed paths path (Some k) = first_missed k.at paths ≡ Some path
 
 -- the file of this path, the first of these that has none, could not be opened, by this cause
-abbrev pub IsUnopened : List (List ℕ) → List ℕ → OpenFailed → Option Known → Option Known → Type 0
-IsUnopened paths path cause old new =
+abbrev pub IsOpenFailure : List (List ℕ) → List ℕ → OpenFailed → Option Known → Option Known →
+    Type 0
+IsOpenFailure paths path cause old new =
     CannotOpen paths old new × IsFirstMissed paths path old × IsCauseAt old path cause
 
 -- a path that may be given

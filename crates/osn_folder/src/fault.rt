@@ -23,7 +23,7 @@ pub enum OpenFailed {
 
 /// A file that could not be opened, and why.
 #[derive(Clone, Copy, Debug, PartialEq, Eq)]
-pub struct Unopened<'a> {
+pub struct OpenFailure<'a> {
     /// Its path.
     pub path: &'a str,
     /// Why it could not be opened.

@@ -27,7 +27,7 @@ pub use disk_file::DiskFile;
 pub use disk_lock::DiskLock;
 pub use fault::{
     ChangeCause, ChangeFailed, FollowFault, KeepFault, KeptFileFault, MoveFault, OpenFailed,
-    SaveFault, Unopened,
+    OpenFailure, SaveFault,
 };
 pub use folder::Folder;
 pub use followed_disk_file::FollowedDiskFile;

@@ -9,7 +9,7 @@ use Rattle.std.specs.Io.KnownBytes.{Appends}
 use Rattle.osn_core.specs.Sequential.{ObjectState}
 use Rattle.osn_register.specs.declared.limits.Limits.{Limits}
 use Rattle.osn_lines.specs.Ended.{unended_bytes}
-use Rattle.osn_lines.specs.declared.fault.Interrupted.{Interrupted}
+use Rattle.osn_lines.specs.declared.fault.EndedEarly.{EndedEarly}
 use Rattle.osn_lines.proofs.ByteLemmas.{Appends-nothing}
 use Rattle.osn_files.specs.declared.fault.FileFault.{FileFault}
 use Rattle.osn_files.specs.declared.fault.FileFault.TheVariants as files
@@ -33,7 +33,7 @@ use Rattle.osn_lines.specs.Streams.{Output}
 use Rattle.osn_follower.specs.Follows.{WritesAll, WritesFirst}
 use Rattle.osn_follower.specs.RoundInside.{Answers, Comes, ComesNot, EndsAfter}
 use Rattle.osn_follower.specs.RoundInside.{RefusesLine, is_end, waiting_after, GoesOn}
-use Rattle.osn_follower.specs.RoundInside.{IsOver, IsInterrupted, IsReadOf, IsUnloaded, LoadsNot}
+use Rattle.osn_follower.specs.RoundInside.{IsOver, IsEarlyEnd, IsReadOf, IsUnloaded, LoadsNot}
 use Rattle.osn_follower.specs.Outcomes.{outcomes, outcomes_of}
 use Rattle.osn_follower.proofs.OutcomeLemmas.{Arrive-then, Arrive-nothing, round_of}
 use Rattle.osn_follower.proofs.RoundLemmas.{Round, next-following, ends-all, ends-refused}
@@ -99,7 +99,7 @@ module _ (rules : ServeRules) (f m g : Follower) (before after : Option (List Ar
   abbrev object_at : ObjectState
   object_at = m.journal.object
 
-  answers_here : (result : Result Served (Interrupted ServeFault))
+  answers_here : (result : Result Served (EndedEarly ServeFault))
       → Answers rules m.journal.object lines.text.items old now result
       → Answers rules g.journal.object lines.text.items old now result
   answers_here result k =
@@ -164,12 +164,12 @@ module _ (rules : ServeRules) (f m g : Follower) (before after : Option (List Ar
           following now done.lines answers.2 answers.0 answers.1
 
   -- not all were
-  pub IsInterrupted-round : (n : ℕ) (why : ServeFault)
+  pub IsEarlyEnd-round : (n : ℕ) (why : ServeFault)
       → Answers rules m.journal.object lines.text.items old now
       (Err (record { lines = n; cause = why }))
-      → IsInterrupted rules before after old now f
+      → IsEarlyEnd rules before after old now f
       (record { lines = f.lines + n; cause = Serve why })
-  IsInterrupted-round n why k = (
+  IsEarlyEnd-round n why k = (
     round_of h.bytes h.gained,
     h.arrive,
     λ begun arrivals all following.
@@ -206,7 +206,7 @@ IsFollowing-none rules begun f journal requests lines = record {
 pub Follows-after : (rules : ServeRules) (limits : Limits)
     (before mid after : Option (List Arrival))
     (o : Output) (old : Option (List ℕ)) (f : Follower) (arrivals next : List Arrival)
-    (all : List Outcome) (result : Result Served (Interrupted FollowerFault))
+    (all : List Outcome) (result : Result Served (EndedEarly FollowerFault))
     → f.journal.limits ≡ limits → IsFollowing rules f.journal.limits o.old arrivals all f old
     → Arrive before mid arrivals → Arrive mid after next → EndsAfter rules old o.new f next result
     → Follows rules limits before after o result

@@ -6,7 +6,7 @@ use Rattle.std.proofs.Common.{refl, sym, ap, subst, arith, inl, inr, min, append
 use Rattle.std.proofs.Common.{length-append}
 use Rattle.std.proofs.lemmas.Bool.{eqb-true}
 use Rattle.serde_json.specs.Data.{Data}
-use Rattle.osn_days.specs.Profile.{newest_rules}
+use Rattle.osn_days.specs.Rules.{newest_rules}
 use Rattle.osn_core.specs.Sequential.{ObjectState, opened}
 use Rattle.osn_register.specs.declared.limits.Limits.{Limits}
 use Rattle.osn_lines.specs.Ended.{with_byte, ended_length}

@@ -30,7 +30,7 @@ use Rattle.osn_follower.specs.Follows.{Ends, HasNoRefusal, IsFirstRefused, IsRef
 use Rattle.osn_follower.specs.Follows.{WritesAll, WritesFirst, WritesInPart}
 use Rattle.osn_follower.specs.RoundInside.{Answers, ComesNot, EndsAfter}
 use Rattle.osn_follower.specs.RoundInside.{RefusesLine, is_end, waiting_after}
-use Rattle.osn_follower.specs.RoundInside.{IsInterrupted}
+use Rattle.osn_follower.specs.RoundInside.{IsEarlyEnd}
 use Rattle.osn_follower.specs.Outcomes.{outcomes, journal_object, outcomes_of, texts}
 use Rattle.osn_follower.proofs.OutcomeLemmas.{file-append, round_of, file-round, outcomes-read}
 use Rattle.osn_follower.proofs.OutcomeLemmas.{outcomes-round, outcomes-refused, all-after}
@@ -281,7 +281,7 @@ module _ (rules : ServeRules) (f : Follower) (old : Option (List ℕ)) where
   -- what was received or not, and nothing answered
   pub not_received : (before after : Option (List Arrival)) (cause : FollowerFault)
       → ComesNot f before after cause
-      → IsInterrupted rules before after old old f (record { lines = f.lines; cause = cause })
+      → IsEarlyEnd rules before after old old f (record { lines = f.lines; cause = cause })
   not_received before after (Serve NoMemory) (inl none) = ([], none, no_memory [])
   not_received before after (Serve NoMemory) (inr (bytes, inl read)) =
       (arrival_of bytes ∷ [], read, no_memory (arrival_of bytes ∷ []))

@@ -5,7 +5,7 @@ use Rattle.std.specs.List.{All}
 use Rattle.std.specs.Io.KnownBytes.{Appends}
 use Rattle.osn_register.specs.declared.limits.Limits.{Limits}
 use Rattle.osn_lines.specs.Streams.{Output}
-use Rattle.osn_lines.specs.declared.fault.Interrupted.{Interrupted}
+use Rattle.osn_lines.specs.declared.fault.EndedEarly.{EndedEarly}
 use Rattle.osn_reply.specs.Outcome.{is_refused}
 use Rattle.osn_reply.specs.declared.outcome.Outcome.{Outcome}
 use Rattle.osn_files.specs.Faults.{MatchFileFault}
@@ -90,7 +90,7 @@ EndsEarly limits arrivals all old new n cause = MatchFollower cause
 -- what was done by the end. All lines were answered, and no line is refused if a refusal ends the
 -- service; or the last one is refused, and a refusal ends the service.
 abbrev pub Ends : ServeRules → Limits → List Arrival → List Outcome → Option (List ℕ)
-    → Option (List ℕ) → Result Served (Interrupted FollowerFault) → Type 0
+    → Option (List ℕ) → Result Served (EndedEarly FollowerFault) → Type 0
 Ends rules limits arrivals all old new (Ok served) =
     MatchServed served.refused
     (λ n. WritesAll all old new n × IsAtEnd arrivals × HasNoRefusal rules all)
@@ -102,7 +102,7 @@ Ends rules limits arrivals all old new (Err end) =
 -- A follower ran by these rules. What arrived, in order, is `arrivals`, and exactly the outcomes of
 -- that were written.
 pub record Follows (rules : ServeRules) (limits : Limits) (before after : Option (List Arrival))
-    (o : Output) (result : Result Served (Interrupted FollowerFault)) : Type 0 where
+    (o : Output) (result : Result Served (EndedEarly FollowerFault)) : Type 0 where
   pub arrivals : List Arrival
   pub arrive : Arrive before after arrivals
   pub ended : Ends rules limits arrivals (outcomes_of rules limits [] [] arrivals)

@@ -3,7 +3,7 @@
 use Rattle.std.specs.Prelude.{ℕ, true, Bool, List, [], ◌∷◌, ◌++◌, take, map}
 use Rattle.std.specs.Prelude.{Result, Ok, Err}
 use Rattle.std.specs.List.{flat_map}
-use Rattle.osn_days.specs.Profile.{newest_rules}
+use Rattle.osn_days.specs.Rules.{newest_rules}
 use Rattle.osn_register.specs.declared.limits.Limits.{Limits}
 use Rattle.osn_core.specs.Sequential.{ObjectState, opened}
 use Rattle.osn_lines.specs.Ended.{ended_bytes, unended_bytes}

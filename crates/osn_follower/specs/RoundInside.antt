@@ -4,7 +4,7 @@ use Rattle.std.specs.Prelude.{Option, Result, Ok, Err}
 use Rattle.std.specs.List.{All}
 use Rattle.osn_core.specs.Sequential.{ObjectState}
 use Rattle.osn_lines.specs.Ended.{ended_bytes, unended_bytes}
-use Rattle.osn_lines.specs.declared.fault.Interrupted.{Interrupted}
+use Rattle.osn_lines.specs.declared.fault.EndedEarly.{EndedEarly}
 use Rattle.osn_files.specs.declared.fault.FileFault.{FileFault}
 use Rattle.osn_files.specs.declared.fault.FileFault.TheVariants as files
 use Rattle.osn_reply.specs.declared.outcome.Outcome.{Outcome}
@@ -128,7 +128,7 @@ ComesNot old before after fault = MatchFollower fault
 
 -- how the lines of a text were answered from an object
 abbrev pub Answers : ServeRules → ObjectState → List ℕ → Option (List ℕ) → Option (List ℕ)
-    → Result Served (Interrupted ServeFault) → Type 0
+    → Result Served (EndedEarly ServeFault) → Type 0
 Answers rules s text old new (Ok served) =
     MatchServed served.refused
     (λ n. WritesAll (outcomes rules s text) old new n × HasNoRefusal rules (outcomes rules s text))
@@ -153,7 +153,7 @@ GoesOn rules before after old new f g =
 
 -- it ended so, whatever the replies before were
 abbrev pub EndsAfter : ServeRules → Option (List ℕ) → Option (List ℕ) → Follower
-    → List Arrival → Result Served (Interrupted FollowerFault) → Type 0
+    → List Arrival → Result Served (EndedEarly FollowerFault) → Type 0
 EndsAfter rules old new f next result =
     (begun : Option (List ℕ)) (arrivals : List Arrival) (all : List Outcome)
     → IsFollowing rules f.journal.limits begun arrivals all f old
@@ -167,7 +167,7 @@ IsOver rules before after old new f served =
     (next : List Arrival) × Arrive before after next × EndsAfter rules old new f next (Ok served)
 
 -- it ended early
-abbrev pub IsInterrupted : ServeRules → Option (List Arrival) → Option (List Arrival)
-    → Option (List ℕ) → Option (List ℕ) → Follower → Interrupted FollowerFault → Type 0
-IsInterrupted rules before after old new f end =
+abbrev pub IsEarlyEnd : ServeRules → Option (List Arrival) → Option (List Arrival)
+    → Option (List ℕ) → Option (List ℕ) → Follower → EndedEarly FollowerFault → Type 0
+IsEarlyEnd rules before after old new f end =
     (next : List Arrival) × Arrive before after next × EndsAfter rules old new f next (Err end)

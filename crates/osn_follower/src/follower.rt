@@ -10,7 +10,7 @@ ghost use Rattle.osn_follower.specs.FollowerInside.{HasFew, IsFollowing};
 ghost use Rattle.osn_follower.specs.Law.{DoEditionsNeverFall, DoSyncedEditionsStay};
 ghost use Rattle.osn_follower.specs.RoundInside.{Answers, Comes, ComesNot, IsReadOf, IsUnreadOf};
 ghost use Rattle.osn_follower.specs.RoundInside.{Loads, LoadsNot, IsUnloaded, GoesOn, IsOver};
-ghost use Rattle.osn_follower.specs.RoundInside.{IsInterrupted};
+ghost use Rattle.osn_follower.specs.RoundInside.{IsEarlyEnd};
 ghost use Rattle.osn_follower.specs.Outcomes.{following};
 
 use crate::arrivals::Arrivals;
@@ -19,7 +19,7 @@ use crate::journal::FollowedJournal;
 use crate::line_front::LineFront;
 use osn_core::Object;
 use osn_files::FileFault;
-use osn_lines::{Bytes, Interrupted, Sink, read_buffer};
+use osn_lines::{Bytes, EndedEarly, Sink, read_buffer};
 use osn_register::Limits;
 use osn_service::{ServeFault, ServeRules, Served, ServiceFault, serve_store};
 use std::alloc::Global;
@@ -129,7 +129,7 @@ fn answer<W: Sink>(
     object: &mut Object,
     text: &[u8],
     sink: &mut W,
-) -> Result<Served, Interrupted<ServeFault>>
+) -> Result<Served, EndedEarly<ServeFault>>
     requires read_only { rules.read_only ≡ true }
     requires few { length text.now ≤ 196608 }
     ensures same { object.new ≡ object.old }
@@ -140,8 +140,8 @@ fn answer<W: Sink>(
 {
     match serve_store(alloc, object, rules, &mut Bytes::new(text), sink) {
         Ok(served) => Ok(served),
-        Err(Interrupted { lines, cause }) => match cause {
-            ServiceFault::Serve(cause) => Err(Interrupted { lines, cause }),
+        Err(EndedEarly { lines, cause }) => match cause {
+            ServiceFault::Serve(cause) => Err(EndedEarly { lines, cause }),
             ServiceFault::NotKept(never) => match never {},
         },
     }
@@ -156,7 +156,7 @@ fn answer_next<A: Arrivals, W: Sink>(
     arrivals: &mut A,
     sink: &mut W,
     buffer: &mut [u8],
-) -> Result<Option<Served>, Interrupted<FollowerFault>>
+) -> Result<Option<Served>, EndedEarly<FollowerFault>>
     requires read_only { rules.read_only ≡ true }
     requires few { HasFew follower.old.requests }
     requires room { follower.old.lines + 196608 < 2 ^ 64 }
@@ -169,13 +169,13 @@ fn answer_next<A: Arrivals, W: Sink>(
         (W.contents sink.new) follower.old follower.new)
         (IsOver rules (A.arrived arrivals.old) (A.arrived arrivals.new) (W.contents sink.old)
         (W.contents sink.new) follower.old)) }
-    ensures err { IfErr result (IsInterrupted rules (A.arrived arrivals.old)
+    ensures err { IfErr result (IsEarlyEnd rules (A.arrived arrivals.old)
         (A.arrived arrivals.new) (W.contents sink.old) (W.contents sink.new) follower.old) }
 {
     let requests = match receive(alloc, follower, arrivals, buffer) {
         Ok(requests) => requests,
         Err(cause) => {
-            return Err(Interrupted {
+            return Err(EndedEarly {
                 lines: follower.lines,
                 cause,
             });
@@ -198,7 +198,7 @@ fn answer_next<A: Arrivals, W: Sink>(
             }
             Ok(None)
         }
-        Err(end) => Err(Interrupted {
+        Err(end) => Err(EndedEarly {
             lines: follower.lines + end.lines,
             cause: FollowerFault::Serve(end.cause),
         }),
@@ -231,7 +231,7 @@ pub fn follow<A: Arrivals, W: Sink>(
     stop_at_refusal: bool,
     arrivals: &mut A,
     sink: &mut W,
-) -> Result<Served, Interrupted<FollowerFault>>
+) -> Result<Served, EndedEarly<FollowerFault>>
     ensures follows { Follows (following readers stop_at_refusal) limits (A.arrived arrivals.old)
         (A.arrived arrivals.new)
         (output_of W.contents W.has_failed W.holds_back sink.old sink.new) result }
@@ -247,7 +247,7 @@ pub fn follow<A: Arrivals, W: Sink>(
         stop_at_refusal,
     };
     let Ok(mut buffer) = read_buffer(alloc) else {
-        return Err(Interrupted {
+        return Err(EndedEarly {
             lines: 0,
             cause: FollowerFault::Serve(ServeFault::NoMemory),
         });
@@ -269,7 +269,7 @@ pub fn follow<A: Arrivals, W: Sink>(
             return Ok(served);
         }
     }
-    Err(Interrupted {
+    Err(EndedEarly {
         lines: follower.lines,
         cause: FollowerFault::Serve(ServeFault::ReadFault),
     })

@@ -2,7 +2,7 @@
 -- this project's profile.
 use Rattle.std.specs.Prelude.{ℕ, ℤ, pos, negsuc, ◌==◌, if◌then◌else◌, Option, Some, None}
 use Rattle.std.specs.Prelude.{Bool, true, false}
-use Rattle.osn_days.specs.Profile.{Profile, first_rules, newest_rules}
+use Rattle.osn_days.specs.Rules.{Rules, first_rules, newest_rules}
 use Rattle.osn_format.specs.declared.version.Version.{Version}
 use Rattle.osn_format.specs.declared.version.Version.TheVariants.{First, Second, Fourth}
 
@@ -28,7 +28,7 @@ abbrev pub plain_version : Version
 plain_version = Second
 
 -- the rules of each version
-abbrev pub rules_of : Version → Profile
+abbrev pub rules_of : Version → Rules
 rules_of First = first_rules
 rules_of Second = newest_rules
 rules_of Fourth = newest_rules

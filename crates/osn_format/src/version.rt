@@ -1,9 +1,9 @@
 //! The versions of the rules, and of the form of journals and scripts.
 ghost use Rattle.std.specs.Prelude.{◌≡◌};
-ghost use Rattle.osn_lands.specs.StyleWords.{has_style};
+ghost use Rattle.osn_territory.specs.StyleWords.{has_style};
 ghost use Rattle.osn_format.specs.Version as spec;
 
-use osn_lands::Style;
+use osn_territory::Style;
 
 /// A version of the rules and of the form of journals and scripts.
 #[derive(Clone, Copy, Debug, PartialEq, Eq)]

@@ -13,16 +13,16 @@ use Rattle.std.specs.Str.Parse.{digits_value}
 use Rattle.osn_days.specs.declared.date.Date.{Date}
 use Rattle.osn_days.specs.DateText.{at_least, date_digits, date_text, text_of_date}
 use Rattle.osn_days.proofs.DateDigits.{two_digits, four_digits}
-use Rattle.osn_grammar.specs.declared.part.Part.{Part}
-use Rattle.osn_grammar.specs.declared.part.Part.TheVariants.{Number, Dash, Slash, Open, About}
-use Rattle.osn_grammar.specs.declared.part.Part.TheVariants.{Doubt, AboutAndDoubt}
+use Rattle.osn_grammar.specs.declared.token.Token.{Token}
+use Rattle.osn_grammar.specs.declared.token.Token.TheVariants.{Number, Dash, Slash, Open, About}
+use Rattle.osn_grammar.specs.declared.token.Token.TheVariants.{Doubt, AboutAndDoubt}
 use Rattle.osn_grammar.specs.declared.written.DateOrder.{DateOrder}
 use Rattle.osn_written.specs.declared.any_date.Extent.TheVariants as extent
-use Rattle.osn_written.specs.declared.any_date.SimpleDate.{SimpleDate}
-use Rattle.osn_written.specs.declared.any_date.SimpleDate.TheVariants as date
+use Rattle.osn_written.specs.declared.any_date.PartialDate.{PartialDate}
+use Rattle.osn_written.specs.declared.any_date.PartialDate.TheVariants as date
 use Rattle.osn_grammar.specs.Extent.{date_or_range, extent_of}
 use Rattle.osn_grammar.specs.InDigits.{AreDigitsRead, HasFourDigits, sign}
-use Rattle.osn_grammar.proofs.PartFacts.{Say, TextSays, nothing_says, part_adds, text_read}
+use Rattle.osn_grammar.proofs.TokenFacts.{Say, TextSays, nothing_says, token_adds, text_read}
 use Rattle.osn_grammar.proofs.TextFacts.{Reads, Begins, Closes, dash, slash, doubt, about}
 use Rattle.osn_grammar.proofs.TextFacts.{about_and_doubt, digits_read, joined_reads, marked_begins}
 use Rattle.osn_grammar.proofs.TextFacts.{begins_reads, reads_begun, closed_scans, reads_scan}
@@ -55,13 +55,13 @@ padded_reads w n small count some few =
 
 -- ---- a date
 
-abbrev pub parts_of : ℕ → ℕ → ℕ → List Part
-parts_of y m d =
+abbrev pub tokens_of : ℕ → ℕ → ℕ → List Token
+tokens_of y m d =
     Number (record { value = y; digits = 4 }) ∷ Dash ∷ Number (record { value = m; digits = 2 })
     ∷ Dash ∷ Number (record { value = d; digits = 2 }) ∷ []
 
 date_reads : (y m d : ℕ) → y < 10000 → m < 100 → d < 100
-    → Reads (date_digits y m d) (parts_of y m d)
+    → Reads (date_digits y m d) (tokens_of y m d)
 date_reads y m d hy hm hd =
     joined_reads dash
     (padded_reads 4 y (omega (arith, hy)) (ap length (four_digits y hy)) (omega arith)
@@ -80,7 +80,7 @@ pub record IsDay (y m d : ℕ) : Type 0 where
   pub day_low : nat_le 1 d ≡ true
   pub day_high : nat_le d 31 ≡ true
 
-abbrev day : ℕ → ℕ → ℕ → SimpleDate
+abbrev day : ℕ → ℕ → ℕ → PartialDate
 day y m d = date.Day (record {
   first = y;
   is_double = false;
@@ -88,12 +88,12 @@ day y m d = date.Day (record {
 }) m d
 
 on_read : (o : DateOrder) (y m d : ℕ) → IsDay y m d
-    → extent_of o (parts_of y m d) ≡ Ok (extent.On (day y m d))
+    → extent_of o (tokens_of y m d) ≡ Ok (extent.On (day y m d))
 unfolding date_or_range
 on_read o y m d h = rw (h.year_high, h.month_low, h.month_high, h.day_low, h.day_high) refl
 
 range_read : (o : DateOrder) (y m d z n e : ℕ) → IsDay y m d → IsDay z n e
-    → extent_of o (parts_of y m d ++ Slash ∷ parts_of z n e)
+    → extent_of o (tokens_of y m d ++ Slash ∷ tokens_of z n e)
     ≡ Ok (extent.FromTo (day y m d) (day z n e))
 unfolding date_or_range
 range_read o y m d z n e h g =
@@ -101,87 +101,87 @@ range_read o y m d z n e h g =
     (rw (h.year_high, h.month_low, h.month_high, h.day_low, h.day_high) refl)
 
 not_after_read : (o : DateOrder) (y m d : ℕ) → IsDay y m d
-    → extent_of o (Open ∷ Slash ∷ parts_of y m d) ≡ Ok (extent.NotAfter (day y m d))
+    → extent_of o (Open ∷ Slash ∷ tokens_of y m d) ≡ Ok (extent.NotAfter (day y m d))
 unfolding date_or_range
 not_after_read o y m d h = rw (h.year_high, h.month_low, h.month_high, h.day_low, h.day_high) refl
 
 not_before_read : (o : DateOrder) (y m d : ℕ) → IsDay y m d
-    → extent_of o (parts_of y m d ++ Slash ∷ Open ∷ []) ≡ Ok (extent.NotBefore (day y m d))
+    → extent_of o (tokens_of y m d ++ Slash ∷ Open ∷ []) ≡ Ok (extent.NotBefore (day y m d))
 unfolding date_or_range
 not_before_read o y m d h = rw (h.year_high, h.month_low, h.month_high, h.day_low, h.day_high) refl
 
 -- ---- signs
 
-abbrev pub sign_parts : Bool → Bool → List Part
-sign_parts false false = []
-sign_parts false true = Doubt ∷ []
-sign_parts true false = About ∷ []
-sign_parts true true = AboutAndDoubt ∷ []
+abbrev pub sign_tokens : Bool → Bool → List Token
+sign_tokens false false = []
+sign_tokens false true = Doubt ∷ []
+sign_tokens true false = About ∷ []
+sign_tokens true true = AboutAndDoubt ∷ []
 
-pub signed_reads : {x : List ℕ} {ps : List Part} (a u : Bool) → Reads x ps
-    → Reads (x ++ sign a u) (ps ++ sign_parts a u)
+pub signed_reads : {x : List ℕ} {ps : List Token} (a u : Bool) → Reads x ps
+    → Reads (x ++ sign a u) (ps ++ sign_tokens a u)
 signed_reads {x} {ps} false false read =
     subst₂ Reads (sym (append-nil x)) (sym (append-nil ps)) read
 signed_reads false true read = reads_begun (marked_begins doubt read)
 signed_reads true false read = reads_begun (marked_begins about read)
 signed_reads true true read = reads_begun (marked_begins about_and_doubt read)
 
-sign_says : (a u : Bool) → Say (sign_parts a u) [] None None a u false
+sign_says : (a u : Bool) → Say (sign_tokens a u) [] None None a u false
 sign_says false false = nothing_says
-sign_says false true = part_adds Doubt refl nothing_says
-sign_says true false = part_adds About refl nothing_says
-sign_says true true = part_adds AboutAndDoubt refl nothing_says
+sign_says false true = token_adds Doubt refl nothing_says
+sign_says true false = token_adds About refl nothing_says
+sign_says true true = token_adds AboutAndDoubt refl nothing_says
 
 -- a sign, if none came after it
-sign_before : {ps ts : List Part} (a u : Bool) → Say ps ts None None false false false
-    → Say (sign_parts a u ++ ps) ts None None a u false
+sign_before : {ps ts : List Token} (a u : Bool) → Say ps ts None None false false false
+    → Say (sign_tokens a u ++ ps) ts None None a u false
 sign_before false false rest_says = rest_says
-sign_before false true rest_says = part_adds Doubt refl rest_says
-sign_before true false rest_says = part_adds About refl rest_says
-sign_before true true rest_says = part_adds AboutAndDoubt refl rest_says
+sign_before false true rest_says = token_adds Doubt refl rest_says
+sign_before true false rest_says = token_adds About refl rest_says
+sign_before true true rest_says = token_adds AboutAndDoubt refl rest_says
 
 -- the same sign again says no more
-sign_added : {ps ts : List Part} (a u : Bool) → Say ps ts None None a u false
-    → Say (sign_parts a u ++ ps) ts None None a u false
+sign_added : {ps ts : List Token} (a u : Bool) → Say ps ts None None a u false
+    → Say (sign_tokens a u ++ ps) ts None None a u false
 sign_added false false rest_says = rest_says
-sign_added false true rest_says = part_adds Doubt refl rest_says
-sign_added true false rest_says = part_adds About refl rest_says
-sign_added true true rest_says = part_adds AboutAndDoubt refl rest_says
+sign_added false true rest_says = token_adds Doubt refl rest_says
+sign_added true false rest_says = token_adds About refl rest_says
+sign_added true true rest_says = token_adds AboutAndDoubt refl rest_says
 
-date_added : {ps ts : List Part} {a u : Bool} (y m d : ℕ) → Say ps ts None None a u false
-    → Say (parts_of y m d ++ ps) (parts_of y m d ++ ts) None None a u false
+date_added : {ps ts : List Token} {a u : Bool} (y m d : ℕ) → Say ps ts None None a u false
+    → Say (tokens_of y m d ++ ps) (tokens_of y m d ++ ts) None None a u false
 date_added y m d rest_says =
-    part_adds (Number (record { value = y; digits = 4 })) refl
-    (part_adds Dash refl
-    (part_adds (Number (record { value = m; digits = 2 })) refl
-    (part_adds Dash refl
-    (part_adds (Number (record { value = d; digits = 2 })) refl rest_says))))
+    token_adds (Number (record { value = y; digits = 4 })) refl
+    (token_adds Dash refl
+    (token_adds (Number (record { value = m; digits = 2 })) refl
+    (token_adds Dash refl
+    (token_adds (Number (record { value = d; digits = 2 })) refl rest_says))))
 
 -- ---- the law
 
 -- the text of numbers that are a date's
 pub record IsDateText (text : List ℕ) (y m d : ℕ) : Type 0 where
-  pub reads : Reads text (parts_of y m d)
+  pub reads : Reads text (tokens_of y m d)
   pub is : IsDay y m d
 
 day_says : {x : List ℕ} (y m d : ℕ) (a u : Bool) → IsDateText x y m d
-    → TextSays (x ++ sign a u) (parts_of y m d) None None a u false
+    → TextSays (x ++ sign a u) (tokens_of y m d) None None a u false
 day_says y m d a u text = record {
-  parts = parts_of y m d ++ sign_parts a u;
+  tokens = tokens_of y m d ++ sign_tokens a u;
   scans = reads_scan (signed_reads a u text.reads);
   says = date_added y m d (sign_says a u);
 }
 
 range_says : {x z : List ℕ} (y m d v n e : ℕ) (a u : Bool) → IsDateText x y m d
     → IsDateText z v n e
-    → TextSays ((x ++ sign a u) ++ 47 ∷ (z ++ sign a u)) (parts_of y m d ++ Slash ∷ parts_of v n e)
-    None None a u false
+    → TextSays ((x ++ sign a u) ++ 47 ∷ (z ++ sign a u))
+    (tokens_of y m d ++ Slash ∷ tokens_of v n e) None None a u false
 range_says y m d v n e a u first last = record {
-  parts = (parts_of y m d ++ sign_parts a u) ++ Slash ∷ (parts_of v n e ++ sign_parts a u);
+  tokens = (tokens_of y m d ++ sign_tokens a u) ++ Slash ∷ (tokens_of v n e ++ sign_tokens a u);
   scans = reads_scan
       (joined_reads slash (signed_reads a u first.reads) (signed_reads a u last.reads));
   says = date_added y m d (sign_added a u
-      (part_adds Slash refl (date_added v n e (sign_says a u))));
+      (token_adds Slash refl (date_added v n e (sign_says a u))));
 }
 
 open_begins : Begins (codes "../") (Open ∷ Slash ∷ [])
@@ -197,21 +197,21 @@ open_closes = record {
 }
 
 not_after_says : {x : List ℕ} (y m d : ℕ) (a u : Bool) → IsDateText x y m d
-    → TextSays (codes "../" ++ (x ++ sign a u)) (Open ∷ Slash ∷ parts_of y m d) None None a u false
+    → TextSays (codes "../" ++ (x ++ sign a u)) (Open ∷ Slash ∷ tokens_of y m d) None None a u false
 not_after_says y m d a u text = record {
-  parts = Open ∷ Slash ∷ (parts_of y m d ++ sign_parts a u);
+  tokens = Open ∷ Slash ∷ (tokens_of y m d ++ sign_tokens a u);
   scans = reads_scan (begins_reads open_begins (signed_reads a u text.reads));
-  says = part_adds Open refl (part_adds Slash refl (date_added y m d (sign_says a u)));
+  says = token_adds Open refl (token_adds Slash refl (date_added y m d (sign_says a u)));
 }
 
 not_before_says : {x : List ℕ} (y m d : ℕ) (a u : Bool) → IsDateText x y m d
-    → TextSays ((x ++ sign a u) ++ codes "/..") (parts_of y m d ++ Slash ∷ Open ∷ []) None None a u
+    → TextSays ((x ++ sign a u) ++ codes "/..") (tokens_of y m d ++ Slash ∷ Open ∷ []) None None a u
     false
 not_before_says y m d a u text = record {
-  parts = (parts_of y m d ++ sign_parts a u) ++ Slash ∷ Open ∷ [];
+  tokens = (tokens_of y m d ++ sign_tokens a u) ++ Slash ∷ Open ∷ [];
   scans = closed_scans (signed_reads a u text.reads) open_closes;
   says = date_added y m d (sign_before a u
-      (part_adds Slash refl (part_adds Open refl nothing_says)));
+      (token_adds Slash refl (token_adds Open refl nothing_says)));
 }
 
 pub year_small : (y : ℤ) → pos 1 ≤ℤ y → y ≤ℤ pos 9999 → unsigned_abs y ≤ 9999

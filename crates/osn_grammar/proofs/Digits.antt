@@ -6,7 +6,7 @@ use Rattle.std.specs.Str.{all_ascii_digits}
 use Rattle.std.specs.Str.Parse.{ParsesUnsigned, digits_value}
 use Rattle.std.proofs.lemmas.Str.Parse.{numerals_by_value, tells_all_ascii_digits, parse_gives}
 use Rattle.std.proofs.lemmas.Str.Parse.{digits_value_short}
-use Rattle.osn_grammar.specs.Parts.{value_of}
+use Rattle.osn_grammar.specs.Tokens.{value_of}
 
 -- what `parse` gives of up to nine digits
 pub number_read : {E : Type 0} (word : List ℕ) (r : Result ℕ E) → ParsesUnsigned 32 10 word r

@@ -10,18 +10,18 @@ use Rattle.osn_days.specs.declared.weekday.Weekday.{Weekday}
 use Rattle.osn_days.proofs.LineFacts.{date_of_line}
 use Rattle.osn_days.specs.Chain.{date_of}
 use Rattle.osn_days.specs.Line.{IsDay}
-use Rattle.osn_days.specs.Profile.{newest_rules}
+use Rattle.osn_days.specs.Rules.{newest_rules}
 use Rattle.osn_days.specs.Weekday.{weekday_name}
 use Rattle.osn_grammar.specs.Simple.{is_between}
-use Rattle.osn_lands.specs.declared.label.Label.{Label}
-use Rattle.osn_lands.specs.declared.regime.Regime.{Regime}
-use Rattle.osn_lands.specs.declared.style.Style.{Style}
-use Rattle.osn_lands.specs.declared.style.Style.TheVariants.{January, Annunciation, Nativity}
-use Rattle.osn_lands.specs.declared.style.Style.TheVariants.{September, Pisan, Easter}
-use Rattle.osn_lands.specs.Dual.{year_text, dual_text}
-use Rattle.osn_lands.specs.Style.{style_year, year_by, is_before_easter, is_before_25_march}
-use Rattle.osn_lands.specs.Style.{is_from_25_december, is_from_september}
-use Rattle.osn_lands.proofs.LabelFacts.{style_year_range}
+use Rattle.osn_territory.specs.declared.label.Label.{Label}
+use Rattle.osn_territory.specs.declared.regime.Regime.{Regime}
+use Rattle.osn_territory.specs.declared.style.Style.{Style}
+use Rattle.osn_territory.specs.declared.style.Style.TheVariants.{January, Annunciation, Nativity}
+use Rattle.osn_territory.specs.declared.style.Style.TheVariants.{September, Pisan, Easter}
+use Rattle.osn_territory.specs.Dual.{year_text, dual_text}
+use Rattle.osn_territory.specs.Style.{style_year, year_by, is_before_easter, is_before_25_march}
+use Rattle.osn_territory.specs.Style.{is_from_25_december, is_from_september}
+use Rattle.osn_territory.proofs.LabelFacts.{style_year_range}
 use Rattle.osn_written.specs.declared.written_date.WrittenDate.{WrittenDate}
 use Rattle.osn_written.specs.DateInWords.{weekday_before}
 use Rattle.osn_grammar.specs.DualTexts.{AreDualTextsWritten, AreNamedDaysWritten, weekday_of}

@@ -14,13 +14,13 @@ use Rattle.std.proofs.lemmas.Fmt.{decimal_is_IsNumeral, decimal_nonempty, decima
 use Rattle.std.proofs.lemmas.Fmt.{decimal_step, length-decimal-le}
 use Rattle.std.proofs.lemmas.Str.Parse.{numerals_by_value, tells_all_ascii_digits}
 use Rattle.osn_days.specs.Month.{month_name}
-use Rattle.osn_grammar.specs.declared.part.Numeral.{Numeral}
-use Rattle.osn_grammar.specs.declared.part.Part.TheVariants.{Number}
+use Rattle.osn_grammar.specs.declared.token.Numeral.{Numeral}
+use Rattle.osn_grammar.specs.declared.token.Token.TheVariants.{Number}
 use Rattle.osn_written.specs.declared.any_date.Year.{Year}
-use Rattle.osn_grammar.proofs.FormFacts.{IsYear, year_parts}
+use Rattle.osn_grammar.proofs.FormFacts.{IsYear, year_tokens}
 use Rattle.osn_grammar.proofs.TextFacts.{Reads, slash, digits_read, joined_reads}
-use Rattle.osn_lands.specs.Dual.{later_digits, year_text}
-use Rattle.osn_lands.proofs.YearDigits.{last_digit_differs, earlier_digit_differs}
+use Rattle.osn_territory.specs.Dual.{later_digits, year_text}
+use Rattle.osn_territory.proofs.YearDigits.{last_digit_differs, earlier_digit_differs}
 use Rattle.osn_written.specs.DateInWords.{zeros_before, words_of_year}
 use Rattle.osn_grammar.specs.WordsRead.{is_writable_year}
 
@@ -221,7 +221,7 @@ year_in n double word = record {
 pub record IsYearRead (text : List ℕ) (year : Year) : Type 0 where
   pub first : Numeral
   pub later : Option Numeral
-  pub reads : Reads text (year_parts first later)
+  pub reads : Reads text (year_tokens first later)
   pub is : IsYear first later year
 
 single_read : (least n : ℕ) (word : List ℕ) → n ≤ 10000 → 3 ≤ least → IsLongNumber least n word

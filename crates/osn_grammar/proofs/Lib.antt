@@ -3,7 +3,7 @@ mod LanguageFacts
 mod NameFacts
 mod Scanned
 pub mod TextFacts
-pub mod PartFacts
+pub mod TokenFacts
 pub mod FormFacts
 pub mod WordFacts
 mod DigitLaw

@@ -9,12 +9,12 @@ use Rattle.std.specs.List.{Contains, range_with_len}
 use Rattle.osn_days.specs.declared.weekday.Weekday.{Weekday}
 use Rattle.osn_days.specs.Chain.{date_of}
 use Rattle.osn_days.specs.Line.{line, IsDay}
-use Rattle.osn_days.specs.Profile.{Profile, newest_rules}
-use Rattle.osn_lands.specs.declared.label.Label.{Label}
-use Rattle.osn_lands.specs.Dated.{dated_on}
-use Rattle.osn_lands.specs.Label.{local_label, same_label}
-use Rattle.osn_lands.specs.Territory.{TerritoryModel, regime_at, reading}
-use Rattle.osn_lands.proofs.LabelFacts.{same_label_decides}
+use Rattle.osn_days.specs.Rules.{Rules, newest_rules}
+use Rattle.osn_territory.specs.declared.label.Label.{Label}
+use Rattle.osn_territory.specs.Dated.{dated_on}
+use Rattle.osn_territory.specs.Label.{local_label, same_label}
+use Rattle.osn_territory.specs.Territory.{TerritoryModel, regime_at, reading}
+use Rattle.osn_territory.proofs.LabelFacts.{same_label_decides}
 use Rattle.osn_written.specs.declared.written_date.WrittenDate.{WrittenDate}
 use Rattle.osn_grammar.specs.DualTexts.{IsWritten, AreDualTextsWritten, AreNamedDaysWritten}
 use Rattle.osn_grammar.specs.DualTexts.{Means, AreDualTextsMeant}
@@ -78,13 +78,13 @@ in_range a n d low high =
       get_or-range_with_len a n (d - a) d below ∙ place,
     )
 
-in_line : (p : Profile) (d : ℕ) → IsDay p d → Contains (line p) d
+in_line : (p : Rules) (d : ℕ) → IsDay p d → Contains (line p) d
 unfolding line
 in_line p d on = in_range 1 p.high d on.0 (omega (arith, on.1))
 
 -- ---- days
 
-read_day : (p : Profile) (t : TerritoryModel) (l : Label) (d : ℕ) → IsDay p d
+read_day : (p : Rules) (t : TerritoryModel) (l : Label) (d : ℕ) → IsDay p d
     → local_label p (regime_at t d) d ≡ l → Contains (reading p t l) d
 unfolding reading
 read_day p t l d on is =
@@ -100,7 +100,7 @@ in_one_of : (b : Bool) (xs ys : List ℕ) (d : ℕ) → (b ≡ true → Contains
 in_one_of true xs ys d first other = first refl
 in_one_of false xs ys d first other = other
 
-meant_day : (p : Profile) (t : TerritoryModel) (w : WrittenDate) (d : ℕ) → IsDay p d
+meant_day : (p : Rules) (t : TerritoryModel) (w : WrittenDate) (d : ℕ) → IsDay p d
     → label_of w ≡ local_label p (regime_at t d) d
     → (w.is_double ≡ true → pos (w.year + 1) ≡ (date_of (regime_at t d).calendar d).year)
     → Contains (days_meant p t w) d
@@ -115,7 +115,7 @@ meant_day p t w d on labelled later =
     read))
     read
 
-in_meaning : (p : Profile) (t : TerritoryModel) (w : WrittenDate) (given : Option Weekday) (d : ℕ)
+in_meaning : (p : Rules) (t : TerritoryModel) (w : WrittenDate) (given : Option Weekday) (d : ℕ)
     → Contains (days_meant p t w) d → Contains (meaning p t w given) (dated_on p t d)
 unfolding meaning
 in_meaning p t w given d within =
@@ -125,7 +125,7 @@ in_meaning p t w given d within =
 
 -- ---- the law
 
-written_means : (p : Profile) (t : TerritoryModel) (d : ℕ) (named : Option Weekday)
+written_means : (p : Rules) (t : TerritoryModel) (d : ℕ) (named : Option Weekday)
     (text : List ℕ) → IsDay p d
     → IsWritten (local_label p (regime_at t d) d) (date_of (regime_at t d).calendar d).year named
     text

@@ -6,38 +6,38 @@ use Rattle.std.proofs.Common.{Result, Ok, Err, is_err, refl, arith}
 use Rattle.std.proofs.lemmas.Bool.{ne_eqb}
 use Rattle.std.specs.List.{list_any}
 use Rattle.osn_days.specs.declared.date.Date.{Date}
-use Rattle.osn_days.specs.Profile.{newest_rules}
+use Rattle.osn_days.specs.Rules.{newest_rules}
 use Rattle.osn_days.specs.declared.weekday.Weekday.{Weekday}
-use Rattle.osn_grammar.specs.declared.part.Part.{Part}
-use Rattle.osn_grammar.specs.declared.part.Part.TheVariants.{Number, Dash, Open}
+use Rattle.osn_grammar.specs.declared.token.Token.{Token}
+use Rattle.osn_grammar.specs.declared.token.Token.TheVariants.{Number, Dash, Open}
 use Rattle.osn_written.specs.declared.written_date.DateFault.{DateFault}
 use Rattle.osn_written.specs.declared.written_date.DateFault.TheVariants as faults
 use Rattle.osn_grammar.specs.declared.written.DateOrder.{DateOrder}
 use Rattle.osn_written.specs.declared.any_date.Extent.{Extent}
 use Rattle.osn_written.specs.declared.any_date.Extent.TheVariants as extent
 use Rattle.osn_written.specs.declared.any_date.Reckoning.{Reckoning}
-use Rattle.osn_written.specs.declared.any_date.SimpleDate.{SimpleDate}
+use Rattle.osn_written.specs.declared.any_date.PartialDate.{PartialDate}
 use Rattle.osn_written.specs.declared.any_date.AnyDate.{AnyDate}
 use Rattle.osn_grammar.specs.declared.extent.Beginning.{Beginning}
 use Rattle.osn_grammar.specs.declared.extent.Joining.TheVariants as joins
 use Rattle.osn_grammar.specs.Extent.{beginning_of, dashed_range, date_or_range, extent_of}
 use Rattle.osn_grammar.specs.Extent.{first_date, first_read}
 use Rattle.osn_grammar.specs.Extent.{range_after, range_of}
-use Rattle.osn_grammar.specs.Parts.{tells_time}
+use Rattle.osn_grammar.specs.Tokens.{is_of_time}
 use Rattle.osn_grammar.specs.BothCalendars.{are_named, day_by_both}
-use Rattle.osn_grammar.specs.declared.reading.Told.{Told}
+use Rattle.osn_grammar.specs.declared.reading.ReckonedExtent.{ReckonedExtent}
 use Rattle.osn_grammar.specs.Reading.{after_estimated, date_of, is_undated, or_other, or_reason}
-use Rattle.osn_grammar.specs.Reading.{reading_of_parts, unless_open, is_about, is_feast}
+use Rattle.osn_grammar.specs.Reading.{reading_of_tokens, unless_open, is_about, is_feast}
 use Rattle.osn_grammar.specs.Reading.{is_doubt, is_bracket, weekday_after, reckoning_after}
-use Rattle.osn_grammar.specs.Reading.{told_by_both, told_in, as_date, feast_of, with_its_signs}
+use Rattle.osn_grammar.specs.Reading.{extent_by_both, extent_in, as_date, feast_of, with_its_signs}
 use Rattle.osn_grammar.specs.Feasts.{feast_in}
 use Rattle.osn_grammar.specs.Period.{period_in}
 use Rattle.osn_grammar.specs.Roman.{roman_date}
 use Rattle.osn_grammar.specs.SetsInDigits.{Days}
-use Rattle.osn_grammar.specs.Forms.{simple_date}
+use Rattle.osn_grammar.specs.Forms.{partial_date}
 use Rattle.osn_grammar.specs.Simple.{◌>>=◌}
 use Rattle.osn_grammar.specs.Years.{years_in}
-use Rattle.osn_grammar.proofs.DigitLaw.{parts_of}
+use Rattle.osn_grammar.proofs.DigitLaw.{tokens_of}
 
 bind_err : {A B : Type 0} (r : Result A DateFault) (f : A → Result B DateFault) → is_err r ≡ true
     → is_err (r >>= f) ≡ true
@@ -52,8 +52,8 @@ both_err (Err faults.Malformed) (Err g) first other = refl
 both_err (Err f) (Err g) first other = refl
 
 -- a range is refused whose last date is
-range_refused : (none : Bool) (whole : Result SimpleDate DateFault) (beginning : Beginning)
-    (last : Result SimpleDate DateFault) → is_err last ≡ true
+range_refused : (none : Bool) (whole : Result PartialDate DateFault) (beginning : Beginning)
+    (last : Result PartialDate DateFault) → is_err last ≡ true
     → is_err (if none then Err faults.Malformed else range_of whole beginning last) ≡ true
 range_refused true whole beginning last wrong = refl
 range_refused false whole beginning last wrong =
@@ -61,21 +61,21 @@ range_refused false whole beginning last wrong =
     Ok (extent.FromTo start end))) wrong
 
 -- and so it is after a dash
-dashed_refused : (belongs none : Bool) (whole : Result SimpleDate DateFault) (beginning : Beginning)
-    (last : Result SimpleDate DateFault) → is_err last ≡ true
+dashed_refused : (belongs none : Bool) (whole : Result PartialDate DateFault)
+    (beginning : Beginning) (last : Result PartialDate DateFault) → is_err last ≡ true
     → is_err (if belongs then Err faults.Malformed
     else (if none then Err faults.Malformed else range_of whole beginning last)) ≡ true
 dashed_refused true none whole beginning last wrong = refl
 dashed_refused false none whole beginning last wrong = range_refused none whole beginning last wrong
 
 -- after a month and a day these parts are neither a date nor a range
-record AreNoDate (more : List Part) : Type 0 where
+record AreNoDate (more : List Token) : Type 0 where
   month : (o : DateOrder) (m d : ℕ)
-      → is_err (simple_date o (Number (record { value = m; digits = 2 }) ∷ Dash
+      → is_err (partial_date o (Number (record { value = m; digits = 2 }) ∷ Dash
       ∷ Number (record { value = d; digits = 2 }) ∷ more)) ≡ true
   day : (o : DateOrder) (d : ℕ)
-      → is_err (simple_date o (Number (record { value = d; digits = 2 }) ∷ more)) ≡ true
-  range : (o : DateOrder) (before : List Part)
+      → is_err (partial_date o (Number (record { value = d; digits = 2 }) ∷ more)) ≡ true
+  range : (o : DateOrder) (before : List Token)
       → is_err (range_after o joins.Any before more) ≡ true
 
 nothing_more : AreNoDate []
@@ -85,12 +85,12 @@ nothing_more = record {
   range = λ o before. refl;
 }
 
-abbrev pub parts_of_date : Date → List Part
-parts_of_date d = parts_of (unsigned_abs d.year) d.month d.day
+abbrev pub tokens_of_date : Date → List Token
+tokens_of_date d = tokens_of (unsigned_abs d.year) d.month d.day
 
 -- a day before such parts
-day_refused : {more : List Part} (y m d : ℕ) → AreNoDate more → (o : DateOrder)
-    (before : List Part) → is_err (range_after o joins.Any before (parts_of y m d ++ more)) ≡ true
+day_refused : {more : List Token} (y m d : ℕ) → AreNoDate more → (o : DateOrder)
+    (before : List Token) → is_err (range_after o joins.Any before (tokens_of y m d ++ more)) ≡ true
 day_refused {more} y m d none o before =
     let year = Number (record { value = y; digits = 4 }) in
     let month = Number (record { value = m; digits = 2 }) in
@@ -105,27 +105,27 @@ day_refused {more} y m d none o before =
     both_err (Err faults.Malformed)
     (first_read (dashed_range o at_month (month ∷ Dash ∷ day ∷ more)) months) refl
     (both_err (dashed_range o at_month (month ∷ Dash ∷ day ∷ more)) months
-    (dashed_refused _ _ (simple_date o at_month) (beginning_of at_month)
-    (simple_date o (month ∷ Dash ∷ day ∷ more)) (none.month o m d))
+    (dashed_refused _ _ (partial_date o at_month) (beginning_of at_month)
+    (partial_date o (month ∷ Dash ∷ day ∷ more)) (none.month o m d))
     (both_err (Err faults.Malformed) days refl
     (both_err (dashed_range o after_month (day ∷ more)) last
-    (dashed_refused _ _ (simple_date o after_month) (beginning_of after_month)
-    (simple_date o (day ∷ more)) (none.day o d))
+    (dashed_refused _ _ (partial_date o after_month) (beginning_of after_month)
+    (partial_date o (day ∷ more)) (none.day o d))
     (both_err (Err faults.Malformed) end refl (none.range o at_end)))))
 
 -- the parts of days that say which day is meant, one after another
-abbrev pub timed : List Days → List Part
+abbrev pub timed : List Days → List Token
 timed [] = []
-timed ((d, None) ∷ rest) = parts_of_date d ++ timed rest
-timed ((d, Some e) ∷ rest) = parts_of_date d ++ Open ∷ (parts_of_date e ++ timed rest)
+timed ((d, None) ∷ rest) = tokens_of_date d ++ timed rest
+timed ((d, Some e) ∷ rest) = tokens_of_date d ++ Open ∷ (tokens_of_date e ++ timed rest)
 
-opened : {more : List Part} (e : Date) → AreNoDate more
-    → AreNoDate (Open ∷ (parts_of_date e ++ more))
+opened : {more : List Token} (e : Date) → AreNoDate more
+    → AreNoDate (Open ∷ (tokens_of_date e ++ more))
 opened {more} e none = record {
   month = λ o m d. refl;
   day = λ o d. refl;
   range = λ o before. both_err (Err faults.Malformed)
-      (range_after o joins.Any (before ++ Open ∷ []) (parts_of_date e ++ more)) refl
+      (range_after o joins.Any (before ++ Open ∷ []) (tokens_of_date e ++ more)) refl
       (day_refused (unsigned_abs e.year) e.month e.day none o (before ++ Open ∷ []));
 }
 
@@ -153,109 +153,111 @@ pub dated : (days : Days) (rest : List Days) → is_undated (timed (days ∷ res
 dated (d, None) rest = refl
 dated (d, Some e) rest = refl
 
-date_refused : (weekday : Result (Option Weekday) DateFault) (time : Result Told DateFault)
-    (f : Option Weekday → Told → Result AnyDate DateFault) → is_err time ≡ true
+date_refused : (weekday : Result (Option Weekday) DateFault)
+    (time : Result ReckonedExtent DateFault)
+    (f : Option Weekday → ReckonedExtent → Result AnyDate DateFault) → is_err time ≡ true
     → is_err (weekday >>= (λ w. time >>= f w)) ≡ true
 date_refused (Err fault) time f wrong = refl
 date_refused (Ok w) time f wrong = bind_err time (f w) wrong
 
-reason_refused : (parts ts : List Part) (date : Result AnyDate DateFault) → is_err date ≡ true
-    → is_err (or_reason parts ts date) ≡ true
-reason_refused parts ts (Ok w) wrong = absurd (cc)
-reason_refused parts ts (Err fault) wrong = refl
+reason_refused : (tokens ts : List Token) (date : Result AnyDate DateFault) → is_err date ≡ true
+    → is_err (or_reason tokens ts date) ≡ true
+reason_refused tokens ts (Ok w) wrong = absurd (cc)
+reason_refused tokens ts (Err fault) wrong = refl
 
 -- parts that have none of the other forms
-pub record HaveNoOtherForm (ts : List Part) : Type 0 where
-  pub estimated : (o : DateOrder) (parts : List Part)
-      → after_estimated o parts ts ≡ Err faults.Malformed
+pub record HaveNoOtherForm (ts : List Token) : Type 0 where
+  pub estimated : (o : DateOrder) (tokens : List Token)
+      → after_estimated o tokens ts ≡ Err faults.Malformed
   pub years : years_in ts ≡ None
   pub period : period_in ts ≡ None
   pub roman : roman_date ts ≡ Err faults.Malformed
-  pub both : (parts : List Part) → day_by_both newest_rules parts ts ≡ Err faults.Malformed
+  pub both : (tokens : List Token) → day_by_both newest_rules tokens ts ≡ Err faults.Malformed
   pub feast : (weekday : Option Weekday) → feast_in weekday ts ≡ Err faults.Feast
 
-time_refused : (o : DateOrder) (parts ts : List Part) (r : Option Reckoning)
+time_refused : (o : DateOrder) (tokens ts : List Token) (r : Option Reckoning)
     (read : Result Extent DateFault) → HaveNoOtherForm ts → is_err read ≡ true
-    → is_err (or_other o parts ts r read) ≡ true
-time_refused o parts ts r (Ok e) other wrong = absurd (cc)
-time_refused o parts ts None (Err fault) other wrong =
-    rw (other.estimated o parts, other.years, other.period, other.roman, other.both parts) refl
-time_refused o parts ts (Some r) (Err fault) other wrong =
-    rw (other.estimated o parts, other.years, other.period, other.roman, other.both parts) refl
+    → is_err (or_other o tokens ts r read) ≡ true
+time_refused o tokens ts r (Ok e) other wrong = absurd (cc)
+time_refused o tokens ts None (Err fault) other wrong =
+    rw (other.estimated o tokens, other.years, other.period, other.roman, other.both tokens) refl
+time_refused o tokens ts (Some r) (Err fault) other wrong =
+    rw (other.estimated o tokens, other.years, other.period, other.roman, other.both tokens) refl
 
-named_refused : (named : Bool) (fault : DateFault) (day : Result SimpleDate DateFault)
+named_refused : (named : Bool) (fault : DateFault) (day : Result PartialDate DateFault)
     → day ≡ Err faults.Malformed
-    → is_err (told_by_both None fault (if named then day else Err faults.Malformed)) ≡ true
+    → is_err (extent_by_both None fault (if named then day else Err faults.Malformed)) ≡ true
 named_refused true fault day none = rw none refl
 named_refused false fault day none = refl
 
-told_refused : (o : DateOrder) (parts ts : List Part)
+extent_in_refused : (o : DateOrder) (tokens ts : List Token)
     (named : Result (Option Reckoning) DateFault) → HaveNoOtherForm ts
-    → is_err (extent_of o ts) ≡ true → is_err (told_in o parts ts named) ≡ true
-told_refused o parts ts (Ok r) other wrong = time_refused o parts ts r (extent_of o ts) other wrong
-told_refused o parts ts (Err fault) other wrong =
-    named_refused (are_named parts) fault (day_by_both newest_rules parts ts) (other.both parts)
+    → is_err (extent_of o ts) ≡ true → is_err (extent_in o tokens ts named) ≡ true
+extent_in_refused o tokens ts (Ok r) other wrong =
+    time_refused o tokens ts r (extent_of o ts) other wrong
+extent_in_refused o tokens ts (Err fault) other wrong =
+    named_refused (are_named tokens) fault (day_by_both newest_rules tokens ts) (other.both tokens)
 
 named_feast : (weekday : Result (Option Weekday) DateFault)
-    (reckoning : Result (Option Reckoning) DateFault) (parts ts : List Part) → HaveNoOtherForm ts
+    (reckoning : Result (Option Reckoning) DateFault) (tokens ts : List Token) → HaveNoOtherForm ts
     → is_err (as_date (weekday >>= (λ w. reckoning >>= (λ r. feast_in w ts >>= (λ e.
-    with_its_signs parts r e))))) ≡ true
-named_feast (Err fault) reckoning parts ts other = refl
-named_feast (Ok w) (Err fault) parts ts other = refl
-named_feast (Ok w) (Ok r) parts ts other = rw (other.feast w) refl
+    with_its_signs tokens r e))))) ≡ true
+named_feast (Err fault) reckoning tokens ts other = refl
+named_feast (Ok w) (Err fault) tokens ts other = refl
+named_feast (Ok w) (Ok r) tokens ts other = rw (other.feast w) refl
 
-feast_refused : (parts ts : List Part) → HaveNoOtherForm ts
-    → is_err (as_date (feast_of parts ts)) ≡ true
-feast_refused parts ts other = named_feast (weekday_after None parts) (reckoning_after None parts)
-    parts ts other
+feast_refused : (tokens ts : List Token) → HaveNoOtherForm ts
+    → is_err (as_date (feast_of tokens ts)) ≡ true
+feast_refused tokens ts other =
+    named_feast (weekday_after None tokens) (reckoning_after None tokens) tokens ts other
 
-unless_refused : (feast : Bool) (o : DateOrder) (parts ts : List Part) → HaveNoOtherForm ts
+unless_refused : (feast : Bool) (o : DateOrder) (tokens ts : List Token) → HaveNoOtherForm ts
     → is_err (extent_of o ts) ≡ true
-    → is_err (if feast then as_date (feast_of parts ts)
-    else or_reason parts ts (date_of o parts ts)) ≡ true
-unless_refused true o parts ts other wrong = feast_refused parts ts other
-unless_refused false o parts ts other wrong =
-    reason_refused parts ts (date_of o parts ts)
-    (date_refused (weekday_after None parts) (told_in o parts ts (reckoning_after None parts))
+    → is_err (if feast then as_date (feast_of tokens ts)
+    else or_reason tokens ts (date_of o tokens ts)) ≡ true
+unless_refused true o tokens ts other wrong = feast_refused tokens ts other
+unless_refused false o tokens ts other wrong =
+    reason_refused tokens ts (date_of o tokens ts)
+    (date_refused (weekday_after None tokens) (extent_in o tokens ts (reckoning_after None tokens))
     (λ w time. unless_open (record {
       extent = time.extent;
       weekday = w;
       reckoning = time.reckoning;
-      is_approximate = time.is_part || list_any is_about parts;
-      is_uncertain = list_any is_doubt parts;
-      is_supplied = list_any is_bracket parts;
-    })) (told_refused o parts ts (reckoning_after None parts) other wrong))
+      is_approximate = time.is_part || list_any is_about tokens;
+      is_uncertain = list_any is_doubt tokens;
+      is_supplied = list_any is_bracket tokens;
+    })) (extent_in_refused o tokens ts (reckoning_after None tokens) other wrong))
 
 pub other_refused : (first next : Days) (rest : List Days)
     → HaveNoOtherForm (timed (first ∷ next ∷ rest))
 other_refused (d, None) (e, None) rest = record {
-  estimated = λ o parts. refl;
+  estimated = λ o tokens. refl;
   years = refl;
   period = refl;
   roman = refl;
-  both = λ parts. refl;
+  both = λ tokens. refl;
   feast = λ weekday. refl;
 }
 other_refused (d, None) (e, Some f) rest = record {
-  estimated = λ o parts. refl;
+  estimated = λ o tokens. refl;
   years = refl;
   period = refl;
   roman = refl;
-  both = λ parts. refl;
+  both = λ tokens. refl;
   feast = λ weekday. refl;
 }
 other_refused (d, Some e) next rest = record {
-  estimated = λ o parts. refl;
+  estimated = λ o tokens. refl;
   years = refl;
   period = refl;
   roman = refl;
-  both = λ parts. refl;
+  both = λ tokens. refl;
   feast = λ weekday. refl;
 }
 
-pub said_refused : (o : DateOrder) (p : Part) (ps ts : List Part) → filter tells_time (p ∷ ps) ≡ ts
-    → is_undated ts ≡ false → HaveNoOtherForm ts → is_err (extent_of o ts) ≡ true
-    → is_err (reading_of_parts o (p ∷ ps) (filter tells_time (p ∷ ps))) ≡ true
+pub said_refused : (o : DateOrder) (p : Token) (ps ts : List Token) → filter is_of_time (p ∷ ps)
+    ≡ ts → is_undated ts ≡ false → HaveNoOtherForm ts → is_err (extent_of o ts) ≡ true
+    → is_err (reading_of_tokens o (p ∷ ps) (filter is_of_time (p ∷ ps))) ≡ true
 said_refused o p ps ts is dated other wrong =
     rw (ne_eqb (length (p ∷ ps)) 0 (λ none. omega (arith, none)), is, dated)
     (unless_refused (list_any is_feast (p ∷ ps)) o (p ∷ ps) ts other wrong)

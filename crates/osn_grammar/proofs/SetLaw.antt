@@ -16,31 +16,31 @@ use Rattle.std.proofs.lemmas.Str.Parse.{tells_all_ascii_digits}
 use Rattle.osn_days.specs.declared.date.Date.{Date}
 use Rattle.osn_days.specs.DateText.{at_least, date_text, text_of_date}
 use Rattle.osn_days.proofs.DateDigits.{four_digits}
-use Rattle.osn_grammar.specs.declared.part.Part.{Part}
-use Rattle.osn_grammar.specs.declared.part.Part.TheVariants.{Open, Bracket}
+use Rattle.osn_grammar.specs.declared.token.Token.{Token}
+use Rattle.osn_grammar.specs.declared.token.Token.TheVariants.{Open, Bracket}
 use Rattle.osn_written.specs.declared.written_date.DateFault.{DateFault}
 use Rattle.osn_written.specs.declared.any_date.Extent.{Extent}
 use Rattle.osn_grammar.specs.declared.written.Written.{Written}
 use Rattle.osn_grammar.specs.declared.written.Written.TheVariants as say
 use Rattle.osn_written.specs.declared.any_date.AnyDate.{AnyDate}
 use Rattle.osn_grammar.specs.InDigits.{HasFourDigits, sign, signed}
-use Rattle.osn_grammar.specs.Parts.{tells_time}
+use Rattle.osn_grammar.specs.Tokens.{is_of_time}
 use Rattle.osn_grammar.specs.Reading.{all_members, member_by, member_in, member_of, or_set, or_years}
-use Rattle.osn_grammar.specs.Reading.{read_date, reading_of_parts, set_in, set_inside, with_signs}
-use Rattle.osn_grammar.specs.Scan.{first_of, is_letter_alone, next_is, part_of_run, parts_after}
-use Rattle.osn_grammar.specs.Scan.{parts_in}
+use Rattle.osn_grammar.specs.Reading.{read_date, reading_of_tokens, set_in, set_inside, with_signs}
+use Rattle.osn_grammar.specs.Scan.{first_of, is_letter_alone, next_is, token_of_run, tokens_after}
+use Rattle.osn_grammar.specs.Scan.{tokens_in}
 use Rattle.osn_grammar.specs.Sets.{between_commas, days_in_digits, is_sign}
 use Rattle.osn_grammar.specs.SetsInDigits.{AreSetsRead, Days, HaveFourDigits, days_text}
 use Rattle.osn_grammar.specs.SetsInDigits.{extent_of_days, member, set_text}
 use Rattle.osn_grammar.specs.Simple.{◌>>=◌}
-use Rattle.osn_grammar.proofs.DigitLaw.{IsDay, padded_digits, sign_parts, signed_reads}
+use Rattle.osn_grammar.proofs.DigitLaw.{IsDay, padded_digits, sign_tokens, signed_reads}
 use Rattle.osn_grammar.proofs.DigitLaw.{text_is, year_small}
 use Rattle.osn_grammar.proofs.SetFacts.{last_without}
 use Rattle.osn_grammar.proofs.TextFacts.{Ends, IsMark, Reads, Scans, bracket, begun_scans}
 use Rattle.osn_grammar.proofs.TextFacts.{closed_scans, is_low-append, joined_reads, mark_closes}
-use Rattle.osn_grammar.proofs.TextFacts.{nothing_closes, parts_scanned, reads_scan}
+use Rattle.osn_grammar.proofs.TextFacts.{nothing_closes, tokens_scanned, reads_scan}
 use Rattle.osn_grammar.proofs.WordFacts.{bracket_begins}
-use Rattle.osn_grammar.proofs.RefusedFacts.{dated, extent_refused, other_refused, parts_of_date}
+use Rattle.osn_grammar.proofs.RefusedFacts.{dated, extent_refused, other_refused, tokens_of_date}
 use Rattle.osn_grammar.proofs.RefusedFacts.{said_refused, timed}
 
 -- ---- the texts of days
@@ -52,11 +52,11 @@ and_false false = refl
 -- two full stops end the word before them
 stops_end : (s : List ℕ) → Ends (46 ∷ 46 ∷ s)
 stops_end s word =
-    append_assoc (option_to_list (part_of_run word)) (Open ∷ []) (parts_after [] (46 ∷ s))
+    append_assoc (option_to_list (token_of_run word)) (Open ∷ []) (tokens_after [] (46 ∷ s))
 
 -- and are an open end before a text that begins with none
 stops_are : (s : List ℕ) → next_is (λ c. c == 46) (first_of s) ≡ false
-    → parts_after [] (46 ∷ 46 ∷ s) ≡ Open ∷ parts_after [] s
+    → tokens_after [] (46 ∷ 46 ∷ s) ≡ Open ∷ tokens_after [] s
 stops_are s none = rw (and_false (is_letter_alone s), none) refl
 
 -- a text without commas, and with no full stop in front
@@ -64,24 +64,24 @@ record IsClear (text : List ℕ) : Type 0 where
   no_comma : All (λ b. (b == 44) ≡ false) text
   no_stop : (rest : List ℕ) → next_is (λ c. c == 46) (first_of (text ++ rest)) ≡ false
 
-dotted_reads : {x z : List ℕ} {ps qs : List Part} → Reads x ps → Reads z qs → IsClear z
+dotted_reads : {x z : List ℕ} {ps qs : List Token} → Reads x ps → Reads z qs → IsClear z
     → Reads (x ++ 46 ∷ 46 ∷ z) (ps ++ Open ∷ qs)
 dotted_reads {x} {z} {ps} {qs} first last clear = record {
   low = is_low-append x (46 ∷ 46 ∷ z) first.low last.low;
-  is = λ rest ends. ap (parts_after []) (append_assoc x (46 ∷ 46 ∷ z) rest)
+  is = λ rest ends. ap (tokens_after []) (append_assoc x (46 ∷ 46 ∷ z) rest)
       ∙ first.is (46 ∷ 46 ∷ (z ++ rest)) (stops_end (z ++ rest))
       ∙ ap (λ r. ps ++ r) (stops_are (z ++ rest) (clear.no_stop rest)
       ∙ ap (λ r. Open ∷ r) (last.is rest ends))
-      ∙ sym (append_assoc ps (Open ∷ qs) (parts_after [] rest));
+      ∙ sym (append_assoc ps (Open ∷ qs) (tokens_after [] rest));
 }
 
 digits_clear : (ds : List ℕ) → all_ascii_digits ds ≡ true → All (λ b. (b == 44) ≡ false) ds
 digits_clear [] digits = All-nil (λ b. (b == 44) ≡ false)
 digits_clear (d ∷ ds) digits =
-    let parts = tells_all_ascii_digits.parts d ds digits in
-    let above : 48 ≤ d = parts.0.0 in
+    let tokens = tells_all_ascii_digits.parts d ds digits in
+    let above : 48 ≤ d = tokens.0.0 in
     All-cons (λ b. (b == 44) ≡ false) d ds (ne_eqb d 44 (λ same. omega (arith, same, above)))
-    (digits_clear ds parts.1)
+    (digits_clear ds tokens.1)
 
 number_clear : (w n : ℕ) → n < 10 ^ 9 → All (λ b. (b == 44) ≡ false) (at_least w n)
 number_clear w n small = digits_clear (at_least w n) (padded_digits w n small)
@@ -131,39 +131,39 @@ signed_clear a u d h =
 
 -- ---- one member
 
-abbrev signed_parts : Bool → Bool → Date → List Part
-signed_parts a u d = parts_of_date d ++ sign_parts a u
+abbrev signed_tokens : Bool → Bool → Date → List Token
+signed_tokens a u d = tokens_of_date d ++ sign_tokens a u
 
-abbrev days_parts : Bool → Bool → Days → List Part
-days_parts a u (d, None) = signed_parts a u d
-days_parts a u (d, Some e) = signed_parts a u d ++ Open ∷ signed_parts a u e
+abbrev days_tokens : Bool → Bool → Days → List Token
+days_tokens a u (d, None) = signed_tokens a u d
+days_tokens a u (d, Some e) = signed_tokens a u d ++ Open ∷ signed_tokens a u e
 
 -- the text of days is these parts, has no comma, and its parts are the member of a set
 record IsMemberText (a u : Bool) (days : Days) : Type 0 where
-  reads : Reads (days_text a u days) (days_parts a u days)
+  reads : Reads (days_text a u days) (days_tokens a u days)
   no_comma : All (λ b. (b == 44) ≡ false) (days_text a u days)
-  is : member_of (days_parts a u days) ≡ Ok (member a u days)
+  is : member_of (days_tokens a u days) ≡ Ok (member a u days)
 
 abbrev IsDate : Date → Type 0
 IsDate d = IsDay (unsigned_abs d.year) d.month d.day
 
 day_is : (a u : Bool) (d : Date) → IsDate d
-    → member_of (signed_parts a u d) ≡ Ok (member a u (d, None))
+    → member_of (signed_tokens a u d) ≡ Ok (member a u (d, None))
 day_is false false d h = rw (h.year_high, h.month_low, h.month_high, h.day_low, h.day_high) refl
 day_is false true d h = rw (h.year_high, h.month_low, h.month_high, h.day_low, h.day_high) refl
 day_is true false d h = rw (h.year_high, h.month_low, h.month_high, h.day_low, h.day_high) refl
 day_is true true d h = rw (h.year_high, h.month_low, h.month_high, h.day_low, h.day_high) refl
 
 -- the signs of days do not say which day is meant
-days_are : (a u : Bool) (d e : Date) → filter (λ p. not (is_sign p)) (days_parts a u (d, Some e))
-    ≡ parts_of_date d ++ Open ∷ parts_of_date e
+days_are : (a u : Bool) (d e : Date) → filter (λ p. not (is_sign p)) (days_tokens a u (d, Some e))
+    ≡ tokens_of_date d ++ Open ∷ tokens_of_date e
 days_are false false d e = refl
 days_are false true d e = refl
 days_are true false d e = refl
 days_are true true d e = refl
 
 days_signed : (a u : Bool) (d e : Date) (extent : Extent)
-    → with_signs (days_parts a u (d, Some e)) extent
+    → with_signs (days_tokens a u (d, Some e)) extent
     ≡ record (member a u (d, Some e)) { extent = extent }
 days_signed false false d e extent = refl
 days_signed false true d e extent = refl
@@ -171,9 +171,9 @@ days_signed true false d e extent = refl
 days_signed true true d e extent = refl
 
 range_is : (a u : Bool) (d e : Date) → IsDate d → IsDate e
-    → member_of (days_parts a u (d, Some e)) ≡ Ok (member a u (d, Some e))
+    → member_of (days_tokens a u (d, Some e)) ≡ Ok (member a u (d, Some e))
 range_is a u d e h g =
-    ap (λ ps. member_by (days_parts a u (d, Some e)) (days_in_digits ps))
+    ap (λ ps. member_by (days_tokens a u (d, Some e)) (days_in_digits ps))
     (days_are a u d e)
     ∙ rw (h.year_high, h.month_low, h.month_high, h.day_low, h.day_high)
     (rw (g.year_high, g.month_low, g.month_high, g.day_low, g.day_high)
@@ -208,56 +208,57 @@ comma = record {
   low = refl;
   no_letter = refl;
   no_stop = refl;
-  ends = λ rest word. append_assoc (option_to_list (part_of_run word)) [] (parts_after [] rest);
+  ends = λ rest word. append_assoc (option_to_list (token_of_run word)) [] (tokens_after [] rest);
   is = λ rest. refl;
 }
 
 abbrev body : Bool → Bool → List Days → List ℕ
 body a u days = join_by (days_text a u) (codes ",") days
 
-abbrev all_parts : Bool → Bool → List Days → List Part
-all_parts a u [] = []
-all_parts a u (days ∷ rest) = days_parts a u days ++ all_parts a u rest
+abbrev all_tokens : Bool → Bool → List Days → List Token
+all_tokens a u [] = []
+all_tokens a u (days ∷ rest) = days_tokens a u days ++ all_tokens a u rest
 
 body_reads : (a u : Bool) (first : Days) (rest : List Days) → All HaveFourDigits (first ∷ rest)
-    → Reads (body a u (first ∷ rest)) (all_parts a u (first ∷ rest))
+    → Reads (body a u (first ∷ rest)) (all_tokens a u (first ∷ rest))
 body_reads a u first [] all =
     let read = member_is a u first (All-head HaveFourDigits first [] all) in
-    subst₂ Reads (sym (append-nil (days_text a u first))) (sym (append-nil (days_parts a u first)))
+    subst₂ Reads (sym (append-nil (days_text a u first))) (sym (append-nil (days_tokens a u first)))
     read.reads
 body_reads a u first (next ∷ rest) all =
     let read = member_is a u first (All-head HaveFourDigits first (next ∷ rest) all) in
     joined_reads comma read.reads
     (body_reads a u next rest (All-tail HaveFourDigits first (next ∷ rest) all))
 
-sign_timed : (a u : Bool) (ps rest : List Part)
-    → filter tells_time ((sign_parts a u ++ ps) ++ rest) ≡ filter tells_time (ps ++ rest)
+sign_timed : (a u : Bool) (ps rest : List Token)
+    → filter is_of_time ((sign_tokens a u ++ ps) ++ rest) ≡ filter is_of_time (ps ++ rest)
 sign_timed false false ps rest = refl
 sign_timed false true ps rest = refl
 sign_timed true false ps rest = refl
 sign_timed true true ps rest = refl
 
-last_timed : (a u : Bool) (rest : List Part)
-    → filter tells_time (sign_parts a u ++ rest) ≡ filter tells_time rest
+last_timed : (a u : Bool) (rest : List Token)
+    → filter is_of_time (sign_tokens a u ++ rest) ≡ filter is_of_time rest
 last_timed false false rest = refl
 last_timed false true rest = refl
 last_timed true false rest = refl
 last_timed true true rest = refl
 
-parts_timed : (a u : Bool) (days : List Days) → filter tells_time (all_parts a u days) ≡ timed days
-parts_timed a u [] = refl
-parts_timed a u ((d, None) ∷ rest) =
-    ap (λ ts. parts_of_date d ++ ts)
-    (last_timed a u (all_parts a u rest) ∙ parts_timed a u rest)
-parts_timed a u ((d, Some e) ∷ rest) =
-    ap (λ ts. parts_of_date d ++ ts)
-    (sign_timed a u (Open ∷ signed_parts a u e) (all_parts a u rest)
-    ∙ ap (λ ts. Open ∷ (parts_of_date e ++ ts))
-    (last_timed a u (all_parts a u rest) ∙ parts_timed a u rest))
+tokens_timed : (a u : Bool) (days : List Days) → filter is_of_time (all_tokens a u days)
+    ≡ timed days
+tokens_timed a u [] = refl
+tokens_timed a u ((d, None) ∷ rest) =
+    ap (λ ts. tokens_of_date d ++ ts)
+    (last_timed a u (all_tokens a u rest) ∙ tokens_timed a u rest)
+tokens_timed a u ((d, Some e) ∷ rest) =
+    ap (λ ts. tokens_of_date d ++ ts)
+    (sign_timed a u (Open ∷ signed_tokens a u e) (all_tokens a u rest)
+    ∙ ap (λ ts. Open ∷ (tokens_of_date e ++ ts))
+    (last_timed a u (all_tokens a u rest) ∙ tokens_timed a u rest))
 
 text_read : {a u : Bool} {days : Days} → IsMemberText a u days
     → member_in (days_text a u days) ≡ Ok (member a u days)
-text_read text = ap member_of (parts_scanned (reads_scan text.reads)) ∙ text.is
+text_read text = ap member_of (tokens_scanned (reads_scan text.reads)) ∙ text.is
 
 texts_read : (a u : Bool) (first : Days) (rest : List Days) → All HaveFourDigits (first ∷ rest)
     → all_members (between_commas (body a u (first ∷ rest)))
@@ -295,23 +296,23 @@ unfolding AreSetsRead read_date
 sets_law o a u first next rest all =
     let days = first ∷ next ∷ rest in
     let text = set_text a u days in
-    let inside = all_parts a u days ++ Bracket ∷ [] in
+    let inside = all_tokens a u days ++ Bracket ∷ [] in
     let dates : set_in text ≡ Ok (map (member a u) days) =
     members_are a u first (next ∷ rest) all in
     let scans : Scans text (Bracket ∷ inside) =
     begun_scans bracket_begins
     (closed_scans (body_reads a u first (next ∷ rest) all) (mark_closes bracket nothing_closes)) in
-    let tells : filter tells_time (Bracket ∷ inside) ≡ timed days =
-    filter-append tells_time (all_parts a u days) (Bracket ∷ [])
-    ∙ append-nil (filter tells_time (all_parts a u days)) ∙ parts_timed a u days in
-    let P : List Part → Type 0 = λ ps. is_err (reading_of_parts o ps (filter tells_time ps))
+    let filtered : filter is_of_time (Bracket ∷ inside) ≡ timed days =
+    filter-append is_of_time (all_tokens a u days) (Bracket ∷ [])
+    ∙ append-nil (filter is_of_time (all_tokens a u days)) ∙ tokens_timed a u days in
+    let P : List Token → Type 0 = λ ps. is_err (reading_of_tokens o ps (filter is_of_time ps))
     ≡ true in
-    let wrong : P (parts_in text) = subst P (sym (parts_scanned scans))
-    (said_refused o Bracket inside (timed days) tells (dated first (next ∷ rest))
+    let wrong : P (tokens_in text) = subst P (sym (tokens_scanned scans))
+    (said_refused o Bracket inside (timed days) filtered (dated first (next ∷ rest))
     (other_refused first next rest) (extent_refused o first next rest)) in
     record {
       is = ap (or_years text) (ap (λ found. or_set found
-          (reading_of_parts o (parts_in text) (filter tells_time (parts_in text)))) dates
+          (reading_of_tokens o (tokens_in text) (filter is_of_time (tokens_in text)))) dates
           ∙ set_said (map (member a u) days) _ wrong);
       dates = ap (λ found. unwrap_or (result_ok found) []) dates;
     }

@@ -7,9 +7,9 @@ use Rattle.osn_days.specs.declared.weekday.Weekday.TheVariants.{Sunday, Monday, 
 use Rattle.osn_days.specs.declared.weekday.Weekday.TheVariants.{Thursday, Friday, Saturday}
 use Rattle.osn_days.specs.Month.{month_name}
 use Rattle.osn_days.specs.Weekday.{weekday_name}
-use Rattle.osn_grammar.specs.declared.part.Part.TheVariants as part
+use Rattle.osn_grammar.specs.declared.token.Token.TheVariants as token
 use Rattle.osn_grammar.specs.Names.{names}
-use Rattle.osn_grammar.specs.declared.part.Part.{Part}
+use Rattle.osn_grammar.specs.declared.token.Token.{Token}
 use Rattle.osn_written.specs.declared.any_date.Reckoning.TheVariants.{OldStyle, NewStyle}
 use Rattle.osn_grammar.proofs.TextFacts.{Reads, Begins, Closes, blank, no_letter_alone}
 
@@ -25,7 +25,7 @@ from_month P k m low here later =
     ]
 
 abbrev IsMonthWord : ℕ → Type 0
-IsMonthWord m = Reads (month_name m) (part.Month m ∷ [])
+IsMonthWord m = Reads (month_name m) (token.Month m ∷ [])
 
 january : IsMonthWord 1
 unfolding names lib.Utf8.encode
@@ -76,7 +76,7 @@ unfolding names lib.Utf8.encode
 december = record { low = refl; is = λ rest ends. ends (codes "december") }
 
 -- the name of a month is that month
-pub month_reads : (m : ℕ) → 1 ≤ m → m ≤ 12 → Reads (month_name m) (part.Month m ∷ [])
+pub month_reads : (m : ℕ) → 1 ≤ m → m ≤ 12 → Reads (month_name m) (token.Month m ∷ [])
 month_reads m low high =
     from_month IsMonthWord 1 m low january (λ l.
     from_month IsMonthWord 2 m l february (λ l.
@@ -95,7 +95,7 @@ month_reads m low high =
 -- ---- weekdays
 
 -- the name of a weekday and a blank are that weekday
-pub weekday_begins : (w : Weekday) → Begins (weekday_name w ++ codes " ") (part.Weekday w ∷ [])
+pub weekday_begins : (w : Weekday) → Begins (weekday_name w ++ codes " ") (token.Weekday w ∷ [])
 unfolding names lib.Utf8.encode
 weekday_begins Sunday = record { low = refl; is = λ rest. refl }
 weekday_begins Monday = record { low = refl; is = λ rest. refl }
@@ -107,34 +107,34 @@ weekday_begins Saturday = record { low = refl; is = λ rest. refl }
 
 -- ---- words before a date
 
-pub about_begins : Begins (codes "about ") (part.About ∷ [])
+pub about_begins : Begins (codes "about ") (token.About ∷ [])
 unfolding names lib.Utf8.encode
 about_begins = record { low = refl; is = λ rest. refl }
 
-pub before_begins : Begins (codes "before ") (part.Before ∷ [])
+pub before_begins : Begins (codes "before ") (token.Before ∷ [])
 unfolding names lib.Utf8.encode
 before_begins = record { low = refl; is = λ rest. refl }
 
-pub not_after_begins : Begins (codes "not after ") (part.Not ∷ part.After ∷ [])
+pub not_after_begins : Begins (codes "not after ") (token.Not ∷ token.After ∷ [])
 unfolding names lib.Utf8.encode
 not_after_begins = record { low = refl; is = λ rest. refl }
 
-pub after_begins : Begins (codes "after ") (part.After ∷ [])
+pub after_begins : Begins (codes "after ") (token.After ∷ [])
 unfolding names lib.Utf8.encode
 after_begins = record { low = refl; is = λ rest. refl }
 
-pub not_before_begins : Begins (codes "not before ") (part.Not ∷ part.Before ∷ [])
+pub not_before_begins : Begins (codes "not before ") (token.Not ∷ token.Before ∷ [])
 unfolding names lib.Utf8.encode
 not_before_begins = record { low = refl; is = λ rest. refl }
 
-pub to_begins : Begins (codes "to ") (part.To ∷ [])
+pub to_begins : Begins (codes "to ") (token.To ∷ [])
 unfolding names lib.Utf8.encode
 to_begins = record { low = refl; is = λ rest. refl }
 
 -- ---- calendars
 
-pub old_style_closes : {ps : List Part} {x : List ℕ} → Closes x ps
-    → Closes (codes " O.S." ++ x) (part.Reckoning OldStyle ∷ ps)
+pub old_style_closes : {ps : List Token} {x : List ℕ} → Closes x ps
+    → Closes (codes " O.S." ++ x) (token.Reckoning OldStyle ∷ ps)
 unfolding names lib.Utf8.encode
 old_style_closes {ps} {x} last = record {
   low = last.low;
@@ -144,8 +144,8 @@ old_style_closes {ps} {x} last = record {
   is = rw (no_letter_alone x last.no_letter, last.no_stop, last.is) refl;
 }
 
-pub new_style_closes : {ps : List Part} {x : List ℕ} → Closes x ps
-    → Closes (codes " N.S." ++ x) (part.Reckoning NewStyle ∷ ps)
+pub new_style_closes : {ps : List Token} {x : List ℕ} → Closes x ps
+    → Closes (codes " N.S." ++ x) (token.Reckoning NewStyle ∷ ps)
 unfolding names lib.Utf8.encode
 new_style_closes {ps} {x} last = record {
   low = last.low;
@@ -157,5 +157,5 @@ new_style_closes {ps} {x} last = record {
 
 -- ---- brackets
 
-pub bracket_begins : Begins (codes "[") (part.Bracket ∷ [])
+pub bracket_begins : Begins (codes "[") (token.Bracket ∷ [])
 bracket_begins = record { low = refl; is = λ rest. refl }

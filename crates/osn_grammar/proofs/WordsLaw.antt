@@ -6,25 +6,25 @@ use Rattle.std.proofs.lemmas.Bool.{leb-true, lt-leb}
 use Rattle.std.proofs.lemmas.Fmt.{length-decimal-le}
 use Rattle.std.specs.Fmt.{decimal}
 use Rattle.osn_days.specs.declared.weekday.Weekday.{Weekday}
-use Rattle.osn_grammar.specs.declared.part.Part.{Part}
-use Rattle.osn_grammar.specs.declared.part.Part.TheVariants.{Number, Month, Weekday as OnWeekday}
-use Rattle.osn_grammar.specs.declared.part.Part.TheVariants.{Reckoning as By, To, Before, After}
-use Rattle.osn_grammar.specs.declared.part.Part.TheVariants.{Not, Bracket, Doubt, About}
+use Rattle.osn_grammar.specs.declared.token.Token.{Token}
+use Rattle.osn_grammar.specs.declared.token.Token.TheVariants.{Number, Month, Weekday as OnWeekday}
+use Rattle.osn_grammar.specs.declared.token.Token.TheVariants.{Reckoning as By, To, Before, After}
+use Rattle.osn_grammar.specs.declared.token.Token.TheVariants.{Not, Bracket, Doubt, About}
 use Rattle.osn_grammar.specs.declared.written.DateOrder.TheVariants.{Unknown}
 use Rattle.osn_written.specs.declared.any_date.Extent.{Extent}
 use Rattle.osn_written.specs.declared.any_date.Extent.TheVariants as extent
 use Rattle.osn_written.specs.declared.any_date.Reckoning.{Reckoning}
 use Rattle.osn_written.specs.declared.any_date.Reckoning.TheVariants.{OldStyle, NewStyle}
-use Rattle.osn_written.specs.declared.any_date.SimpleDate.{SimpleDate}
-use Rattle.osn_written.specs.declared.any_date.SimpleDate.TheVariants as date
+use Rattle.osn_written.specs.declared.any_date.PartialDate.{PartialDate}
+use Rattle.osn_written.specs.declared.any_date.PartialDate.TheVariants as date
 use Rattle.osn_written.specs.declared.any_date.Year.{Year}
 use Rattle.osn_written.specs.AnyDate.{has_three_digits, has_year_of_three_digits}
 use Rattle.osn_grammar.specs.Simple.{is_between}
-use Rattle.osn_grammar.proofs.FormFacts.{IsDate, IsExtent, year_parts, day_is, month_is}
+use Rattle.osn_grammar.proofs.FormFacts.{IsDate, IsExtent, year_tokens, day_is, month_is}
 use Rattle.osn_grammar.proofs.FormFacts.{year_is, on_is, from_to_is, before_is, after_is}
 use Rattle.osn_grammar.proofs.FormFacts.{not_before_is, not_after_is}
-use Rattle.osn_grammar.proofs.PartFacts.{Say, TextSays, nothing_says, part_adds, weekday_adds}
-use Rattle.osn_grammar.proofs.PartFacts.{reckoning_adds, text_read}
+use Rattle.osn_grammar.proofs.TokenFacts.{Say, TextSays, nothing_says, token_adds, weekday_adds}
+use Rattle.osn_grammar.proofs.TokenFacts.{reckoning_adds, text_read}
 use Rattle.osn_grammar.proofs.TextFacts.{Reads, Closes, blank, doubt, bracket}
 use Rattle.osn_grammar.proofs.TextFacts.{joined_reads, begins_reads, begun_scans}
 use Rattle.osn_grammar.proofs.TextFacts.{closed_scans, mark_closes, nothing_closes}
@@ -44,10 +44,10 @@ use Rattle.osn_grammar.proofs.LawFacts.{numeral, padded_year, words, year_by, ye
 -- ---- dates
 
 -- the text is read as parts that are the date
-record IsDateRead (text : List ℕ) (d : SimpleDate) : Type 0 where
-  parts : List Part
-  reads : Reads text parts
-  is : IsDate parts d
+record IsDateRead (text : List ℕ) (d : PartialDate) : Type 0 where
+  tokens : List Token
+  reads : Reads text tokens
+  is : IsDate tokens d
 
 month_read : (month : ℕ) (y : Year) → is_writable_year y ≡ true → is_between 1 12 month ≡ true
     → IsDateRead (words_of_date (date.Month y month)) (date.Month y month)
@@ -57,7 +57,7 @@ month_read month y ok within =
     let year = year_read y ok in
     let name = month_reads month (leb-true 1 month bounds.0) (leb-true month 12 bounds.1) in
     record {
-      parts = Month month ∷ year_parts year.first year.later;
+      tokens = Month month ∷ year_tokens year.first year.later;
       reads = joined_reads blank name year.reads;
       is = month_is month year.first year.later y year.is (rw (bounds.0, bounds.1) refl);
     }
@@ -74,7 +74,7 @@ day_in_year month day y year within on =
     let two : length (decimal day) ≤ 2 =
     length-decimal-le 2 day (omega arith) (omega (arith, low)) (omega (arith, low)) in
     record {
-      parts = Number number ∷ Month month ∷ year_parts year.first year.later;
+      tokens = Number number ∷ Month month ∷ year_tokens year.first year.later;
       reads = joined_reads blank (decimal_reads day (omega (arith, low)))
           (joined_reads blank name year.reads);
       is = day_is number month year.first year.later y
@@ -82,7 +82,7 @@ day_in_year month day y year within on =
           (rw (bounds.0, bounds.1, days.0, days.1) refl);
     }
 
-date_read : (d : SimpleDate) → is_writable_date d ≡ true → IsDateRead (words_of_date d) d
+date_read : (d : PartialDate) → is_writable_date d ≡ true → IsDateRead (words_of_date d) d
 unfolding words_of_date
 date_read (date.Day y month day) ok =
     let year = both (is_writable_year y) (is_between 1 12 month && is_between 1 31 day) ok in
@@ -94,7 +94,7 @@ date_read (date.Month y month) ok =
 date_read (date.Year y) ok =
     let year = year_read y ok in
     record {
-      parts = year_parts year.first year.later;
+      tokens = year_tokens year.first year.later;
       reads = year.reads;
       is = year_is year.first year.later y year.is;
     }
@@ -103,133 +103,134 @@ date_read (date.Year y) ok =
 
 -- the text is read as parts that are the extent
 record IsExtentRead (text : List ℕ) (e : Extent) : Type 0 where
-  parts : List Part
-  reads : Reads text parts
-  is : IsExtent parts e
+  tokens : List Token
+  reads : Reads text tokens
+  is : IsExtent tokens e
 
 extent_read : (e : Extent) → is_writable_extent e ≡ true → IsExtentRead (words_of_extent e) e
 unfolding words_of_extent
 extent_read (extent.On d) ok =
     let read = date_read d ok in
-    record { parts = read.parts; reads = read.reads; is = on_is read.is }
+    record { tokens = read.tokens; reads = read.reads; is = on_is read.is }
 extent_read (extent.FromTo a b) ok =
     let oks = both (is_writable_date a) (is_writable_date b) ok in
     let first = date_read a oks.0 in
     let last = date_read b oks.1 in
     record {
-      parts = first.parts ++ To ∷ last.parts;
+      tokens = first.tokens ++ To ∷ last.tokens;
       reads = joined_reads blank first.reads (begins_reads to_begins last.reads);
       is = from_to_is first.is last.is;
     }
 extent_read (extent.Before d) ok =
     let read = date_read d ok in
     record {
-      parts = Before ∷ read.parts;
+      tokens = Before ∷ read.tokens;
       reads = begins_reads before_begins read.reads;
       is = before_is read.is;
     }
 extent_read (extent.NotAfter d) ok =
     let read = date_read d ok in
     record {
-      parts = Not ∷ After ∷ read.parts;
+      tokens = Not ∷ After ∷ read.tokens;
       reads = begins_reads not_after_begins read.reads;
       is = not_after_is read.is;
     }
 extent_read (extent.After d) ok =
     let read = date_read d ok in
     record {
-      parts = After ∷ read.parts;
+      tokens = After ∷ read.tokens;
       reads = begins_reads after_begins read.reads;
       is = after_is read.is;
     }
 extent_read (extent.NotBefore d) ok =
     let read = date_read d ok in
     record {
-      parts = Not ∷ Before ∷ read.parts;
+      tokens = Not ∷ Before ∷ read.tokens;
       reads = begins_reads not_before_begins read.reads;
       is = not_before_is read.is;
     }
-extent_read (extent.Part portion d) ok = absurd (cc)
+extent_read (extent.Token portion d) ok = absurd (cc)
 extent_read (extent.Feast feast year) ok = absurd (cc)
 
 -- ---- after the extent
 
 -- the text closes a date and says this
 record IsTail (text : List ℕ) (r : Option Reckoning) (u s : Bool) : Type 0 where
-  parts : List Part
-  closes : Closes text parts
-  says : Say parts [] None r false u s
+  tokens : List Token
+  closes : Closes text tokens
+  says : Say tokens [] None r false u s
 
 bracket_tail : (s : Bool) → IsTail (optional_word s (codes "]")) None false s
-bracket_tail false = record { parts = []; closes = nothing_closes; says = nothing_says }
+bracket_tail false = record { tokens = []; closes = nothing_closes; says = nothing_says }
 bracket_tail true = record {
-  parts = Bracket ∷ [];
+  tokens = Bracket ∷ [];
   closes = mark_closes bracket nothing_closes;
-  says = part_adds Bracket refl nothing_says;
+  says = token_adds Bracket refl nothing_says;
 }
 
 doubt_tail : {x : List ℕ} {s : Bool} (u : Bool) → IsTail x None false s
     → IsTail (optional_word u (codes "?") ++ x) None u s
 doubt_tail false tail = tail
 doubt_tail true tail = record {
-  parts = Doubt ∷ tail.parts;
+  tokens = Doubt ∷ tail.tokens;
   closes = mark_closes doubt tail.closes;
-  says = part_adds Doubt refl tail.says;
+  says = token_adds Doubt refl tail.says;
 }
 
 calendar_tail : {x : List ℕ} {u s : Bool} (r : Option Reckoning) → IsTail x None u s
     → IsTail (calendar_after r ++ x) r u s
 calendar_tail None tail = tail
 calendar_tail (Some OldStyle) tail = record {
-  parts = By OldStyle ∷ tail.parts;
+  tokens = By OldStyle ∷ tail.tokens;
   closes = old_style_closes tail.closes;
   says = reckoning_adds OldStyle tail.says;
 }
 calendar_tail (Some NewStyle) tail = record {
-  parts = By NewStyle ∷ tail.parts;
+  tokens = By NewStyle ∷ tail.tokens;
   closes = new_style_closes tail.closes;
   says = reckoning_adds NewStyle tail.says;
 }
 
 -- ---- the whole
 
-closed_said : {x text : List ℕ} {ps : List Part} {e : Extent} {r : Option Reckoning} {u s : Bool}
+closed_said : {x text : List ℕ} {ps : List Token} {e : Extent} {r : Option Reckoning} {u s : Bool}
     → Reads text ps → IsExtent ps e → IsTail x r u s
     → TextSays (text ++ x) ps None r false u s
 closed_said {ps = ps} {r = r} {u = u} {s = s} reads is tail = record {
-  parts = ps ++ tail.parts;
+  tokens = ps ++ tail.tokens;
   scans = closed_scans reads tail.closes;
-  says = subst (λ timed. Say (ps ++ tail.parts) timed None r false u s) (append-nil ps)
-      (is.adds tail.parts [] None r false u s tail.says);
+  says = subst (λ timed. Say (ps ++ tail.tokens) timed None r false u s) (append-nil ps)
+      (is.adds tail.tokens [] None r false u s tail.says);
 }
 
-named_said : {x : List ℕ} {ps : List Part} {r : Option Reckoning} {u s : Bool} (w : Option Weekday)
+named_said : {x : List ℕ} {ps : List Token} {r : Option Reckoning} {u s : Bool} (w : Option Weekday)
     → TextSays x ps None r false u s → TextSays (weekday_before w ++ x) ps w r false u s
 unfolding weekday_before
 named_said None rest = rest
 named_said (Some w) rest = record {
-  parts = OnWeekday w ∷ rest.parts;
+  tokens = OnWeekday w ∷ rest.tokens;
   scans = begun_scans (weekday_begins w) rest.scans;
   says = weekday_adds w rest.says;
 }
 
-about_said : {x : List ℕ} {ps : List Part} {w : Option Weekday} {r : Option Reckoning} {u s : Bool}
+about_said : {x : List ℕ} {ps : List Token} {w : Option Weekday} {r : Option Reckoning} {u s : Bool}
     (a : Bool) → TextSays x ps w r false u s
     → TextSays (optional_word a (codes "about ") ++ x) ps w r a u s
 about_said false rest = rest
 about_said true rest = record {
-  parts = About ∷ rest.parts;
+  tokens = About ∷ rest.tokens;
   scans = begun_scans about_begins rest.scans;
-  says = part_adds About refl rest.says;
+  says = token_adds About refl rest.says;
 }
 
-opened_said : {x : List ℕ} {ps : List Part} {w : Option Weekday} {r : Option Reckoning} {a u : Bool}
+opened_said : {x : List ℕ} {ps : List Token} {w : Option Weekday} {r : Option Reckoning}
+    {a u : Bool}
     (s : Bool) → TextSays x ps w r a u s → TextSays (optional_word s (codes "[") ++ x) ps w r a u s
 opened_said false rest = rest
 opened_said true rest = record {
-  parts = Bracket ∷ rest.parts;
+  tokens = Bracket ∷ rest.tokens;
   scans = begun_scans bracket_begins rest.scans;
-  says = part_adds Bracket refl rest.says;
+  says = token_adds Bracket refl rest.says;
 }
 
 -- none of its years is written with three digits
@@ -237,7 +238,7 @@ year_whole : (y : Year) → is_writable_year y ≡ true → y.has_three_digits �
 year_whole y ok = is_not y.has_three_digits (both (nat_le y.first 10000) (not y.has_three_digits)
     ok).1
 
-date_whole : (d : SimpleDate) → is_writable_date d ≡ true → has_year_of_three_digits d ≡ false
+date_whole : (d : PartialDate) → is_writable_date d ≡ true → has_year_of_three_digits d ≡ false
 date_whole (date.Day y month day) ok =
     year_whole y (both (is_writable_year y) (is_between 1 12 month && is_between 1 31 day) ok).0
 date_whole (date.Month y month) ok =
@@ -253,7 +254,7 @@ extent_whole (extent.Before d) ok = date_whole d ok
 extent_whole (extent.NotAfter d) ok = date_whole d ok
 extent_whole (extent.After d) ok = date_whole d ok
 extent_whole (extent.NotBefore d) ok = date_whole d ok
-extent_whole (extent.Part portion d) ok = absurd (cc)
+extent_whole (extent.Token portion d) ok = absurd (cc)
 extent_whole (extent.Feast feast year) ok = absurd (cc)
 
 pub words_law : AreWordsRead
@@ -289,8 +290,8 @@ day_written named n month day double hundred high within on =
     let text = words day month (padded_year [] n double) in
     let read = day_in_year month day (year_in n double (decimal n)) year within on in
     let is = on_is read.is in
-    let said : TextSays text read.parts None None false false false =
-    subst (λ t. TextSays t read.parts None None false false false) (append-nil text)
+    let said : TextSays text read.tokens None None false false false =
+    subst (λ t. TextSays t read.tokens None None false false false) (append-nil text)
     (closed_said read.reads is (bracket_tail false)) in
     ap day_read (text_read Unknown (extent.On (date.Day (year_in n double (decimal n)) month day))
     (named_said named said) is.dated

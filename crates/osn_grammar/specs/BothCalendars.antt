@@ -8,22 +8,22 @@ use Rattle.std.specs.Ordering.{int_eq}
 use Rattle.std.specs.Result.{result_ok}
 use Rattle.osn_days.specs.declared.calendar.Calendar.TheVariants.{Gregorian, Julian}
 use Rattle.osn_days.specs.declared.date.Date.{Date}
-use Rattle.osn_days.specs.Profile.{Profile}
-use Rattle.osn_lands.specs.Style.{is_before_25_march}
+use Rattle.osn_days.specs.Rules.{Rules}
+use Rattle.osn_territory.specs.Style.{is_before_25_march}
 use Rattle.osn_grammar.specs.declared.both_calendars.TwoDates.{TwoDates}
 use Rattle.osn_grammar.specs.declared.both_calendars.WrittenYears.{WrittenYears}
 use Rattle.osn_grammar.specs.declared.both_calendars.WrittenYears.TheVariants as years
-use Rattle.osn_grammar.specs.declared.part.Numeral.{Numeral}
-use Rattle.osn_grammar.specs.declared.part.Part.{Part}
-use Rattle.osn_grammar.specs.declared.part.Part.TheVariants.{Number, Month, Slash, Round, Weekday}
-use Rattle.osn_grammar.specs.declared.part.Part.TheVariants.{Reckoning as By}
+use Rattle.osn_grammar.specs.declared.token.Numeral.{Numeral}
+use Rattle.osn_grammar.specs.declared.token.Token.{Token}
+use Rattle.osn_grammar.specs.declared.token.Token.TheVariants.{Number, Month, Slash, Round, Weekday}
+use Rattle.osn_grammar.specs.declared.token.Token.TheVariants.{Reckoning as By}
 use Rattle.osn_written.specs.declared.any_date.Reckoning.TheVariants.{OldStyle, NewStyle}
 use Rattle.osn_grammar.specs.declared.simple.YearNumbers.{YearNumbers}
 use Rattle.osn_grammar.specs.Forms.{year_numbers}
 use Rattle.osn_grammar.specs.Simple.{is_long, one, year_of}
 use Rattle.osn_grammar.specs.TwoDays.{dates_in_other, two_days}
-use Rattle.osn_written.specs.declared.any_date.SimpleDate.{SimpleDate}
-use Rattle.osn_written.specs.declared.any_date.SimpleDate.TheVariants as date
+use Rattle.osn_written.specs.declared.any_date.PartialDate.{PartialDate}
+use Rattle.osn_written.specs.declared.any_date.PartialDate.TheVariants as date
 use Rattle.osn_written.specs.declared.any_date.Year.{Year}
 use Rattle.osn_written.specs.declared.written_date.MonthDay.{MonthDay}
 use Rattle.osn_written.specs.declared.written_date.DateFault.{DateFault}
@@ -38,7 +38,7 @@ month_day m d =
     else Some (record { month = m; day = d.value })
 
 -- a day and its month: 3 June
-abbrev pub day_and_month : Part → Part → Option MonthDay
+abbrev pub day_and_month : Token → Token → Option MonthDay
 day_and_month (Number d) (Month m) = month_day m d
 day_and_month day month = None
 
@@ -54,33 +54,33 @@ abbrev pub shared_by : Option YearNumbers → Option WrittenYears
 shared_by None = None
 shared_by (Some written) = Some (years.Shared written)
 
-abbrev pub shared_by_both : List Part → Option WrittenYears
-shared_by_both parts = shared_by (year_numbers parts)
+abbrev pub shared_by_both : List Token → Option WrittenYears
+shared_by_both tokens = shared_by (year_numbers tokens)
 
 -- 3/13 June 1675
-abbrev pub before_their_month : List Part → Option TwoDates
+abbrev pub before_their_month : List Token → Option TwoDates
 before_their_month (old ∷ Slash ∷ new ∷ month ∷ year) =
     two_dates (day_and_month old month) (day_and_month new month) (shared_by_both year)
 before_their_month _ = None
 
 -- June 3/13, 1675
-abbrev pub after_their_month : List Part → Option TwoDates
+abbrev pub after_their_month : List Token → Option TwoDates
 after_their_month (month ∷ old ∷ Slash ∷ new ∷ year) =
     two_dates (day_and_month old month) (day_and_month new month) (shared_by_both year)
 after_their_month _ = None
 
 -- 28 May/7 June 1675
-abbrev pub with_months : List Part → Option TwoDates
+abbrev pub with_months : List Token → Option TwoDates
 with_months (old ∷ month ∷ Slash ∷ new ∷ other ∷ year) =
     two_dates (day_and_month old month) (day_and_month new other) (shared_by_both year)
 with_months _ = None
 
 -- 27 Dec. 1675/6 Jan. 1676
-abbrev pub year_of_each : Part → Part → Option WrittenYears
+abbrev pub year_of_each : Token → Token → Option WrittenYears
 year_of_each (Number first) (Number last) = Some (years.Each first last)
 year_of_each first last = None
 
-abbrev pub with_years : List Part → Option TwoDates
+abbrev pub with_years : List Token → Option TwoDates
 with_years (old ∷ month ∷ first ∷ Slash ∷ new ∷ other ∷ last ∷ []) =
     two_dates (day_and_month old month) (day_and_month new other) (year_of_each first last)
 with_years _ = None
@@ -89,33 +89,33 @@ abbrev pub or_dates : Option TwoDates → Option TwoDates → Option TwoDates
 or_dates (Some dates) other = Some dates
 or_dates None other = other
 
-abbrev pub slashed_dates : List Part → Option TwoDates
-slashed_dates parts =
-    or_dates (or_dates (before_their_month parts) (after_their_month parts))
-    (or_dates (with_months parts) (with_years parts))
+abbrev pub slashed_dates : List Token → Option TwoDates
+slashed_dates tokens =
+    or_dates (or_dates (before_their_month tokens) (after_their_month tokens))
+    (or_dates (with_months tokens) (with_years tokens))
 
 -- 3 (13) June 1675, June 3 (13), 1675: a number is before the one in round brackets, after a weekday
 -- or the month or after nothing
-abbrev pub begin_round : List Part → Bool
+abbrev pub begin_round : List Token → Bool
 begin_round (Number a ∷ Round ∷ rest) = true
 begin_round (Month m ∷ Number a ∷ Round ∷ rest) = true
 begin_round (Weekday w ∷ Number a ∷ Round ∷ rest) = true
 begin_round _ = false
 
-abbrev pub beside : List Part → Option TwoDates
+abbrev pub beside : List Token → Option TwoDates
 beside (Month m ∷ old ∷ new ∷ year) =
     two_dates (day_and_month old (Month m)) (day_and_month new (Month m)) (shared_by_both year)
 beside (old ∷ new ∷ month ∷ year) =
     two_dates (day_and_month old month) (day_and_month new month) (shared_by_both year)
 beside _ = None
 
-abbrev pub if_round : List Part → Option TwoDates → Option TwoDates
-if_round parts None = None
-if_round parts (Some dates) = if begin_round parts then Some dates else None
+abbrev pub if_round : List Token → Option TwoDates → Option TwoDates
+if_round tokens None = None
+if_round tokens (Some dates) = if begin_round tokens then Some dates else None
 
 -- all parts, and those that say which day is meant
-abbrev pub dates_in : List Part → List Part → Option TwoDates
-dates_in parts timed = or_dates (slashed_dates timed) (if_round parts (beside timed))
+abbrev pub dates_in : List Token → List Token → Option TwoDates
+dates_in tokens timed = or_dates (slashed_dates timed) (if_round tokens (beside timed))
 
 -- ---- the Gregorian year
 
@@ -150,7 +150,7 @@ gregorian_year dates = year_by (is_early dates.old || is_early dates.new) dates.
 -- ---- one day
 
 -- the Julian date of the day of the line that has a Gregorian one
-abbrev pub julian_dates : Profile → ℕ → MonthDay → List Date
+abbrev pub julian_dates : Rules → ℕ → MonthDay → List Date
 julian_dates p y d = dates_in_other p Gregorian Julian (pos y) d
 
 -- a year that is written for a Julian date is its year, or the one before if it is from 1 January
@@ -167,49 +167,49 @@ is_old dates d =
     && (d.day == dates.old.day && has_year d dates.old dates.years)
 
 -- the day that has the second date in the Gregorian calendar has the first one in the Julian
-abbrev pub are_one_day : Profile → Year → TwoDates → Bool
+abbrev pub are_one_day : Rules → Year → TwoDates → Bool
 are_one_day p y dates = list_any (is_old dates) (julian_dates p y.first dates.new)
 
-abbrev pub day_in_year : Profile → TwoDates → Option Year → Result SimpleDate DateFault
+abbrev pub day_in_year : Rules → TwoDates → Option Year → Result PartialDate DateFault
 day_in_year p dates None = Err faults.BothCalendars
 day_in_year p dates (Some y) =
     if are_one_day p y dates then Ok (date.Day y dates.new.month dates.new.day)
     else Err (two_days p y.first dates.old dates.new)
 
-abbrev pub day_of_both : Profile → TwoDates → Result SimpleDate DateFault
+abbrev pub day_of_both : Rules → TwoDates → Result PartialDate DateFault
 day_of_both p dates = day_in_year p dates (gregorian_year dates)
 
 -- the Gregorian date of the day that parts are by both calendars, if it is sure
-abbrev pub day_if_two : Profile → Option TwoDates → Result SimpleDate DateFault
+abbrev pub day_if_two : Rules → Option TwoDates → Result PartialDate DateFault
 day_if_two p None = Err faults.Malformed
 day_if_two p (Some dates) = day_of_both p dates
 
-abbrev pub day_by_both : Profile → List Part → List Part → Result SimpleDate DateFault
-day_by_both p parts timed = day_if_two p (dates_in parts timed)
+abbrev pub day_by_both : Rules → List Token → List Token → Result PartialDate DateFault
+day_by_both p tokens timed = day_if_two p (dates_in tokens timed)
 
 -- ---- with the names of both calendars
 
 -- 3 June O.S./13 June N.S. 1675, 3 June 1675 O.S./13 June 1675 N.S., with a double year too
-abbrev pub are_new_and_year : List Part → Bool
+abbrev pub are_new_and_year : List Token → Bool
 are_new_and_year (By NewStyle ∷ year) = is_some (year_numbers year)
 are_new_and_year (Number y ∷ By NewStyle ∷ []) = true
 are_new_and_year (Number y ∷ Slash ∷ Number l ∷ By NewStyle ∷ []) = true
 are_new_and_year _ = false
 
-abbrev pub is_new_last : List Part → Bool
+abbrev pub is_new_last : List Token → Bool
 is_new_last (Number b ∷ Month n ∷ rest) = are_new_and_year rest
 is_new_last _ = false
 
-abbrev pub is_old_first : List Part → Bool
+abbrev pub is_old_first : List Token → Bool
 is_old_first (By OldStyle ∷ Slash ∷ last) = is_new_last last
 is_old_first (Number y ∷ By OldStyle ∷ Slash ∷ last) = is_new_last last
 is_old_first _ = false
 
-abbrev pub are_named : List Part → Bool
+abbrev pub are_named : List Token → Bool
 are_named (Number a ∷ Month m ∷ rest) = is_old_first rest
 are_named (Weekday w ∷ Number a ∷ Month m ∷ rest) = is_old_first rest
 are_named _ = false
 
-abbrev pub named_day : Profile → List Part → List Part → Result SimpleDate DateFault
-named_day p parts timed =
-    if are_named parts then day_by_both p parts timed else Err faults.Malformed
+abbrev pub named_day : Rules → List Token → List Token → Result PartialDate DateFault
+named_day p tokens timed =
+    if are_named tokens then day_by_both p tokens timed else Err faults.Malformed

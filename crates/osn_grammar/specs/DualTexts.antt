@@ -5,14 +5,14 @@ use Rattle.std.specs.List.{Contains}
 use Rattle.osn_days.specs.declared.weekday.Weekday.{Weekday}
 use Rattle.osn_days.specs.Chain.{date_of}
 use Rattle.osn_days.specs.Line.{IsDay, weekday}
-use Rattle.osn_days.specs.Profile.{Profile}
+use Rattle.osn_days.specs.Rules.{Rules}
 use Rattle.osn_days.specs.Weekday.{weekday_name, weekday_numbered}
-use Rattle.osn_lands.specs.declared.label.Label.{Label}
-use Rattle.osn_lands.specs.declared.regime.Regime.{Regime}
-use Rattle.osn_lands.specs.Dated.{dated_on}
-use Rattle.osn_lands.specs.Dual.{dual_text}
-use Rattle.osn_lands.specs.Label.{local_label}
-use Rattle.osn_lands.specs.Territory.{TerritoryModel, regime_at}
+use Rattle.osn_territory.specs.declared.label.Label.{Label}
+use Rattle.osn_territory.specs.declared.regime.Regime.{Regime}
+use Rattle.osn_territory.specs.Dated.{dated_on}
+use Rattle.osn_territory.specs.Dual.{dual_text}
+use Rattle.osn_territory.specs.Label.{local_label}
+use Rattle.osn_territory.specs.Territory.{TerritoryModel, regime_at}
 use Rattle.osn_written.specs.declared.written_date.WrittenDate.{WrittenDate}
 use Rattle.osn_grammar.specs.ReadDate.{written_date}
 use Rattle.osn_written.specs.Meaning.{label_of, meaning}
@@ -30,7 +30,7 @@ pub record IsWritten (dated : Label) (january_year : ℤ) (named : Option Weekda
 
 -- so is the dual text of each day of the line, under each regime, from the year 100 on: a shorter
 -- year must have its zeros to be read
-unfoldable pub AreDualTextsWritten : Profile → Type 0
+unfoldable pub AreDualTextsWritten : Rules → Type 0
 AreDualTextsWritten p =
     (r : Regime) (d : ℕ) → IsDay p d → pos 100 ≤ℤ (local_label p r d).year
     → IsWritten (local_label p r d) (date_of r.calendar d).year None (dual_text p r d)
@@ -40,21 +40,21 @@ abbrev pub weekday_of : ℕ → Weekday
 weekday_of d = weekday_numbered (weekday d)
 
 -- so is the dual text with the name of the day's weekday before it
-unfoldable pub AreNamedDaysWritten : Profile → Type 0
+unfoldable pub AreNamedDaysWritten : Rules → Type 0
 AreNamedDaysWritten p =
     (r : Regime) (d : ℕ) → IsDay p d → pos 100 ≤ℤ (local_label p r d).year
     → IsWritten (local_label p r d) (date_of r.calendar d).year (Some (weekday_of d))
     (weekday_name (weekday_of d) ++ (codes " " ++ dual_text p r d))
 
 -- in the territory the text is a date that means the day, with any weekday given beside it, or none
-abbrev pub Means : Profile → TerritoryModel → ℕ → List ℕ → Type 0
+abbrev pub Means : Rules → TerritoryModel → ℕ → List ℕ → Type 0
 Means p t d text =
     (w : WrittenDate) (given : Option Weekday) → written_date text ≡ Ok w
     → Contains (meaning p t w given) (dated_on p t d)
 
 -- so does the dual text of each day in the territory from the year 100 on, with the name of its
 -- weekday before it or without
-unfoldable pub AreDualTextsMeant : Profile → TerritoryModel → Type 0
+unfoldable pub AreDualTextsMeant : Rules → TerritoryModel → Type 0
 AreDualTextsMeant p t =
     (d : ℕ) → IsDay p d → pos 100 ≤ℤ (local_label p (regime_at t d) d).year
     → Means p t d (dual_text p (regime_at t d) d)

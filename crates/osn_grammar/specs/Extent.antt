@@ -6,21 +6,21 @@ use Rattle.osn_grammar.specs.declared.extent.Beginning.{Beginning}
 use Rattle.osn_grammar.specs.declared.extent.Beginning.TheVariants as begins
 use Rattle.osn_grammar.specs.declared.extent.Joining.{Joining}
 use Rattle.osn_grammar.specs.declared.extent.Joining.TheVariants as joins
-use Rattle.osn_grammar.specs.declared.part.Numeral.{Numeral}
-use Rattle.osn_grammar.specs.declared.part.Part.{Part}
-use Rattle.osn_grammar.specs.declared.part.Part.TheVariants.{Number, Month, Dash, Slash}
-use Rattle.osn_grammar.specs.declared.part.Part.TheVariants.{Dot, Open, To}
-use Rattle.osn_grammar.specs.declared.part.Part.TheVariants.{Or, And, Between, From, Before, After}
-use Rattle.osn_grammar.specs.declared.part.Part.TheVariants.{Not, By}
+use Rattle.osn_grammar.specs.declared.token.Numeral.{Numeral}
+use Rattle.osn_grammar.specs.declared.token.Token.{Token}
+use Rattle.osn_grammar.specs.declared.token.Token.TheVariants.{Number, Month, Dash, Slash}
+use Rattle.osn_grammar.specs.declared.token.Token.TheVariants.{Dot, Open, To}
+use Rattle.osn_grammar.specs.declared.token.Token.TheVariants.{Or, And, Between, From, Before}
+use Rattle.osn_grammar.specs.declared.token.Token.TheVariants.{After, Not, By}
 use Rattle.osn_written.specs.declared.written_date.DateFault.{DateFault}
 use Rattle.osn_written.specs.declared.written_date.DateFault.TheVariants as faults
 use Rattle.osn_grammar.specs.declared.written.DateOrder.{DateOrder}
 use Rattle.osn_written.specs.declared.any_date.Extent.{Extent}
 use Rattle.osn_written.specs.declared.any_date.Extent.TheVariants as extent
-use Rattle.osn_written.specs.declared.any_date.SimpleDate.{SimpleDate}
-use Rattle.osn_written.specs.declared.any_date.SimpleDate.TheVariants as date
+use Rattle.osn_written.specs.declared.any_date.PartialDate.{PartialDate}
+use Rattle.osn_written.specs.declared.any_date.PartialDate.TheVariants as date
 use Rattle.osn_written.specs.AnyDate.{has_three_digits}
-use Rattle.osn_grammar.specs.Forms.{date_in_digits, simple_date}
+use Rattle.osn_grammar.specs.Forms.{date_in_digits, partial_date}
 use Rattle.osn_grammar.specs.Simple.{◌>>=◌, is_long, month_in, day_in}
 
 -- ---- ranges
@@ -33,7 +33,7 @@ lone_day d = if is_long d then begins.Whole else begins.Day d.value
 abbrev pub day_of_month : ℕ → Numeral → Beginning
 day_of_month m d = if is_long d then begins.Whole else begins.DayOfMonth m d.value
 
-abbrev pub beginning_of : List Part → Beginning
+abbrev pub beginning_of : List Token → Beginning
 beginning_of (Number d ∷ []) = lone_day d
 beginning_of (Number d ∷ Month m ∷ []) = day_of_month m d
 beginning_of (Month m ∷ Number d ∷ []) = day_of_month m d
@@ -44,47 +44,47 @@ beginning_of _ = begins.Whole
 
 -- the first date of a range gets from the last one what it lacks. A day before a day gets its month
 -- and year, a day of a month its year, and a month before a month its year
-abbrev pub first_date : Result SimpleDate DateFault → Beginning → SimpleDate
-    → Result SimpleDate DateFault
+abbrev pub first_date : Result PartialDate DateFault → Beginning → PartialDate
+    → Result PartialDate DateFault
 first_date whole (begins.Day d) (date.Day year month day) = day_in year month d
 first_date whole (begins.DayOfMonth m d) (date.Day year month day) = day_in year m d
 first_date whole (begins.Month m) (date.Month year month) = month_in year m
 first_date whole beginning last = whole
 
 -- there is no range if the first date has no form, on its own or as a beginning
-abbrev pub has_no_form : Result SimpleDate DateFault → Beginning → Bool
+abbrev pub has_no_form : Result PartialDate DateFault → Beginning → Bool
 has_no_form (Err faults.Malformed) begins.Whole = true
 has_no_form whole beginning = false
 
-abbrev pub range_of : Result SimpleDate DateFault → Beginning → Result SimpleDate DateFault
+abbrev pub range_of : Result PartialDate DateFault → Beginning → Result PartialDate DateFault
     → Result Extent DateFault
 range_of whole beginning last = do
   end ← last
   start ← first_date whole beginning end
   Ok (extent.FromTo start end)
 
-abbrev pub range : DateOrder → List Part → List Part → Result Extent DateFault
+abbrev pub range : DateOrder → List Token → List Token → Result Extent DateFault
 range o first last =
-    if has_no_form (simple_date o first) (beginning_of first) then Err faults.Malformed
-    else range_of (simple_date o first) (beginning_of first) (simple_date o last)
+    if has_no_form (partial_date o first) (beginning_of first) then Err faults.Malformed
+    else range_of (partial_date o first) (beginning_of first) (partial_date o last)
 
-abbrev pub is_open : List Part → Bool
+abbrev pub is_open : List Token → Bool
 is_open (Open ∷ []) = true
 is_open _ = false
 
 -- with a `/` the dates are in digits, and two full stops are an open end: 1640-05/1640-07, ../1640,
 -- 1640/..
-abbrev pub not_after : DateOrder → List Part → Result Extent DateFault
+abbrev pub not_after : DateOrder → List Token → Result Extent DateFault
 not_after o last = do
-  end ← simple_date o last
+  end ← partial_date o last
   Ok (extent.NotAfter end)
 
-abbrev pub not_before : DateOrder → List Part → Result Extent DateFault
+abbrev pub not_before : DateOrder → List Token → Result Extent DateFault
 not_before o first = do
-  start ← simple_date o first
+  start ← partial_date o first
   Ok (extent.NotBefore start)
 
-abbrev pub range_in_digits : List Part → List Part → Result Extent DateFault
+abbrev pub range_in_digits : List Token → List Token → Result Extent DateFault
 range_in_digits first last = do
   start ← date_in_digits first
   end ← date_in_digits last
@@ -92,24 +92,24 @@ range_in_digits first last = do
 
 -- a date in digits may have nothing on the other side: /1640, 1640/. A year of three digits may lack
 -- its last one there
-abbrev pub is_nothing : List Part → Bool
+abbrev pub is_nothing : List Token → Bool
 is_nothing [] = true
-is_nothing (part ∷ rest) = false
+is_nothing (token ∷ rest) = false
 
 abbrev pub unless_short : Extent → Result Extent DateFault
 unless_short e = if has_three_digits e then Err faults.OpenYear else Ok e
 
-abbrev pub nothing_before : List Part → Result Extent DateFault
+abbrev pub nothing_before : List Token → Result Extent DateFault
 nothing_before last = do
   end ← date_in_digits last
   unless_short (extent.NotAfter end)
 
-abbrev pub nothing_after : List Part → Result Extent DateFault
+abbrev pub nothing_after : List Token → Result Extent DateFault
 nothing_after first = do
   start ← date_in_digits first
   unless_short (extent.NotBefore start)
 
-abbrev pub slashed_range : DateOrder → List Part → List Part → Result Extent DateFault
+abbrev pub slashed_range : DateOrder → List Token → List Token → Result Extent DateFault
 slashed_range o first last =
     if is_open first then not_after o last
     else (if is_open last then not_before o first
@@ -119,23 +119,23 @@ slashed_range o first last =
 
 -- after a year, a dash and a number of one or two digits are part of that date, as in
 -- 1698-07-25 - 1699 and 1640-05/1641
-abbrev pub begins_short : List Part → Bool
+abbrev pub begins_short : List Token → Bool
 begins_short (Number m ∷ Dash ∷ rest) = not (is_long m)
 begins_short (Number m ∷ Slash ∷ Number y ∷ []) = not (is_long m)
 begins_short last = false
 
-abbrev pub is_whole_year : List Part → Bool
+abbrev pub is_whole_year : List Token → Bool
 is_whole_year (Number y ∷ []) = is_long y
 is_whole_year (Number y ∷ Slash ∷ Number l ∷ []) = is_long y
 is_whole_year first = false
 
-abbrev pub dashed_range : DateOrder → List Part → List Part → Result Extent DateFault
+abbrev pub dashed_range : DateOrder → List Token → List Token → Result Extent DateFault
 dashed_range o first last =
     if is_whole_year first && begins_short last then Err faults.Malformed else range o first last
 
 -- what joins two dates: `to`, `or`, a dash and a `/`, after `from` only `to` or a dash, and after
 -- `between` only `and`
-abbrev pub joined : DateOrder → Joining → List Part → Part → List Part → Result Extent DateFault
+abbrev pub joined : DateOrder → Joining → List Token → Token → List Token → Result Extent DateFault
 joined o joins.Any first Slash last = slashed_range o first last
 joined o joins.Any first To last = range o first last
 joined o joins.Any first Or last = range o first last
@@ -143,7 +143,7 @@ joined o joins.Any first Dash last = dashed_range o first last
 joined o joins.To first To last = range o first last
 joined o joins.To first Dash last = dashed_range o first last
 joined o joins.And first And last = range o first last
-joined o joining first part last = Err faults.Malformed
+joined o joining first token last = Err faults.Malformed
 
 -- the first of two readings that succeeds, or else the first fault other than Malformed
 abbrev pub first_read : Result Extent DateFault → Result Extent DateFault
@@ -154,11 +154,11 @@ first_read (Err faults.Malformed) (Err f) = Err f
 first_read (Err f) (Err g) = Err f
 
 -- the range that parts are after some others, at the first part that joins two dates
-abbrev pub range_after : DateOrder → Joining → List Part → List Part → Result Extent DateFault
+abbrev pub range_after : DateOrder → Joining → List Token → List Token → Result Extent DateFault
 range_after o joining before [] = Err faults.Malformed
-range_after o joining before (part ∷ rest) =
-    first_read (joined o joining before part rest)
-    (range_after o joining (before ++ part ∷ []) rest)
+range_after o joining before (token ∷ rest) =
+    first_read (joined o joining before token rest)
+    (range_after o joining (before ++ token ∷ []) rest)
 
 -- ---- one date, a range or a bound
 
@@ -167,31 +167,31 @@ abbrev pub or_fault : DateFault → Result Extent DateFault → Result Extent Da
 or_fault fault (Ok e) = Ok e
 or_fault fault (Err other) = Err fault
 
-abbrev pub range_unless : DateOrder → List Part → Result SimpleDate DateFault
+abbrev pub range_unless : DateOrder → List Token → Result PartialDate DateFault
     → Result Extent DateFault
-range_unless o parts (Ok d) = Ok (extent.On d)
-range_unless o parts (Err faults.Malformed) = range_after o joins.Any [] parts
-range_unless o parts (Err faults.LaterYear) =
-    or_fault faults.LaterYear (range_after o joins.Any [] parts)
-range_unless o parts (Err f) = Err f
+range_unless o tokens (Ok d) = Ok (extent.On d)
+range_unless o tokens (Err faults.Malformed) = range_after o joins.Any [] tokens
+range_unless o tokens (Err faults.LaterYear) =
+    or_fault faults.LaterYear (range_after o joins.Any [] tokens)
+range_unless o tokens (Err f) = Err f
 
 -- a text that is not one date may be a range, and so may 1640/1645, which is not a double year
-unfoldable pub date_or_range : DateOrder → List Part → Result Extent DateFault
-date_or_range o parts = range_unless o parts (simple_date o parts)
+unfoldable pub date_or_range : DateOrder → List Token → Result Extent DateFault
+date_or_range o tokens = range_unless o tokens (partial_date o tokens)
 
-abbrev pub extent_of : DateOrder → List Part → Result Extent DateFault
-extent_of o (Before ∷ parts) = do
-  d ← simple_date o parts
+abbrev pub extent_of : DateOrder → List Token → Result Extent DateFault
+extent_of o (Before ∷ tokens) = do
+  d ← partial_date o tokens
   Ok (extent.Before d)
-extent_of o (After ∷ parts) = do
-  d ← simple_date o parts
+extent_of o (After ∷ tokens) = do
+  d ← partial_date o tokens
   Ok (extent.After d)
-extent_of o (Not ∷ Before ∷ parts) = not_before o parts
-extent_of o (Not ∷ After ∷ parts) = not_after o parts
-extent_of o (Or ∷ Before ∷ parts) = not_after o parts
-extent_of o (Or ∷ After ∷ parts) = not_before o parts
-extent_of o (By ∷ parts) = not_after o parts
-extent_of o (To ∷ parts) = not_after o parts
-extent_of o (Between ∷ parts) = range_after o joins.And [] parts
-extent_of o (From ∷ parts) = range_after o joins.To [] parts
-extent_of o parts = date_or_range o parts
+extent_of o (Not ∷ Before ∷ tokens) = not_before o tokens
+extent_of o (Not ∷ After ∷ tokens) = not_after o tokens
+extent_of o (Or ∷ Before ∷ tokens) = not_after o tokens
+extent_of o (Or ∷ After ∷ tokens) = not_before o tokens
+extent_of o (By ∷ tokens) = not_after o tokens
+extent_of o (To ∷ tokens) = not_after o tokens
+extent_of o (Between ∷ tokens) = range_after o joins.And [] tokens
+extent_of o (From ∷ tokens) = range_after o joins.To [] tokens
+extent_of o tokens = date_or_range o tokens

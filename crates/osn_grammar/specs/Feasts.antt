@@ -9,10 +9,10 @@ use Rattle.osn_written.specs.declared.feast.Feast.{Feast}
 use Rattle.osn_written.specs.declared.feast.Feast.TheVariants as feast
 use Rattle.osn_written.specs.declared.written_date.DateFault.{DateFault}
 use Rattle.osn_written.specs.declared.written_date.DateFault.TheVariants as faults
-use Rattle.osn_grammar.specs.declared.part.FeastWord.{FeastWord}
-use Rattle.osn_grammar.specs.declared.part.FeastWord.TheVariants as word
-use Rattle.osn_grammar.specs.declared.part.Part.{Part}
-use Rattle.osn_grammar.specs.declared.part.Part.TheVariants as part
+use Rattle.osn_grammar.specs.declared.token.FeastWord.{FeastWord}
+use Rattle.osn_grammar.specs.declared.token.FeastWord.TheVariants as word
+use Rattle.osn_grammar.specs.declared.token.Token.{Token}
+use Rattle.osn_grammar.specs.declared.token.Token.TheVariants as token
 use Rattle.osn_grammar.specs.declared.simple.YearNumbers.{YearNumbers}
 use Rattle.osn_grammar.specs.Forms.{year_numbers}
 use Rattle.osn_grammar.specs.Simple.{◌>>=◌, one, year_of}
@@ -95,22 +95,22 @@ in_year (Some f) (Some years) = do
   Ok (extent.Feast f year)
 
 -- what is after the first word of a feast's name: a second word and a year, or a year
-abbrev pub after_two : FeastWord → Option Weekday → List Part → Result Extent DateFault
-after_two first weekday (part.Feast second ∷ year) =
+abbrev pub after_two : FeastWord → Option Weekday → List Token → Result Extent DateFault
+after_two first weekday (token.Feast second ∷ year) =
     in_year (feast_of_two first second weekday) (year_numbers year)
 after_two first weekday _ = Err faults.Feast
 
-abbrev pub year_or_two : FeastWord → Option Weekday → List Part → Option YearNumbers
+abbrev pub year_or_two : FeastWord → Option Weekday → List Token → Option YearNumbers
     → Result Extent DateFault
 year_or_two first weekday rest (Some years) = in_year (feast_by first weekday) (Some years)
 year_or_two first weekday rest None = after_two first weekday rest
 
-abbrev pub after_word : FeastWord → Option Weekday → List Part → Result Extent DateFault
+abbrev pub after_word : FeastWord → Option Weekday → List Token → Result Extent DateFault
 after_word first weekday rest = year_or_two first weekday rest (year_numbers rest)
 
 -- the year may be first: 1641 Easter
-abbrev pub feast_in : Option Weekday → List Part → Result Extent DateFault
-feast_in weekday (part.Feast first ∷ rest) = after_word first weekday rest
-feast_in weekday (part.Number y ∷ part.Feast first ∷ []) =
+abbrev pub feast_in : Option Weekday → List Token → Result Extent DateFault
+feast_in weekday (token.Feast first ∷ rest) = after_word first weekday rest
+feast_in weekday (token.Number y ∷ token.Feast first ∷ []) =
     in_year (feast_by first weekday) (Some (one y))
 feast_in weekday _ = Err faults.Feast

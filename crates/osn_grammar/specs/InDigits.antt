@@ -7,8 +7,8 @@ use Rattle.osn_days.specs.DateText.{text_of_date}
 use Rattle.osn_grammar.specs.declared.written.DateOrder.{DateOrder}
 use Rattle.osn_written.specs.declared.any_date.Extent.{Extent}
 use Rattle.osn_written.specs.declared.any_date.Extent.TheVariants as extent
-use Rattle.osn_written.specs.declared.any_date.SimpleDate.{SimpleDate}
-use Rattle.osn_written.specs.declared.any_date.SimpleDate.TheVariants as date
+use Rattle.osn_written.specs.declared.any_date.PartialDate.{PartialDate}
+use Rattle.osn_written.specs.declared.any_date.PartialDate.TheVariants as date
 use Rattle.osn_grammar.specs.declared.written.Written.{Written}
 use Rattle.osn_grammar.specs.declared.written.Written.TheVariants as say
 use Rattle.osn_grammar.specs.Reading.{read_date}
@@ -34,7 +34,7 @@ abbrev pub signed : Date → Bool → Bool → List ℕ
 signed d approximate uncertain = text_of_date d ++ sign approximate uncertain
 
 -- the day of the date
-abbrev pub day_of_date : Date → SimpleDate
+abbrev pub day_of_date : Date → PartialDate
 day_of_date d =
     date.Day (record {
       first = unsigned_abs d.year;

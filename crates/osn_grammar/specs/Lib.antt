@@ -1,6 +1,6 @@
 pub mod Names
 pub mod RomanYear
-pub mod Parts
+pub mod Tokens
 pub mod Scan
 pub mod Simple
 pub mod Forms

@@ -3,22 +3,22 @@
 use Rattle.std.specs.Prelude.{ℕ, Bool, true, false, ◌&&◌, ◌||◌, ◌+◌, ◌-◌, ◌/◌, ◌%◌, ◌==◌, nat_le}
 use Rattle.std.specs.Prelude.{if◌then◌else◌}
 use Rattle.std.specs.Prelude.{List, [], ◌∷◌, Option, Some, None, Result, Ok, Err}
-use Rattle.osn_grammar.specs.declared.part.Fraction.{Fraction}
-use Rattle.osn_grammar.specs.declared.part.Fraction.TheVariants as share
-use Rattle.osn_grammar.specs.declared.part.Nth.{Nth}
-use Rattle.osn_grammar.specs.declared.part.Nth.TheVariants as place
-use Rattle.osn_grammar.specs.declared.part.Numeral.{Numeral}
-use Rattle.osn_grammar.specs.declared.part.Part.{Part}
-use Rattle.osn_grammar.specs.declared.part.Part.TheVariants as part
-use Rattle.osn_grammar.specs.declared.part.Part.TheVariants.{Number, Dash, Season}
-use Rattle.osn_grammar.specs.declared.part.Years.{Years}
+use Rattle.osn_grammar.specs.declared.token.Fraction.{Fraction}
+use Rattle.osn_grammar.specs.declared.token.Fraction.TheVariants as share
+use Rattle.osn_grammar.specs.declared.token.Nth.{Nth}
+use Rattle.osn_grammar.specs.declared.token.Nth.TheVariants as place
+use Rattle.osn_grammar.specs.declared.token.Numeral.{Numeral}
+use Rattle.osn_grammar.specs.declared.token.Token.{Token}
+use Rattle.osn_grammar.specs.declared.token.Token.TheVariants as token
+use Rattle.osn_grammar.specs.declared.token.Token.TheVariants.{Number, Dash, Season}
+use Rattle.osn_grammar.specs.declared.token.Years.{Years}
 use Rattle.osn_grammar.specs.Forms.{month_or_year}
 use Rattle.osn_grammar.specs.Simple.{one, year_of}
 use Rattle.osn_grammar.specs.Years.{by_word, one_in, or_years, range_of}
 use Rattle.osn_written.specs.declared.any_date.Extent.{Extent}
 use Rattle.osn_written.specs.declared.any_date.Extent.TheVariants as extent
-use Rattle.osn_written.specs.declared.any_date.SimpleDate.{SimpleDate}
-use Rattle.osn_written.specs.declared.any_date.SimpleDate.TheVariants as date
+use Rattle.osn_written.specs.declared.any_date.PartialDate.{PartialDate}
+use Rattle.osn_written.specs.declared.any_date.PartialDate.TheVariants as date
 use Rattle.osn_written.specs.declared.any_date.Year.{Year}
 use Rattle.osn_written.specs.declared.portion.Portion.{Portion}
 use Rattle.osn_written.specs.declared.portion.Portion.TheVariants as portion
@@ -54,13 +54,13 @@ part_of_years p years = years_cut p (years.last - years.first) years.first years
 
 -- a part of a month is some of its days by their numbers: 1 to 10, 11 to 20, 21 to the last one, and
 -- 1 to 15, 16 to the last one. The last day of February differs, so it is that of the month
-abbrev pub day_in : Year → ℕ → ℕ → SimpleDate
+abbrev pub day_in : Year → ℕ → ℕ → PartialDate
 day_in year month d = date.Day year month d
 
 abbrev pub has_30_days : ℕ → Bool
 has_30_days month = month == 4 || (month == 6 || (month == 9 || month == 11))
 
-abbrev pub end_of : Year → ℕ → SimpleDate
+abbrev pub end_of : Year → ℕ → PartialDate
 end_of year month =
     if month == 2 then date.Month year month
     else (if has_30_days month then day_in year month 30
@@ -74,25 +74,25 @@ part_of_month portion.FirstHalf y m = extent.FromTo (day_in y m 1) (day_in y m 1
 part_of_month portion.SecondHalf y m = extent.FromTo (day_in y m 16) (end_of y m)
 
 -- a part of a month or a year, and not of a day
-abbrev pub part_of_date : Portion → Result SimpleDate DateFault → Option Extent
+abbrev pub part_of_date : Portion → Result PartialDate DateFault → Option Extent
 part_of_date p (Ok (date.Month year month)) = Some (part_of_month p year month)
-part_of_date p (Ok (date.Year year)) = Some (extent.Part p (date.Year year))
+part_of_date p (Ok (date.Year year)) = Some (extent.Token p (date.Year year))
 part_of_date p _ = None
 
 -- a part of a decade or a century is a range of years
-abbrev pub part_by : Portion → Option Years → Result SimpleDate DateFault → Option Extent
+abbrev pub part_by : Portion → Option Years → Result PartialDate DateFault → Option Extent
 part_by p (Some years) whole = Some (range_of (part_of_years p years))
 part_by p None whole = part_of_date p whole
 
-abbrev pub part_of : Portion → List Part → Option Extent
-part_of p whole =
+abbrev pub token_of : Portion → List Token → Option Extent
+token_of p whole =
     part_by p (or_years (one_in whole) (by_word whole)) (month_or_year whole)
 
 -- early 1675, mid-1675, middle third of 1675
-abbrev pub part_after : Portion → List Part → Option Extent
-part_after p (Dash ∷ whole) = part_of p whole
-part_after p (part.Fraction share.Third ∷ whole) = part_of p whole
-part_after p whole = part_of p whole
+abbrev pub part_after : Portion → List Token → Option Extent
+part_after p (Dash ∷ whole) = token_of p whole
+part_after p (token.Fraction share.Third ∷ whole) = token_of p whole
+part_after p whole = token_of p whole
 
 -- ---- seasons and quarters
 
@@ -103,7 +103,7 @@ three_months (Err fault) first = None
 
 -- a season by its first month: spring is March to May, summer June to August, autumn September to
 -- November. A winter lasts from one year into the next, so it is open which one `winter 1675` is
-abbrev pub season_in : ℕ → List Part → Option Extent
+abbrev pub season_in : ℕ → List Token → Option Extent
 season_in first (Number y ∷ []) =
     if nat_le first 10 then three_months (year_of (one y)) first else None
 season_in first _ = None
@@ -137,24 +137,24 @@ coded y code = coded_by y code (month_by_code code.value)
 abbrev pub nth_of : ℕ → Option Nth
 nth_of n = if n == 1 then Some place.First else (if n == 2 then Some place.Second else None)
 
-abbrev pub nth_part : Option Nth → Fraction → List Part → Option Extent
+abbrev pub nth_part : Option Nth → Fraction → List Token → Option Extent
 nth_part None fraction whole = None
-nth_part (Some nth) fraction whole = part_of (portion_of nth fraction) whole
+nth_part (Some nth) fraction whole = token_of (portion_of nth fraction) whole
 
-abbrev pub after_number : Numeral → List Part → Option Extent
+abbrev pub after_number : Numeral → List Token → Option Extent
 after_number n (Dash ∷ Number code ∷ []) = coded n code
-after_number n (part.Fraction fraction ∷ whole) = nth_part (nth_of n.value) fraction whole
+after_number n (token.Fraction fraction ∷ whole) = nth_part (nth_of n.value) fraction whole
 after_number n _ = None
 
-abbrev pub period_in : List Part → Option Extent
-period_in (part.Portion p ∷ rest) = part_after p rest
-period_in (part.Nth nth ∷ part.Fraction fraction ∷ whole) = nth_part (Some nth) fraction whole
+abbrev pub period_in : List Token → Option Extent
+period_in (token.Portion p ∷ rest) = part_after p rest
+period_in (token.Nth nth ∷ token.Fraction fraction ∷ whole) = nth_part (Some nth) fraction whole
 period_in (Season first ∷ year) = season_in first year
 period_in (Number n ∷ rest) = after_number n rest
 period_in _ = None
 
 -- `early`, `winter`
-abbrev pub is_period : Part → Bool
-is_period (part.Portion p) = true
+abbrev pub is_period : Token → Bool
+is_period (token.Portion p) = true
 is_period (Season first) = true
 is_period _ = false

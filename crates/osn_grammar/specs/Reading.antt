@@ -6,10 +6,10 @@ use Rattle.std.specs.List.{list_any}
 use Rattle.std.specs.Option.{unwrap_or}
 use Rattle.std.specs.Result.{result_ok}
 use Rattle.osn_days.specs.declared.weekday.Weekday.{Weekday}
-use Rattle.osn_days.specs.Profile.{newest_rules}
-use Rattle.osn_grammar.specs.declared.part.FeastWord.TheVariants as word
-use Rattle.osn_grammar.specs.declared.part.Part.{Part}
-use Rattle.osn_grammar.specs.declared.part.Part.TheVariants as part
+use Rattle.osn_days.specs.Rules.{newest_rules}
+use Rattle.osn_grammar.specs.declared.token.FeastWord.TheVariants as word
+use Rattle.osn_grammar.specs.declared.token.Token.{Token}
+use Rattle.osn_grammar.specs.declared.token.Token.TheVariants as token
 use Rattle.osn_written.specs.declared.written_date.DateFault.{DateFault}
 use Rattle.osn_written.specs.declared.written_date.DateFault.TheVariants as faults
 use Rattle.osn_grammar.specs.declared.written.DateOrder.{DateOrder}
@@ -17,17 +17,17 @@ use Rattle.osn_written.specs.declared.any_date.Extent.{Extent}
 use Rattle.osn_written.specs.declared.any_date.Extent.TheVariants as extent
 use Rattle.osn_written.specs.declared.any_date.Reckoning.{Reckoning}
 use Rattle.osn_written.specs.declared.any_date.Reckoning.TheVariants.{NewStyle}
-use Rattle.osn_written.specs.declared.any_date.SimpleDate.{SimpleDate}
-use Rattle.osn_grammar.specs.declared.part.Years.{Years}
-use Rattle.osn_grammar.specs.declared.reading.Told.{Told}
+use Rattle.osn_written.specs.declared.any_date.PartialDate.{PartialDate}
+use Rattle.osn_grammar.specs.declared.token.Years.{Years}
+use Rattle.osn_grammar.specs.declared.reading.ReckonedExtent.{ReckonedExtent}
 use Rattle.osn_grammar.specs.declared.written.Written.{Written}
 use Rattle.osn_grammar.specs.declared.written.Written.TheVariants as say
 use Rattle.osn_written.specs.declared.any_date.AnyDate.{AnyDate}
 use Rattle.osn_grammar.specs.Feasts.{feast_in}
 use Rattle.osn_grammar.specs.Extent.{extent_of}
 use Rattle.osn_written.specs.AnyDate.{has_three_digits}
-use Rattle.osn_grammar.specs.Parts.{tells_time}
-use Rattle.osn_grammar.specs.Scan.{parts_in}
+use Rattle.osn_grammar.specs.Tokens.{is_of_time}
+use Rattle.osn_grammar.specs.Scan.{tokens_in}
 use Rattle.osn_grammar.specs.Sets.{inside_brackets, between_commas, is_sign, days_in_digits}
 use Rattle.osn_grammar.specs.Simple.{◌>>=◌, lacks_digit}
 use Rattle.osn_grammar.specs.BothCalendars.{day_by_both, named_day}
@@ -36,123 +36,123 @@ use Rattle.osn_grammar.specs.Roman.{roman_date}
 use Rattle.osn_grammar.specs.Years.{range_of, years_in, years_of_text}
 
 -- the weekday so far, with that of one more part. No two may be named
-abbrev pub with_weekday : Option Weekday → Part → Result (Option Weekday) DateFault
-with_weekday (Some v) (part.Weekday w) = Err faults.Malformed
-with_weekday None (part.Weekday w) = Ok (Some w)
+abbrev pub with_weekday : Option Weekday → Token → Result (Option Weekday) DateFault
+with_weekday (Some v) (token.Weekday w) = Err faults.Malformed
+with_weekday None (token.Weekday w) = Ok (Some w)
 with_weekday found p = Ok found
 
 -- the weekday of some parts, after the one that was named before them, if any
-abbrev pub weekday_after : Option Weekday → List Part → Result (Option Weekday) DateFault
+abbrev pub weekday_after : Option Weekday → List Token → Result (Option Weekday) DateFault
 weekday_after found [] = Ok found
 weekday_after found (p ∷ rest) = with_weekday found p >>= (λ next. weekday_after next rest)
 
 -- the same of the calendar
-abbrev pub with_reckoning : Option Reckoning → Part → Result (Option Reckoning) DateFault
-with_reckoning (Some v) (part.Reckoning r) = Err faults.Malformed
-with_reckoning None (part.Reckoning r) = Ok (Some r)
+abbrev pub with_reckoning : Option Reckoning → Token → Result (Option Reckoning) DateFault
+with_reckoning (Some v) (token.Reckoning r) = Err faults.Malformed
+with_reckoning None (token.Reckoning r) = Ok (Some r)
 with_reckoning found p = Ok found
 
-abbrev pub reckoning_after : Option Reckoning → List Part → Result (Option Reckoning) DateFault
+abbrev pub reckoning_after : Option Reckoning → List Token → Result (Option Reckoning) DateFault
 reckoning_after found [] = Ok found
 reckoning_after found (p ∷ rest) = with_reckoning found p >>= (λ next. reckoning_after next rest)
 
 -- `about`, `c.`, `~`, `%`, `EST`
-abbrev pub is_about : Part → Bool
-is_about part.About = true
-is_about part.AboutAndDoubt = true
-is_about part.Estimated = true
+abbrev pub is_about : Token → Bool
+is_about token.About = true
+is_about token.AboutAndDoubt = true
+is_about token.Estimated = true
 is_about _ = false
 
 -- `?`, `probably`, `perhaps`, `%`
-abbrev pub is_doubt : Part → Bool
-is_doubt part.Doubt = true
-is_doubt part.AboutAndDoubt = true
+abbrev pub is_doubt : Token → Bool
+is_doubt token.Doubt = true
+is_doubt token.AboutAndDoubt = true
 is_doubt _ = false
 
 -- `[`, `]`
-abbrev pub is_bracket : Part → Bool
-is_bracket part.Bracket = true
+abbrev pub is_bracket : Token → Bool
+is_bracket token.Bracket = true
 is_bracket _ = false
 
 -- a word of a feast's name; `day` is one only after another
-abbrev pub is_feast : Part → Bool
-is_feast (part.Feast word.Day) = false
-is_feast (part.Feast w) = true
+abbrev pub is_feast : Token → Bool
+is_feast (token.Feast word.Day) = false
+is_feast (token.Feast w) = true
 is_feast _ = false
 
-abbrev pub is_roman_numeral : Part → Bool
-is_roman_numeral part.RomanNumeral = true
-is_roman_numeral (part.Roman n) = true
+abbrev pub is_roman_numeral : Token → Bool
+is_roman_numeral token.RomanNumeral = true
+is_roman_numeral (token.Roman n) = true
 is_roman_numeral _ = false
 
-abbrev pub is_open_year : Part → Bool
-is_open_year part.OpenYear = true
-is_open_year (part.Years years) = true
+abbrev pub is_open_year : Token → Bool
+is_open_year token.OpenYear = true
+is_open_year (token.Years years) = true
 is_open_year _ = false
 
 -- ---- other forms
 
-abbrev pub told : Option Reckoning → Extent → Told
-told reckoning e = record { extent = e; reckoning = reckoning; is_part = false }
+abbrev pub reckoned : Option Reckoning → Extent → ReckonedExtent
+reckoned reckoning e = record { extent = e; reckoning = reckoning; is_part = false }
 
 -- a part of a time is approximate
-abbrev pub told_part : Option Reckoning → Extent → Told
+abbrev pub told_part : Option Reckoning → Extent → ReckonedExtent
 told_part reckoning e = record { extent = e; reckoning = reckoning; is_part = true }
 
 -- a day by both calendars is that of the new one. No calendar may be named beside it
-abbrev pub told_by_both : Option Reckoning → DateFault → Result SimpleDate DateFault
-    → Result Told DateFault
-told_by_both None fault (Ok d) = Ok (told (Some NewStyle) (extent.On d))
-told_by_both (Some r) fault (Ok d) = Err faults.NamedCalendar
-told_by_both reckoning fault (Err faults.Malformed) = Err fault
-told_by_both reckoning fault (Err other) = Err other
+abbrev pub extent_by_both : Option Reckoning → DateFault → Result PartialDate DateFault
+    → Result ReckonedExtent DateFault
+extent_by_both None fault (Ok d) = Ok (reckoned (Some NewStyle) (extent.On d))
+extent_by_both (Some r) fault (Ok d) = Err faults.NamedCalendar
+extent_by_both reckoning fault (Err faults.Malformed) = Err fault
+extent_by_both reckoning fault (Err other) = Err other
 
 -- `EST` and `CAL` are other words, except at the beginning of a text and before a number
-abbrev pub begin_estimated : List Part → Bool
-begin_estimated (part.Estimated ∷ rest) = true
+abbrev pub begin_estimated : List Token → Bool
+begin_estimated (token.Estimated ∷ rest) = true
 begin_estimated _ = false
 
-abbrev pub begin_with_number : List Part → Bool
-begin_with_number (part.Number n ∷ rest) = true
+abbrev pub begin_with_number : List Token → Bool
+begin_with_number (token.Number n ∷ rest) = true
 begin_with_number _ = false
 
-abbrev pub after_estimated : DateOrder → List Part → List Part → Result Extent DateFault
-after_estimated o parts (part.Estimated ∷ date) =
-    if begin_estimated parts && begin_with_number date then extent_of o date
+abbrev pub after_estimated : DateOrder → List Token → List Token → Result Extent DateFault
+after_estimated o tokens (token.Estimated ∷ date) =
+    if begin_estimated tokens && begin_with_number date then extent_of o date
     else Err faults.Malformed
-after_estimated o parts _ = Err faults.Malformed
+after_estimated o tokens _ = Err faults.Malformed
 
-abbrev pub told_by : List Part → List Part → Option Reckoning → DateFault
-    → Result Extent DateFault → Option Years → Option Extent → Result SimpleDate DateFault
-    → Result Told DateFault
-told_by parts timed reckoning fault (Ok e) years period roman = Ok (told reckoning e)
-told_by parts timed reckoning fault (Err other) (Some years) period roman =
-    Ok (told reckoning (range_of years))
-told_by parts timed reckoning fault (Err other) None (Some e) roman = Ok (told_part reckoning e)
-told_by parts timed reckoning fault (Err other) None None (Ok d) =
-    Ok (told reckoning (extent.On d))
-told_by parts timed reckoning fault (Err other) None None (Err another) =
-    told_by_both reckoning fault (day_by_both newest_rules parts timed)
+abbrev pub extent_by : List Token → List Token → Option Reckoning → DateFault
+    → Result Extent DateFault → Option Years → Option Extent → Result PartialDate DateFault
+    → Result ReckonedExtent DateFault
+extent_by tokens timed reckoning fault (Ok e) years period roman = Ok (reckoned reckoning e)
+extent_by tokens timed reckoning fault (Err other) (Some years) period roman =
+    Ok (reckoned reckoning (range_of years))
+extent_by tokens timed reckoning fault (Err other) None (Some e) roman = Ok (told_part reckoning e)
+extent_by tokens timed reckoning fault (Err other) None None (Ok d) =
+    Ok (reckoned reckoning (extent.On d))
+extent_by tokens timed reckoning fault (Err other) None None (Err another) =
+    extent_by_both reckoning fault (day_by_both newest_rules tokens timed)
 
 -- what has none of the usual forms may be an estimated date, a decade, a century, a part of a time,
 -- a day with a Roman numeral or a day by both calendars
-abbrev pub told_otherwise : DateOrder → List Part → List Part → Option Reckoning → DateFault
-    → Result Told DateFault
-told_otherwise o parts timed reckoning fault =
-    told_by parts timed reckoning fault (after_estimated o parts timed) (years_in timed)
+abbrev pub extent_otherwise : DateOrder → List Token → List Token → Option Reckoning → DateFault
+    → Result ReckonedExtent DateFault
+extent_otherwise o tokens timed reckoning fault =
+    extent_by tokens timed reckoning fault (after_estimated o tokens timed) (years_in timed)
     (period_in timed) (roman_date timed)
 
-abbrev pub or_other : DateOrder → List Part → List Part → Option Reckoning
-    → Result Extent DateFault → Result Told DateFault
-or_other o parts timed reckoning (Ok e) = Ok (told reckoning e)
-or_other o parts timed reckoning (Err fault) = told_otherwise o parts timed reckoning fault
+abbrev pub or_other : DateOrder → List Token → List Token → Option Reckoning
+    → Result Extent DateFault → Result ReckonedExtent DateFault
+or_other o tokens timed reckoning (Ok e) = Ok (reckoned reckoning e)
+or_other o tokens timed reckoning (Err fault) = extent_otherwise o tokens timed reckoning fault
 
 -- no two calendars may be named, unless they are beside the two dates of a day
-abbrev pub told_in : DateOrder → List Part → List Part → Result (Option Reckoning) DateFault
-    → Result Told DateFault
-told_in o parts timed (Ok reckoning) = or_other o parts timed reckoning (extent_of o timed)
-told_in o parts timed (Err fault) =
-    told_by_both None fault (named_day newest_rules parts timed)
+abbrev pub extent_in : DateOrder → List Token → List Token → Result (Option Reckoning) DateFault
+    → Result ReckonedExtent DateFault
+extent_in o tokens timed (Ok reckoning) = or_other o tokens timed reckoning (extent_of o timed)
+extent_in o tokens timed (Err fault) =
+    extent_by_both None fault (named_day newest_rules tokens timed)
 
 -- a year of three digits may lack its last one, if it is in doubt or in brackets
 abbrev pub unless_open : AnyDate → Result AnyDate DateFault
@@ -161,71 +161,71 @@ unless_open w =
     else Ok w
 
 -- a date, by all parts and by those that say which day is meant
-abbrev pub date_of : DateOrder → List Part → List Part → Result AnyDate DateFault
-date_of o parts timed = do
-  weekday ← weekday_after None parts
-  time ← told_in o parts timed (reckoning_after None parts)
+abbrev pub date_of : DateOrder → List Token → List Token → Result AnyDate DateFault
+date_of o tokens timed = do
+  weekday ← weekday_after None tokens
+  time ← extent_in o tokens timed (reckoning_after None tokens)
   unless_open (record {
     extent = time.extent;
     weekday = weekday;
     reckoning = time.reckoning;
-    is_approximate = time.is_part || list_any is_about parts;
-    is_uncertain = list_any is_doubt parts;
-    is_supplied = list_any is_bracket parts;
+    is_approximate = time.is_part || list_any is_about tokens;
+    is_uncertain = list_any is_doubt tokens;
+    is_supplied = list_any is_bracket tokens;
   })
 
 -- `n.d.`, `undated`
-abbrev pub is_undated : List Part → Bool
-is_undated (part.Undated ∷ []) = true
+abbrev pub is_undated : List Token → Bool
+is_undated (token.Undated ∷ []) = true
 is_undated _ = false
 
 -- a year of three digits and a dash or two full stops after it: 173-, 11 Feb. 173..
-abbrev pub is_open_end : List Part → Bool
-is_open_end (part.Number y ∷ part.Dash ∷ []) = lacks_digit y
-is_open_end (part.Number y ∷ part.Open ∷ []) = lacks_digit y
+abbrev pub is_open_end : List Token → Bool
+is_open_end (token.Number y ∷ token.Dash ∷ []) = lacks_digit y
+is_open_end (token.Number y ∷ token.Open ∷ []) = lacks_digit y
 is_open_end _ = false
 
 -- the last two parts are so
-abbrev pub ends_open : List Part → Bool
-ends_open parts = nat_le 2 (length parts) && is_open_end (drop (length parts - 2) parts)
+abbrev pub ends_open : List Token → Bool
+ends_open tokens = nat_le 2 (length tokens) && is_open_end (drop (length tokens - 2) tokens)
 
-abbrev pub open_or : List Part → DateFault → DateFault
+abbrev pub open_or : List Token → DateFault → DateFault
 open_or timed faults.Malformed = if ends_open timed then faults.OpenYear else faults.Malformed
 open_or timed fault = fault
 
 -- why parts are not a date: a part of a time, a Roman numeral, a year with an open digit, or else
 -- the fault
-abbrev pub reason : List Part → List Part → DateFault → DateFault
-reason parts timed fault =
-    if list_any is_period parts then faults.OpenPart
-    else (if list_any is_roman_numeral parts then faults.RomanNumeral
-    else (if list_any is_open_year parts then faults.OpenYear
+abbrev pub reason : List Token → List Token → DateFault → DateFault
+reason tokens timed fault =
+    if list_any is_period tokens then faults.OpenPart
+    else (if list_any is_roman_numeral tokens then faults.RomanNumeral
+    else (if list_any is_open_year tokens then faults.OpenYear
     else open_or timed fault))
 
-abbrev pub or_reason : List Part → List Part → Result AnyDate DateFault → Result Written DateFault
-or_reason parts timed (Ok w) = Ok (say.Date w)
-or_reason parts timed (Err fault) = Err (reason parts timed fault)
+abbrev pub or_reason : List Token → List Token → Result AnyDate DateFault → Result Written DateFault
+or_reason tokens timed (Ok w) = Ok (say.Date w)
+or_reason tokens timed (Err fault) = Err (reason tokens timed fault)
 
 -- ---- a feast
 
-abbrev pub with_its_signs : List Part → Option Reckoning → Extent → Result AnyDate DateFault
-with_its_signs parts (Some r) e = Err faults.Feast
-with_its_signs parts None e = unless_open (record {
+abbrev pub with_its_signs : List Token → Option Reckoning → Extent → Result AnyDate DateFault
+with_its_signs tokens (Some r) e = Err faults.Feast
+with_its_signs tokens None e = unless_open (record {
   extent = e;
   weekday = None;
   reckoning = None;
-  is_approximate = list_any is_about parts;
-  is_uncertain = list_any is_doubt parts;
-  is_supplied = list_any is_bracket parts;
+  is_approximate = list_any is_about tokens;
+  is_uncertain = list_any is_doubt tokens;
+  is_supplied = list_any is_bracket tokens;
 })
 
 -- a feast in a year. Its weekday is part of its name, and no calendar may be named
-abbrev pub feast_of : List Part → List Part → Result AnyDate DateFault
-feast_of parts timed = do
-  weekday ← weekday_after None parts
-  reckoning ← reckoning_after None parts
+abbrev pub feast_of : List Token → List Token → Result AnyDate DateFault
+feast_of tokens timed = do
+  weekday ← weekday_after None tokens
+  reckoning ← reckoning_after None tokens
   extent ← feast_in weekday timed
-  with_its_signs parts reckoning extent
+  with_its_signs tokens reckoning extent
 
 abbrev pub as_date : Result AnyDate DateFault → Result Written DateFault
 as_date read = do
@@ -233,36 +233,36 @@ as_date read = do
   Ok (say.Date w)
 
 -- a text of no parts has no date, and neither has one that is undated
-abbrev pub reading_of_parts : DateOrder → List Part → List Part → Result Written DateFault
-reading_of_parts o parts timed =
-    if length parts == 0 || is_undated timed then Ok say.NoDate
-    else (if list_any is_feast parts then as_date (feast_of parts timed)
-    else or_reason parts timed (date_of o parts timed))
+abbrev pub reading_of_tokens : DateOrder → List Token → List Token → Result Written DateFault
+reading_of_tokens o tokens timed =
+    if length tokens == 0 || is_undated timed then Ok say.NoDate
+    else (if list_any is_feast tokens then as_date (feast_of tokens timed)
+    else or_reason tokens timed (date_of o tokens timed))
 
 -- ---- a set of dates
 
 -- a member of a set, with its signs
-abbrev pub with_signs : List Part → Extent → AnyDate
-with_signs parts e = record {
+abbrev pub with_signs : List Token → Extent → AnyDate
+with_signs tokens e = record {
   extent = e;
   weekday = None;
   reckoning = None;
-  is_approximate = list_any is_about parts;
-  is_uncertain = list_any is_doubt parts;
+  is_approximate = list_any is_about tokens;
+  is_uncertain = list_any is_doubt tokens;
   is_supplied = false;
 }
 
-abbrev pub member_by : List Part → Result Extent DateFault → Result AnyDate DateFault
-member_by parts days = do
+abbrev pub member_by : List Token → Result Extent DateFault → Result AnyDate DateFault
+member_by tokens days = do
   extent ← days
-  Ok (with_signs parts extent)
+  Ok (with_signs tokens extent)
 
 -- the member that parts are, or why they are not one
-abbrev pub member_of : List Part → Result AnyDate DateFault
-member_of parts = member_by parts (days_in_digits (filter (λ p. not (is_sign p)) parts))
+abbrev pub member_of : List Token → Result AnyDate DateFault
+member_of tokens = member_by tokens (days_in_digits (filter (λ p. not (is_sign p)) tokens))
 
 abbrev pub member_in : List ℕ → Result AnyDate DateFault
-member_in text = member_of (parts_in text)
+member_in text = member_of (tokens_in text)
 
 -- the members that texts are, or why the first wrong one is not a member
 abbrev pub all_members : List (List ℕ) → Result (List AnyDate) DateFault
@@ -307,4 +307,4 @@ unfoldable pub read_date : DateOrder → List ℕ → Result Written DateFault
 read_date o text =
     or_years text
     (or_set (set_in text)
-    (reading_of_parts o (parts_in text) (filter tells_time (parts_in text))))
+    (reading_of_tokens o (tokens_in text) (filter is_of_time (tokens_in text))))

@@ -5,10 +5,10 @@ use Rattle.std.specs.Prelude.{if◌then◌else◌, List, [], ◌∷◌, ◌++◌
 use Rattle.std.specs.Prelude.{chars, encode_utf8}
 use Rattle.std.specs.Option.{option_to_list}
 use Rattle.std.specs.Str.{all_ascii_digits}
-use Rattle.osn_grammar.specs.declared.part.Part.{Part}
-use Rattle.osn_grammar.specs.declared.part.Part.TheVariants as part
-use Rattle.osn_grammar.specs.Names.{part_named}
-use Rattle.osn_grammar.specs.Parts.{part_of}
+use Rattle.osn_grammar.specs.declared.token.Token.{Token}
+use Rattle.osn_grammar.specs.declared.token.Token.TheVariants as token
+use Rattle.osn_grammar.specs.Names.{token_named}
+use Rattle.osn_grammar.specs.Tokens.{token_of}
 
 -- a character from one to another
 abbrev pub is_from_to : ℕ → ℕ → ℕ → Bool
@@ -66,10 +66,10 @@ is_number_next (c ∷ rest) =
     if is_blank c then is_number_next rest else is_digit c && are_digits_alone rest
 
 -- of full stops, two in a row are an open end, and one between two numbers is a mark
-abbrev pub mark_of_stop : List ℕ → List ℕ → Option Part
+abbrev pub mark_of_stop : List ℕ → List ℕ → Option Token
 mark_of_stop word rest =
-    if next_is (λ c. c == 46) (first_of rest) then Some part.Open
-    else (if is_number word && is_number_next rest then Some part.Dot else None)
+    if next_is (λ c. c == 46) (first_of rest) then Some token.Open
+    else (if is_number word && is_number_next rest then Some token.Dot else None)
 
 -- a round bracket before one or two digits and another one, as in `3 (13) June`, is a mark
 abbrev pub ends_round : ℕ → ℕ → List ℕ → Bool
@@ -81,36 +81,36 @@ is_in_round [] = false
 is_in_round (a ∷ []) = false
 is_in_round (a ∷ b ∷ rest) = if b == 41 then is_digit a else ends_round a b rest
 
-abbrev pub mark_of_round : List ℕ → Option Part
-mark_of_round rest = if is_in_round rest then Some part.Round else None
+abbrev pub mark_of_round : List ℕ → Option Token
+mark_of_round rest = if is_in_round rest then Some token.Round else None
 
 -- the name of a month
-abbrev pub is_month : Option Part → Bool
-is_month (Some (part.Month m)) = true
+abbrev pub is_month : Option Token → Bool
+is_month (Some (token.Month m)) = true
 is_month _ = false
 
 abbrev pub is_month_name : List ℕ → Bool
-is_month_name word = is_month (part_named word)
+is_month_name word = is_month (token_named word)
 
 -- the mark that a character is, after a word and before the rest of the text. Blanks, commas, other
 -- round brackets and a colon after the name of a month, `Feb:`, are not marks
-abbrev pub mark_of : List ℕ → ℕ → List ℕ → Option Part
+abbrev pub mark_of : List ℕ → ℕ → List ℕ → Option Token
 mark_of word c rest =
-    if is_dash c then Some part.Dash
-    else (if c == 47 then Some part.Slash
-    else (if c == 63 then Some part.Doubt
-    else (if c == 126 then Some part.About
-    else (if c == 37 then Some part.AboutAndDoubt
-    else (if c == 91 || c == 93 then Some part.Bracket
+    if is_dash c then Some token.Dash
+    else (if c == 47 then Some token.Slash
+    else (if c == 63 then Some token.Doubt
+    else (if c == 126 then Some token.About
+    else (if c == 37 then Some token.AboutAndDoubt
+    else (if c == 91 || c == 93 then Some token.Bracket
     else (if c == 46 then mark_of_stop word rest
     else (if c == 40 then mark_of_round rest
     else (if is_blank c || (c == 44 || c == 41) then None
     else (if c == 58 && is_month_name word then None
-    else Some part.Unknown)))))))))
+    else Some token.Unknown)))))))))
 
 -- the part of a word, which may be empty
-abbrev pub part_of_run : List ℕ → Option Part
-part_of_run word = if length word == 0 then None else Some (part_of word)
+abbrev pub token_of_run : List ℕ → Option Token
+token_of_run word = if length word == 0 then None else Some (token_of word)
 
 -- one letter alone comes next
 abbrev pub is_letter_alone : List ℕ → Bool
@@ -137,17 +137,17 @@ word_after word c rest =
     else (if is_passed_over word c rest then word else [])
 
 -- the parts that end with a character: a word, and the mark after it
-abbrev pub parts_ended : List ℕ → ℕ → List ℕ → List Part
-parts_ended word c rest =
+abbrev pub tokens_ended : List ℕ → ℕ → List ℕ → List Token
+tokens_ended word c rest =
     if is_letter c || (is_digit c || is_passed_over word c rest) then []
-    else option_to_list (part_of_run word) ++ option_to_list (mark_of word c rest)
+    else option_to_list (token_of_run word) ++ option_to_list (mark_of word c rest)
 
 -- the parts of a word so far and of the characters after it
-abbrev pub parts_after : List ℕ → List ℕ → List Part
-parts_after word [] = option_to_list (part_of_run word)
-parts_after word (c ∷ rest) =
-    parts_ended word c rest ++ parts_after (word_after word c rest) rest
+abbrev pub tokens_after : List ℕ → List ℕ → List Token
+tokens_after word [] = option_to_list (token_of_run word)
+tokens_after word (c ∷ rest) =
+    tokens_ended word c rest ++ tokens_after (word_after word c rest) rest
 
 -- the parts of a text
-abbrev pub parts_in : List ℕ → List Part
-parts_in text = parts_after [] (chars text)
+abbrev pub tokens_in : List ℕ → List Token
+tokens_in text = tokens_after [] (chars text)

@@ -5,14 +5,14 @@ use Rattle.std.specs.Prelude.{Some}
 use Rattle.std.specs.Prelude.{None, option_map, Result, Ok, Err}
 use Rattle.std.specs.List.{slice_split}
 use Rattle.std.specs.Option.{option_and_then}
-use Rattle.osn_grammar.specs.declared.part.Part.{Part}
-use Rattle.osn_grammar.specs.declared.part.Part.TheVariants as part
-use Rattle.osn_grammar.specs.declared.part.Part.TheVariants.{Number, Dash, Open}
+use Rattle.osn_grammar.specs.declared.token.Token.{Token}
+use Rattle.osn_grammar.specs.declared.token.Token.TheVariants as token
+use Rattle.osn_grammar.specs.declared.token.Token.TheVariants.{Number, Dash, Open}
 use Rattle.osn_written.specs.declared.written_date.DateFault.{DateFault}
 use Rattle.osn_written.specs.declared.written_date.DateFault.TheVariants as faults
 use Rattle.osn_written.specs.declared.any_date.Extent.{Extent}
 use Rattle.osn_written.specs.declared.any_date.Extent.TheVariants as extent
-use Rattle.osn_written.specs.declared.any_date.SimpleDate.{SimpleDate}
+use Rattle.osn_written.specs.declared.any_date.PartialDate.{PartialDate}
 use Rattle.osn_grammar.specs.Simple.{◌>>=◌, one, day_in_digits}
 
 -- ---- the text between the brackets
@@ -38,14 +38,14 @@ between_commas text = slice_split (λ b. b == 44) text
 -- ---- one member
 
 -- `?`, `~`, `%`
-abbrev pub is_sign : Part → Bool
-is_sign part.About = true
-is_sign part.Doubt = true
-is_sign part.AboutAndDoubt = true
+abbrev pub is_sign : Token → Bool
+is_sign token.About = true
+is_sign token.Doubt = true
+is_sign token.AboutAndDoubt = true
 is_sign _ = false
 
 -- a day, or the days from it to the one after `..`
-abbrev pub from_day : Result SimpleDate DateFault → List Part → Result Extent DateFault
+abbrev pub from_day : Result PartialDate DateFault → List Token → Result Extent DateFault
 from_day first [] = do
   day ← first
   Ok (extent.On day)
@@ -56,7 +56,7 @@ from_day first (Open ∷ Number y ∷ Dash ∷ Number m ∷ Dash ∷ Number d �
 from_day first _ = Err faults.Malformed
 
 -- a day in digits, or the first and the last one with `..` between them
-abbrev pub days_in_digits : List Part → Result Extent DateFault
+abbrev pub days_in_digits : List Token → Result Extent DateFault
 days_in_digits (Number y ∷ Dash ∷ Number m ∷ Dash ∷ Number d ∷ rest) =
     from_day (day_in_digits (one y) m d) rest
 days_in_digits _ = Err faults.Malformed

@@ -3,14 +3,14 @@
 use Rattle.std.specs.Prelude.{ℕ, Bool, true, ◌&&◌, ◌||◌, not, nat_le, nat_lt, ◌==◌, ◌+◌, ◌%◌, ◌^◌}
 use Rattle.std.specs.Prelude.{if◌then◌else◌, Option, Some, None, is_some}
 use Rattle.std.specs.Prelude.{Result, Ok, Err}
-use Rattle.osn_grammar.specs.declared.part.Numeral.{Numeral}
+use Rattle.osn_grammar.specs.declared.token.Numeral.{Numeral}
 use Rattle.osn_grammar.specs.declared.simple.YearNumbers.{YearNumbers}
 use Rattle.osn_written.specs.declared.written_date.DateFault.{DateFault}
 use Rattle.osn_written.specs.declared.written_date.DateFault.TheVariants as faults
 use Rattle.osn_grammar.specs.declared.written.DateOrder.{DateOrder}
 use Rattle.osn_grammar.specs.declared.written.DateOrder.TheVariants as order
-use Rattle.osn_written.specs.declared.any_date.SimpleDate.{SimpleDate}
-use Rattle.osn_written.specs.declared.any_date.SimpleDate.TheVariants as date
+use Rattle.osn_written.specs.declared.any_date.PartialDate.{PartialDate}
+use Rattle.osn_written.specs.declared.any_date.PartialDate.TheVariants as date
 use Rattle.osn_written.specs.declared.any_date.Year.{Year}
 
 -- one reading after another, if the first one succeeds
@@ -66,55 +66,55 @@ abbrev pub is_between : ℕ → ℕ → ℕ → Bool
 is_between low high n = nat_le low n && nat_le n high
 
 -- a month is 1 to 12
-abbrev pub month_in : Year → ℕ → Result SimpleDate DateFault
+abbrev pub month_in : Year → ℕ → Result PartialDate DateFault
 month_in year month =
     if not (is_between 1 12 month) then Err faults.Month else Ok (date.Month year month)
 
 -- a day is 1 to 31
-abbrev pub day_in : Year → ℕ → ℕ → Result SimpleDate DateFault
+abbrev pub day_in : Year → ℕ → ℕ → Result PartialDate DateFault
 day_in year month day =
     if not (is_between 1 12 month) then Err faults.Month
     else (if not (is_between 1 31 day) then Err faults.Day
     else Ok (date.Day year month day))
 
-abbrev pub whole_year : YearNumbers → Result SimpleDate DateFault
+abbrev pub whole_year : YearNumbers → Result PartialDate DateFault
 whole_year years = do
   year ← year_of years
   Ok (date.Year year)
 
-abbrev pub month_of : YearNumbers → ℕ → Result SimpleDate DateFault
+abbrev pub month_of : YearNumbers → ℕ → Result PartialDate DateFault
 month_of years month = do
   year ← year_of years
   month_in year month
 
-abbrev pub day_of : YearNumbers → ℕ → ℕ → Result SimpleDate DateFault
+abbrev pub day_of : YearNumbers → ℕ → ℕ → Result PartialDate DateFault
 day_of years month day = do
   year ← year_of years
   day_in year month day
 
 -- a month and a day in digits have one or two of them: a longer number is a year, and no part of
 -- the date
-abbrev pub day_of_month : YearNumbers → ℕ → Numeral → Result SimpleDate DateFault
+abbrev pub day_of_month : YearNumbers → ℕ → Numeral → Result PartialDate DateFault
 day_of_month years month day =
     if is_long day then Err faults.Malformed else day_of years month day.value
 
-abbrev pub month_in_digits : YearNumbers → Numeral → Result SimpleDate DateFault
+abbrev pub month_in_digits : YearNumbers → Numeral → Result PartialDate DateFault
 month_in_digits years month =
     if is_long month then Err faults.Malformed else month_of years month.value
 
-abbrev pub day_in_digits : YearNumbers → Numeral → Numeral → Result SimpleDate DateFault
+abbrev pub day_in_digits : YearNumbers → Numeral → Numeral → Result PartialDate DateFault
 day_in_digits years month day =
     if is_long month || is_long day then Err faults.Malformed
     else day_of years month.value day.value
 
 -- three numbers that end with the year are open between day and month, unless their order is known
-abbrev pub by_order : DateOrder → Numeral → Numeral → Numeral → Result SimpleDate DateFault
+abbrev pub by_order : DateOrder → Numeral → Numeral → Numeral → Result PartialDate DateFault
 by_order order.Unknown a b year = Err faults.DayOrMonth
 by_order order.DayMonth a b year = day_in_digits (one year) b a
 by_order order.MonthDay a b year = day_in_digits (one year) a b
 
 -- they end with the year if that is long and the first one is not
-abbrev pub in_order : DateOrder → Numeral → Numeral → Numeral → Result SimpleDate DateFault
+abbrev pub in_order : DateOrder → Numeral → Numeral → Numeral → Result PartialDate DateFault
 in_order order a b c =
     if is_long c && not (is_long a) then by_order order a b c else day_in_digits (one a) b c
 
@@ -130,40 +130,40 @@ order_of order.Unknown a b =
 order_of order a b = order
 
 -- with dashes, slashes or blanks such an order is found
-abbrev pub three_numbers : DateOrder → Numeral → Numeral → Numeral → Result SimpleDate DateFault
+abbrev pub three_numbers : DateOrder → Numeral → Numeral → Numeral → Result PartialDate DateFault
 three_numbers order a b c = in_order (order_of order a.value b.value) a b c
 
 -- `11/2 1731` ends with its year, and `1731/2 11` is not a date
-abbrev pub year_last : DateOrder → Numeral → Numeral → Numeral → Result SimpleDate DateFault
+abbrev pub year_last : DateOrder → Numeral → Numeral → Numeral → Result PartialDate DateFault
 year_last order a b year =
     if is_long year && not (is_long a) then three_numbers order a b year else Err faults.Malformed
 
 -- of two numbers with a month between them the first one is the year if it is long
-abbrev pub around_month : Numeral → ℕ → Numeral → Result SimpleDate DateFault
+abbrev pub around_month : Numeral → ℕ → Numeral → Result PartialDate DateFault
 around_month a month b =
     if is_long a then day_of_month (one a) month b else day_of_month (one b) month a
 
 -- `1640-11` is a month; `1640-1645` and `1731-2` are not
-abbrev pub year_and_month : Numeral → Numeral → Result SimpleDate DateFault
+abbrev pub year_and_month : Numeral → Numeral → Result PartialDate DateFault
 year_and_month year month =
     if month.digits == 2 then month_of (one year) month.value else Err faults.Malformed
 
 -- `1640 November` is a month, `11 November` lacks its year
-abbrev pub year_and_name : Numeral → ℕ → Result SimpleDate DateFault
+abbrev pub year_and_name : Numeral → ℕ → Result PartialDate DateFault
 year_and_name year month =
     if is_long year then month_of (one year) month else Err faults.Malformed
 
 -- `1640, 3 May` begins with its year
-abbrev pub year_and_day : Numeral → Numeral → ℕ → Result SimpleDate DateFault
+abbrev pub year_and_day : Numeral → Numeral → ℕ → Result PartialDate DateFault
 year_and_day year day month =
     if is_long year then day_of_month (one year) month day else Err faults.Malformed
 
 -- `1731/2 February 11` has a double year, `11/22 February 1731` the day by both calendars
-abbrev pub double_year_or_days : Numeral → Numeral → ℕ → Numeral → Result SimpleDate DateFault
+abbrev pub double_year_or_days : Numeral → Numeral → ℕ → Numeral → Result PartialDate DateFault
 double_year_or_days a b month c =
     if is_long a then day_of_month (two a b) month c else Err faults.BothCalendars
 
 -- `2/1731` is a month, `1731/2` a double year
-abbrev pub month_or_double_year : Numeral → Numeral → Result SimpleDate DateFault
+abbrev pub month_or_double_year : Numeral → Numeral → Result PartialDate DateFault
 month_or_double_year a b =
     if not (is_long a) && is_long b then month_of (one b) a.value else whole_year (two a b)

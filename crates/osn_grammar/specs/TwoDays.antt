@@ -5,7 +5,7 @@ use Rattle.osn_days.specs.declared.calendar.Calendar.{Calendar}
 use Rattle.osn_days.specs.declared.calendar.Calendar.TheVariants.{Gregorian, Julian}
 use Rattle.osn_days.specs.declared.date.Date.{Date}
 use Rattle.osn_days.specs.Chain.{date_of, days_with_date}
-use Rattle.osn_days.specs.Profile.{Profile}
+use Rattle.osn_days.specs.Rules.{Rules}
 use Rattle.osn_written.specs.declared.written_date.MonthDay.{MonthDay}
 use Rattle.osn_written.specs.declared.written_date.DateFault.{DateFault}
 use Rattle.osn_written.specs.declared.written_date.DateFault.TheVariants as faults
@@ -15,7 +15,7 @@ abbrev pub numbered : ℤ → MonthDay → Date
 numbered y d = record { year = y; month = d.month; day = d.day }
 
 -- the date in another calendar of the day of the line that has a date in one
-abbrev pub dates_in_other : Profile → Calendar → Calendar → ℤ → MonthDay → List Date
+abbrev pub dates_in_other : Rules → Calendar → Calendar → ℤ → MonthDay → List Date
 dates_in_other p own other y d =
     map (date_of other) (days_with_date p own (numbered y d))
 
@@ -37,6 +37,6 @@ if_other old written (d ∷ ds) =
     else faults.TwoDays old (record { month = d.month; day = d.day }) written
 
 -- why a first date and a second one of a Gregorian year are not those of one day
-abbrev pub two_days : Profile → ℕ → MonthDay → MonthDay → DateFault
+abbrev pub two_days : Rules → ℕ → MonthDay → MonthDay → DateFault
 two_days p y old written =
     if_other old written (dates_in_other p Julian Gregorian (julian_year y old written) old)

@@ -7,8 +7,8 @@ use Rattle.osn_grammar.specs.Simple.{is_between}
 use Rattle.osn_written.specs.declared.any_date.AnyDate.{AnyDate}
 use Rattle.osn_written.specs.declared.any_date.Extent.{Extent}
 use Rattle.osn_written.specs.declared.any_date.Extent.TheVariants as extent
-use Rattle.osn_written.specs.declared.any_date.SimpleDate.{SimpleDate}
-use Rattle.osn_written.specs.declared.any_date.SimpleDate.TheVariants as date
+use Rattle.osn_written.specs.declared.any_date.PartialDate.{PartialDate}
+use Rattle.osn_written.specs.declared.any_date.PartialDate.TheVariants as date
 use Rattle.osn_written.specs.declared.any_date.Year.{Year}
 use Rattle.osn_written.specs.DateInWords.{words_of}
 
@@ -17,7 +17,7 @@ abbrev pub is_writable_year : Year → Bool
 is_writable_year y = nat_le y.first 10000 && not y.has_three_digits
 
 -- a date of such a year whose month is 1 to 12 and whose day is 1 to 31
-abbrev pub is_writable_date : SimpleDate → Bool
+abbrev pub is_writable_date : PartialDate → Bool
 is_writable_date (date.Day y month day) =
     is_writable_year y && (is_between 1 12 month && is_between 1 31 day)
 is_writable_date (date.Month y month) = is_writable_year y && is_between 1 12 month
@@ -30,7 +30,7 @@ is_writable_extent (extent.Before d) = is_writable_date d
 is_writable_extent (extent.NotAfter d) = is_writable_date d
 is_writable_extent (extent.After d) = is_writable_date d
 is_writable_extent (extent.NotBefore d) = is_writable_date d
-is_writable_extent (extent.Part portion d) = false
+is_writable_extent (extent.Token portion d) = false
 is_writable_extent (extent.Feast feast year) = false
 
 abbrev pub is_writable : AnyDate → Bool

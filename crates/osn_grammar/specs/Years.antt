@@ -3,22 +3,22 @@ use Rattle.std.specs.Prelude.{ℕ, Bool, true, false, not, ◌&&◌, ◌||◌, �
 use Rattle.std.specs.Prelude.{nat_le}
 use Rattle.std.specs.Prelude.{if◌then◌else◌, List, [], ◌∷◌, Option, Some, None}
 use Rattle.std.specs.Str.{all_ascii_digits}
-use Rattle.osn_grammar.specs.declared.part.Part.{Part}
-use Rattle.osn_grammar.specs.declared.part.Part.TheVariants as part
-use Rattle.osn_grammar.specs.declared.part.Part.TheVariants.{Number, Roman, Century, Dash}
-use Rattle.osn_grammar.specs.declared.part.Part.TheVariants.{Slash, To, Or, CenturyLetter, Tal}
-use Rattle.osn_grammar.specs.declared.part.Numeral.{Numeral}
-use Rattle.osn_grammar.specs.declared.part.Years.{Years}
-use Rattle.osn_grammar.specs.Parts.{are_two_digits, decade, digit, hundred, years_from}
+use Rattle.osn_grammar.specs.declared.token.Token.{Token}
+use Rattle.osn_grammar.specs.declared.token.Token.TheVariants as token
+use Rattle.osn_grammar.specs.declared.token.Token.TheVariants.{Number, Roman, Century, Dash}
+use Rattle.osn_grammar.specs.declared.token.Token.TheVariants.{Slash, To, Or, CenturyLetter, Tal}
+use Rattle.osn_grammar.specs.declared.token.Numeral.{Numeral}
+use Rattle.osn_grammar.specs.declared.token.Years.{Years}
+use Rattle.osn_grammar.specs.Tokens.{are_two_digits, decade, digit, hundred, years_from}
 use Rattle.osn_grammar.specs.Sets.{inside_brackets}
 use Rattle.osn_grammar.specs.Simple.{is_between}
 use Rattle.osn_written.specs.declared.any_date.AnyDate.{AnyDate}
 use Rattle.osn_written.specs.declared.any_date.Extent.{Extent}
 use Rattle.osn_written.specs.declared.any_date.Extent.TheVariants as extent
-use Rattle.osn_written.specs.declared.any_date.SimpleDate.{SimpleDate}
-use Rattle.osn_written.specs.declared.any_date.SimpleDate.TheVariants as date
+use Rattle.osn_written.specs.declared.any_date.PartialDate.{PartialDate}
+use Rattle.osn_written.specs.declared.any_date.PartialDate.TheVariants as date
 
-abbrev pub whole_year : ℕ → SimpleDate
+abbrev pub whole_year : ℕ → PartialDate
 whole_year y = date.Year (record {
   first = y;
   is_double = false;
@@ -41,7 +41,7 @@ both_years (Some first) None = None
 both_years (Some first) (Some last) = Some (record { first = first.first; last = last.last })
 
 -- 1580s-1590s, 15th/16th century, 15th to 16th century, 15th or 16th century
-abbrev pub joined : Option Years → Part → Option Years → Option Years
+abbrev pub joined : Option Years → Token → Option Years → Option Years
 joined first Dash last = both_years first last
 joined first Slash last = both_years first last
 joined first To last = both_years first last
@@ -49,8 +49,8 @@ joined first Or last = both_years first last
 joined first _ last = None
 
 -- a decade, 158x, 1580s, or a century, 15xx, 16th century, XVIe siècle, sec. XVI
-abbrev pub one_in : List Part → Option Years
-one_in (part.Years years ∷ []) = Some years
+abbrev pub one_in : List Token → Option Years
+one_in (token.Years years ∷ []) = Some years
 one_in (Number n ∷ Century ∷ []) = century n.value
 one_in (Roman n ∷ Century ∷ []) = century n
 one_in (Century ∷ Roman n ∷ []) = century n
@@ -71,27 +71,27 @@ abbrev pub years_of_tal : Numeral → Option Years
 years_of_tal first = if first.value % 100 == 0 then years_on first 99 else decade_from first
 
 -- XVIe s., s. XVI, 1580-talet, années 1580
-abbrev pub by_word : List Part → Option Years
+abbrev pub by_word : List Token → Option Years
 by_word (Roman n ∷ CenturyLetter ∷ []) = century n
 by_word (CenturyLetter ∷ Roman n ∷ []) = century n
 by_word (Number first ∷ Dash ∷ Tal ∷ []) = years_of_tal first
-by_word (part.Decade ∷ Number first ∷ []) = decade_from first
+by_word (token.Decade ∷ Number first ∷ []) = decade_from first
 by_word _ = None
 
 -- two of them
-abbrev pub decades_in : List Part → Option Years
-decades_in (part.Years first ∷ p ∷ part.Years last ∷ []) = joined (Some first) p (Some last)
+abbrev pub decades_in : List Token → Option Years
+decades_in (token.Years first ∷ p ∷ token.Years last ∷ []) = joined (Some first) p (Some last)
 decades_in _ = None
 
-abbrev pub centuries_in : List Part → Option Years
+abbrev pub centuries_in : List Token → Option Years
 centuries_in (Number first ∷ p ∷ Number last ∷ Century ∷ []) =
     joined (century first.value) p (century last.value)
 centuries_in _ = None
 
-abbrev pub roman_years : ℕ → Part → ℕ → Option Years
+abbrev pub roman_years : ℕ → Token → ℕ → Option Years
 roman_years first p last = joined (century first) p (century last)
 
-abbrev pub roman_centuries_in : List Part → Option Years
+abbrev pub roman_centuries_in : List Token → Option Years
 roman_centuries_in (Roman first ∷ p ∷ Roman last ∷ Century ∷ []) = roman_years first p last
 roman_centuries_in (Century ∷ Roman first ∷ p ∷ Roman last ∷ []) = roman_years first p last
 roman_centuries_in _ = None
@@ -100,10 +100,10 @@ abbrev pub or_years : Option Years → Option Years → Option Years
 or_years (Some years) other = Some years
 or_years None other = other
 
-abbrev pub years_in : List Part → Option Years
-years_in parts =
-    or_years (or_years (one_in parts) (or_years (by_word parts) (decades_in parts)))
-    (or_years (centuries_in parts) (roman_centuries_in parts))
+abbrev pub years_in : List Token → Option Years
+years_in tokens =
+    or_years (or_years (one_in tokens) (or_years (by_word tokens) (decades_in tokens)))
+    (or_years (centuries_in tokens) (roman_centuries_in tokens))
 
 -- ---- in digits and signs
 

@@ -2,17 +2,17 @@
 ghost use Rattle.std.specs.Prelude.{◌≡◌, ◌≤◌};
 ghost use Rattle.std.specs.List.{list_any};
 ghost use Rattle.std.specs.Option.{option_to_list};
-ghost use Rattle.osn_days.specs.Profile.{newest_rules};
-ghost use Rattle.osn_lands.specs.Style as style;
+ghost use Rattle.osn_days.specs.Rules.{newest_rules};
+ghost use Rattle.osn_territory.specs.Style as style;
 ghost use Rattle.osn_grammar.specs.BothCalendars as spec;
 
 use crate::forms::year_numbers;
-use crate::part::Numeral;
-use crate::part::Part::{self, Month, Number, Reckoning as By, Round, Slash, Weekday};
 use crate::simple::{YearNumbers, is_long, one, year_of};
+use crate::token::Numeral;
+use crate::token::Token::{self, Month, Number, Reckoning as By, Round, Slash, Weekday};
 use crate::two_days::{date_in_other, two_days};
 use osn_days::{Calendar, Date};
-use osn_written::{DateFault, MonthDay, Reckoning, SimpleDate, Year};
+use osn_written::{DateFault, MonthDay, PartialDate, Reckoning, Year};
 
 /// The years that are written with two dates.
 #[derive(Clone, Copy)]
@@ -46,7 +46,7 @@ fn month_day(month: u8, day: Numeral) -> Option<MonthDay>
 }
 
 /// Returns the day of a month that a number and the name of a month are, if they are one.
-fn day_and_month(day: Part, month: Part) -> Option<MonthDay>
+fn day_and_month(day: Token, month: Token) -> Option<MonthDay>
     ensures { result ≡ spec.day_and_month day month }
 {
     match (day, month) {
@@ -71,17 +71,17 @@ fn two_dates(
 }
 
 /// Returns the one year of two dates that parts are, if they are a year.
-fn shared_by_both(years: &[Part]) -> Option<WrittenYears>
+fn shared_by_both(years: &[Token]) -> Option<WrittenYears>
     ensures { result ≡ spec.shared_by_both years.now }
 {
     Some(WrittenYears::Shared(year_numbers(years)?))
 }
 
 /// Returns the two dates of parts that are two days and then their month: `3/13 June 1675`.
-fn before_their_month(parts: &[Part]) -> Option<TwoDates>
-    ensures { result ≡ spec.before_their_month parts.now }
+fn before_their_month(tokens: &[Token]) -> Option<TwoDates>
+    ensures { result ≡ spec.before_their_month tokens.now }
 {
-    match parts {
+    match tokens {
         [old, Slash, new, month, years @ ..] => two_dates(
             day_and_month(*old, *month),
             day_and_month(*new, *month),
@@ -92,10 +92,10 @@ fn before_their_month(parts: &[Part]) -> Option<TwoDates>
 }
 
 /// Returns the two dates of parts that are a month and then its two days: `June 3/13, 1675`.
-fn after_their_month(parts: &[Part]) -> Option<TwoDates>
-    ensures { result ≡ spec.after_their_month parts.now }
+fn after_their_month(tokens: &[Token]) -> Option<TwoDates>
+    ensures { result ≡ spec.after_their_month tokens.now }
 {
-    match parts {
+    match tokens {
         [month, old, Slash, new, years @ ..] => two_dates(
             day_and_month(*old, *month),
             day_and_month(*new, *month),
@@ -106,10 +106,10 @@ fn after_their_month(parts: &[Part]) -> Option<TwoDates>
 }
 
 /// Returns the two dates of parts that are two days with their months: `28 May/7 June 1675`.
-fn with_months(parts: &[Part]) -> Option<TwoDates>
-    ensures { result ≡ spec.with_months parts.now }
+fn with_months(tokens: &[Token]) -> Option<TwoDates>
+    ensures { result ≡ spec.with_months tokens.now }
 {
-    match parts {
+    match tokens {
         [old, month, Slash, new, other, years @ ..] => two_dates(
             day_and_month(*old, *month),
             day_and_month(*new, *other),
@@ -120,7 +120,7 @@ fn with_months(parts: &[Part]) -> Option<TwoDates>
 }
 
 /// Returns the years of two dates that parts are, if each one is a number.
-fn year_of_each(first: Part, last: Part) -> Option<WrittenYears>
+fn year_of_each(first: Token, last: Token) -> Option<WrittenYears>
     ensures { result ≡ spec.year_of_each first last }
 {
     match (first, last) {
@@ -131,10 +131,10 @@ fn year_of_each(first: Part, last: Part) -> Option<WrittenYears>
 
 /// Returns the two dates of parts that are two days with their years:
 /// `27 Dec. 1675/6 Jan. 1676`.
-fn with_years(parts: &[Part]) -> Option<TwoDates>
-    ensures { result ≡ spec.with_years parts.now }
+fn with_years(tokens: &[Token]) -> Option<TwoDates>
+    ensures { result ≡ spec.with_years tokens.now }
 {
-    match parts {
+    match tokens {
         [old, month, first, Slash, new, other, last] => two_dates(
             day_and_month(*old, *month),
             day_and_month(*new, *other),
@@ -156,10 +156,10 @@ fn or_dates(first: Option<TwoDates>, other: Option<TwoDates>) -> Option<TwoDates
 
 /// Returns whether parts begin with a number before one in round brackets, after a weekday or a
 /// month or after nothing.
-fn begin_round(parts: &[Part]) -> bool
-    ensures { result ≡ spec.begin_round parts.now }
+fn begin_round(tokens: &[Token]) -> bool
+    ensures { result ≡ spec.begin_round tokens.now }
 {
-    match parts {
+    match tokens {
         [Number(_), Round, ..] => true,
         [Month(_), Number(_), Round, ..] => true,
         [Weekday(_), Number(_), Round, ..] => true,
@@ -168,10 +168,10 @@ fn begin_round(parts: &[Part]) -> bool
 }
 
 /// Returns the two dates of parts that are two numbers beside their month: `3 (13) June 1675`.
-fn beside(parts: &[Part]) -> Option<TwoDates>
-    ensures { result ≡ spec.beside parts.now }
+fn beside(tokens: &[Token]) -> Option<TwoDates>
+    ensures { result ≡ spec.beside tokens.now }
 {
-    match parts {
+    match tokens {
         [Month(month), old, new, years @ ..] => two_dates(
             day_and_month(*old, Month(*month)),
             day_and_month(*new, Month(*month)),
@@ -187,22 +187,22 @@ fn beside(parts: &[Part]) -> Option<TwoDates>
 }
 
 /// Returns two dates, if the second one is in round brackets.
-fn if_round(parts: &[Part], dates: Option<TwoDates>) -> Option<TwoDates>
-    ensures { result ≡ spec.if_round parts.now dates }
+fn if_round(tokens: &[Token], dates: Option<TwoDates>) -> Option<TwoDates>
+    ensures { result ≡ spec.if_round tokens.now dates }
 {
     match dates {
-        Some(dates) if begin_round(parts) => Some(dates),
+        Some(dates) if begin_round(tokens) => Some(dates),
         _ => None,
     }
 }
 
 /// Returns the two dates that parts are, if they are two with a `/` between them.
-fn slashed_dates(parts: &[Part]) -> Option<TwoDates>
-    ensures { result ≡ spec.slashed_dates parts.now }
+fn slashed_dates(tokens: &[Token]) -> Option<TwoDates>
+    ensures { result ≡ spec.slashed_dates tokens.now }
 {
     or_dates(
-        or_dates(before_their_month(parts), after_their_month(parts)),
-        or_dates(with_months(parts), with_years(parts)),
+        or_dates(before_their_month(tokens), after_their_month(tokens)),
+        or_dates(with_months(tokens), with_years(tokens)),
     )
 }
 
@@ -291,11 +291,11 @@ fn are_one_day(year: Year, dates: TwoDates) -> bool
 }
 
 /// Returns the Gregorian date of two dates, if they are those of one day.
-fn day_of_both(dates: TwoDates) -> Result<SimpleDate, DateFault>
+fn day_of_both(dates: TwoDates) -> Result<PartialDate, DateFault>
     ensures { result ≡ spec.day_of_both newest_rules dates }
 {
     match gregorian_year(dates) {
-        Some(year) if are_one_day(year, dates) => Ok(SimpleDate::Day {
+        Some(year) if are_one_day(year, dates) => Ok(PartialDate::Day {
             year,
             month: dates.new.month,
             day: dates.new.day,
@@ -307,28 +307,28 @@ fn day_of_both(dates: TwoDates) -> Result<SimpleDate, DateFault>
 
 /// Returns the two dates that parts are, if they are two with a `/` between them or with the second
 /// one in round brackets. The parts `timed` are those that say which day is meant.
-fn dates_in(parts: &[Part], timed: &[Part]) -> Option<TwoDates>
-    ensures { result ≡ spec.dates_in parts.now timed.now }
+fn dates_in(tokens: &[Token], timed: &[Token]) -> Option<TwoDates>
+    ensures { result ≡ spec.dates_in tokens.now timed.now }
 {
-    or_dates(slashed_dates(timed), if_round(parts, beside(timed)))
+    or_dates(slashed_dates(timed), if_round(tokens, beside(timed)))
 }
 
 /// Returns the Gregorian date of the day that parts are by both calendars, or why it is not sure.
 /// Parts of another form are `Malformed`. The parts `timed` are those that say which day is meant.
-pub fn day_by_both(parts: &[Part], timed: &[Part]) -> Result<SimpleDate, DateFault>
-    ensures { result ≡ spec.day_by_both newest_rules parts.now timed.now }
+pub fn day_by_both(tokens: &[Token], timed: &[Token]) -> Result<PartialDate, DateFault>
+    ensures { result ≡ spec.day_by_both newest_rules tokens.now timed.now }
 {
-    match dates_in(parts, timed) {
+    match dates_in(tokens, timed) {
         Some(dates) => day_of_both(dates),
         None => Err(DateFault::Malformed),
     }
 }
 
 /// Returns whether parts are `N.S.` and a year, in this order or the other one.
-fn are_new_and_year(parts: &[Part]) -> bool
-    ensures { result ≡ spec.are_new_and_year parts.now }
+fn are_new_and_year(tokens: &[Token]) -> bool
+    ensures { result ≡ spec.are_new_and_year tokens.now }
 {
-    match parts {
+    match tokens {
         [By(Reckoning::NewStyle), year @ ..] => year_numbers(year).is_some(),
         [Number(_), By(Reckoning::NewStyle)] => true,
         [Number(_), Slash, Number(_), By(Reckoning::NewStyle)] => true,
@@ -337,10 +337,10 @@ fn are_new_and_year(parts: &[Part]) -> bool
 }
 
 /// Returns whether parts are the second of two dates, with `N.S.` beside it.
-fn is_new_last(parts: &[Part]) -> bool
-    ensures { result ≡ spec.is_new_last parts.now }
+fn is_new_last(tokens: &[Token]) -> bool
+    ensures { result ≡ spec.is_new_last tokens.now }
 {
-    match parts {
+    match tokens {
         [Number(_), Month(_), rest @ ..] => are_new_and_year(rest),
         _ => false,
     }
@@ -348,7 +348,7 @@ fn is_new_last(parts: &[Part]) -> bool
 
 /// Returns whether parts are the rest of two dates after the month of the first one, with `O.S.`
 /// beside the first one and `N.S.` beside the second one.
-fn is_old_first(rest: &[Part]) -> bool
+fn is_old_first(rest: &[Token]) -> bool
     ensures { result ≡ spec.is_old_first rest.now }
 {
     match rest {
@@ -360,10 +360,10 @@ fn is_old_first(rest: &[Part]) -> bool
 
 /// Returns whether parts are two dates by name, `O.S.` beside the first one and `N.S.` beside the
 /// second one.
-fn are_named(parts: &[Part]) -> bool
-    ensures { result ≡ spec.are_named parts.now }
+fn are_named(tokens: &[Token]) -> bool
+    ensures { result ≡ spec.are_named tokens.now }
 {
-    match parts {
+    match tokens {
         [Number(_), Month(_), rest @ ..] => is_old_first(rest),
         [Weekday(_), Number(_), Month(_), rest @ ..] => is_old_first(rest),
         _ => false,
@@ -372,11 +372,11 @@ fn are_named(parts: &[Part]) -> bool
 
 /// Returns the Gregorian date of the day that parts are by both calendars, each of which is named
 /// beside its date: `3 June O.S./13 June N.S. 1675`.
-pub fn named_day(parts: &[Part], timed: &[Part]) -> Result<SimpleDate, DateFault>
-    ensures { result ≡ spec.named_day newest_rules parts.now timed.now }
+pub fn named_day(tokens: &[Token], timed: &[Token]) -> Result<PartialDate, DateFault>
+    ensures { result ≡ spec.named_day newest_rules tokens.now timed.now }
 {
-    if are_named(parts) {
-        day_by_both(parts, timed)
+    if are_named(tokens) {
+        day_by_both(tokens, timed)
     } else {
         Err(DateFault::Malformed)
     }

@@ -1,7 +1,7 @@
 //! The date that a text is, for a query, and for one that is about a day.
 ghost use Rattle.std.specs.Prelude.{◌≡◌, IfOk};
-ghost use Rattle.osn_days.specs.Profile.{newest_rules};
-ghost use Rattle.osn_lands.specs.Territory.{TerritoryModel};
+ghost use Rattle.osn_days.specs.Rules.{newest_rules};
+ghost use Rattle.osn_territory.specs.Territory.{TerritoryModel};
 ghost use Rattle.osn_grammar.specs.DualTexts.{AreDualTextsWritten, AreNamedDaysWritten};
 ghost use Rattle.osn_grammar.specs.DualTexts.{AreDualTextsMeant};
 ghost use Rattle.osn_grammar.specs.ReadDate as spec;

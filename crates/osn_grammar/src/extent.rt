@@ -2,14 +2,14 @@
 ghost use Rattle.std.specs.Prelude.{◌≡◌, []};
 ghost use Rattle.osn_grammar.specs.Extent as spec;
 
-use crate::forms::{date_in_digits, simple_date};
-use crate::part::Numeral;
-use crate::part::Part::{
+use crate::forms::{date_in_digits, partial_date};
+use crate::simple::{day_in, is_long, month_in};
+use crate::token::Numeral;
+use crate::token::Token::{
     self, After, And, Before, Between, By, Dash, Dot, From, Month, Not, Number, Open, Or, Slash, To,
 };
-use crate::simple::{day_in, is_long, month_in};
 use crate::written::DateOrder;
-use osn_written::{DateFault, Extent, SimpleDate};
+use osn_written::{DateFault, Extent, PartialDate};
 
 /// By which parts the two dates of a range are joined.
 #[derive(Clone, Copy)]
@@ -58,10 +58,10 @@ fn day_of_month(month: u32, day: Numeral) -> Beginning
 }
 
 /// Returns what the first date of a range says on its own.
-fn beginning_of(parts: &[Part]) -> Beginning
-    ensures { result ≡ spec.beginning_of parts.now }
+fn beginning_of(tokens: &[Token]) -> Beginning
+    ensures { result ≡ spec.beginning_of tokens.now }
 {
-    match parts {
+    match tokens {
         [Number(d)] => lone_day(*d),
         [Number(d), Month(m)] => day_of_month(u32::from(*m), *d),
         [Month(m), Number(d)] => day_of_month(u32::from(*m), *d),
@@ -73,20 +73,20 @@ fn beginning_of(parts: &[Part]) -> Beginning
 
 /// Returns the first date of a range, which gets what it lacks from the last one.
 fn first_date(
-    whole: Result<SimpleDate, DateFault>,
+    whole: Result<PartialDate, DateFault>,
     beginning: Beginning,
-    last: SimpleDate,
-) -> Result<SimpleDate, DateFault>
+    last: PartialDate,
+) -> Result<PartialDate, DateFault>
     ensures { result ≡ spec.first_date whole beginning last }
 {
     match (beginning, last) {
-        (Beginning::Day(day), SimpleDate::Day { year, month, .. }) => {
+        (Beginning::Day(day), PartialDate::Day { year, month, .. }) => {
             day_in(year, u32::from(month), day)
         }
-        (Beginning::DayOfMonth { month, day }, SimpleDate::Day { year, .. }) => {
+        (Beginning::DayOfMonth { month, day }, PartialDate::Day { year, .. }) => {
             day_in(year, month, day)
         }
-        (Beginning::Month(month), SimpleDate::Month { year, .. }) => {
+        (Beginning::Month(month), PartialDate::Month { year, .. }) => {
             month_in(year, u32::from(month))
         }
         _ => whole,
@@ -94,7 +94,7 @@ fn first_date(
 }
 
 /// Returns whether the first date of a range has no form, on its own or as a beginning.
-fn has_no_form(whole: Result<SimpleDate, DateFault>, beginning: Beginning) -> bool
+fn has_no_form(whole: Result<PartialDate, DateFault>, beginning: Beginning) -> bool
     ensures { result ≡ spec.has_no_form whole beginning }
 {
     matches!(
@@ -104,41 +104,41 @@ fn has_no_form(whole: Result<SimpleDate, DateFault>, beginning: Beginning) -> bo
 }
 
 /// Returns the range of two dates.
-fn range(order: DateOrder, first: &[Part], last: &[Part]) -> Result<Extent, DateFault>
+fn range(order: DateOrder, first: &[Token], last: &[Token]) -> Result<Extent, DateFault>
     ensures { result ≡ spec.range order first.now last.now }
 {
-    let whole = simple_date(order, first);
+    let whole = partial_date(order, first);
     let beginning = beginning_of(first);
     if has_no_form(whole, beginning) {
         return Err(DateFault::Malformed);
     }
-    let last = simple_date(order, last)?;
+    let last = partial_date(order, last)?;
     Ok(Extent::FromTo(first_date(whole, beginning, last)?, last))
 }
 
 /// Returns whether parts are an open end.
-fn is_open(parts: &[Part]) -> bool
-    ensures { result ≡ spec.is_open parts.now }
+fn is_open(tokens: &[Token]) -> bool
+    ensures { result ≡ spec.is_open tokens.now }
 {
-    matches!(parts, [Open])
+    matches!(tokens, [Open])
 }
 
 /// Returns a date that is the last possible one.
-fn not_after(order: DateOrder, last: &[Part]) -> Result<Extent, DateFault>
+fn not_after(order: DateOrder, last: &[Token]) -> Result<Extent, DateFault>
     ensures { result ≡ spec.not_after order last.now }
 {
-    Ok(Extent::NotAfter(simple_date(order, last)?))
+    Ok(Extent::NotAfter(partial_date(order, last)?))
 }
 
 /// Returns a date that is the first possible one.
-fn not_before(order: DateOrder, first: &[Part]) -> Result<Extent, DateFault>
+fn not_before(order: DateOrder, first: &[Token]) -> Result<Extent, DateFault>
     ensures { result ≡ spec.not_before order first.now }
 {
-    Ok(Extent::NotBefore(simple_date(order, first)?))
+    Ok(Extent::NotBefore(partial_date(order, first)?))
 }
 
 /// Returns the range of two dates in digits.
-fn range_in_digits(first: &[Part], last: &[Part]) -> Result<Extent, DateFault>
+fn range_in_digits(first: &[Token], last: &[Token]) -> Result<Extent, DateFault>
     ensures { result ≡ spec.range_in_digits first.now last.now }
 {
     let first = date_in_digits(first)?;
@@ -146,10 +146,10 @@ fn range_in_digits(first: &[Part], last: &[Part]) -> Result<Extent, DateFault>
 }
 
 /// Returns whether there are no parts.
-fn is_nothing(parts: &[Part]) -> bool
-    ensures { result ≡ spec.is_nothing parts.now }
+fn is_nothing(tokens: &[Token]) -> bool
+    ensures { result ≡ spec.is_nothing tokens.now }
 {
-    matches!(parts, [])
+    matches!(tokens, [])
 }
 
 /// Returns a bound, unless its year may lack a digit.
@@ -164,21 +164,21 @@ fn unless_short(bound: Extent) -> Result<Extent, DateFault>
 }
 
 /// Returns a date in digits with nothing before its `/`: the last possible one.
-fn nothing_before(last: &[Part]) -> Result<Extent, DateFault>
+fn nothing_before(last: &[Token]) -> Result<Extent, DateFault>
     ensures { result ≡ spec.nothing_before last.now }
 {
     unless_short(Extent::NotAfter(date_in_digits(last)?))
 }
 
 /// Returns a date in digits with nothing after its `/`: the first possible one.
-fn nothing_after(first: &[Part]) -> Result<Extent, DateFault>
+fn nothing_after(first: &[Token]) -> Result<Extent, DateFault>
     ensures { result ≡ spec.nothing_after first.now }
 {
     unless_short(Extent::NotBefore(date_in_digits(first)?))
 }
 
 /// Returns the range of two dates with a `/` between them. Either end may be open.
-fn slashed_range(order: DateOrder, first: &[Part], last: &[Part]) -> Result<Extent, DateFault>
+fn slashed_range(order: DateOrder, first: &[Token], last: &[Token]) -> Result<Extent, DateFault>
     ensures { result ≡ spec.slashed_range order first.now last.now }
 {
     if is_open(first) {
@@ -195,7 +195,7 @@ fn slashed_range(order: DateOrder, first: &[Part], last: &[Part]) -> Result<Exte
 }
 
 /// Returns whether parts are a year alone.
-fn is_whole_year(first: &[Part]) -> bool
+fn is_whole_year(first: &[Token]) -> bool
     ensures { result ≡ spec.is_whole_year first.now }
 {
     match first {
@@ -206,7 +206,7 @@ fn is_whole_year(first: &[Part]) -> bool
 
 /// Returns whether parts begin with a number that a dash before it makes a part of the year's date,
 /// as in `1698-07-25 - 1699` and `1640-05/1641`.
-fn begins_short(last: &[Part]) -> bool
+fn begins_short(last: &[Token]) -> bool
     ensures { result ≡ spec.begins_short last.now }
 {
     match last {
@@ -216,7 +216,7 @@ fn begins_short(last: &[Part]) -> bool
 }
 
 /// Returns the range of two dates with a dash between them.
-fn dashed_range(order: DateOrder, first: &[Part], last: &[Part]) -> Result<Extent, DateFault>
+fn dashed_range(order: DateOrder, first: &[Token], last: &[Token]) -> Result<Extent, DateFault>
     ensures { result ≡ spec.dashed_range order first.now last.now }
 {
     if is_whole_year(first) && begins_short(last) {
@@ -229,13 +229,13 @@ fn dashed_range(order: DateOrder, first: &[Part], last: &[Part]) -> Result<Exten
 fn joined(
     order: DateOrder,
     joining: Joining,
-    first: &[Part],
-    part: Part,
-    last: &[Part],
+    first: &[Token],
+    token: Token,
+    last: &[Token],
 ) -> Result<Extent, DateFault>
-    ensures { result ≡ spec.joined order joining first.now part last.now }
+    ensures { result ≡ spec.joined order joining first.now token last.now }
 {
-    match (joining, part) {
+    match (joining, token) {
         (Joining::Any, Slash) => slashed_range(order, first, last),
         (Joining::Any | Joining::To, Dash) => dashed_range(order, first, last),
         (Joining::Any, To | Or) => range(order, first, last),
@@ -261,16 +261,16 @@ fn first_read(
 }
 
 /// Returns the range that parts are, at the first part that joins two dates.
-fn range_in(order: DateOrder, joining: Joining, parts: &[Part]) -> Result<Extent, DateFault>
-    ensures { result ≡ spec.range_after order joining [] parts.now }
+fn range_in(order: DateOrder, joining: Joining, tokens: &[Token]) -> Result<Extent, DateFault>
+    ensures { result ≡ spec.range_after order joining [] tokens.now }
 {
     let mut read = Err(DateFault::Malformed);
-    let mut place = parts.len();
+    let mut place = tokens.len();
     while place > 0 {
         place -= 1;
-        let last = &parts[place + 1..];
+        let last = &tokens[place + 1..];
         read = first_read(
-            joined(order, joining, &parts[..place], parts[place], last),
+            joined(order, joining, &tokens[..place], tokens[place], last),
             read,
         );
     }
@@ -289,26 +289,26 @@ fn or_fault(fault: DateFault, read: Result<Extent, DateFault>) -> Result<Extent,
 
 /// Returns one date, or a range of two.
 #[tactic(auto, unfolding(crate::specs::Extent::date_or_range))]
-fn date_or_range(order: DateOrder, parts: &[Part]) -> Result<Extent, DateFault>
-    ensures { result ≡ spec.date_or_range order parts.now }
+fn date_or_range(order: DateOrder, tokens: &[Token]) -> Result<Extent, DateFault>
+    ensures { result ≡ spec.date_or_range order tokens.now }
 {
-    match simple_date(order, parts) {
+    match partial_date(order, tokens) {
         Ok(date) => Ok(Extent::On(date)),
-        Err(DateFault::Malformed) => range_in(order, Joining::Any, parts),
+        Err(DateFault::Malformed) => range_in(order, Joining::Any, tokens),
         Err(DateFault::LaterYear) => {
-            or_fault(DateFault::LaterYear, range_in(order, Joining::Any, parts))
+            or_fault(DateFault::LaterYear, range_in(order, Joining::Any, tokens))
         }
         Err(fault) => Err(fault),
     }
 }
 
 /// Returns from when to when parts say that a date may be.
-pub fn extent_of(order: DateOrder, parts: &[Part]) -> Result<Extent, DateFault>
-    ensures { result ≡ spec.extent_of order parts.now }
+pub fn extent_of(order: DateOrder, tokens: &[Token]) -> Result<Extent, DateFault>
+    ensures { result ≡ spec.extent_of order tokens.now }
 {
-    match parts {
-        [Before, date @ ..] => Ok(Extent::Before(simple_date(order, date)?)),
-        [After, date @ ..] => Ok(Extent::After(simple_date(order, date)?)),
+    match tokens {
+        [Before, date @ ..] => Ok(Extent::Before(partial_date(order, date)?)),
+        [After, date @ ..] => Ok(Extent::After(partial_date(order, date)?)),
         [Not, Before, date @ ..] => not_before(order, date),
         [Not, After, date @ ..] => not_after(order, date),
         [Or, Before, date @ ..] => not_after(order, date),
@@ -316,6 +316,6 @@ pub fn extent_of(order: DateOrder, parts: &[Part]) -> Result<Extent, DateFault>
         [By | To, date @ ..] => not_after(order, date),
         [Between, dates @ ..] => range_in(order, Joining::And, dates),
         [From, dates @ ..] => range_in(order, Joining::To, dates),
-        _ => date_or_range(order, parts),
+        _ => date_or_range(order, tokens),
     }
 }

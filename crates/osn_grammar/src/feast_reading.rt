@@ -4,37 +4,37 @@ ghost use Rattle.std.specs.List.{list_any};
 ghost use Rattle.osn_grammar.specs.Reading as spec;
 
 use crate::feasts::feast_in;
-use crate::part::{FeastWord, Part};
 use crate::reading::{
     is_approximate, is_supplied, is_uncertain, reckoning_of, unless_open, weekday_of,
 };
+use crate::token::{FeastWord, Token};
 use osn_written::{AnyDate, DateFault, Extent, Reckoning};
 
 /// Returns whether a part is a word of a feast's name, other than `day`.
-fn is_feast(part: &Part) -> bool
-    ensures { result ≡ spec.is_feast part.now }
+fn is_feast(token: &Token) -> bool
+    ensures { result ≡ spec.is_feast token.now }
 {
-    match part {
-        Part::Feast(FeastWord::Day) => false,
-        Part::Feast(_) => true,
+    match token {
+        Token::Feast(FeastWord::Day) => false,
+        Token::Feast(_) => true,
         _ => false,
     }
 }
 
 /// Returns whether a part names a feast.
-pub fn has_feast(parts: &[Part]) -> bool
-    ensures { result ≡ list_any spec.is_feast parts.now }
+pub fn has_feast(tokens: &[Token]) -> bool
+    ensures { result ≡ list_any spec.is_feast tokens.now }
 {
-    parts.iter().any(|part| is_feast(part))
+    tokens.iter().any(|token| is_feast(token))
 }
 
 /// Returns the feast that parts are, with its signs, unless a calendar is named.
 fn with_its_signs(
-    parts: &[Part],
+    tokens: &[Token],
     reckoning: Option<Reckoning>,
     extent: Extent,
 ) -> Result<AnyDate, DateFault>
-    ensures { result ≡ spec.with_its_signs parts.now reckoning extent }
+    ensures { result ≡ spec.with_its_signs tokens.now reckoning extent }
 {
     if reckoning.is_some() {
         return Err(DateFault::Feast);
@@ -43,18 +43,18 @@ fn with_its_signs(
         extent,
         weekday: None,
         reckoning: None,
-        is_approximate: is_approximate(parts),
-        is_uncertain: is_uncertain(parts),
-        is_supplied: is_supplied(parts),
+        is_approximate: is_approximate(tokens),
+        is_uncertain: is_uncertain(tokens),
+        is_supplied: is_supplied(tokens),
     })
 }
 
 /// Returns the feast that parts are, or why they are not one. Its weekday is part of its name.
-pub fn feast_of(parts: &[Part], timed: &[Part]) -> Result<AnyDate, DateFault>
-    ensures { result ≡ spec.feast_of parts.now timed.now }
+pub fn feast_of(tokens: &[Token], timed: &[Token]) -> Result<AnyDate, DateFault>
+    ensures { result ≡ spec.feast_of tokens.now timed.now }
 {
-    let weekday = weekday_of(parts)?;
-    let reckoning = reckoning_of(parts)?;
+    let weekday = weekday_of(tokens)?;
+    let reckoning = reckoning_of(tokens)?;
     let extent = feast_in(weekday, timed)?;
-    with_its_signs(parts, reckoning, extent)
+    with_its_signs(tokens, reckoning, extent)
 }

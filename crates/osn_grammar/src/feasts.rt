@@ -4,8 +4,8 @@ ghost use Rattle.std.specs.Prelude.{◌≡◌};
 ghost use Rattle.osn_grammar.specs.Feasts as spec;
 
 use crate::forms::year_numbers;
-use crate::part::{FeastWord, Part};
 use crate::simple::{YearNumbers, one, year_of};
+use crate::token::{FeastWord, Token};
 use osn_days::Weekday;
 use osn_written::{DateFault, Extent, Feast};
 
@@ -150,11 +150,15 @@ fn in_year(feast: Option<Feast>, years: Option<YearNumbers>) -> Result<Extent, D
 }
 
 /// Returns the feast in a year of two words, of which the second one begins these parts.
-fn after_two(first: FeastWord, weekday: Option<Weekday>, rest: &[Part]) -> Result<Extent, DateFault>
+fn after_two(
+    first: FeastWord,
+    weekday: Option<Weekday>,
+    rest: &[Token],
+) -> Result<Extent, DateFault>
     ensures { result ≡ spec.after_two first weekday rest.now }
 {
     match rest {
-        [Part::Feast(second), year @ ..] => {
+        [Token::Feast(second), year @ ..] => {
             in_year(feast_of_two(first, *second, weekday), year_numbers(year))
         }
         _ => Err(DateFault::Feast),
@@ -165,7 +169,7 @@ fn after_two(first: FeastWord, weekday: Option<Weekday>, rest: &[Part]) -> Resul
 fn after_word(
     first: FeastWord,
     weekday: Option<Weekday>,
-    rest: &[Part],
+    rest: &[Token],
 ) -> Result<Extent, DateFault>
     ensures { result ≡ spec.after_word first weekday rest.now }
 {
@@ -177,12 +181,12 @@ fn after_word(
 
 /// Returns the feast in a year that parts are, with the weekday that is named. The parts are those
 /// that say which day is meant.
-pub fn feast_in(weekday: Option<Weekday>, timed: &[Part]) -> Result<Extent, DateFault>
+pub fn feast_in(weekday: Option<Weekday>, timed: &[Token]) -> Result<Extent, DateFault>
     ensures { result ≡ spec.feast_in weekday timed.now }
 {
     match timed {
-        [Part::Feast(first), rest @ ..] => after_word(*first, weekday, rest),
-        [Part::Number(year), Part::Feast(first)] => {
+        [Token::Feast(first), rest @ ..] => after_word(*first, weekday, rest),
+        [Token::Number(year), Token::Feast(first)] => {
             in_year(feast_by(*first, weekday), Some(one(*year)))
         }
         _ => Err(DateFault::Feast),

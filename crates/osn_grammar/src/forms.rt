@@ -2,21 +2,21 @@
 ghost use Rattle.std.specs.Prelude.{◌≡◌};
 ghost use Rattle.osn_grammar.specs.Forms as spec;
 
-use crate::part::Numeral;
-use crate::part::Part::{self, Blank, Dash, Dot, Month, Number, Slash};
 use crate::simple::{
     YearNumbers, around_month, day_in_digits, day_of_month, double_year_or_days, in_order,
     month_in_digits, month_of, month_or_double_year, one, three_numbers, two, whole_year,
     year_and_day, year_and_month, year_and_name, year_last,
 };
+use crate::token::Numeral;
+use crate::token::Token::{self, Blank, Dash, Dot, Month, Number, Slash};
 use crate::written::DateOrder;
-use osn_written::{DateFault, SimpleDate};
+use osn_written::{DateFault, PartialDate};
 
 /// Returns the numbers of a year that parts are: one, or two with a `/` between them.
-pub fn year_numbers(parts: &[Part]) -> Option<YearNumbers>
-    ensures { result ≡ spec.year_numbers parts.now }
+pub fn year_numbers(tokens: &[Token]) -> Option<YearNumbers>
+    ensures { result ≡ spec.year_numbers tokens.now }
 {
-    match parts {
+    match tokens {
         [Number(y)] => Some(one(*y)),
         [Number(y), Slash, Number(l)] => Some(two(*y, *l)),
         _ => None,
@@ -24,7 +24,11 @@ pub fn year_numbers(parts: &[Part]) -> Option<YearNumbers>
 }
 
 /// Returns the day of a month in a year, if there is a year.
-fn day_in_year(years: Option<YearNumbers>, month: u8, day: Numeral) -> Result<SimpleDate, DateFault>
+fn day_in_year(
+    years: Option<YearNumbers>,
+    month: u8,
+    day: Numeral,
+) -> Result<PartialDate, DateFault>
     ensures { result ≡ spec.day_in_year years month day }
 {
     match years {
@@ -34,7 +38,7 @@ fn day_in_year(years: Option<YearNumbers>, month: u8, day: Numeral) -> Result<Si
 }
 
 /// Returns the month in a year, if there is a year.
-fn month_in_year(years: Option<YearNumbers>, month: u8) -> Result<SimpleDate, DateFault>
+fn month_in_year(years: Option<YearNumbers>, month: u8) -> Result<PartialDate, DateFault>
     ensures { result ≡ spec.month_in_year years month }
 {
     match years {
@@ -48,8 +52,8 @@ fn after_slash(
     order: DateOrder,
     first: Numeral,
     second: Numeral,
-    rest: &[Part],
-) -> Result<SimpleDate, DateFault>
+    rest: &[Token],
+) -> Result<PartialDate, DateFault>
     ensures { result ≡ spec.after_slash order first second rest.now }
 {
     match rest {
@@ -61,7 +65,7 @@ fn after_slash(
 }
 
 /// Returns the date of two numbers with a full stop between them and these parts after them.
-fn after_dot(day: Numeral, month: Numeral, rest: &[Part]) -> Result<SimpleDate, DateFault>
+fn after_dot(day: Numeral, month: Numeral, rest: &[Token]) -> Result<PartialDate, DateFault>
     ensures { result ≡ spec.after_dot day month rest.now }
 {
     match rest {
@@ -72,10 +76,10 @@ fn after_dot(day: Numeral, month: Numeral, rest: &[Part]) -> Result<SimpleDate, 
 }
 
 /// Returns a day in a form of numbers alone.
-fn day_in_numbers(order: DateOrder, parts: &[Part]) -> Result<SimpleDate, DateFault>
-    ensures { result ≡ spec.day_in_numbers order parts.now }
+fn day_in_numbers(order: DateOrder, tokens: &[Token]) -> Result<PartialDate, DateFault>
+    ensures { result ≡ spec.day_in_numbers order tokens.now }
 {
-    match parts {
+    match tokens {
         [Number(a), Number(b), Number(c)] => three_numbers(order, *a, *b, *c),
         [Number(a), Dash, Number(b), Dash, Number(c)] => three_numbers(order, *a, *b, *c),
         [Number(a), Slash, Number(b), rest @ ..] => after_slash(order, *a, *b, rest),
@@ -85,7 +89,7 @@ fn day_in_numbers(order: DateOrder, parts: &[Part]) -> Result<SimpleDate, DateFa
 }
 
 /// Returns the day of a number and the name of a month with these parts after them.
-fn after_name(first: Numeral, month: u8, rest: &[Part]) -> Result<SimpleDate, DateFault>
+fn after_name(first: Numeral, month: u8, rest: &[Token]) -> Result<PartialDate, DateFault>
     ensures { result ≡ spec.after_name first month rest.now }
 {
     match rest {
@@ -96,7 +100,7 @@ fn after_name(first: Numeral, month: u8, rest: &[Part]) -> Result<SimpleDate, Da
 }
 
 /// Returns the day of a number with these parts after it.
-fn after_number(first: Numeral, rest: &[Part]) -> Result<SimpleDate, DateFault>
+fn after_number(first: Numeral, rest: &[Token]) -> Result<PartialDate, DateFault>
     ensures { result ≡ spec.after_number first rest.now }
 {
     match rest {
@@ -110,7 +114,7 @@ fn after_number(first: Numeral, rest: &[Part]) -> Result<SimpleDate, DateFault>
 }
 
 /// Returns the day of the name of a month with these parts after it.
-fn after_month(month: u8, rest: &[Part]) -> Result<SimpleDate, DateFault>
+fn after_month(month: u8, rest: &[Token]) -> Result<PartialDate, DateFault>
     ensures { result ≡ spec.after_month month rest.now }
 {
     match rest {
@@ -122,10 +126,10 @@ fn after_month(month: u8, rest: &[Part]) -> Result<SimpleDate, DateFault>
 }
 
 /// Returns a day in a form with the name of its month.
-fn day_in_words(parts: &[Part]) -> Result<SimpleDate, DateFault>
-    ensures { result ≡ spec.day_in_words parts.now }
+fn day_in_words(tokens: &[Token]) -> Result<PartialDate, DateFault>
+    ensures { result ≡ spec.day_in_words tokens.now }
 {
-    match parts {
+    match tokens {
         [Number(a), rest @ ..] => after_number(*a, rest),
         [Month(m), rest @ ..] => after_month(*m, rest),
         _ => Err(DateFault::Malformed),
@@ -133,7 +137,7 @@ fn day_in_words(parts: &[Part]) -> Result<SimpleDate, DateFault>
 }
 
 /// Returns the month or the year of a year with a dash and these parts after it.
-fn after_dash(year: Numeral, rest: &[Part]) -> Result<SimpleDate, DateFault>
+fn after_dash(year: Numeral, rest: &[Token]) -> Result<PartialDate, DateFault>
     ensures { result ≡ spec.after_dash year rest.now }
 {
     match rest {
@@ -148,8 +152,8 @@ fn after_dash(year: Numeral, rest: &[Part]) -> Result<SimpleDate, DateFault>
 fn after_double_year(
     first: Numeral,
     second: Numeral,
-    rest: &[Part],
-) -> Result<SimpleDate, DateFault>
+    rest: &[Token],
+) -> Result<PartialDate, DateFault>
     ensures { result ≡ spec.after_double_year first second rest.now }
 {
     match rest {
@@ -161,7 +165,7 @@ fn after_double_year(
 }
 
 /// Returns a month or a year in a form that begins with a number, with these parts after it.
-fn after_year(year: Numeral, rest: &[Part]) -> Result<SimpleDate, DateFault>
+fn after_year(year: Numeral, rest: &[Token]) -> Result<PartialDate, DateFault>
     ensures { result ≡ spec.after_year year rest.now }
 {
     match rest {
@@ -174,10 +178,10 @@ fn after_year(year: Numeral, rest: &[Part]) -> Result<SimpleDate, DateFault>
 }
 
 /// Returns a month or a year.
-pub fn month_or_year(parts: &[Part]) -> Result<SimpleDate, DateFault>
-    ensures { result ≡ spec.month_or_year parts.now }
+pub fn month_or_year(tokens: &[Token]) -> Result<PartialDate, DateFault>
+    ensures { result ≡ spec.month_or_year tokens.now }
 {
-    match parts {
+    match tokens {
         [Number(y), rest @ ..] => after_year(*y, rest),
         [Month(m), year @ ..] => month_in_year(year_numbers(year), *m),
         _ => Err(DateFault::Malformed),
@@ -185,10 +189,10 @@ pub fn month_or_year(parts: &[Part]) -> Result<SimpleDate, DateFault>
 }
 
 /// Returns a date in digits with its year first: a day, a month or a year.
-pub fn date_in_digits(parts: &[Part]) -> Result<SimpleDate, DateFault>
-    ensures { result ≡ spec.date_in_digits parts.now }
+pub fn date_in_digits(tokens: &[Token]) -> Result<PartialDate, DateFault>
+    ensures { result ≡ spec.date_in_digits tokens.now }
 {
-    match parts {
+    match tokens {
         [Number(y), Dash, Number(m), Dash, Number(d)] => day_in_digits(one(*y), *m, *d),
         [Number(y), Dash, Number(m)] => year_and_month(*y, *m),
         [Number(y)] => whole_year(one(*y)),
@@ -197,15 +201,15 @@ pub fn date_in_digits(parts: &[Part]) -> Result<SimpleDate, DateFault>
 }
 
 /// Returns the date of parts that are one date.
-pub fn simple_date(order: DateOrder, parts: &[Part]) -> Result<SimpleDate, DateFault>
-    ensures { result ≡ spec.simple_date order parts.now }
+pub fn partial_date(order: DateOrder, tokens: &[Token]) -> Result<PartialDate, DateFault>
+    ensures { result ≡ spec.partial_date order tokens.now }
 {
-    match day_in_numbers(order, parts) {
+    match day_in_numbers(order, tokens) {
         Err(DateFault::Malformed) => {}
         read => return read,
     }
-    match day_in_words(parts) {
-        Err(DateFault::Malformed) => month_or_year(parts),
+    match day_in_words(tokens) {
+        Err(DateFault::Malformed) => month_or_year(tokens),
         read => read,
     }
 }

@@ -4,11 +4,11 @@ ghost use Rattle.std.specs.List.{list_any};
 ghost use Rattle.osn_grammar.specs.Period as spec;
 
 use crate::forms::month_or_year;
-use crate::part::Part::{self, Dash, Fraction, Nth, Number, Season};
-use crate::part::{Fraction as Share, Nth as Place, Numeral, Years};
 use crate::simple::{one, year_of};
+use crate::token::Token::{self, Dash, Fraction, Nth, Number, Season};
+use crate::token::{Fraction as Share, Nth as Place, Numeral, Years};
 use crate::years::{by_word, one_in, or_years, range_of};
-use osn_written::{DateFault, Extent, Portion, SimpleDate, Year};
+use osn_written::{DateFault, Extent, PartialDate, Portion, Year};
 
 /// Returns the portion that a third or a half is, by its place, such as `first half`.
 fn portion_of(place: Place, share: Share) -> Portion
@@ -55,18 +55,18 @@ fn part_of_years(portion: Portion, years: Years) -> Years
 }
 
 /// Returns a day of a month.
-fn day_in(year: Year, month: u8, day: u8) -> SimpleDate
+fn day_in(year: Year, month: u8, day: u8) -> PartialDate
     ensures { result ≡ spec.day_in year month day }
 {
-    SimpleDate::Day { year, month, day }
+    PartialDate::Day { year, month, day }
 }
 
 /// Returns the last day of a month, or the whole of February, whose last day differs.
-fn end_of(year: Year, month: u8) -> SimpleDate
+fn end_of(year: Year, month: u8) -> PartialDate
     ensures { result ≡ spec.end_of year month }
 {
     match month {
-        2 => SimpleDate::Month { year, month },
+        2 => PartialDate::Month { year, month },
         4 | 6 | 9 | 11 => day_in(year, month, 30),
         _ => day_in(year, month, 31),
     }
@@ -86,19 +86,19 @@ fn part_of_month(portion: Portion, year: Year, month: u8) -> Extent
 }
 
 /// Returns the part of a month or a year.
-fn part_of_date(portion: Portion, whole: Result<SimpleDate, DateFault>) -> Option<Extent>
+fn part_of_date(portion: Portion, whole: Result<PartialDate, DateFault>) -> Option<Extent>
     ensures { result ≡ spec.part_of_date portion whole }
 {
     match whole {
-        Ok(SimpleDate::Month { year, month }) => Some(part_of_month(portion, year, month)),
-        Ok(SimpleDate::Year(year)) => Some(Extent::Part(portion, SimpleDate::Year(year))),
+        Ok(PartialDate::Month { year, month }) => Some(part_of_month(portion, year, month)),
+        Ok(PartialDate::Year(year)) => Some(Extent::Token(portion, PartialDate::Year(year))),
         _ => None,
     }
 }
 
 /// Returns the part of the month, the year, the decade or the century that parts are.
-fn part_of(portion: Portion, whole: &[Part]) -> Option<Extent>
-    ensures { result ≡ spec.part_of portion whole.now }
+fn token_of(portion: Portion, whole: &[Token]) -> Option<Extent>
+    ensures { result ≡ spec.token_of portion whole.now }
 {
     match or_years(one_in(whole), by_word(whole)) {
         Some(years) => Some(range_of(part_of_years(portion, years))),
@@ -107,13 +107,13 @@ fn part_of(portion: Portion, whole: &[Part]) -> Option<Extent>
 }
 
 /// Returns the same without a dash before the whole, as in `mid-1675`, or the word `third`.
-fn part_after(portion: Portion, rest: &[Part]) -> Option<Extent>
+fn part_after(portion: Portion, rest: &[Token]) -> Option<Extent>
     ensures { result ≡ spec.part_after portion rest.now }
 {
     match rest {
-        [Dash, whole @ ..] => part_of(portion, whole),
-        [Fraction(Share::Third), whole @ ..] => part_of(portion, whole),
-        _ => part_of(portion, rest),
+        [Dash, whole @ ..] => token_of(portion, whole),
+        [Fraction(Share::Third), whole @ ..] => token_of(portion, whole),
+        _ => token_of(portion, rest),
     }
 }
 
@@ -124,8 +124,8 @@ fn three_months(year: Result<Year, DateFault>, first: u8) -> Option<Extent>
 {
     match year {
         Ok(year) => Some(Extent::FromTo(
-            SimpleDate::Month { year, month: first },
-            SimpleDate::Month {
+            PartialDate::Month { year, month: first },
+            PartialDate::Month {
                 year,
                 month: first + 2,
             },
@@ -135,7 +135,7 @@ fn three_months(year: Result<Year, DateFault>, first: u8) -> Option<Extent>
 }
 
 /// Returns the months of a season. Which year a winter is of is open.
-fn season_in(first: u8, year: &[Part]) -> Option<Extent>
+fn season_in(first: u8, year: &[Token]) -> Option<Extent>
     ensures { result ≡ spec.season_in first year.now }
 {
     match year {
@@ -186,17 +186,17 @@ fn nth_of(number: u32) -> Option<Place>
 }
 
 /// Returns the part of a time that a third or a half is, by its place.
-fn nth_part(place: Option<Place>, share: Share, whole: &[Part]) -> Option<Extent>
+fn nth_part(place: Option<Place>, share: Share, whole: &[Token]) -> Option<Extent>
     ensures { result ≡ spec.nth_part place share whole.now }
 {
     match place {
-        Some(place) => part_of(portion_of(place, share), whole),
+        Some(place) => token_of(portion_of(place, share), whole),
         None => None,
     }
 }
 
 /// Returns the part of a time that a number and these parts after it are.
-fn after_number(number: Numeral, rest: &[Part]) -> Option<Extent>
+fn after_number(number: Numeral, rest: &[Token]) -> Option<Extent>
     ensures { result ≡ spec.after_number number rest.now }
 {
     match rest {
@@ -208,11 +208,11 @@ fn after_number(number: Numeral, rest: &[Part]) -> Option<Extent>
 
 /// Returns the part of a time that parts are, if they are one: a part of a month, a year, a decade
 /// or a century, a season or a quarter.
-pub fn period_in(parts: &[Part]) -> Option<Extent>
-    ensures { result ≡ spec.period_in parts.now }
+pub fn period_in(tokens: &[Token]) -> Option<Extent>
+    ensures { result ≡ spec.period_in tokens.now }
 {
-    match parts {
-        [Part::Portion(portion), rest @ ..] => part_after(*portion, rest),
+    match tokens {
+        [Token::Portion(portion), rest @ ..] => part_after(*portion, rest),
         [Nth(place), Fraction(share), whole @ ..] => nth_part(Some(*place), *share, whole),
         [Season(first), year @ ..] => season_in(*first, year),
         [Number(number), rest @ ..] => after_number(*number, rest),
@@ -221,10 +221,8 @@ pub fn period_in(parts: &[Part]) -> Option<Extent>
 }
 
 /// Returns whether a part names a part of a time.
-pub fn has_period(parts: &[Part]) -> bool
-    ensures { result ≡ list_any spec.is_period parts.now }
+pub fn has_period(tokens: &[Token]) -> bool
+    ensures { result ≡ list_any spec.is_period tokens.now }
 {
-    parts
-        .iter()
-        .any(|part| matches!(part, Part::Portion(_) | Part::Season(_)))
+    tokens.iter().any(|token| matches!(token, Token::Portion(_) | Token::Season(_)))
 }

@@ -11,88 +11,89 @@ ghost use Rattle.osn_grammar.specs.SetsInDigits.{AreSetsRead};
 use crate::both_calendars::{day_by_both, named_day};
 use crate::extent::extent_of;
 use crate::feast_reading::{feast_of, has_feast};
-use crate::part::Part;
 use crate::period::{has_period, period_in};
 use crate::roman::{has_roman_numeral, roman_date};
-use crate::scan::parts_in;
+use crate::scan::tokens_in;
 use crate::set::set_in;
 use crate::simple::lacks_digit;
+use crate::token::Token;
 use crate::written::{DateOrder, Written};
 use crate::years::{has_open_year, range_of, years_in, years_of_text};
 use osn_days::Weekday;
-use osn_written::{AnyDate, DateFault, Extent, Reckoning, SimpleDate};
+use osn_written::{AnyDate, DateFault, Extent, PartialDate, Reckoning};
 use std::alloc::{AllocError, Global};
 
 /// Returns the weekday so far, with that of one more part. No two may be named.
-fn with_weekday(found: Option<Weekday>, part: Part) -> Result<Option<Weekday>, DateFault>
-    ensures { result ≡ spec.with_weekday found part }
+fn with_weekday(found: Option<Weekday>, token: Token) -> Result<Option<Weekday>, DateFault>
+    ensures { result ≡ spec.with_weekday found token }
 {
-    match (found, part) {
-        (Some(_), Part::Weekday(_)) => Err(DateFault::Malformed),
-        (None, Part::Weekday(weekday)) => Ok(Some(weekday)),
+    match (found, token) {
+        (Some(_), Token::Weekday(_)) => Err(DateFault::Malformed),
+        (None, Token::Weekday(weekday)) => Ok(Some(weekday)),
         _ => Ok(found),
     }
 }
 
 /// Returns the weekday that parts name, if one does.
-pub fn weekday_of(parts: &[Part]) -> Result<Option<Weekday>, DateFault>
-    ensures { result ≡ spec.weekday_after None parts.now }
+pub fn weekday_of(tokens: &[Token]) -> Result<Option<Weekday>, DateFault>
+    ensures { result ≡ spec.weekday_after None tokens.now }
 {
     let mut found = None;
-    for part in parts {
-        found = with_weekday(found, *part)?;
+    for token in tokens {
+        found = with_weekday(found, *token)?;
     }
     Ok(found)
 }
 
 /// Returns the calendar so far, with that of one more part. No two may be named.
-fn with_reckoning(found: Option<Reckoning>, part: Part) -> Result<Option<Reckoning>, DateFault>
-    ensures { result ≡ spec.with_reckoning found part }
+fn with_reckoning(found: Option<Reckoning>, token: Token) -> Result<Option<Reckoning>, DateFault>
+    ensures { result ≡ spec.with_reckoning found token }
 {
-    match (found, part) {
-        (Some(_), Part::Reckoning(_)) => Err(DateFault::Malformed),
-        (None, Part::Reckoning(reckoning)) => Ok(Some(reckoning)),
+    match (found, token) {
+        (Some(_), Token::Reckoning(_)) => Err(DateFault::Malformed),
+        (None, Token::Reckoning(reckoning)) => Ok(Some(reckoning)),
         _ => Ok(found),
     }
 }
 
 /// Returns the calendar that parts name, if one does.
-pub fn reckoning_of(parts: &[Part]) -> Result<Option<Reckoning>, DateFault>
-    ensures { result ≡ spec.reckoning_after None parts.now }
+pub fn reckoning_of(tokens: &[Token]) -> Result<Option<Reckoning>, DateFault>
+    ensures { result ≡ spec.reckoning_after None tokens.now }
 {
     let mut found = None;
-    for part in parts {
-        found = with_reckoning(found, *part)?;
+    for token in tokens {
+        found = with_reckoning(found, *token)?;
     }
     Ok(found)
 }
 
 /// Returns whether a part says that a date is approximate.
-pub fn is_approximate(parts: &[Part]) -> bool
-    ensures { result ≡ list_any spec.is_about parts.now }
+pub fn is_approximate(tokens: &[Token]) -> bool
+    ensures { result ≡ list_any spec.is_about tokens.now }
 {
-    parts.iter().any(|part| matches!(part, Part::About | Part::AboutAndDoubt | Part::Estimated))
+    tokens.iter().any(|token| matches!(
+        token,
+        Token::About | Token::AboutAndDoubt | Token::Estimated
+    ))
 }
 
 /// Returns whether a part says that a date is in doubt.
-pub fn is_uncertain(parts: &[Part]) -> bool
-    ensures { result ≡ list_any spec.is_doubt parts.now }
+pub fn is_uncertain(tokens: &[Token]) -> bool
+    ensures { result ≡ list_any spec.is_doubt tokens.now }
 {
-    parts
-        .iter()
-        .any(|part| matches!(part, Part::Doubt | Part::AboutAndDoubt))
+    tokens.iter().any(|token| matches!(token, Token::Doubt | Token::AboutAndDoubt))
 }
 
 /// Returns whether a part says that an editor supplied a date.
-pub fn is_supplied(parts: &[Part]) -> bool
-    ensures { result ≡ list_any spec.is_bracket parts.now }
+pub fn is_supplied(tokens: &[Token]) -> bool
+    ensures { result ≡ list_any spec.is_bracket tokens.now }
 {
-    parts.iter().any(|part| matches!(part, Part::Bracket))
+    tokens.iter().any(|token| matches!(token, Token::Bracket))
 }
 
 /// What parts say of the time, by which calendar.
 #[derive(Clone, Copy)]
-struct Told {
+struct ReckonedExtent {
     extent: Extent,
     reckoning: Option<Reckoning>,
     /// Whether it is part of a time, such as `early 1675`.
@@ -100,10 +101,10 @@ struct Told {
 }
 
 /// Returns what is said by a usual form.
-fn plain(extent: Extent, reckoning: Option<Reckoning>) -> Told
-    ensures { result ≡ spec.told reckoning extent }
+fn plain(extent: Extent, reckoning: Option<Reckoning>) -> ReckonedExtent
+    ensures { result ≡ spec.reckoned reckoning extent }
 {
-    Told {
+    ReckonedExtent {
         extent,
         reckoning,
         is_part: false,
@@ -111,12 +112,12 @@ fn plain(extent: Extent, reckoning: Option<Reckoning>) -> Told
 }
 
 /// Returns the day by both calendars, which is by the new one, unless parts name a calendar.
-fn told_by_both(
+fn extent_by_both(
     reckoning: Option<Reckoning>,
     fault: DateFault,
-    day: Result<SimpleDate, DateFault>,
-) -> Result<Told, DateFault>
-    ensures { result ≡ spec.told_by_both reckoning fault day }
+    day: Result<PartialDate, DateFault>,
+) -> Result<ReckonedExtent, DateFault>
+    ensures { result ≡ spec.extent_by_both reckoning fault day }
 {
     match day {
         Ok(date) if reckoning.is_none() => {
@@ -129,25 +130,25 @@ fn told_by_both(
 }
 
 /// Returns whether parts begin with `est` or `cal`.
-fn begin_estimated(parts: &[Part]) -> bool
-    ensures { result ≡ spec.begin_estimated parts.now }
+fn begin_estimated(tokens: &[Token]) -> bool
+    ensures { result ≡ spec.begin_estimated tokens.now }
 {
-    matches!(parts, [Part::Estimated, ..])
+    matches!(tokens, [Token::Estimated, ..])
 }
 
 /// Returns whether parts begin with a number.
-fn begin_with_number(parts: &[Part]) -> bool
-    ensures { result ≡ spec.begin_with_number parts.now }
+fn begin_with_number(tokens: &[Token]) -> bool
+    ensures { result ≡ spec.begin_with_number tokens.now }
 {
-    matches!(parts, [Part::Number(_), ..])
+    matches!(tokens, [Token::Number(_), ..])
 }
 
 /// Returns what comes after `est` or `cal`, if a text begins with it and a number comes next.
-fn after_estimated(order: DateOrder, parts: &[Part], timed: &[Part]) -> Result<Extent, DateFault>
-    ensures { result ≡ spec.after_estimated order parts.now timed.now }
+fn after_estimated(order: DateOrder, tokens: &[Token], timed: &[Token]) -> Result<Extent, DateFault>
+    ensures { result ≡ spec.after_estimated order tokens.now timed.now }
 {
     match timed {
-        [Part::Estimated, date @ ..] if begin_estimated(parts) && begin_with_number(date) => {
+        [Token::Estimated, date @ ..] if begin_estimated(tokens) && begin_with_number(date) => {
             extent_of(order, date)
         }
         _ => Err(DateFault::Malformed),
@@ -156,23 +157,23 @@ fn after_estimated(order: DateOrder, parts: &[Part], timed: &[Part]) -> Result<E
 
 /// Returns what parts without a usual form say: an estimated date, a decade, a century, a part of a
 /// time, a day with a Roman numeral or a day by both calendars.
-fn told_otherwise(
+fn extent_otherwise(
     order: DateOrder,
-    parts: &[Part],
-    timed: &[Part],
+    tokens: &[Token],
+    timed: &[Token],
     reckoning: Option<Reckoning>,
     fault: DateFault,
-) -> Result<Told, DateFault>
-    ensures { result ≡ spec.told_otherwise order parts.now timed.now reckoning fault }
+) -> Result<ReckonedExtent, DateFault>
+    ensures { result ≡ spec.extent_otherwise order tokens.now timed.now reckoning fault }
 {
-    if let Ok(extent) = after_estimated(order, parts, timed) {
+    if let Ok(extent) = after_estimated(order, tokens, timed) {
         return Ok(plain(extent, reckoning));
     }
     if let Some(years) = years_in(timed) {
         return Ok(plain(range_of(years), reckoning));
     }
     if let Some(extent) = period_in(timed) {
-        return Ok(Told {
+        return Ok(ReckonedExtent {
             extent,
             reckoning,
             is_part: true,
@@ -180,38 +181,38 @@ fn told_otherwise(
     }
     match roman_date(timed) {
         Ok(date) => Ok(plain(Extent::On(date), reckoning)),
-        Err(_) => told_by_both(reckoning, fault, day_by_both(parts, timed)),
+        Err(_) => extent_by_both(reckoning, fault, day_by_both(tokens, timed)),
     }
 }
 
 /// Returns what parts say, by a usual form or by another one.
 fn or_other(
     order: DateOrder,
-    parts: &[Part],
-    timed: &[Part],
+    tokens: &[Token],
+    timed: &[Token],
     reckoning: Option<Reckoning>,
     read: Result<Extent, DateFault>,
-) -> Result<Told, DateFault>
-    ensures { result ≡ spec.or_other order parts.now timed.now reckoning read }
+) -> Result<ReckonedExtent, DateFault>
+    ensures { result ≡ spec.or_other order tokens.now timed.now reckoning read }
 {
     match read {
         Ok(extent) => Ok(plain(extent, reckoning)),
-        Err(fault) => told_otherwise(order, parts, timed, reckoning, fault),
+        Err(fault) => extent_otherwise(order, tokens, timed, reckoning, fault),
     }
 }
 
 /// Returns what parts say of the time by the calendar that they name, or by both of them.
-fn told_in(
+fn extent_in(
     order: DateOrder,
-    parts: &[Part],
-    timed: &[Part],
+    tokens: &[Token],
+    timed: &[Token],
     named: Result<Option<Reckoning>, DateFault>,
-) -> Result<Told, DateFault>
-    ensures { result ≡ spec.told_in order parts.now timed.now named }
+) -> Result<ReckonedExtent, DateFault>
+    ensures { result ≡ spec.extent_in order tokens.now timed.now named }
 {
     match named {
-        Ok(reckoning) => or_other(order, parts, timed, reckoning, extent_of(order, timed)),
-        Err(fault) => told_by_both(None, fault, named_day(parts, timed)),
+        Ok(reckoning) => or_other(order, tokens, timed, reckoning, extent_of(order, timed)),
+        Err(fault) => extent_by_both(None, fault, named_day(tokens, timed)),
     }
 }
 
@@ -228,40 +229,40 @@ pub fn unless_open(date: AnyDate) -> Result<AnyDate, DateFault>
 }
 
 /// Returns the date that parts say. The parts `timed` are those that say which day is meant.
-fn date_of(order: DateOrder, parts: &[Part], timed: &[Part]) -> Result<AnyDate, DateFault>
-    ensures { result ≡ spec.date_of order parts.now timed.now }
+fn date_of(order: DateOrder, tokens: &[Token], timed: &[Token]) -> Result<AnyDate, DateFault>
+    ensures { result ≡ spec.date_of order tokens.now timed.now }
 {
-    let weekday = weekday_of(parts)?;
-    let told = told_in(order, parts, timed, reckoning_of(parts))?;
+    let weekday = weekday_of(tokens)?;
+    let reckoned = extent_in(order, tokens, timed, reckoning_of(tokens))?;
     unless_open(AnyDate {
-        extent: told.extent,
+        extent: reckoned.extent,
         weekday,
-        reckoning: told.reckoning,
-        is_approximate: told.is_part || is_approximate(parts),
-        is_uncertain: is_uncertain(parts),
-        is_supplied: is_supplied(parts),
+        reckoning: reckoned.reckoning,
+        is_approximate: reckoned.is_part || is_approximate(tokens),
+        is_uncertain: is_uncertain(tokens),
+        is_supplied: is_supplied(tokens),
     })
 }
 
 /// Returns whether parts are a year of three digits with a dash or two full stops after it.
-fn is_open_end(timed: &[Part]) -> bool
+fn is_open_end(timed: &[Token]) -> bool
     ensures { result ≡ spec.is_open_end timed.now }
 {
     match timed {
-        [Part::Number(year), Part::Dash | Part::Open] => lacks_digit(*year),
+        [Token::Number(year), Token::Dash | Token::Open] => lacks_digit(*year),
         _ => false,
     }
 }
 
 /// Returns whether parts end with such a year.
-fn ends_open(timed: &[Part]) -> bool
+fn ends_open(timed: &[Token]) -> bool
     ensures { result ≡ spec.ends_open timed.now }
 {
     timed.len() >= 2 && is_open_end(&timed[timed.len() - 2..])
 }
 
 /// Returns the fault of parts, or that of a year with an open digit if they end with one.
-fn open_or(timed: &[Part], fault: DateFault) -> DateFault
+fn open_or(timed: &[Token], fault: DateFault) -> DateFault
     ensures { result ≡ spec.open_or timed.now fault }
 {
     match fault {
@@ -272,14 +273,14 @@ fn open_or(timed: &[Part], fault: DateFault) -> DateFault
 
 /// Returns why parts are not a date: the part of a time, the Roman numeral or the year with an open
 /// digit that they have, or else the fault.
-fn reason(parts: &[Part], timed: &[Part], fault: DateFault) -> DateFault
-    ensures { result ≡ spec.reason parts.now timed.now fault }
+fn reason(tokens: &[Token], timed: &[Token], fault: DateFault) -> DateFault
+    ensures { result ≡ spec.reason tokens.now timed.now fault }
 {
-    if has_period(parts) {
+    if has_period(tokens) {
         DateFault::OpenPart
-    } else if has_roman_numeral(parts) {
+    } else if has_roman_numeral(tokens) {
         DateFault::RomanNumeral
-    } else if has_open_year(parts) {
+    } else if has_open_year(tokens) {
         DateFault::OpenYear
     } else {
         open_or(timed, fault)
@@ -288,36 +289,40 @@ fn reason(parts: &[Part], timed: &[Part], fault: DateFault) -> DateFault
 
 /// Returns a date that was read, or why parts are not a date.
 fn or_reason(
-    parts: &[Part],
-    timed: &[Part],
+    tokens: &[Token],
+    timed: &[Token],
     read: Result<AnyDate, DateFault>,
 ) -> Result<Written, DateFault>
-    ensures { result ≡ spec.or_reason parts.now timed.now read }
+    ensures { result ≡ spec.or_reason tokens.now timed.now read }
 {
     match read {
         Ok(date) => Ok(Written::Date(date)),
-        Err(fault) => Err(reason(parts, timed, fault)),
+        Err(fault) => Err(reason(tokens, timed, fault)),
     }
 }
 
 /// Returns whether parts say that a text is undated, as `n.d.` does.
-fn is_undated(timed: &[Part]) -> bool
+fn is_undated(timed: &[Token]) -> bool
     ensures { result ≡ spec.is_undated timed.now }
 {
-    matches!(timed, [Part::Undated])
+    matches!(timed, [Token::Undated])
 }
 
 /// Returns what parts say. The parts `timed` are those that say which day is meant.
-fn reading_of_parts(order: DateOrder, parts: &[Part], timed: &[Part]) -> Result<Written, DateFault>
-    ensures { result ≡ spec.reading_of_parts order parts.now timed.now }
+fn reading_of_tokens(
+    order: DateOrder,
+    tokens: &[Token],
+    timed: &[Token],
+) -> Result<Written, DateFault>
+    ensures { result ≡ spec.reading_of_tokens order tokens.now timed.now }
 {
-    if parts.is_empty() || is_undated(timed) {
+    if tokens.is_empty() || is_undated(timed) {
         return Ok(Written::NoDate);
     }
-    if has_feast(parts) {
-        return Ok(Written::Date(feast_of(parts, timed)?));
+    if has_feast(tokens) {
+        return Ok(Written::Date(feast_of(tokens, timed)?));
     }
-    or_reason(parts, timed, date_of(order, parts, timed))
+    or_reason(tokens, timed, date_of(order, tokens, timed))
 }
 
 /// Returns that a text is a set of dates, or why its first wrong member is not one, or otherwise
@@ -375,13 +380,13 @@ pub fn read_date(
     // as a law: a set of two or more such dates and ranges is read as that set
     ensures sets { AreSetsRead }
 {
-    let parts = parts_in(alloc, text)?;
-    let timed: Vec<Part> = parts
+    let tokens = tokens_in(alloc, text)?;
+    let timed: Vec<Token> = tokens
         .iter()
         .copied()
-        .filter(|part| part.tells_time())
+        .filter(|token| token.is_of_time())
         .collect(alloc)?;
-    match reading_of_parts(order, parts.as_slice(), timed.as_slice()) {
+    match reading_of_tokens(order, tokens.as_slice(), timed.as_slice()) {
         Ok(written) => Ok(Ok(written)),
         Err(fault) => Ok(or_years(text, or_set(alloc, text, fault)?)),
     }

@@ -5,13 +5,13 @@ ghost use Rattle.osn_grammar.specs.Reading as reading;
 ghost use Rattle.osn_grammar.specs.Roman as spec;
 
 use crate::forms::year_numbers;
-use crate::part::Numeral;
-use crate::part::Part::{self, Dash, Month, Number, Roman, Slash};
 use crate::simple::{YearNumbers, around_month, day_of_month, is_long, one};
-use osn_written::{DateFault, SimpleDate};
+use crate::token::Numeral;
+use crate::token::Token::{self, Dash, Month, Number, Roman, Slash};
+use osn_written::{DateFault, PartialDate};
 
 /// Returns the day of a Roman numeral in a month.
-fn roman_day(years: YearNumbers, month: u8, day: u8) -> Result<SimpleDate, DateFault>
+fn roman_day(years: YearNumbers, month: u8, day: u8) -> Result<PartialDate, DateFault>
     ensures { result ≡ spec.roman_day years month day }
 {
     day_of_month(
@@ -25,7 +25,7 @@ fn roman_day(years: YearNumbers, month: u8, day: u8) -> Result<SimpleDate, DateF
 }
 
 /// Returns the day of a year and the name of a month before a Roman numeral.
-fn year_first(year: Numeral, month: u8, day: u8) -> Result<SimpleDate, DateFault>
+fn year_first(year: Numeral, month: u8, day: u8) -> Result<PartialDate, DateFault>
     ensures { result ≡ spec.year_first year month day }
 {
     if is_long(year) {
@@ -36,7 +36,7 @@ fn year_first(year: Numeral, month: u8, day: u8) -> Result<SimpleDate, DateFault
 }
 
 /// Returns the day of two numbers with a Roman numeral between them, which is the month.
-fn around_roman(first: Numeral, month: u8, last: Numeral) -> Result<SimpleDate, DateFault>
+fn around_roman(first: Numeral, month: u8, last: Numeral) -> Result<PartialDate, DateFault>
     ensures { result ≡ spec.around_roman first month last }
 {
     if month <= 12 {
@@ -47,7 +47,7 @@ fn around_roman(first: Numeral, month: u8, last: Numeral) -> Result<SimpleDate, 
 }
 
 /// Returns the day of a Roman numeral and a month in a year, if there is a year.
-fn in_year(years: Option<YearNumbers>, month: u8, day: u8) -> Result<SimpleDate, DateFault>
+fn in_year(years: Option<YearNumbers>, month: u8, day: u8) -> Result<PartialDate, DateFault>
     ensures { result ≡ spec.in_year years month day }
 {
     match years {
@@ -57,7 +57,7 @@ fn in_year(years: Option<YearNumbers>, month: u8, day: u8) -> Result<SimpleDate,
 }
 
 /// Returns the day of a number and these parts after it.
-fn after_number(first: Numeral, rest: &[Part]) -> Result<SimpleDate, DateFault>
+fn after_number(first: Numeral, rest: &[Token]) -> Result<PartialDate, DateFault>
     ensures { result ≡ spec.after_number first rest.now }
 {
     match rest {
@@ -71,10 +71,10 @@ fn after_number(first: Numeral, rest: &[Part]) -> Result<SimpleDate, DateFault>
 
 /// Returns the day of parts with one Roman numeral, which is the day beside the name of a month, and
 /// the month between two numbers.
-pub fn roman_date(parts: &[Part]) -> Result<SimpleDate, DateFault>
-    ensures { result ≡ spec.roman_date parts.now }
+pub fn roman_date(tokens: &[Token]) -> Result<PartialDate, DateFault>
+    ensures { result ≡ spec.roman_date tokens.now }
 {
-    match parts {
+    match tokens {
         [Roman(d), Month(m), year @ ..] => in_year(year_numbers(year), *m, *d),
         [Month(m), Roman(d), year @ ..] => in_year(year_numbers(year), *m, *d),
         [Number(a), rest @ ..] => after_number(*a, rest),
@@ -83,10 +83,8 @@ pub fn roman_date(parts: &[Part]) -> Result<SimpleDate, DateFault>
 }
 
 /// Returns whether a part is a Roman numeral.
-pub fn has_roman_numeral(parts: &[Part]) -> bool
-    ensures { result ≡ list_any reading.is_roman_numeral parts.now }
+pub fn has_roman_numeral(tokens: &[Token]) -> bool
+    ensures { result ≡ list_any reading.is_roman_numeral tokens.now }
 {
-    parts
-        .iter()
-        .any(|part| matches!(part, Part::RomanNumeral | Part::Roman(_)))
+    tokens.iter().any(|token| matches!(token, Token::RomanNumeral | Token::Roman(_)))
 }

@@ -4,8 +4,8 @@ ghost use Rattle.std.specs.Prelude.{IfOk, OnOk, drop, length, string_bytes};
 ghost use Rattle.std.specs.Option.{option_to_list};
 ghost use Rattle.osn_grammar.specs.Scan as spec;
 
-use crate::names::part_named;
-use crate::part::{Part, are_digits, part_of};
+use crate::names::token_named;
+use crate::token::{Token, are_digits, token_of};
 use std::alloc::{AllocError, Global};
 
 /// Returns whether a character is a digit.
@@ -138,11 +138,11 @@ fn is_in_round(rest: &[char]) -> bool
 }
 
 /// Returns the mark that an opening round bracket is, before the rest of the text.
-fn mark_of_round(rest: &[char]) -> Option<Part>
+fn mark_of_round(rest: &[char]) -> Option<Token>
     ensures { result ≡ spec.mark_of_round rest.now }
 {
     if is_in_round(rest) {
-        Some(Part::Round)
+        Some(Token::Round)
     } else {
         None
     }
@@ -152,63 +152,63 @@ fn mark_of_round(rest: &[char]) -> Option<Part>
 fn is_month_name(word: &str) -> bool
     ensures { result ≡ spec.is_month_name word.now }
 {
-    matches!(part_named(word), Some(Part::Month(_)))
+    matches!(token_named(word), Some(Token::Month(_)))
 }
 
 /// Returns the mark that a full stop is, after a word and before the rest of the text.
-fn mark_of_stop(word: &str, rest: &[char]) -> Option<Part>
+fn mark_of_stop(word: &str, rest: &[char]) -> Option<Token>
     ensures { result ≡ spec.mark_of_stop word.now rest.now }
 {
     if let Some('.') = first_of(rest) {
-        Some(Part::Open)
+        Some(Token::Open)
     } else if is_number(word) && is_number_next(rest) {
-        Some(Part::Dot)
+        Some(Token::Dot)
     } else {
         None
     }
 }
 
 /// Returns the mark that a character is, after a word and before the rest of the text.
-fn mark_of(word: &str, character: char, rest: &[char]) -> Option<Part>
+fn mark_of(word: &str, character: char, rest: &[char]) -> Option<Token>
     ensures { result ≡ spec.mark_of word.now character rest.now }
 {
     if is_dash(character) {
-        return Some(Part::Dash);
+        return Some(Token::Dash);
     }
     if is_blank(character) {
         return None;
     }
     match character {
-        '/' => Some(Part::Slash),
-        '?' => Some(Part::Doubt),
-        '~' => Some(Part::About),
-        '%' => Some(Part::AboutAndDoubt),
-        '[' | ']' => Some(Part::Bracket),
+        '/' => Some(Token::Slash),
+        '?' => Some(Token::Doubt),
+        '~' => Some(Token::About),
+        '%' => Some(Token::AboutAndDoubt),
+        '[' | ']' => Some(Token::Bracket),
         '.' => mark_of_stop(word, rest),
         '(' => mark_of_round(rest),
         ',' | ')' => None,
         ':' if is_month_name(word) => None,
-        _ => Some(Part::Unknown),
+        _ => Some(Token::Unknown),
     }
 }
 
 /// Returns the part of a word, if it is not empty.
-fn part_of_run(word: &str) -> Option<Part>
-    ensures { result ≡ spec.part_of_run word.now }
+fn token_of_run(word: &str) -> Option<Token>
+    ensures { result ≡ spec.token_of_run word.now }
 {
     if word.is_empty() {
         None
     } else {
-        Some(part_of(word))
+        Some(token_of(word))
     }
 }
 
 /// Appends a part, if there is one.
-fn push_some(parts: &mut Vec<Part>, part: Option<Part>) -> Result<(), AllocError>
-    ensures { OnOk result (parts.new.items ≡ parts.old.items ++ option_to_list part) }
+fn push_some(tokens: &mut Vec<Token>, token: Option<Token>) -> Result<(), AllocError>
+    ensures { OnOk result (tokens.new.items ≡ tokens.old.items ++ option_to_list token) }
 {
-    if let Some(part) = part {
-        parts.push(part)?;
+    if let Some(token) = token {
+        tokens.push(token)?;
     }
     Ok(())
 }
@@ -227,14 +227,14 @@ fn is_passed_over(word: &str, character: char, rest: &[char]) -> bool
 
 /// Takes one more character, before the rest of the text.
 fn take(
-    parts: &mut Vec<Part>,
+    tokens: &mut Vec<Token>,
     word: &mut String,
     character: char,
     rest: &[char],
 ) -> Result<(), AllocError>
-    ensures parts { OnOk result
-        (parts.new.items ≡ parts.old.items
-        ++ spec.parts_ended (string_bytes word.old) character rest.now) }
+    ensures tokens { OnOk result
+        (tokens.new.items ≡ tokens.old.items
+        ++ spec.tokens_ended (string_bytes word.old) character rest.now) }
     ensures word { OnOk result
         (string_bytes word.new
         ≡ spec.word_after (string_bytes word.old) character rest.now) }
@@ -245,47 +245,48 @@ fn take(
     if is_passed_over(word.as_str(), character, rest) {
         return Ok(());
     }
-    push_some(parts, part_of_run(word.as_str()))?;
-    push_some(parts, mark_of(word.as_str(), character, rest))?;
+    push_some(tokens, token_of_run(word.as_str()))?;
+    push_some(tokens, mark_of(word.as_str(), character, rest))?;
     word.clear();
     Ok(())
 }
 
 /// Takes the character at a place.
 fn take_at(
-    parts: &mut Vec<Part>,
+    tokens: &mut Vec<Token>,
     word: &mut String,
     characters: &[char],
     place: usize,
 ) -> Result<(), AllocError>
     requires { place < length characters.now }
     ensures { OnOk result
-        (parts.new.items
-        ++ spec.parts_after (string_bytes word.new) (drop (place + 1) characters.now)
-        ≡ parts.old.items ++ spec.parts_after (string_bytes word.old) (drop place characters.now)) }
+        (tokens.new.items
+        ++ spec.tokens_after (string_bytes word.new) (drop (place + 1) characters.now)
+        ≡ tokens.old.items ++ spec.tokens_after (string_bytes word.old)
+        (drop place characters.now)) }
 {
-    take(parts, word, characters[place], &characters[place + 1..])
+    take(tokens, word, characters[place], &characters[place + 1..])
 }
 
 /// Returns the parts of these characters.
-fn parts_of(alloc: Global, characters: &[char]) -> Result<Vec<Part>, AllocError>
-    ensures { IfOk result (λ parts. parts.items ≡ spec.parts_after [] characters.now) }
+fn tokens_of(alloc: Global, characters: &[char]) -> Result<Vec<Token>, AllocError>
+    ensures { IfOk result (λ tokens. tokens.items ≡ spec.tokens_after [] characters.now) }
 {
-    let mut parts = Vec::new(alloc);
+    let mut tokens = Vec::new(alloc);
     let mut word = String::new(alloc);
     let mut place = 0;
     while place < characters.len() {
-        take_at(&mut parts, &mut word, characters, place)?;
+        take_at(&mut tokens, &mut word, characters, place)?;
         place += 1;
     }
-    push_some(&mut parts, part_of_run(word.as_str()))?;
-    Ok(parts)
+    push_some(&mut tokens, token_of_run(word.as_str()))?;
+    Ok(tokens)
 }
 
 /// Returns the parts of a text.
-pub fn parts_in(alloc: Global, text: &str) -> Result<Vec<Part>, AllocError>
-    ensures { IfOk result (λ parts. parts.items ≡ spec.parts_in text.now) }
+pub fn tokens_in(alloc: Global, text: &str) -> Result<Vec<Token>, AllocError>
+    ensures { IfOk result (λ tokens. tokens.items ≡ spec.tokens_in text.now) }
 {
     let characters: Vec<char> = text.chars().collect(alloc)?;
-    parts_of(alloc, characters.as_slice())
+    tokens_of(alloc, characters.as_slice())
 }

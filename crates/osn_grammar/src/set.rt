@@ -4,11 +4,11 @@ ghost use Rattle.std.specs.Result.{result_map_both};
 ghost use Rattle.osn_grammar.specs.Reading as reading;
 ghost use Rattle.osn_grammar.specs.Sets as spec;
 
-use crate::part::Part::{self, About, AboutAndDoubt, Dash, Doubt, Number, Open};
 use crate::reading::{is_approximate, is_uncertain};
-use crate::scan::parts_in;
+use crate::scan::tokens_in;
 use crate::simple::{day_in_digits, one};
-use osn_written::{AnyDate, DateFault, Extent, SimpleDate};
+use crate::token::Token::{self, About, AboutAndDoubt, Dash, Doubt, Number, Open};
+use osn_written::{AnyDate, DateFault, Extent, PartialDate};
 use std::alloc::{AllocError, Global};
 
 /// Returns what comes after the opening bracket of a text, if it begins with one.
@@ -33,7 +33,7 @@ pub fn inside_brackets(text: &str) -> Option<&str>
 }
 
 /// Returns a day, or the days from it to the one that these parts are after it.
-fn from_day(first: Result<SimpleDate, DateFault>, rest: &[Part]) -> Result<Extent, DateFault>
+fn from_day(first: Result<PartialDate, DateFault>, rest: &[Token]) -> Result<Extent, DateFault>
     ensures { result ≡ spec.from_day first rest.now }
 {
     match rest {
@@ -47,10 +47,10 @@ fn from_day(first: Result<SimpleDate, DateFault>, rest: &[Part]) -> Result<Exten
 }
 
 /// Returns a day in digits, or the first and the last one with `..` between them.
-fn days_in_digits(parts: &[Part]) -> Result<Extent, DateFault>
-    ensures { result ≡ spec.days_in_digits parts.now }
+fn days_in_digits(tokens: &[Token]) -> Result<Extent, DateFault>
+    ensures { result ≡ spec.days_in_digits tokens.now }
 {
-    match parts {
+    match tokens {
         [Number(y), Dash, Number(m), Dash, Number(d), rest @ ..] => {
             from_day(day_in_digits(one(*y), *m, *d), rest)
         }
@@ -60,16 +60,16 @@ fn days_in_digits(parts: &[Part]) -> Result<Extent, DateFault>
 
 /// Returns the member of a set that parts are, or why they are not one. The parts `unsigned` are
 /// those without the signs.
-fn member_of(parts: &[Part], unsigned: &[Part]) -> Result<AnyDate, DateFault>
-    ensures { result ≡ reading.member_by parts.now (spec.days_in_digits unsigned.now) }
+fn member_of(tokens: &[Token], unsigned: &[Token]) -> Result<AnyDate, DateFault>
+    ensures { result ≡ reading.member_by tokens.now (spec.days_in_digits unsigned.now) }
 {
     let extent = days_in_digits(unsigned)?;
     Ok(AnyDate {
         extent,
         weekday: None,
         reckoning: None,
-        is_approximate: is_approximate(parts),
-        is_uncertain: is_uncertain(parts),
+        is_approximate: is_approximate(tokens),
+        is_uncertain: is_uncertain(tokens),
         is_supplied: false,
     })
 }
@@ -78,13 +78,13 @@ fn member_of(parts: &[Part], unsigned: &[Part]) -> Result<AnyDate, DateFault>
 fn member_in(alloc: Global, text: &str) -> Result<Result<AnyDate, DateFault>, AllocError>
     ensures { IfOk result (λ member. member ≡ reading.member_in text.now) }
 {
-    let parts = parts_in(alloc, text)?;
-    let unsigned: Vec<Part> = parts
+    let tokens = tokens_in(alloc, text)?;
+    let unsigned: Vec<Token> = tokens
         .iter()
         .copied()
-        .filter(|part| !matches!(part, About | Doubt | AboutAndDoubt))
+        .filter(|token| !matches!(token, About | Doubt | AboutAndDoubt))
         .collect(alloc)?;
-    Ok(member_of(parts.as_slice(), unsigned.as_slice()))
+    Ok(member_of(tokens.as_slice(), unsigned.as_slice()))
 }
 
 /// The members of a set, or why the text is not a set.

@@ -3,9 +3,9 @@ ghost use Rattle.std.specs.Prelude.{◌≡◌, ◌+◌, ◌%◌, ◌^◌, ◌==�
 ghost use Rattle.osn_grammar.specs.Simple as spec;
 
 use crate::order::{is_month, order_of};
-use crate::part::Numeral;
+use crate::token::Numeral;
 use crate::written::DateOrder;
-use osn_written::{DateFault, SimpleDate, Year};
+use osn_written::{DateFault, PartialDate, Year};
 
 /// The numbers of a year: its own, and the one after a `/`.
 #[derive(Clone, Copy)]
@@ -87,20 +87,20 @@ pub fn year_of(years: YearNumbers) -> Result<Year, DateFault>
 }
 
 /// Returns the month of a number in a year.
-pub fn month_in(year: Year, month: u32) -> Result<SimpleDate, DateFault>
+pub fn month_in(year: Year, month: u32) -> Result<PartialDate, DateFault>
     ensures { result ≡ spec.month_in year month }
 {
     if !is_month(month) {
         return Err(DateFault::Month);
     }
-    Ok(SimpleDate::Month {
+    Ok(PartialDate::Month {
         year,
         month: month as u8,
     })
 }
 
 /// Returns the day of these numbers in a year.
-pub fn day_in(year: Year, month: u32, day: u32) -> Result<SimpleDate, DateFault>
+pub fn day_in(year: Year, month: u32, day: u32) -> Result<PartialDate, DateFault>
     ensures { result ≡ spec.day_in year month day }
 {
     if !is_month(month) {
@@ -109,7 +109,7 @@ pub fn day_in(year: Year, month: u32, day: u32) -> Result<SimpleDate, DateFault>
     if day < 1 || day > 31 {
         return Err(DateFault::Day);
     }
-    Ok(SimpleDate::Day {
+    Ok(PartialDate::Day {
         year,
         month: month as u8,
         day: day as u8,
@@ -117,28 +117,28 @@ pub fn day_in(year: Year, month: u32, day: u32) -> Result<SimpleDate, DateFault>
 }
 
 /// Returns the date that is a year.
-pub fn whole_year(years: YearNumbers) -> Result<SimpleDate, DateFault>
+pub fn whole_year(years: YearNumbers) -> Result<PartialDate, DateFault>
     ensures { result ≡ spec.whole_year years }
 {
-    Ok(SimpleDate::Year(year_of(years)?))
+    Ok(PartialDate::Year(year_of(years)?))
 }
 
 /// Returns the date that is a month.
-pub fn month_of(years: YearNumbers, month: u32) -> Result<SimpleDate, DateFault>
+pub fn month_of(years: YearNumbers, month: u32) -> Result<PartialDate, DateFault>
     ensures { result ≡ spec.month_of years month }
 {
     month_in(year_of(years)?, month)
 }
 
 /// Returns the date that is a day.
-fn day_of(years: YearNumbers, month: u32, day: u32) -> Result<SimpleDate, DateFault>
+fn day_of(years: YearNumbers, month: u32, day: u32) -> Result<PartialDate, DateFault>
     ensures { result ≡ spec.day_of years month day }
 {
     day_in(year_of(years)?, month, day)
 }
 
 /// Returns the day of a number in a month of a year, if it has one or two digits.
-pub fn day_of_month(years: YearNumbers, month: u8, day: Numeral) -> Result<SimpleDate, DateFault>
+pub fn day_of_month(years: YearNumbers, month: u8, day: Numeral) -> Result<PartialDate, DateFault>
     ensures { result ≡ spec.day_of_month years month day }
 {
     if is_long(day) {
@@ -149,7 +149,7 @@ pub fn day_of_month(years: YearNumbers, month: u8, day: Numeral) -> Result<Simpl
 }
 
 /// Returns the month of a number in digits, if it has one or two of them.
-pub fn month_in_digits(years: YearNumbers, month: Numeral) -> Result<SimpleDate, DateFault>
+pub fn month_in_digits(years: YearNumbers, month: Numeral) -> Result<PartialDate, DateFault>
     ensures { result ≡ spec.month_in_digits years month }
 {
     if is_long(month) {
@@ -164,7 +164,7 @@ pub fn day_in_digits(
     years: YearNumbers,
     month: Numeral,
     day: Numeral,
-) -> Result<SimpleDate, DateFault>
+) -> Result<PartialDate, DateFault>
     ensures { result ≡ spec.day_in_digits years month day }
 {
     if is_long(month) || is_long(day) {
@@ -180,7 +180,7 @@ fn by_order(
     first: Numeral,
     second: Numeral,
     year: Numeral,
-) -> Result<SimpleDate, DateFault>
+) -> Result<PartialDate, DateFault>
     ensures { result ≡ spec.by_order order first second year }
 {
     match order {
@@ -196,7 +196,7 @@ pub fn in_order(
     first: Numeral,
     second: Numeral,
     third: Numeral,
-) -> Result<SimpleDate, DateFault>
+) -> Result<PartialDate, DateFault>
     ensures { result ≡ spec.in_order order first second third }
 {
     if is_long(third) && !is_long(first) {
@@ -212,7 +212,7 @@ pub fn three_numbers(
     first: Numeral,
     second: Numeral,
     third: Numeral,
-) -> Result<SimpleDate, DateFault>
+) -> Result<PartialDate, DateFault>
     ensures { result ≡ spec.three_numbers order first second third }
 {
     in_order(
@@ -229,7 +229,7 @@ pub fn year_last(
     first: Numeral,
     second: Numeral,
     year: Numeral,
-) -> Result<SimpleDate, DateFault>
+) -> Result<PartialDate, DateFault>
     ensures { result ≡ spec.year_last order first second year }
 {
     if is_long(year) && !is_long(first) {
@@ -240,7 +240,7 @@ pub fn year_last(
 }
 
 /// Returns the date of a month's name between two numbers, of which one is the year.
-pub fn around_month(first: Numeral, month: u8, last: Numeral) -> Result<SimpleDate, DateFault>
+pub fn around_month(first: Numeral, month: u8, last: Numeral) -> Result<PartialDate, DateFault>
     ensures { result ≡ spec.around_month first month last }
 {
     if is_long(first) {
@@ -251,7 +251,7 @@ pub fn around_month(first: Numeral, month: u8, last: Numeral) -> Result<SimpleDa
 }
 
 /// Returns the month of a year, if the month has two digits.
-pub fn year_and_month(year: Numeral, month: Numeral) -> Result<SimpleDate, DateFault>
+pub fn year_and_month(year: Numeral, month: Numeral) -> Result<PartialDate, DateFault>
     ensures { result ≡ spec.year_and_month year month }
 {
     if month.digits == 2 {
@@ -262,7 +262,7 @@ pub fn year_and_month(year: Numeral, month: Numeral) -> Result<SimpleDate, DateF
 }
 
 /// Returns the date of a year and the name of a month after it.
-pub fn year_and_name(year: Numeral, month: u8) -> Result<SimpleDate, DateFault>
+pub fn year_and_name(year: Numeral, month: u8) -> Result<PartialDate, DateFault>
     ensures { result ≡ spec.year_and_name year month }
 {
     if is_long(year) {
@@ -273,7 +273,7 @@ pub fn year_and_name(year: Numeral, month: u8) -> Result<SimpleDate, DateFault>
 }
 
 /// Returns the date of two numbers with a `/` between them: a month and its year, or a double year.
-pub fn month_or_double_year(first: Numeral, second: Numeral) -> Result<SimpleDate, DateFault>
+pub fn month_or_double_year(first: Numeral, second: Numeral) -> Result<PartialDate, DateFault>
     ensures { result ≡ spec.month_or_double_year first second }
 {
     if !is_long(first) && is_long(second) {
@@ -284,7 +284,7 @@ pub fn month_or_double_year(first: Numeral, second: Numeral) -> Result<SimpleDat
 }
 
 /// Returns the date of a year, a day and the name of a month after them.
-pub fn year_and_day(year: Numeral, day: Numeral, month: u8) -> Result<SimpleDate, DateFault>
+pub fn year_and_day(year: Numeral, day: Numeral, month: u8) -> Result<PartialDate, DateFault>
     ensures { result ≡ spec.year_and_day year day month }
 {
     if is_long(year) {
@@ -301,7 +301,7 @@ pub fn double_year_or_days(
     second: Numeral,
     month: u8,
     day: Numeral,
-) -> Result<SimpleDate, DateFault>
+) -> Result<PartialDate, DateFault>
     ensures { result ≡ spec.double_year_or_days first second month day }
 {
     if is_long(first) {

@@ -1,7 +1,7 @@
 //! Two dates that are not one day, such as `3/14 June 1675`.
 ghost use Rattle.std.specs.Prelude.{◌≡◌, ◌≤◌};
 ghost use Rattle.std.specs.Option.{option_to_list};
-ghost use Rattle.osn_days.specs.Profile.{newest_rules};
+ghost use Rattle.osn_days.specs.Rules.{newest_rules};
 ghost use Rattle.osn_grammar.specs.TwoDays as spec;
 
 use osn_days::{Calendar, Date, date_of, day_of};

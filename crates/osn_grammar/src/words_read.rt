@@ -4,7 +4,7 @@ ghost use Rattle.osn_grammar.specs.Simple as simple;
 ghost use Rattle.osn_grammar.specs.WordsRead as spec;
 ghost use Rattle.osn_grammar.specs.WordsRead.{AreWordsRead};
 
-use osn_written::{AnyDate, Extent, SimpleDate, Year};
+use osn_written::{AnyDate, Extent, PartialDate, Year};
 
 /// Returns whether a number is from a least to a greatest one.
 fn is_between(low: u8, high: u8, number: u8) -> bool
@@ -21,15 +21,15 @@ fn is_writable_year(year: Year) -> bool
 }
 
 /// Returns whether the words of a day, a month or a year are read back.
-fn is_writable_date(date: SimpleDate) -> bool
+fn is_writable_date(date: PartialDate) -> bool
     ensures { result ≡ spec.is_writable_date date }
 {
     match date {
-        SimpleDate::Day { year, month, day } => {
+        PartialDate::Day { year, month, day } => {
             is_writable_year(year) && is_between(1, 12, month) && is_between(1, 31, day)
         }
-        SimpleDate::Month { year, month } => is_writable_year(year) && is_between(1, 12, month),
-        SimpleDate::Year(year) => is_writable_year(year),
+        PartialDate::Month { year, month } => is_writable_year(year) && is_between(1, 12, month),
+        PartialDate::Year(year) => is_writable_year(year),
     }
 }
 
@@ -44,7 +44,7 @@ pub fn is_writable(date: AnyDate) -> bool
 {
     match date.extent {
         Extent::FromTo(first, last) => is_writable_date(first) && is_writable_date(last),
-        Extent::Part(_, _) | Extent::Feast { .. } => false,
+        Extent::Token(_, _) | Extent::Feast { .. } => false,
         Extent::On(date)
         | Extent::Before(date)
         | Extent::NotAfter(date)

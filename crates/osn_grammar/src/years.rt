@@ -4,16 +4,16 @@ ghost use Rattle.std.specs.List.{list_any};
 ghost use Rattle.osn_grammar.specs.Reading as reading;
 ghost use Rattle.osn_grammar.specs.Years as spec;
 
-use crate::part::Part::{self, Century, CenturyLetter, Dash, Number, Or, Roman, Slash, Tal, To};
-use crate::part::{Numeral, Years, are_two_digits, decade, digit, hundred};
 use crate::set::inside_brackets;
-use osn_written::{AnyDate, Extent, SimpleDate, Year};
+use crate::token::Token::{self, Century, CenturyLetter, Dash, Number, Or, Roman, Slash, Tal, To};
+use crate::token::{Numeral, Years, are_two_digits, decade, digit, hundred};
+use osn_written::{AnyDate, Extent, PartialDate, Year};
 
 /// Returns the date that is a whole year.
-fn whole_year(first: u16) -> SimpleDate
+fn whole_year(first: u16) -> PartialDate
     ensures { result ≡ spec.whole_year first }
 {
-    SimpleDate::Year(Year {
+    PartialDate::Year(Year {
         first,
         is_double: false,
         has_three_digits: false,
@@ -43,10 +43,10 @@ fn century(number: u32) -> Option<Years>
 }
 
 /// Returns the years from the first of some to the last of others, if a part joins them.
-fn joined(first: Option<Years>, part: Part, last: Option<Years>) -> Option<Years>
-    ensures { result ≡ spec.joined first part last }
+fn joined(first: Option<Years>, token: Token, last: Option<Years>) -> Option<Years>
+    ensures { result ≡ spec.joined first token last }
 {
-    match part {
+    match token {
         Dash | Slash | To | Or => Some(Years {
             first: first?.first,
             last: last?.last,
@@ -94,25 +94,25 @@ fn years_of_tal(first: Numeral) -> Option<Years>
 }
 
 /// Returns the years of parts that are one decade or one century, by a word beside a number.
-pub fn by_word(parts: &[Part]) -> Option<Years>
-    ensures { result ≡ spec.by_word parts.now }
+pub fn by_word(tokens: &[Token]) -> Option<Years>
+    ensures { result ≡ spec.by_word tokens.now }
 {
-    match parts {
+    match tokens {
         [Roman(number), CenturyLetter] | [CenturyLetter, Roman(number)] => {
             century(u32::from(*number))
         }
         [Number(first), Dash, Tal] => years_of_tal(*first),
-        [Part::Decade, Number(first)] => decade_from(*first),
+        [Token::Decade, Number(first)] => decade_from(*first),
         _ => None,
     }
 }
 
 /// Returns the years of parts that are one decade or one century.
-pub fn one_in(parts: &[Part]) -> Option<Years>
-    ensures { result ≡ spec.one_in parts.now }
+pub fn one_in(tokens: &[Token]) -> Option<Years>
+    ensures { result ≡ spec.one_in tokens.now }
 {
-    match parts {
-        [Part::Years(years)] => Some(*years),
+    match tokens {
+        [Token::Years(years)] => Some(*years),
         [Number(number), Century] => century(number.value),
         [Roman(number), Century] | [Century, Roman(number)] => century(u32::from(*number)),
         _ => None,
@@ -120,41 +120,45 @@ pub fn one_in(parts: &[Part]) -> Option<Years>
 }
 
 /// Returns the years from one decade to another.
-fn decades_in(parts: &[Part]) -> Option<Years>
-    ensures { result ≡ spec.decades_in parts.now }
+fn decades_in(tokens: &[Token]) -> Option<Years>
+    ensures { result ≡ spec.decades_in tokens.now }
 {
-    match parts {
-        [Part::Years(first), part, Part::Years(last)] => joined(Some(*first), *part, Some(*last)),
+    match tokens {
+        [Token::Years(first), token, Token::Years(last)] => joined(
+            Some(*first),
+            *token,
+            Some(*last),
+        ),
         _ => None,
     }
 }
 
 /// Returns the years from one century to another, by their numbers.
-fn centuries_in(parts: &[Part]) -> Option<Years>
-    ensures { result ≡ spec.centuries_in parts.now }
+fn centuries_in(tokens: &[Token]) -> Option<Years>
+    ensures { result ≡ spec.centuries_in tokens.now }
 {
-    match parts {
-        [Number(first), part, Number(last), Century] => {
-            joined(century(first.value), *part, century(last.value))
+    match tokens {
+        [Number(first), token, Number(last), Century] => {
+            joined(century(first.value), *token, century(last.value))
         }
         _ => None,
     }
 }
 
 /// Returns the years of two numbers of centuries.
-fn roman_years(first: u8, part: Part, last: u8) -> Option<Years>
-    ensures { result ≡ spec.roman_years first part last }
+fn roman_years(first: u8, token: Token, last: u8) -> Option<Years>
+    ensures { result ≡ spec.roman_years first token last }
 {
-    joined(century(u32::from(first)), part, century(u32::from(last)))
+    joined(century(u32::from(first)), token, century(u32::from(last)))
 }
 
 /// Returns the years from one century to another, by Roman numerals.
-fn roman_centuries_in(parts: &[Part]) -> Option<Years>
-    ensures { result ≡ spec.roman_centuries_in parts.now }
+fn roman_centuries_in(tokens: &[Token]) -> Option<Years>
+    ensures { result ≡ spec.roman_centuries_in tokens.now }
 {
-    match parts {
-        [Roman(first), part, Roman(last), Century] => roman_years(*first, *part, *last),
-        [Century, Roman(first), part, Roman(last)] => roman_years(*first, *part, *last),
+    match tokens {
+        [Roman(first), token, Roman(last), Century] => roman_years(*first, *token, *last),
+        [Century, Roman(first), token, Roman(last)] => roman_years(*first, *token, *last),
         _ => None,
     }
 }
@@ -170,12 +174,15 @@ pub fn or_years(first: Option<Years>, other: Option<Years>) -> Option<Years>
 }
 
 /// Returns the years of parts that are a decade or a century, or two of them.
-pub fn years_in(parts: &[Part]) -> Option<Years>
-    ensures { result ≡ spec.years_in parts.now }
+pub fn years_in(tokens: &[Token]) -> Option<Years>
+    ensures { result ≡ spec.years_in tokens.now }
 {
     or_years(
-        or_years(one_in(parts), or_years(by_word(parts), decades_in(parts))),
-        or_years(centuries_in(parts), roman_centuries_in(parts)),
+        or_years(
+            one_in(tokens),
+            or_years(by_word(tokens), decades_in(tokens)),
+        ),
+        or_years(centuries_in(tokens), roman_centuries_in(tokens)),
     )
 }
 
@@ -276,10 +283,10 @@ pub fn years_of_text(text: &str) -> Option<AnyDate>
 }
 
 /// Returns whether a part has years with open digits.
-pub fn has_open_year(parts: &[Part]) -> bool
-    ensures { result ≡ list_any reading.is_open_year parts.now }
+pub fn has_open_year(tokens: &[Token]) -> bool
+    ensures { result ≡ list_any reading.is_open_year tokens.now }
 {
-    parts
+    tokens
         .iter()
-        .any(|part| matches!(part, Part::OpenYear | Part::Years(_)))
+        .any(|token| matches!(token, Token::OpenYear | Token::Years(_)))
 }

@@ -17,9 +17,9 @@ use Rattle.osn_invocation.specs.declared.invocation.CommandWords.TheVariants as 
 use Rattle.osn_invocation.specs.declared.invocation.Invocation.{Invocation}
 use Rattle.osn_invocation.specs.declared.letters.DateOptions.{DateOptions}
 use Rattle.osn_invocation.specs.declared.letters.LettersOptions.{LettersOptions}
-use Rattle.osn_invocation.specs.declared.invocation.PageWords.{PageWords}
+use Rattle.osn_invocation.specs.declared.invocation.PageRequest.{PageRequest}
 use Rattle.osn_invocation.specs.declared.invocation.ServeOptions.{ServeOptions}
-use Rattle.osn_invocation.specs.declared.invocation.PageWords.TheVariants as pages
+use Rattle.osn_invocation.specs.declared.invocation.PageRequest.TheVariants as pages
 
 -- a page of what a journal published. An almanac is that of a territory's code and a year. The
 -- reading of a date is by a code, the date, the weekday that it is said to be, and the order of its
@@ -27,13 +27,13 @@ use Rattle.osn_invocation.specs.declared.invocation.PageWords.TheVariants as pag
 -- or day number, a month by a code, a year and the month, and a year by a code and the year. The
 -- periods are those of a code's territory, or the page lists all territories. The last word of
 -- readings, days and territories is whether the answer is printed as a line of JSON
-pub data PageWordsModel : Type 0 where
-  almanac_words : Text → ℕ → PageWordsModel
-  reading_words : Text → Text → Option Text → Option Text → Bool → Bool → PageWordsModel
-  day_words : Text → Text → Bool → PageWordsModel
-  month_words : Text → Text → Text → PageWordsModel
-  year_words : Text → Text → PageWordsModel
-  territory_words : Option Text → Bool → PageWordsModel
+pub data PageRequestModel : Type 0 where
+  almanac_words : Text → ℕ → PageRequestModel
+  reading_words : Text → Text → Option Text → Option Text → Bool → Bool → PageRequestModel
+  day_words : Text → Text → Bool → PageRequestModel
+  month_words : Text → Text → Text → PageRequestModel
+  year_words : Text → Text → PageRequestModel
+  territory_words : Option Text → Bool → PageRequestModel
 
 -- what the service is asked for besides files: whether a journal that is kept is first upgraded,
 -- how many readers ask, whether edits and publishes are refused, and whether the first line that is
@@ -78,7 +78,7 @@ pub data CommandModel : Type 0 where
   serving : Option Text → Option Text → Option Text → Option Text → ServiceModel → CommandModel
   replaying : ℕ → Text → CommandModel
   working : Text → Text → CommandModel
-  printing : Text → Option Text → PageWordsModel → CommandModel
+  printing : Text → Option Text → PageRequestModel → CommandModel
   auditing : Text → Text → CommandModel
   converting : Text → Text → CommandModel
   reading_letters : Text → LettersModel → CommandModel
@@ -188,32 +188,32 @@ letters_command given = reading_letters (text_of (codes "journal") given) (recor
 })
 
 -- a command that prints a page of a journal
-abbrev pub page_command : List Row → PageWordsModel → CommandModel
+abbrev pub page_command : List Row → PageRequestModel → CommandModel
 page_command given =
     printing (text_of (codes "journal") given) (first_of (codes "edition") given)
 
 -- which page each of these commands asks for
-abbrev pub almanac_page : List Row → PageWordsModel
+abbrev pub almanac_page : List Row → PageRequestModel
 almanac_page given =
     almanac_words (text_of (codes "code") given) (number_of 0 (codes "year") given)
 
-abbrev pub read_page : List Row → PageWordsModel
+abbrev pub read_page : List Row → PageRequestModel
 read_page given = reading_words (text_of (codes "code") given) (text_of (codes "date") given)
     (first_of (codes "weekday") given) (first_of (codes "order") given)
     (is_given (codes "strict") given) (is_given (codes "json") given)
 
-abbrev pub day_page : List Row → PageWordsModel
+abbrev pub day_page : List Row → PageRequestModel
 day_page given = day_words (text_of (codes "code") given) (text_of (codes "date") given)
     (is_given (codes "json") given)
 
-abbrev pub month_page : List Row → PageWordsModel
+abbrev pub month_page : List Row → PageRequestModel
 month_page given = month_words (text_of (codes "code") given) (text_of (codes "year") given)
     (text_of (codes "month") given)
 
-abbrev pub year_page : List Row → PageWordsModel
+abbrev pub year_page : List Row → PageRequestModel
 year_page given = year_words (text_of (codes "code") given) (text_of (codes "year") given)
 
-abbrev pub territory_page : List Row → PageWordsModel
+abbrev pub territory_page : List Row → PageRequestModel
 territory_page given =
     territory_words (first_of (codes "code") given) (is_given (codes "json") given)
 
@@ -264,14 +264,14 @@ invocation_in args =
     invocation_by (matches_of command_line args) (subcommand_of command_line args)
 
 -- the same of what was read, by the texts that its references point to
-abbrev pub page_words : PageWords → PageWordsModel
-page_words (pages.Almanac code year) = almanac_words code.now year
-page_words (pages.Read code date weekday order strict json) = reading_words code.now date.now
+abbrev pub page_request : PageRequest → PageRequestModel
+page_request (pages.Almanac code year) = almanac_words code.now year
+page_request (pages.Read code date weekday order strict json) = reading_words code.now date.now
     (option_map (λ name. name.now) weekday) (option_map (λ word. word.now) order) strict json
-page_words (pages.Day code date json) = day_words code.now date.now json
-page_words (pages.Month code year month) = month_words code.now year.now month.now
-page_words (pages.Year code year) = year_words code.now year.now
-page_words (pages.Territory code json) = territory_words (option_map (λ code. code.now) code) json
+page_request (pages.Day code date json) = day_words code.now date.now json
+page_request (pages.Month code year month) = month_words code.now year.now month.now
+page_request (pages.Year code year) = year_words code.now year.now
+page_request (pages.Territory code json) = territory_words (option_map (λ code. code.now) code) json
 
 abbrev pub service_model : ServeOptions → ServiceModel
 service_model given = record {
@@ -310,7 +310,7 @@ command_model (Serve given) =
 command_model (Replay readers schedule) = replaying readers schedule.now
 command_model (Desk script questions) = working script.now questions.now
 command_model (Page journal edition page) =
-    printing journal.now (option_map (λ word. word.now) edition) (page_words page)
+    printing journal.now (option_map (λ word. word.now) edition) (page_request page)
 command_model (Audit journal transcript) = auditing journal.now transcript.now
 command_model (Convert calendar date) = converting calendar.now date.now
 command_model (Completions shell) = completing shell.now

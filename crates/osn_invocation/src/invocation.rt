@@ -9,7 +9,7 @@ ghost use Rattle.osn_invocation.specs.Invocation.{almanac_page, command_by};
 ghost use Rattle.osn_invocation.specs.Invocation.{command_model, completions_command};
 ghost use Rattle.osn_invocation.specs.Invocation.{convert_command, day_page};
 ghost use Rattle.osn_invocation.specs.Invocation.{invocation_by, invocation_in};
-ghost use Rattle.osn_invocation.specs.Invocation.{model_of, month_page, page_command, page_words};
+ghost use Rattle.osn_invocation.specs.Invocation.{model_of, month_page, page_command, page_request};
 ghost use Rattle.osn_invocation.specs.Invocation.{read_page, serve_command};
 ghost use Rattle.osn_invocation.specs.Invocation.{territory_page, with_limits, year_page};
 
@@ -48,7 +48,7 @@ pub struct ServeOptions<'a> {
 
 /// A page of what a journal published, by its arguments.
 #[derive(Clone, Copy, Debug, PartialEq, Eq)]
-pub enum PageWords<'a> {
+pub enum PageRequest<'a> {
     /// The almanac of a territory and year.
     Almanac {
         /// The code of the territory.
@@ -131,7 +131,7 @@ pub enum CommandWords<'a> {
         /// The word of the edition, if one is named.
         edition: Option<&'a str>,
         /// Which page.
-        page: PageWords<'a>,
+        page: PageRequest<'a>,
     },
     /// To compare a transcript with a journal.
     Audit {
@@ -309,9 +309,9 @@ fn completions_of<'a>(given: &ArgMatches<'a>) -> CommandWords<'a>
 }
 
 /// Returns what the arguments of a command that prints this page ask for.
-fn page_of<'a>(given: &ArgMatches<'a>, page: PageWords<'a>) -> CommandWords<'a>
+fn page_of<'a>(given: &ArgMatches<'a>, page: PageRequest<'a>) -> CommandWords<'a>
     ensures { command_model result
-        ≡ page_command (rows_of (found_of given.now)) (page_words page.entry) }
+        ≡ page_command (rows_of (found_of given.now)) (page_request page.entry) }
 {
     CommandWords::Page {
         journal: text_of(given, "journal"),
@@ -321,20 +321,20 @@ fn page_of<'a>(given: &ArgMatches<'a>, page: PageWords<'a>) -> CommandWords<'a>
 }
 
 /// Returns which page the arguments of `almanac` ask for.
-fn almanac_of<'a>(given: &ArgMatches<'a>) -> PageWords<'a>
-    ensures { page_words result ≡ almanac_page (rows_of (found_of given.now)) }
+fn almanac_of<'a>(given: &ArgMatches<'a>) -> PageRequest<'a>
+    ensures { page_request result ≡ almanac_page (rows_of (found_of given.now)) }
 {
-    PageWords::Almanac {
+    PageRequest::Almanac {
         code: text_of(given, "code"),
         year: number_of(given, "year", 0),
     }
 }
 
 /// Returns which page the arguments of `read` ask for.
-fn read_of<'a>(given: &ArgMatches<'a>) -> PageWords<'a>
-    ensures { page_words result ≡ read_page (rows_of (found_of given.now)) }
+fn read_of<'a>(given: &ArgMatches<'a>) -> PageRequest<'a>
+    ensures { page_request result ≡ read_page (rows_of (found_of given.now)) }
 {
-    PageWords::Read {
+    PageRequest::Read {
         code: text_of(given, "code"),
         date: text_of(given, "date"),
         weekday: value_of(given, "weekday"),
@@ -345,10 +345,10 @@ fn read_of<'a>(given: &ArgMatches<'a>) -> PageWords<'a>
 }
 
 /// Returns which page the arguments of `day` ask for.
-fn day_of<'a>(given: &ArgMatches<'a>) -> PageWords<'a>
-    ensures { page_words result ≡ day_page (rows_of (found_of given.now)) }
+fn day_of<'a>(given: &ArgMatches<'a>) -> PageRequest<'a>
+    ensures { page_request result ≡ day_page (rows_of (found_of given.now)) }
 {
-    PageWords::Day {
+    PageRequest::Day {
         code: text_of(given, "code"),
         date: text_of(given, "date"),
         json: is_given(given, "json"),
@@ -356,10 +356,10 @@ fn day_of<'a>(given: &ArgMatches<'a>) -> PageWords<'a>
 }
 
 /// Returns which page the arguments of `month` ask for.
-fn month_of<'a>(given: &ArgMatches<'a>) -> PageWords<'a>
-    ensures { page_words result ≡ month_page (rows_of (found_of given.now)) }
+fn month_of<'a>(given: &ArgMatches<'a>) -> PageRequest<'a>
+    ensures { page_request result ≡ month_page (rows_of (found_of given.now)) }
 {
-    PageWords::Month {
+    PageRequest::Month {
         code: text_of(given, "code"),
         year: text_of(given, "year"),
         month: text_of(given, "month"),
@@ -367,20 +367,20 @@ fn month_of<'a>(given: &ArgMatches<'a>) -> PageWords<'a>
 }
 
 /// Returns which page the arguments of `year` ask for.
-fn year_of<'a>(given: &ArgMatches<'a>) -> PageWords<'a>
-    ensures { page_words result ≡ year_page (rows_of (found_of given.now)) }
+fn year_of<'a>(given: &ArgMatches<'a>) -> PageRequest<'a>
+    ensures { page_request result ≡ year_page (rows_of (found_of given.now)) }
 {
-    PageWords::Year {
+    PageRequest::Year {
         code: text_of(given, "code"),
         year: text_of(given, "year"),
     }
 }
 
 /// Returns which page the arguments of `territory` ask for.
-fn territory_of<'a>(given: &ArgMatches<'a>) -> PageWords<'a>
-    ensures { page_words result ≡ territory_page (rows_of (found_of given.now)) }
+fn territory_of<'a>(given: &ArgMatches<'a>) -> PageRequest<'a>
+    ensures { page_request result ≡ territory_page (rows_of (found_of given.now)) }
 {
-    PageWords::Territory {
+    PageRequest::Territory {
         code: value_of(given, "code"),
         json: is_given(given, "json"),
     }

@@ -15,5 +15,5 @@ mod letters;
 mod register_text;
 
 pub use grammar::command_line;
-pub use invocation::{CommandWords, Invocation, PageWords, ServeOptions, parse_args};
+pub use invocation::{CommandWords, Invocation, PageRequest, ServeOptions, parse_args};
 pub use letters::{DateOptions, LettersOptions};

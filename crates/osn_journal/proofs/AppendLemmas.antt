@@ -49,15 +49,15 @@ synced_or_failed line (Err why) a b c h same ok err fault = record {
 
 -- a change was made, and the file's result for its line is the store's result
 pub Keeping-result : {A : Type 0} (change : Change) (s t : ObjectState) (line : List ℕ)
-    (r : Result A KeptFileFault) (told : Result A (StoreFault KeptFileFault))
+    (r : Result A KeptFileFault) (outcome : Result A (StoreFault KeptFileFault))
     (old new : FileState) → t ≡ changed s change → GivesLawful change → line ≡ change_line change
-    → MatchResult r (λ x. told ≡ Ok x) (λ why. IsErrAnd told (λ fault. fault ≡ NotKept why))
+    → MatchResult r (λ x. outcome ≡ Ok x) (λ why. IsErrAnd outcome (λ fault. fault ≡ NotKept why))
     → MatchResult r (λ _. HasLine change line old new) (FailsAtLine line old new)
-    → Keeping change s t old new told
-Keeping-result change s t line (Ok done) told old new made lawful is said h =
+    → Keeping change s t old new outcome
+Keeping-result change s t line (Ok done) outcome old new made lawful is said h =
     subst (Keeping change s t old new) (sym said)
     (made, lawful, subst (λ l. HasLine change l old new) is h)
-Keeping-result change s t line (Err why) told old new made lawful is said h =
-    let fault = err_from_is_err_and told said in
+Keeping-result change s t line (Err why) outcome old new made lawful is said h =
+    let fault = err_from_is_err_and outcome said in
     subst (Keeping change s t old new) (sym (fault.1 ∙ ap Err fault.2))
     (made, subst (λ l. FailsAtLine l old new why) is h)

@@ -2,7 +2,7 @@
 use Rattle.std.proofs.Common.{ℕ, List, Bool, true, false, Option, Result, Ok, Err, OnOk, IfErr}
 use Rattle.std.proofs.Common.{◌≡◌, None, sym, subst}
 use Rattle.osn_core.specs.Sequential.{ObjectState}
-use Rattle.osn_lines.specs.declared.fault.Interrupted.{Interrupted}
+use Rattle.osn_lines.specs.declared.fault.EndedEarly.{EndedEarly}
 use Rattle.osn_lines.specs.Streams.{Input}
 use Rattle.osn_folder.specs.declared.fault.KeptFileFault.{KeptFileFault}
 use Rattle.osn_service.specs.Change.{change_refusal, changed}
@@ -112,7 +112,7 @@ module _ {K : Type 0} (contents synced : K → Option (List ℕ))
     ended n (NotKept why) h = record { before = h.0; stands = h.1; keeps = h.2 old begun }
 
     -- what the store has kept since it began
-    pub KeepsFile-begun : (result : Result Served (Interrupted (ServiceFault KeptFileFault)))
+    pub KeepsFile-begun : (result : Result Served (EndedEarly (ServiceFault KeptFileFault)))
         → KeepsStore has_kept has_lost rules (object_of old) old new i result
         → KeepsFile rules (object_of old) (object_of new) i.bytes (file_at old) (file_at new) result
     KeepsFile-begun (Ok done) h = served done.refused done.lines h

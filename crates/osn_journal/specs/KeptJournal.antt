@@ -4,7 +4,7 @@ use Rattle.std.specs.Prelude.{◌≡◌, ⊤, ℕ, false, List, ◌++◌, take, 
 use Rattle.std.specs.Io.KnownBytes.{Appends}
 use Rattle.osn_register.specs.declared.limits.Limits.{Limits}
 use Rattle.osn_core.specs.Sequential.{ObjectState}
-use Rattle.osn_lines.specs.declared.fault.Interrupted.{Interrupted}
+use Rattle.osn_lines.specs.declared.fault.EndedEarly.{EndedEarly}
 use Rattle.osn_lines.specs.Lines.{lines}
 use Rattle.osn_folder.specs.declared.fault.KeptFileFault.{KeptFileFault}
 use Rattle.osn_format.specs.declared.version.Version.{Version}
@@ -110,7 +110,7 @@ pub record KeepsFirst (rules : ServeRules) (s t : ObjectState) (input : Option (
 
 -- The state of the kept file when answering lines ended.
 abbrev pub KeepsFile : ServeRules → ObjectState → ObjectState → Option (List ℕ) → FileState
-    → FileState → Result Served (Interrupted (ServiceFault KeptFileFault)) → Type 0
+    → FileState → Result Served (EndedEarly (ServiceFault KeptFileFault)) → Type 0
 KeepsFile rules s t input old new result =
     MatchService result (λ _. KeepsAll s t old new) (λ _. KeepsAll s t old new)
     (KeepsFirst rules s t input old new)

@@ -1,6 +1,6 @@
 -- The lines by which a journal grows.
 use Rattle.std.specs.Prelude.{◌≡◌, ℕ, List, ◌++◌, None}
-use Rattle.osn_days.specs.Profile.{newest_rules}
+use Rattle.osn_days.specs.Rules.{newest_rules}
 use Rattle.osn_register.specs.declared.edit.Edit.{Edit}
 use Rattle.osn_register.specs.Lawful.{source_given}
 use Rattle.osn_register.specs.declared.limits.Limits.{Limits}

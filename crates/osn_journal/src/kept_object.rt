@@ -1,6 +1,6 @@
 //! An object, and the file that it is kept in.
 ghost use Rattle.std.specs.Prelude.{◌≡◌, None, MatchResult};
-ghost use Rattle.osn_days.specs.Profile.{newest_rules};
+ghost use Rattle.osn_days.specs.Rules.{newest_rules};
 ghost use Rattle.osn_core.specs.Sequential.{stage_refusal, publish_refusal};
 ghost use Rattle.osn_journal.specs.KeptJournal.{file_of};
 ghost use Rattle.osn_journal.specs.ChangeInside.{FailsAtLine, IsSynced, Keeping};

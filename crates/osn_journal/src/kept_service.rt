@@ -7,7 +7,7 @@ ghost use Rattle.osn_journal.specs.Laws.{DoesEachJournalGrowByLines};
 use crate::kept_object::KeptObject;
 use osn_core::Object;
 use osn_folder::{KeptFile, KeptFileFault};
-use osn_lines::{Interrupted, Sink, Source};
+use osn_lines::{EndedEarly, Sink, Source};
 use osn_service::{ServeRules, Served, ServiceFault, serve_store};
 use std::alloc::Global;
 
@@ -36,7 +36,7 @@ pub fn serve_kept<R: Source, W: Sink, K: KeptFile>(
     source: &mut R,
     sink: &mut W,
     keeper: &mut K,
-) -> Result<Served, Interrupted<ServiceFault<KeptFileFault>>>
+) -> Result<Served, EndedEarly<ServiceFault<KeptFileFault>>>
     ensures serves { ServesStore rules object.old object.new
         (input_of R.remaining R.has_failed source.old source.new)
         (output_of W.contents W.has_failed W.holds_back sink.old sink.new) result }

@@ -6,11 +6,11 @@ use Rattle.std.proofs.Math.Seq.{take-suc}
 use Rattle.std.specs.Io.KnownBytes.{Consumes, IsAtEnd}
 use Rattle.osn_lines.proofs.InputLemmas.{known_whole}
 use Rattle.osn_letters.specs.declared.letters.Letters.{Letters}
-use Rattle.osn_letters.specs.declared.start.Start.{Start}
-use Rattle.osn_letters.specs.declared.start.Start.TheVariants.{Past, TwoBytes}
+use Rattle.osn_letters.specs.declared.start.ByteOrderMark.{ByteOrderMark}
+use Rattle.osn_letters.specs.declared.start.ByteOrderMark.TheVariants.{Past, TwoBytes}
 use Rattle.osn_letters.specs.LettersInside.{CountsAfter, CountsBytes, tally_after}
 use Rattle.osn_letters.specs.LettersInside.{tally_from}
-use Rattle.osn_letters.specs.Start.{held, unmarked, next_start}
+use Rattle.osn_letters.specs.ByteOrderMark.{held, unmarked, next_start}
 use Rattle.osn_letters.specs.Tally.{TallyModel}
 use Rattle.osn_letters.specs.RecordsInside.{TakesRun}
 use Rattle.osn_letters.specs.TableInside.{tally_of}
@@ -25,14 +25,14 @@ after_counted s t u xs ys x y more =
     ap (tally_after s) (append_assoc xs ys more) ∙ (x (ys ++ more) ∙ y more)
 
 -- the bytes that were held back
-pub held_counted : (s t u : Letters) (start : Start) → start ≡ TwoBytes
+pub held_counted : (s t u : Letters) (start : ByteOrderMark) → start ≡ TwoBytes
     → CountsAfter s t (0xEF ∷ []) → CountsAfter t u (0xBB ∷ []) → CountsAfter s u (held start)
 held_counted s t u start is x y =
     subst (λ b. CountsAfter s u (held b)) (sym is)
     (after_counted s t u (0xEF ∷ []) (0xBB ∷ []) x y)
 
 -- a byte that goes on with the mark
-pub mark_counted : (s : Letters) (next : Start) (b : ℕ) → next_start s.start b ≡ Some next
+pub mark_counted : (s : Letters) (next : ByteOrderMark) (b : ℕ) → next_start s.start b ≡ Some next
     → CountsBytes s (record { start = next; parser = s.parser; table = s.table }) (b ∷ [])
 mark_counted s next b h more = ap (tally_after s) (marked s.start next b h more)
 

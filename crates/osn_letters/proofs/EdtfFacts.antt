@@ -7,14 +7,14 @@ use Rattle.osn_days.specs.declared.calendar.Calendar.TheVariants.{Gregorian}
 use Rattle.osn_days.specs.declared.date.Date.{Date}
 use Rattle.osn_days.specs.Chain.{date_of}
 use Rattle.osn_days.specs.Line.{IsDay}
-use Rattle.osn_days.specs.Profile.{newest_rules}
+use Rattle.osn_days.specs.Rules.{newest_rules}
 use Rattle.osn_days.proofs.LineFacts.{date_of_line}
 use Rattle.osn_grammar.specs.declared.written.DateOrder.{DateOrder}
 use Rattle.osn_grammar.specs.InDigits.{HasFourDigits, sign, signed}
 use Rattle.osn_grammar.specs.SetsInDigits.{AreSetsRead, Days, HaveFourDigits, days_text, set_text}
 use Rattle.osn_grammar.proofs.SetLaw.{sets_law}
-use Rattle.osn_lands.specs.declared.dated.DatedDay.{DatedDay}
-use Rattle.osn_lands.specs.declared.runs.Run.{Run}
+use Rattle.osn_territory.specs.declared.dated.DatedDay.{DatedDay}
+use Rattle.osn_territory.specs.declared.runs.Run.{Run}
 use Rattle.osn_letters.specs.Edtf.{edtf_day, edtf_of_days, edtf_of_runs, edtf_run, in_brackets}
 use Rattle.osn_letters.specs.Edtf.{sign_of}
 use Rattle.osn_letters.specs.EdtfLaw.{AreDaysRead, AreRunsRead, IsReadAs, IsRunOf, days_of_day}

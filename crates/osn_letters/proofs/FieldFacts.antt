@@ -6,10 +6,10 @@ use Rattle.std.proofs.lemmas.Str.{IsUtf8-from_is_utf8, is_utf8-from_IsUtf8}
 use Rattle.std.specs.Result.{is_ok, result_ok}
 use Rattle.std.specs.Str.{is_utf8}
 use Rattle.osn_days.specs.declared.weekday.Weekday.{Weekday}
-use Rattle.osn_days.specs.Profile.{Profile}
+use Rattle.osn_days.specs.Rules.{Rules}
 use Rattle.osn_written.specs.declared.any_date.AnyDate.{AnyDate}
-use Rattle.osn_lands.specs.declared.dated.DatedDay.{DatedDay}
-use Rattle.osn_lands.specs.Territory.{TerritoryModel}
+use Rattle.osn_territory.specs.declared.dated.DatedDay.{DatedDay}
+use Rattle.osn_territory.specs.Territory.{TerritoryModel}
 use Rattle.osn_written.specs.declared.finding.NoDay.{NoDay}
 use Rattle.osn_written.specs.declared.finding.NoDay.TheVariants.{Absent}
 use Rattle.osn_written.specs.declared.written_date.WrittenDate.{WrittenDate}
@@ -40,19 +40,19 @@ some_meant edition w day given reason beside [] some = absurd (some refl)
 some_meant edition w day given reason beside (first ∷ rest) some = refl
 
 -- the fields of days that are those of a date
-pub meant_are : (p : Profile) (edition : ℕ) (own t : TerritoryModel) (w : AnyDate)
+pub meant_are : (p : Rules) (edition : ℕ) (own t : TerritoryModel) (w : AnyDate)
     (day : WrittenDate) (given : Option Weekday) (beside on_days : List (Bool × Remark))
-    (days told field_days : List DatedDay) → days ≡ dated_by p own (meaning p t day given)
+    (days row_days field_days : List DatedDay) → days ≡ dated_by p own (meaning p t day given)
     → (days ≡ [] → ⊥)
-    → told ≡ days → field_days ≡ days → on_days ≡ remarks_on_days day given told
+    → row_days ≡ days → field_days ≡ days → on_days ≡ remarks_on_days day given row_days
     → fields_of_days edition w field_days (on_days ++ beside)
     ≡ fields_of_one_day p edition own t w day given beside
-meant_are p edition own t w day given beside on_days days told field_days days_are some told_are
-    field_days_are on_are =
+meant_are p edition own t w day given beside on_days days row_days field_days days_are some
+    row_days_are field_days_are on_are =
     let reason = Absent (absence p t day) in
     ap (λ ds. fields_of_days edition w ds (on_days ++ beside)) field_days_are
     ∙ (ap (λ r. fields_of_days edition w days (r ++ beside))
-    (on_are ∙ ap (remarks_on_days day given) told_are)
+    (on_are ∙ ap (remarks_on_days day given) row_days_are)
     ∙ (some_meant edition w day given reason beside days some
     ∙ ap (fields_of_meaning edition w day given reason beside) days_are))
 

@@ -20,9 +20,9 @@ use Rattle.osn_letters.specs.Separators.{or_comma}
 use Rattle.osn_letters.specs.LettersInside.{text_from, Wrote, Stops, TakesBytes, StopsAt}
 use Rattle.osn_letters.specs.LettersInside.{Waits, is_known}
 use Rattle.osn_letters.specs.LettersInside.{text_after, TakesAfter, StopsAfter}
-use Rattle.osn_letters.specs.declared.start.Start.{Start}
-use Rattle.osn_letters.specs.declared.start.Start.TheVariants.{Past, TwoBytes}
-use Rattle.osn_letters.specs.Start.{held, unmarked, next_start}
+use Rattle.osn_letters.specs.declared.start.ByteOrderMark.{ByteOrderMark}
+use Rattle.osn_letters.specs.declared.start.ByteOrderMark.TheVariants.{Past, TwoBytes}
+use Rattle.osn_letters.specs.ByteOrderMark.{held, unmarked, next_start}
 use Rattle.osn_letters.proofs.StartFacts.{marked, unmarked_held, unmarked_end}
 use Rattle.osn_letters.specs.LettersInside.{Passes}
 use Rattle.osn_letters.specs.Records.{Reading, faulty}
@@ -44,7 +44,7 @@ err_of_fault {T} {E} P r fault made h =
     subst (λ (o : Result T E). IfErr o P) (sym (err.1 ∙ ap Err err.2)) h
 
 not_memory : (fault : LettersFault) → is_of_table fault ≡ true → fault ≢ NoMemory
-not_memory fault told e = absurd (cc (subst (λ f. is_of_table f ≡ true) e told))
+not_memory fault fault_is e = absurd (cc (subst (λ f. is_of_table f ≡ true) e fault_is))
 
 -- nothing was written
 pub wrote_nothing : (out : List ℕ) (w : Written) → Wrote out out w w
@@ -63,7 +63,7 @@ wrote_then {a = a} {u = u} x y = record {
 -- a first part was written, and then it stops
 pub wrote_stops : {a b c : List ℕ} {w v : Written} {fault : LettersFault} → Wrote a b w v
     → Stops b c v fault → Stops a c w fault
-wrote_stops x y = record { inner = y.inner; wrote = λ told. wrote_then x (y.wrote told) }
+wrote_stops x y = record { inner = y.inner; wrote = λ fault_is. wrote_then x (y.wrote fault_is) }
 
 -- it stops before anything was written
 pub stops_here : (out new : List ℕ) (w : Written) (fault : LettersFault)
@@ -71,7 +71,7 @@ pub stops_here : (out new : List ℕ) (w : Written) (fault : LettersFault)
     → Stops out new w fault
 stops_here out new w fault inner ended = record {
   inner = inner;
-  wrote = λ told. (let why = ended (not_memory fault told) in
+  wrote = λ fault_is. (let why = ended (not_memory fault fault_is) in
       record { text = []; out = why.0 ∙ sym (append-nil out); begins = why.1 });
 }
 
@@ -147,7 +147,7 @@ stops_first s u xs ys fault x more =
     (sym (append_assoc xs ys more)) (x (ys ++ more))
 
 -- a byte that goes on with the mark
-pub mark_taken : (s : Letters) (next : Start) (b : ℕ) → next_start s.start b ≡ Some next
+pub mark_taken : (s : Letters) (next : ByteOrderMark) (b : ℕ) → next_start s.start b ≡ Some next
     → TakesBytes s (record { start = next; parser = s.parser; table = s.table }) (b ∷ [])
 mark_taken s next b h more = record {
   text = [];
@@ -273,7 +273,7 @@ nothing_written c w fault other = record {
   appended = Appends-nothing c;
   rest = w;
   begins = refl;
-  ended = λ told. absurd (cc (sym other ∙ told));
+  ended = λ fault_is. absurd (cc (sym other ∙ fault_is));
 }
 
 -- what was taken or not, what waits is a first part of what is written
@@ -334,7 +334,7 @@ part_early c d out n r fault w known appended other waits =
           (sym wrote.out ∙ sym (take-append-drop n out))
           ∙ ap (λ t. record { text = t; fault = rest.fault })
           (append_assoc (take n out) (drop n out) rest.text);
-      ended = λ told. absurd (cc (sym other ∙ told));
+      ended = λ fault_is. absurd (cc (sym other ∙ fault_is));
     }
 
 -- all of it was written
@@ -350,7 +350,7 @@ all_early c d out (Err fault) known appended =
       appended = subst (Appends c d) wrote.out appended;
       rest = ended_by fault;
       begins = wrote.begins;
-      ended = λ told. refl;
+      ended = λ fault_is. refl;
     }
 
 -- it is not known what waits, and nothing was written
@@ -399,25 +399,25 @@ passes_ends {v = v} fault other x = record {
   appended = x.appended;
   rest = v;
   begins = x.begins;
-  ended = λ told. absurd (cc (sym other ∙ told));
+  ended = λ fault_is. absurd (cc (sym other ∙ fault_is));
 }
 
 -- two bytes that were held back
-pub held_takes : (s t u : Letters) (start : Start) → start ≡ TwoBytes
+pub held_takes : (s t u : Letters) (start : ByteOrderMark) → start ≡ TwoBytes
     → TakesAfter s t (0xEF ∷ []) → TakesAfter t u (0xBB ∷ []) → TakesAfter s u (held start)
 held_takes s t u start is x y =
     subst (λ b. TakesAfter s u (held b)) (sym is)
     (after_then s t u (0xEF ∷ []) (0xBB ∷ []) x y)
 
-pub held_stops : (s t u : Letters) (start : Start) (fault : LettersFault) → start ≡ TwoBytes
+pub held_stops : (s t u : Letters) (start : ByteOrderMark) (fault : LettersFault) → start ≡ TwoBytes
     → TakesAfter s t (0xEF ∷ []) → StopsAfter t u (0xBB ∷ []) fault
     → StopsAfter s u (held start) fault
 held_stops s t u start fault is x y =
     subst (λ b. StopsAfter s u (held b) fault) (sym is)
     (after_stops s t u (0xEF ∷ []) (0xBB ∷ []) fault x y)
 
-pub held_stops_first : (s u : Letters) (start : Start) (fault : LettersFault) → start ≡ TwoBytes
-    → StopsAfter s u (0xEF ∷ []) fault → StopsAfter s u (held start) fault
+pub held_stops_first : (s u : Letters) (start : ByteOrderMark) (fault : LettersFault) → start
+    ≡ TwoBytes → StopsAfter s u (0xEF ∷ []) fault → StopsAfter s u (held start) fault
 held_stops_first s u start fault is x =
     subst (λ b. StopsAfter s u (held b) fault) (sym is)
     (stops_first s u (0xEF ∷ []) (0xBB ∷ []) fault x)

@@ -16,7 +16,7 @@ use Rattle.osn_letters.specs.LettersInside.{PassesBytes, Stops, TakesBytes, Writ
 use Rattle.osn_letters.specs.LettersInside.{text_from}
 use Rattle.osn_letters.specs.Records.{records_from}
 use Rattle.osn_letters.specs.RecordsInside.{reading_of}
-use Rattle.osn_letters.specs.Start.{unmarked}
+use Rattle.osn_letters.specs.ByteOrderMark.{unmarked}
 use Rattle.osn_letters.specs.Table.{Written, text_before, ended_by, written_from}
 use Rattle.osn_letters.specs.TableInside.{heading_by, source_of}
 use Rattle.osn_letters.specs.WriterInside.{waiting}
@@ -63,5 +63,5 @@ pub last_stops : {a b : List ℕ} {w v : Written} (fault : LettersFault) → Wro
     → v ≡ ended_by fault → is_of_table fault ≡ true → Stops a b w fault
 last_stops {a} {b} {w} {v} fault wrote ended of_table = record {
   inner = table_inner fault of_table;
-  wrote = λ told. subst (Wrote a b w) ended wrote;
+  wrote = λ fault_is. subst (Wrote a b w) ended wrote;
 }

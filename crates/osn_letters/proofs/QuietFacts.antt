@@ -9,8 +9,9 @@ use Rattle.csv.specs.declared.parser.State.{State}
 use Rattle.csv.specs.declared.parser.State.TheVariants as st
 use Rattle.csv.specs.Machine.{is_end}
 use Rattle.osn_letters.specs.declared.letters.Letters.{Letters}
-use Rattle.osn_letters.specs.declared.start.Start.{Start}
-use Rattle.osn_letters.specs.declared.start.Start.TheVariants.{Nothing, OneByte, TwoBytes, Past}
+use Rattle.osn_letters.specs.declared.start.ByteOrderMark.{ByteOrderMark}
+use Rattle.osn_letters.specs.declared.start.ByteOrderMark.TheVariants.{Nothing, OneByte, TwoBytes}
+use Rattle.osn_letters.specs.declared.start.ByteOrderMark.TheVariants.{Past}
 use Rattle.osn_letters.specs.declared.separator.Separator.{Separator}
 use Rattle.osn_letters.specs.LettersInside.{text_from, text_after}
 use Rattle.osn_letters.specs.Records.{Reading, PlacedRecord, after, is_between, moved}
@@ -19,7 +20,7 @@ use Rattle.osn_letters.specs.Records.{records_from}
 use Rattle.osn_letters.specs.declared.fault.LettersFault.{LettersFault}
 use Rattle.osn_letters.specs.declared.fault.LettersFault.TheVariants.{TooLong, TextAfterQuote}
 use Rattle.osn_letters.specs.RecordsInside.{reading_of}
-use Rattle.osn_letters.specs.Start.{held, next_start}
+use Rattle.osn_letters.specs.ByteOrderMark.{held, next_start}
 use Rattle.osn_letters.specs.Separators.{separator_at, separator_of}
 use Rattle.osn_letters.specs.Table.{TableBasis, Heading, Written, EndsRead, written_from}
 use Rattle.osn_letters.specs.TableInside.{heading_of, source_of}
@@ -102,7 +103,7 @@ run_long (suc n) = rw (run_long n) refl
 
 -- after what is held back as well
 held_quiet : (s : Letters) (bytes : List ℕ) → ArePlain bytes → 65536 < length bytes
-    → (start : Start) → (text_after s (held start ++ bytes)).text ≡ []
+    → (start : ByteOrderMark) → (text_after s (held start ++ bytes)).text ≡ []
 held_quiet s bytes plain long Nothing =
     quiet (source_of s.table) (heading_of s.table) (reading_of s.parser) bytes plain
     (omega (arith, long))
@@ -117,7 +118,7 @@ held_quiet s bytes plain long TwoBytes =
     (0xEF ∷ 0xBB ∷ bytes) ((refl, refl, refl, refl), ((refl, refl, refl, refl), plain))
     (omega (arith, long))
 
-goes_on : (start : Start) → next_start start 97 ≡ None
+goes_on : (start : ByteOrderMark) → next_start start 97 ≡ None
 goes_on Nothing = refl
 goes_on OneByte = refl
 goes_on TwoBytes = refl

@@ -4,13 +4,13 @@ use Rattle.std.proofs.Common.{◌++◌, map, refl, subst, Option, Some, None, Re
 use Rattle.std.proofs.Common.{get_or, is_none, option_map}
 use Rattle.std.specs.Str.{bytes_eq}
 use Rattle.osn_days.specs.declared.weekday.Weekday.{Weekday}
-use Rattle.osn_days.specs.Profile.{Profile}
+use Rattle.osn_days.specs.Rules.{Rules}
 use Rattle.osn_grammar.specs.declared.written.Written.{Written}
 use Rattle.osn_grammar.specs.declared.written.Written.TheVariants as written
 use Rattle.osn_written.specs.declared.any_date.AnyDate.{AnyDate}
-use Rattle.osn_lands.specs.declared.dated.DatedDay.{DatedDay}
-use Rattle.osn_lands.specs.declared.runs.Run.{Run}
-use Rattle.osn_lands.specs.Territory.{TerritoryModel}
+use Rattle.osn_territory.specs.declared.dated.DatedDay.{DatedDay}
+use Rattle.osn_territory.specs.declared.runs.Run.{Run}
+use Rattle.osn_territory.specs.Territory.{TerritoryModel}
 use Rattle.osn_written.specs.declared.absence.Absence.TheVariants as why
 use Rattle.osn_written.specs.declared.finding.NoDay.{NoDay}
 use Rattle.osn_written.specs.declared.finding.NoDay.TheVariants as none
@@ -38,7 +38,7 @@ use Rattle.osn_written.specs.declared.set.AbsentMember.{AbsentMember}
 use Rattle.osn_written.specs.SetsMeant.{set_meant}
 use Rattle.osn_letters.specs.Records.{PlacedRecord, records_of}
 use Rattle.osn_letters.specs.Remarks.{are_on_weekday, remark_words, remarks_beside}
-use Rattle.osn_letters.specs.Remarks.{remarks_on_days, those_that_apply}
+use Rattle.osn_letters.specs.Remarks.{remarks_on_days, applying}
 use Rattle.osn_letters.specs.RowFields.{is_malformed_weekday, date_of_field, territory_in}
 use Rattle.osn_letters.specs.RowFields.{weekday_in}
 use Rattle.osn_letters.specs.RowRemarks.{IsTallyOf, first_remarks, header_remarks}
@@ -63,17 +63,17 @@ right_false true b none = absurd (cc none)
 right_false false b none = none
 
 none_has : (words : List ℕ) (all : List (Bool × Remark)) → has_words words (remarks_in all) ≡ false
-    → has_words words (those_that_apply all) ≡ false
+    → has_words words (applying all) ≡ false
 none_has words [] none = refl
 none_has words ((true, r) ∷ rest) none =
     neither (bytes_eq words (remark_words r)) (has_words words (remarks_in rest))
-    (has_words words (those_that_apply rest)) none (none_has words rest)
+    (has_words words (applying rest)) none (none_has words rest)
 none_has words ((false, r) ∷ rest) none =
     none_has words rest
     (right_false (bytes_eq words (remark_words r)) (has_words words (remarks_in rest)) none)
 
 apart_those : (all : List (Bool × Remark)) → AreApart (remarks_in all)
-    → AreApart (those_that_apply all)
+    → AreApart (applying all)
 apart_those [] apart = tt
 apart_those ((true, r) ∷ rest) (first, apart) =
     (none_has (remark_words r) rest first, apart_those rest apart)
@@ -142,7 +142,7 @@ date_apart a l m faults.Feast = (refl, (refl, (refl, tt)))
 date_apart a l m faults.RomanNumeral = (refl, (refl, (refl, tt)))
 
 fault_apart : (lacks malformed : Bool) (fault : DateFault)
-    → AreApart (those_that_apply ((true, remark.NotRead fault) ∷ (lacks, remark.UnknownPlace)
+    → AreApart (applying ((true, remark.NotRead fault) ∷ (lacks, remark.UnknownPlace)
     ∷ (malformed, remark.MalformedWeekday) ∷ []))
 fault_apart lacks malformed fault =
     apart_those ((true, remark.NotRead fault) ∷ (lacks, remark.UnknownPlace)
@@ -171,7 +171,7 @@ found_apart edition w single b (Ok runs) =
 found_apart edition w single b (Err reason) =
     apart_those ((true, remark.NoDay reason) ∷ beside b) (absence_apart true reason b)
 
-either_apart : (p : Profile) (edition : ℕ) (own t : TerritoryModel) (w : AnyDate)
+either_apart : (p : Rules) (edition : ℕ) (own t : TerritoryModel) (w : AnyDate)
     (given : Option Weekday) (b : Beside) (one : Option WrittenDate)
     → AreApart (fields_of_either p edition own t w given (beside b) one).remarks
 either_apart p edition own t w given b (Some day) =
@@ -212,14 +212,14 @@ found_set_apart edition ws b (Ok runs) = apart_those (beside_set b) (set_apart b
 found_set_apart edition ws b (Err absent) =
     apart_those ((true, remark.NoDay absent.reason) ∷ beside_set b) (no_set_apart absent.reason b)
 
-members_apart : (p : Profile) (edition : ℕ) (t : Option TerritoryModel) (ws : List AnyDate)
+members_apart : (p : Rules) (edition : ℕ) (t : Option TerritoryModel) (ws : List AnyDate)
     (b : Option Weekday × Bool)
     → AreApart (fields_of_members p edition t ws (beside_set b)).remarks
 members_apart p edition (Some t) ws b = found_set_apart edition ws b (set_meant p t ws)
 members_apart p edition None ws b =
     apart_those ((true, remark.UnknownPlace) ∷ beside_set b) (refl, set_apart b)
 
-reading_apart : (p : Profile) (edition : ℕ) (t : Option TerritoryModel) (named : Option (List ℕ))
+reading_apart : (p : Rules) (edition : ℕ) (t : Option TerritoryModel) (named : Option (List ℕ))
     (ws : List AnyDate) (r : Result Written DateFault)
     → AreApart (fields_of_reading p edition t named ws r).remarks
 reading_apart p edition (Some t) named ws (Ok (written.Date w)) =
@@ -241,7 +241,7 @@ row_apart : (s : TableBasis) (columns : Columns) (record_fields : List (List ℕ
     → AreApart (letter_of s columns record_fields).remarks
 row_apart s columns record_fields =
     reading_apart s.rules s.edition
-    (territory_in s.lands s.places (get_or record_fields columns.place []))
+    (territory_in s.territories s.places (get_or record_fields columns.place []))
     (option_map (λ n. get_or record_fields n []) columns.weekday)
     (members_in (date_in columns.date record_fields))
     (date_of_field s.order (date_in columns.date record_fields))

@@ -4,20 +4,22 @@ use Rattle.std.proofs.Common.{◌++◌}
 use Rattle.std.proofs.Common.{Some, None, refl, ap}
 use Rattle.std.proofs.lemmas.Bool.Decides.{Decides-eqb}
 use Rattle.csv.specs.Reading.{strip_bom}
-use Rattle.osn_letters.specs.declared.start.Start.{Start}
-use Rattle.osn_letters.specs.declared.start.Start.TheVariants.{Nothing, OneByte, TwoBytes, Past}
-use Rattle.osn_letters.specs.Start.{held, unmarked, next_start}
+use Rattle.osn_letters.specs.declared.start.ByteOrderMark.{ByteOrderMark}
+use Rattle.osn_letters.specs.declared.start.ByteOrderMark.TheVariants.{Nothing, OneByte, TwoBytes}
+use Rattle.osn_letters.specs.declared.start.ByteOrderMark.TheVariants.{Past}
+use Rattle.osn_letters.specs.ByteOrderMark.{held, unmarked, next_start}
 
-passed : (t : Bool) (s u : Start) → (if t then Some s else None) ≡ Some u → (t ≡ true) × (s ≡ u)
+passed : (t : Bool) (s u : ByteOrderMark) → (if t then Some s else None) ≡ Some u → (t ≡ true)
+    × (s ≡ u)
 passed true s u h = (refl, cc)
 passed false s u h = absurd (cc)
 
-failed : (t : Bool) (s : Start) → (if t then Some s else None) ≡ None → t ≡ false
+failed : (t : Bool) (s : ByteOrderMark) → (if t then Some s else None) ≡ None → t ≡ false
 failed true s h = absurd (cc)
 failed false s h = refl
 
 -- the byte goes on with the mark
-pub marked : (start next : Start) (b : ℕ) → next_start start b ≡ Some next → (more : List ℕ)
+pub marked : (start next : ByteOrderMark) (b : ℕ) → next_start start b ≡ Some next → (more : List ℕ)
     → unmarked start (b ∷ more) ≡ unmarked next more
 unfolding strip_bom
 marked Nothing next b h more =
@@ -34,7 +36,7 @@ marked TwoBytes next b h more =
 marked Past next b h more = absurd (cc)
 
 -- the byte does not go on with the mark
-pub unmarked_held : (start : Start) (b : ℕ) → next_start start b ≡ None → (more : List ℕ)
+pub unmarked_held : (start : ByteOrderMark) (b : ℕ) → next_start start b ≡ None → (more : List ℕ)
     → unmarked start (b ∷ more) ≡ held start ++ b ∷ more
 unfolding strip_bom
 unmarked_held Nothing b h [] = refl
@@ -46,7 +48,7 @@ unmarked_held TwoBytes b h more = rw (failed (b == 0xBF) Past h) refl
 unmarked_held Past b h more = refl
 
 -- at the end of the text, the bytes that are held back are not a mark
-pub unmarked_end : (start : Start) → unmarked start [] ≡ held start ++ []
+pub unmarked_end : (start : ByteOrderMark) → unmarked start [] ≡ held start ++ []
 unfolding strip_bom
 unmarked_end Nothing = refl
 unmarked_end OneByte = refl

@@ -134,7 +134,7 @@ pub unread_fault : (old new : Bool) (Long Read : Type 0) (fault : LettersFault) 
     → is_read_fault fault ≡ false
     → EndsStream (is_read_fault fault) old new Long × (is_read_fault fault ≡ true → Read)
 unread_fault old new Long Read fault same unread =
-    (rw unread same, λ told. absurd (cc (sym unread ∙ told)))
+    (rw unread same, λ fault_is. absurd (cc (sym unread ∙ fault_is)))
 
 pub unread_ends : {T : Type 0} (old new : Bool) (Long Read : Type 0) (r : Result T LettersFault)
     → new ≡ old → IfErr r (λ fault. is_read_fault fault ≡ false)

@@ -3,11 +3,11 @@ use Rattle.std.proofs.Common.{◌≡◌, ◌∙◌, ℕ, List, ◌++◌, Result,
 use Rattle.std.proofs.lemmas.Result.{on_ok_weaker}
 use Rattle.csv.specs.Writing.{row_text}
 use Rattle.csv.specs.declared.writer.WriterBuilder.{WriterBuilder}
-use Rattle.osn_days.specs.Profile.{Profile}
+use Rattle.osn_days.specs.Rules.{Rules}
 use Rattle.osn_grammar.specs.declared.written.DateOrder.{DateOrder}
-use Rattle.osn_register.specs.Plain.{LandModel}
+use Rattle.osn_register.specs.Plain.{EntryModel}
 use Rattle.osn_letters.specs.declared.separator.Separator.{Separator}
-use Rattle.osn_letters.specs.Fields.{letter_fields}
+use Rattle.osn_letters.specs.Fields.{row_fields}
 use Rattle.osn_letters.specs.PlaceEntries.{PlaceEntry}
 use Rattle.osn_letters.specs.Separators.{writer_by}
 
@@ -27,10 +27,10 @@ written_by r x y new middle old a b same old_is e h =
     ∙ ap (λ fs. old ++ row_text (writer_by y) fs) e) h
 
 -- the fields by the fields that are read
-pub same_fields : (p : Profile) (lands : List LandModel) (edition : ℕ) (o : DateOrder)
+pub same_fields : (p : Rules) (territories : List EntryModel) (edition : ℕ) (o : DateOrder)
     (places : List PlaceEntry) (a b date : List ℕ) (v w : Option (List ℕ)) → a ≡ b → v ≡ w
-    → letter_fields p lands edition o places a date v
-    ≡ letter_fields p lands edition o places b date w
-same_fields p lands edition o places a b date v w e1 e2 =
-    ap (λ x. letter_fields p lands edition o places x date v) e1
-    ∙ ap (λ x. letter_fields p lands edition o places b date x) e2
+    → row_fields p territories edition o places a date v
+    ≡ row_fields p territories edition o places b date w
+same_fields p territories edition o places a b date v w e1 e2 =
+    ap (λ x. row_fields p territories edition o places x date v) e1
+    ∙ ap (λ x. row_fields p territories edition o places b date x) e2

@@ -5,13 +5,13 @@ use Rattle.std.specs.List.{All}
 use Rattle.osn_days.specs.declared.calendar.Calendar.TheVariants.{Gregorian}
 use Rattle.osn_days.specs.Chain.{date_of}
 use Rattle.osn_days.specs.Line.{IsDay}
-use Rattle.osn_days.specs.Profile.{Profile}
+use Rattle.osn_days.specs.Rules.{Rules}
 use Rattle.osn_grammar.specs.declared.written.DateOrder.{DateOrder}
 use Rattle.osn_grammar.specs.declared.written.Written.TheVariants as say
 use Rattle.osn_grammar.specs.Reading.{members, read_date}
 use Rattle.osn_grammar.specs.SetsInDigits.{Days, member}
-use Rattle.osn_lands.specs.declared.dated.DatedDay.{DatedDay}
-use Rattle.osn_lands.specs.declared.runs.Run.{Run}
+use Rattle.osn_territory.specs.declared.dated.DatedDay.{DatedDay}
+use Rattle.osn_territory.specs.declared.runs.Run.{Run}
 use Rattle.osn_letters.specs.Edtf.{edtf_of_days, edtf_of_runs, sign_of}
 
 -- a run, and a day on its own
@@ -31,11 +31,11 @@ pub record IsReadAs (o : DateOrder) (approximate uncertain : Bool) (text : List 
   pub dates : members text ≡ map (member approximate uncertain) days
 
 -- a run of days of the line
-abbrev pub IsRunOf : Profile → Run → Type 0
+abbrev pub IsRunOf : Rules → Run → Type 0
 IsRunOf p r = IsDay p r.first × IsDay p r.last
 
 -- as a law: so is the text of two or more runs
-unfoldable pub AreRunsRead : Profile → Type 0
+unfoldable pub AreRunsRead : Rules → Type 0
 AreRunsRead p =
     (o : DateOrder) (approximate uncertain : Bool) (first next : Run) (rest : List Run)
     → All (IsRunOf p) (first ∷ next ∷ rest)
@@ -44,7 +44,7 @@ AreRunsRead p =
     (map days_of_run (first ∷ next ∷ rest))
 
 -- as a law: and that of two or more days
-unfoldable pub AreDaysRead : Profile → Type 0
+unfoldable pub AreDaysRead : Rules → Type 0
 AreDaysRead p =
     (o : DateOrder) (approximate uncertain : Bool) (first next : DatedDay) (rest : List DatedDay)
     → All (λ day. IsDay p day.day) (first ∷ next ∷ rest)

@@ -6,7 +6,7 @@ use Rattle.std.specs.Fmt.{decimal}
 use Rattle.std.specs.List.{join_by}
 use Rattle.osn_days.specs.declared.calendar.Calendar.TheVariants as calendar
 use Rattle.osn_days.specs.declared.weekday.Weekday.{Weekday}
-use Rattle.osn_days.specs.Profile.{Profile}
+use Rattle.osn_days.specs.Rules.{Rules}
 use Rattle.osn_days.specs.Chain.{date_of}
 use Rattle.osn_days.specs.DateText.{text_of_date}
 use Rattle.osn_days.specs.Line.{julian_day, weekday}
@@ -15,11 +15,11 @@ use Rattle.osn_grammar.specs.declared.written.DateOrder.{DateOrder}
 use Rattle.osn_grammar.specs.declared.written.Written.{Written}
 use Rattle.osn_grammar.specs.declared.written.Written.TheVariants as written
 use Rattle.osn_written.specs.declared.any_date.AnyDate.{AnyDate}
-use Rattle.osn_lands.specs.declared.dated.DatedDay.{DatedDay}
-use Rattle.osn_lands.specs.declared.runs.Run.{Run}
-use Rattle.osn_lands.specs.Dated.{dated_text}
-use Rattle.osn_lands.specs.Territory.{TerritoryModel}
-use Rattle.osn_register.specs.Plain.{LandModel}
+use Rattle.osn_territory.specs.declared.dated.DatedDay.{DatedDay}
+use Rattle.osn_territory.specs.declared.runs.Run.{Run}
+use Rattle.osn_territory.specs.Dated.{dated_text}
+use Rattle.osn_territory.specs.Territory.{TerritoryModel}
+use Rattle.osn_register.specs.Plain.{EntryModel}
 use Rattle.osn_written.specs.declared.finding.NoDay.{NoDay}
 use Rattle.osn_written.specs.declared.finding.NoDay.TheVariants.{Absent}
 use Rattle.osn_written.specs.declared.kind.Kind.{Kind}
@@ -45,7 +45,7 @@ use Rattle.osn_letters.specs.declared.span.Span.{Span}
 use Rattle.osn_letters.specs.Edtf.{edtf_of_days, edtf_of_runs, edtf_of_span, sign, sign_of}
 use Rattle.osn_letters.specs.PlaceEntries.{PlaceEntry}
 use Rattle.osn_letters.specs.Remarks.{remark_text, remarks_beside, remarks_beside_set}
-use Rattle.osn_letters.specs.Remarks.{remarks_on_days, those_that_apply}
+use Rattle.osn_letters.specs.Remarks.{remarks_on_days, applying}
 use Rattle.osn_letters.specs.RowFields.{date_of_field, is_malformed_weekday, members_in}
 use Rattle.osn_letters.specs.RowFields.{territory_in, weekday_in}
 use Rattle.osn_letters.specs.Span.{no_span, span_of_days, span_of_runs, span_of_set}
@@ -128,7 +128,7 @@ summary_of edition w span = summary edition (Some (kind_of w.extent)) span
 -- of a row that has no day
 abbrev pub fields_of_none : ℕ → Option Kind → List (Bool × Remark) → FieldsAndRemarks
 fields_of_none edition kind remarks =
-    fields_with (summary edition kind no_span) [] [] (those_that_apply remarks)
+    fields_with (summary edition kind no_span) [] [] (applying remarks)
 
 -- of a date that means no day
 abbrev pub fields_of_absence : ℕ → AnyDate → NoDay → List (Bool × Remark) → FieldsAndRemarks
@@ -139,14 +139,14 @@ fields_of_absence edition w reason beside =
 abbrev pub fields_of_days : ℕ → AnyDate → List DatedDay → List (Bool × Remark) → FieldsAndRemarks
 fields_of_days edition w days remarks =
     fields_with (summary_of edition w (span_of_days days)) days (edtf_of_days (sign w) days)
-    (those_that_apply remarks)
+    (applying remarks)
 
 -- of runs
 abbrev pub fields_of_runs : ℕ → AnyDate → List Run → List (Bool × Remark) → FieldsAndRemarks
 fields_of_runs edition w runs remarks =
     let span = span_of_runs w.extent runs in
     fields_with (summary_of edition w span) [] (edtf_of_span (sign w) span runs)
-    (those_that_apply remarks)
+    (applying remarks)
 
 -- ---- the date, in its territory
 
@@ -159,7 +159,7 @@ fields_of_meaning edition w day given reason beside (first ∷ rest) =
     (remarks_on_days day given (first ∷ rest) ++ beside)
 
 -- of a date that is one day, by the reckoning of a territory, each day as the place dated it
-abbrev pub fields_of_one_day : Profile → ℕ → TerritoryModel → TerritoryModel → AnyDate
+abbrev pub fields_of_one_day : Rules → ℕ → TerritoryModel → TerritoryModel → AnyDate
     → WrittenDate → Option Weekday → List (Bool × Remark) → FieldsAndRemarks
 fields_of_one_day p edition own t w day given beside =
     fields_of_meaning edition w day given (Absent (absence p t day)) beside
@@ -172,28 +172,28 @@ fields_of_found edition w single beside (Ok runs) =
     fields_of_runs edition w runs ((single, remark.NotCountedDouble) ∷ beside)
 fields_of_found edition w single beside (Err reason) = fields_of_absence edition w reason beside
 
-abbrev pub fields_of_many_days : Profile → ℕ → TerritoryModel → TerritoryModel → AnyDate
+abbrev pub fields_of_many_days : Rules → ℕ → TerritoryModel → TerritoryModel → AnyDate
     → List (Bool × Remark) → FieldsAndRemarks
 fields_of_many_days p edition own t w beside =
     fields_of_found edition w (is_extent_not_counted_double p own t w.extent) beside
     (extent_meant p t w.extent)
 
 -- of either
-abbrev pub fields_of_either : Profile → ℕ → TerritoryModel → TerritoryModel → AnyDate
+abbrev pub fields_of_either : Rules → ℕ → TerritoryModel → TerritoryModel → AnyDate
     → Option Weekday → List (Bool × Remark) → Option WrittenDate → FieldsAndRemarks
 fields_of_either p edition own t w given beside (Some day) =
     fields_of_one_day p edition own t w day given beside
 fields_of_either p edition own t w given beside None = fields_of_many_days p edition own t w beside
 
 -- by the reckoning of a territory, in a place of its own reckoning, with the field of the weekday
-abbrev pub fields_by : Profile → ℕ → TerritoryModel → TerritoryModel → Bool → AnyDate
+abbrev pub fields_by : Rules → ℕ → TerritoryModel → TerritoryModel → Bool → AnyDate
     → Option (List ℕ) → FieldsAndRemarks
 fields_by p edition own t is_other w named =
     fields_of_either p edition own t w (weekday_in named)
     (remarks_beside w (weekday_in named) is_other (is_malformed_weekday named)) (one_day w)
 
 -- in its territory, by the calendar that it names
-abbrev pub fields_in : Profile → ℕ → TerritoryModel → AnyDate → Option (List ℕ) → FieldsAndRemarks
+abbrev pub fields_in : Rules → ℕ → TerritoryModel → AnyDate → Option (List ℕ) → FieldsAndRemarks
 fields_in p edition t w named =
     fields_by p edition t (reckoned t w.reckoning) (is_by_other_calendar p t w) w named
 
@@ -205,7 +205,7 @@ abbrev pub fields_of_set_runs : ℕ → List AnyDate → List Run → List (Bool
 fields_of_set_runs edition ws runs beside =
     fields_with (summary edition (Some kinds.Set) (span_of_set runs)) []
     (edtf_of_runs (sign_of (is_set_uncertain ws) (is_set_approximate ws)) runs)
-    (those_that_apply beside)
+    (applying beside)
 
 -- if there is no day, for that reason
 abbrev pub fields_of_no_set : ℕ → Remark → List (Bool × Remark) → FieldsAndRemarks
@@ -219,14 +219,14 @@ fields_of_found_set edition ws beside (Err absent) =
     fields_of_no_set edition (remark.NoDay absent.reason) beside
 
 -- in its place, if that is known
-abbrev pub fields_of_members : Profile → ℕ → Option TerritoryModel → List AnyDate
+abbrev pub fields_of_members : Rules → ℕ → Option TerritoryModel → List AnyDate
     → List (Bool × Remark) → FieldsAndRemarks
 fields_of_members p edition (Some t) ws beside =
     fields_of_found_set edition ws beside (set_meant p t ws)
 fields_of_members p edition None ws beside = fields_of_no_set edition remark.UnknownPlace beside
 
 -- with the field of the weekday
-abbrev pub fields_of_set : Profile → ℕ → Option TerritoryModel → List AnyDate
+abbrev pub fields_of_set : Rules → ℕ → Option TerritoryModel → List AnyDate
     → Option (List ℕ) → FieldsAndRemarks
 fields_of_set p edition t ws named =
     fields_of_members p edition t ws
@@ -242,7 +242,7 @@ fields_without_place edition w named =
     ∷ remarks_beside w (weekday_in named) false (is_malformed_weekday named))
 
 -- of a date in its place, if that is known
-abbrev pub fields_of_date : Profile → ℕ → Option TerritoryModel → AnyDate → Option (List ℕ)
+abbrev pub fields_of_date : Rules → ℕ → Option TerritoryModel → AnyDate → Option (List ℕ)
     → FieldsAndRemarks
 fields_of_date p edition (Some t) w named = fields_in p edition t w named
 fields_of_date p edition None w named = fields_without_place edition w named
@@ -257,7 +257,7 @@ fields_without_date edition fault lacks_place named =
     ∷ [])
 
 -- of what the field of the date says, which may be a set of these dates
-abbrev pub fields_of_reading : Profile → ℕ → Option TerritoryModel → Option (List ℕ) → List AnyDate
+abbrev pub fields_of_reading : Rules → ℕ → Option TerritoryModel → Option (List ℕ) → List AnyDate
     → Result Written DateFault → FieldsAndRemarks
 fields_of_reading p edition t named ws (Ok (written.Date w)) = fields_of_date p edition t w named
 fields_of_reading p edition t named ws (Ok written.Set) = fields_of_set p edition t ws named
@@ -268,8 +268,8 @@ fields_of_reading p edition t named ws (Err fault) = fields_without_date edition
 
 -- the twelve fields for a place, a date and perhaps a weekday, by the territories of an edition and
 -- a table of places
-abbrev pub letter_fields : Profile → List LandModel → ℕ → DateOrder → List PlaceEntry → List ℕ
+abbrev pub row_fields : Rules → List EntryModel → ℕ → DateOrder → List PlaceEntry → List ℕ
     → List ℕ → Option (List ℕ) → FieldsAndRemarks
-letter_fields p lands edition order places place date named =
-    fields_of_reading p edition (territory_in lands places place) named (members_in date)
+row_fields p territories edition order places place date named =
+    fields_of_reading p edition (territory_in territories places place) named (members_in date)
     (date_of_field order date)

@@ -8,7 +8,7 @@ use Rattle.osn_letters.specs.declared.letters.Letters.{Letters}
 use Rattle.osn_letters.specs.declared.fault.LettersFault.{LettersFault}
 use Rattle.osn_letters.specs.Records.{records_from}
 use Rattle.osn_letters.specs.RecordsInside.{reading_of}
-use Rattle.osn_letters.specs.Start.{unmarked}
+use Rattle.osn_letters.specs.ByteOrderMark.{unmarked}
 use Rattle.osn_letters.specs.Table.{Written, text_before, ended_by, EndsEarly, IsLong}
 use Rattle.osn_letters.specs.Faults.{is_of_table, is_of_stream, EndsStream, is_write_fault}
 use Rattle.osn_letters.specs.TableInside.{tally_of, written_of}

@@ -25,5 +25,5 @@ pub mod TableLaws
 pub mod WriterInside
 pub mod TallyInside
 pub mod TableInside
-pub mod Start
+pub mod ByteOrderMark
 pub mod LettersInside

@@ -5,7 +5,7 @@ use Rattle.std.specs.List.{join_by, list_any}
 use Rattle.osn_days.specs.declared.weekday.Weekday.{Weekday}
 use Rattle.osn_written.specs.declared.any_date.AnyDate.{AnyDate}
 use Rattle.osn_written.specs.AnyDate.{has_three_digits}
-use Rattle.osn_lands.specs.declared.dated.DatedDay.{DatedDay}
+use Rattle.osn_territory.specs.declared.dated.DatedDay.{DatedDay}
 use Rattle.osn_written.specs.declared.written_date.WrittenDate.{WrittenDate}
 use Rattle.osn_written.specs.Meaning.{has_weekday, is_not_counted_double}
 use Rattle.osn_written.specs.PlainDay.{one_day}
@@ -29,8 +29,8 @@ remark_words remark.WeekdayNotCompared = codes "weekday not compared"
 remark_words remark.MalformedWeekday = codes "malformed weekday"
 
 -- of remarks, each with whether it applies, those that do, in their order
-abbrev pub those_that_apply : List (Bool × Remark) → List Remark
-those_that_apply remarks = map (λ r. r.1) (filter (λ r. r.0) remarks)
+abbrev pub applying : List (Bool × Remark) → List Remark
+applying remarks = map (λ r. r.1) (filter (λ r. r.0) remarks)
 
 -- the field of remarks
 abbrev pub remark_text : List Remark → List ℕ

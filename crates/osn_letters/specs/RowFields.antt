@@ -10,11 +10,11 @@ use Rattle.osn_grammar.specs.declared.written.DateOrder.{DateOrder}
 use Rattle.osn_grammar.specs.declared.written.Written.{Written}
 use Rattle.osn_written.specs.declared.any_date.AnyDate.{AnyDate}
 use Rattle.osn_grammar.specs.Reading.{members, read_date}
-use Rattle.osn_lands.specs.Territory.{TerritoryModel}
+use Rattle.osn_territory.specs.Territory.{TerritoryModel}
 use Rattle.osn_letters.specs.PlaceEntries.{PlaceEntry, code_of}
 use Rattle.osn_register.specs.ByName.{territory_named}
 use Rattle.osn_register.specs.Code.{is_code}
-use Rattle.osn_register.specs.Plain.{LandModel, territory_of}
+use Rattle.osn_register.specs.Plain.{EntryModel, territory_of}
 use Rattle.osn_written.specs.declared.written_date.DateFault.{DateFault}
 use Rattle.osn_written.specs.declared.written_date.DateFault.TheVariants.{Malformed}
 use Rattle.osn_written.specs.WrittenDate.{weekday_named}
@@ -52,27 +52,27 @@ abbrev pub members_in : List ℕ → List AnyDate
 members_in field = members_of (text_in_field field)
 
 -- the territory of a text, if that is a code, and that of a territory
-abbrev pub territory_of_code : List LandModel → List ℕ → Option TerritoryModel
-territory_of_code lands text = if is_code text then territory_of text lands else None
+abbrev pub territory_of_code : List EntryModel → List ℕ → Option TerritoryModel
+territory_of_code territories text = if is_code text then territory_of text territories else None
 
 -- the territory of a code, or else the first one of a name
-abbrev pub territory_of_text : List LandModel → List ℕ → Option TerritoryModel
-territory_of_text lands text =
-    option_or (territory_of_code lands text) (territory_named text lands)
+abbrev pub territory_of_text : List EntryModel → List ℕ → Option TerritoryModel
+territory_of_text territories text =
+    option_or (territory_of_code territories text) (territory_named text territories)
 
 -- the territory of the code that a table of places has for a text, if it has one, else that of the
 -- text
-abbrev pub territory_by : List LandModel → List ℕ → Option (List ℕ) → Option TerritoryModel
-territory_by lands text None = territory_of_text lands text
-territory_by lands text (Some code) = territory_of_code lands code
+abbrev pub territory_by : List EntryModel → List ℕ → Option (List ℕ) → Option TerritoryModel
+territory_by territories text None = territory_of_text territories text
+territory_by territories text (Some code) = territory_of_code territories code
 
-abbrev pub territory_of_place : List LandModel → List PlaceEntry → List ℕ → Option TerritoryModel
-territory_of_place lands places text = territory_by lands text (code_of text places)
+abbrev pub territory_of_place : List EntryModel → List PlaceEntry → List ℕ → Option TerritoryModel
+territory_of_place territories places text = territory_by territories text (code_of text places)
 
 -- the territory of a field
-abbrev pub territory_in : List LandModel → List PlaceEntry → List ℕ → Option TerritoryModel
-territory_in lands places place =
-    option_and_then (territory_of_place lands places) (text_in_field place)
+abbrev pub territory_in : List EntryModel → List PlaceEntry → List ℕ → Option TerritoryModel
+territory_in territories places place =
+    option_and_then (territory_of_place territories places) (text_in_field place)
 
 -- the weekday of a field, which may be lacking
 abbrev pub weekday_in : Option (List ℕ) → Option Weekday

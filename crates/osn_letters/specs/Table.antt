@@ -5,9 +5,9 @@ use Rattle.std.specs.Prelude.{if◌then◌else◌}
 use Rattle.std.specs.Prelude.{Option, Some, None, option_map, unwrap_or, Result, Ok, Err}
 use Rattle.std.specs.Io.KnownBytes.{Appends, Consumes}
 use Rattle.csv.specs.Writing.{row_text}
-use Rattle.osn_days.specs.Profile.{Profile}
+use Rattle.osn_days.specs.Rules.{Rules}
 use Rattle.osn_grammar.specs.declared.written.DateOrder.{DateOrder}
-use Rattle.osn_register.specs.Plain.{LandModel}
+use Rattle.osn_register.specs.Plain.{EntryModel}
 use Rattle.osn_letters.specs.declared.columns.Columns.{Columns}
 use Rattle.osn_letters.specs.declared.separator.Separator.{Separator}
 use Rattle.osn_letters.specs.declared.settings.TableSettings.{TableSettings}
@@ -17,7 +17,7 @@ use Rattle.osn_letters.specs.AddedColumns.{added_names}
 use Rattle.osn_letters.specs.Columns.{NameTexts, names_of, columns_of}
 use Rattle.osn_letters.specs.DateParts.{date_in}
 use Rattle.osn_letters.specs.Faults.{is_of_table}
-use Rattle.osn_letters.specs.Fields.{FieldsAndRemarks, letter_fields}
+use Rattle.osn_letters.specs.Fields.{FieldsAndRemarks, row_fields}
 use Rattle.osn_letters.specs.PlaceEntries.{PlaceEntry}
 use Rattle.osn_letters.specs.Records.{PlacedRecord, records_of}
 use Rattle.osn_letters.specs.Separators.{writer_by}
@@ -26,18 +26,18 @@ use Rattle.osn_letters.specs.Separators.{writer_by}
 -- of the columns that are read, and what separates the fields, if it is named; whether a date
 -- begins with its day or its month if it may be either; and the entries of the table of places
 pub record TableBasis : Type 0 where
-  pub rules : Profile
-  pub lands : List LandModel
+  pub rules : Rules
+  pub territories : List EntryModel
   pub edition : ℕ
   pub names : NameTexts
   pub separator : Option Separator
   pub order : DateOrder
   pub places : List PlaceEntry
 
-abbrev pub basis : Profile → List LandModel → ℕ → TableSettings → TableBasis
-basis p lands edition settings = record {
+abbrev pub basis : Rules → List EntryModel → ℕ → TableSettings → TableBasis
+basis p territories edition settings = record {
   rules = p;
-  lands = lands;
+  territories = territories;
   edition = edition;
   names = names_of settings.names;
   separator = settings.separator;
@@ -76,7 +76,7 @@ header_text separator header = row_text (writer_by separator) (header ++ added_n
 -- what is said of a record, with the text of its date: the twelve fields, and the remarks
 abbrev pub letter_with_date : TableBasis → Columns → List (List ℕ) → List ℕ → FieldsAndRemarks
 letter_with_date s columns record_fields date =
-    letter_fields s.rules s.lands s.edition s.order s.places
+    row_fields s.rules s.territories s.edition s.order s.places
     (get_or record_fields columns.place []) date
     (option_map (λ n. get_or record_fields n []) columns.weekday)
 

@@ -1,7 +1,7 @@
 -- What a table writes of the records that it takes.
 use Rattle.std.specs.Prelude.{◌≡◌, ◌≢◌, ℕ, false, List, [], ◌∷◌, ◌++◌, Option, Some, None}
 use Rattle.std.specs.Prelude.{Ok}
-use Rattle.osn_days.specs.Profile.{newest_rules}
+use Rattle.osn_days.specs.Rules.{newest_rules}
 use Rattle.osn_letters.specs.declared.separator.Separator.{Separator}
 use Rattle.osn_letters.specs.declared.table.Rows.{Rows}
 use Rattle.osn_letters.specs.declared.table.Table.{Table}
@@ -18,7 +18,7 @@ use Rattle.osn_letters.specs.WriterInside.{waiting}
 
 -- by what it is made
 abbrev pub source_of : Table → TableBasis
-source_of t = basis newest_rules t.register.now.lands t.edition t.settings
+source_of t = basis newest_rules t.register.now.territories t.edition t.settings
 
 -- what the header said, if it came
 abbrev pub heading_by : Separator → Option Rows → Option Heading

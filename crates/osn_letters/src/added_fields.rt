@@ -10,7 +10,7 @@ use crate::remark::remark_text;
 use crate::span::Span;
 use csv::ByteRecord;
 use osn_days::{Calendar, Day, date_of};
-use osn_lands::DatedDay;
+use osn_territory::DatedDay;
 use osn_written::Kind;
 use std::alloc::{AllocError, Global};
 

@@ -7,7 +7,7 @@ ghost use Rattle.osn_letters.specs.Fields as spec;
 use crate::date_text::DateText;
 use itoa::Buffer;
 use osn_days::{Calendar, Date, date_digits, date_of};
-use osn_lands::DatedDay;
+use osn_territory::DatedDay;
 use std::alloc::{AllocError, Global};
 
 /// What a field says of a day.

@@ -7,7 +7,7 @@ use crate::date_text::DateText;
 use crate::span::Span;
 use itertools::Itertools;
 use osn_days::{Calendar, Day, date_of};
-use osn_lands::{DatedDay, Run};
+use osn_territory::{DatedDay, Run};
 use osn_written::AnyDate;
 use std::alloc::{AllocError, Global};
 use std::fmt;

@@ -1,21 +1,21 @@
 //! The fields that are put after a letter's row.
 ghost use Rattle.std.specs.Prelude.{◌≡◌, [], ◌∷◌, ◌++◌, option_map, unwrap_or, IfOk};
 ghost use Rattle.std.specs.Prelude.{string_bytes};
-ghost use Rattle.osn_days.specs.Profile.{newest_rules};
+ghost use Rattle.osn_days.specs.Rules.{newest_rules};
 ghost use Rattle.osn_letters.specs.EdtfLaw.{AreDaysRead, AreRunsRead};
 ghost use Rattle.osn_letters.specs.Fields as spec;
 
 use crate::added_fields::Summary;
 use crate::edtf::{edtf_of_days, edtf_of_span, sign};
 use crate::places::Places;
-use crate::remark::{PossibleRemark, Remark, remarks_beside, remarks_on_days, those_that_apply};
+use crate::remark::{PossibleRemark, Remark, applying, remarks_beside, remarks_on_days};
 use crate::row_field::{date_of_field, is_malformed_weekday, territory_in, weekday_in};
 use crate::set::fields_of_set;
 use crate::span::{NO_SPAN, span_of_days, span_of_runs};
 use osn_days::Weekday;
 use osn_grammar::{DateOrder, Written};
-use osn_lands::{DatedDay, Run, Territory};
 use osn_register::Register;
+use osn_territory::{DatedDay, Run, Territory};
 use osn_written::{
     AnyDate, DateFault, Kind, NoDay, WrittenDate, absence_of, by_reckoning, dated_by, days_meant,
     find_runs, is_by_other_calendar, is_extent_not_counted_double, kind_of,
@@ -69,7 +69,7 @@ pub(crate) fn fields_of_none(
         kind,
         edition,
     };
-    let remarks = those_that_apply(alloc, reasons, beside)?;
+    let remarks = applying(alloc, reasons, beside)?;
     Ok(fields_with(alloc, summary, String::new(alloc), remarks))
 }
 
@@ -91,7 +91,7 @@ fn fields_of_days(
         edition,
     };
     let edtf = edtf_of_days(alloc, sign(date), &days)?;
-    let remarks = those_that_apply(alloc, on_days, beside)?;
+    let remarks = applying(alloc, on_days, beside)?;
     Ok(LetterFields {
         summary,
         days,
@@ -118,7 +118,7 @@ fn fields_of_runs(
         edition,
     };
     let edtf = edtf_of_span(alloc, sign(date), summary.span, runs)?;
-    let remarks = those_that_apply(alloc, on_days, beside)?;
+    let remarks = applying(alloc, on_days, beside)?;
     Ok(fields_with(alloc, summary, edtf, remarks))
 }
 
@@ -312,7 +312,7 @@ fn fields_without_date(
 ///
 /// If memory runs out, and in no other case.
 #[tactic(auto, using(crate::proofs::EdtfFacts::runs_read, crate::proofs::EdtfFacts::days_read))]
-pub fn letter_fields(
+pub fn row_fields(
     alloc: Global,
     register: &Register,
     edition: usize,
@@ -323,7 +323,7 @@ pub fn letter_fields(
     weekday: Option<&[u8]>,
 ) -> Result<LetterFields, AllocError>
     ensures value { IfOk result (λ made. spec.fields_and_remarks made
-        ≡ spec.letter_fields newest_rules register.now.lands edition order
+        ≡ spec.row_fields newest_rules register.now.territories edition order
         (unwrap_or (option_map (λ places. places.now) places.entry) []) place.now date.now
         (option_map (λ w. w.now) weekday.entry)) }
     // as laws: what `edtf` has of several runs or days is read as the set of these

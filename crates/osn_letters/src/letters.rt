@@ -2,10 +2,10 @@
 ghost use Rattle.std.specs.Prelude.{ℕ, List, ◌≡◌, ◌+◌, ◌≤◌, ◌<◌, ◌^◌, ◌∷◌, [], length, take};
 ghost use Rattle.std.specs.Prelude.{OnOk, IfErr, IfOk};
 ghost use Rattle.osn_letters.specs.LettersInside as inside;
-ghost use Rattle.osn_days.specs.Profile.{newest_rules};
-ghost use Rattle.osn_letters.specs.declared.start.Start.TheVariants.{Past};
+ghost use Rattle.osn_days.specs.Rules.{newest_rules};
+ghost use Rattle.osn_letters.specs.declared.start.ByteOrderMark.TheVariants.{Past};
 ghost use Rattle.osn_letters.specs.Records.{next_line};
-ghost use Rattle.osn_letters.specs.Start.{held};
+ghost use Rattle.osn_letters.specs.ByteOrderMark.{held};
 ghost use Rattle.osn_letters.specs.Table.{whole, basis, letters_written};
 ghost use Rattle.osn_letters.specs.TableInside.{letters_tally, tally_of, written_of};
 ghost use Rattle.osn_letters.specs.WriterInside.{waiting};
@@ -15,7 +15,7 @@ use crate::fault::LettersFault;
 use crate::parser::RecordParser;
 use crate::separator::Separator;
 use crate::settings::TableSettings;
-use crate::start::{MARK, Start};
+use crate::start::{ByteOrderMark, MARK};
 use crate::table::Table;
 use crate::tally::Tally;
 use osn_register::Register;
@@ -24,7 +24,7 @@ use std::alloc::Global;
 /// The records that come, and the table that is made of them.
 #[derive(Drop)]
 pub(crate) struct Letters<'a> {
-    pub(crate) start: Start,
+    pub(crate) start: ByteOrderMark,
     pub(crate) parser: RecordParser,
     pub(crate) table: Table<'a>,
 }
@@ -41,12 +41,14 @@ impl<'a> Letters<'a> {
         ensures line { result.parser.line ≡ 1 }
         ensures empty { waiting result.table.out ≡ [] }
         ensures text { (text : List ℕ) → inside.text_from result text
-            ≡ letters_written (basis newest_rules register.now.lands edition settings.entry) text }
+            ≡ letters_written (basis newest_rules register.now.territories edition settings.entry)
+            text }
         ensures tally { (text : List ℕ) → inside.tally_from result text
-            ≡ letters_tally (basis newest_rules register.now.lands edition settings.entry) text }
+            ≡ letters_tally (basis newest_rules register.now.territories edition settings.entry)
+            text }
     {
         Letters {
-            start: Start::Nothing,
+            start: ByteOrderMark::Nothing,
             parser: RecordParser::new(alloc, settings.separator),
             table: Table {
                 alloc,
@@ -98,11 +100,11 @@ impl Letters<'_> {
             (held self.old.start)) }
     {
         let start = self.start;
-        self.start = Start::Past;
+        self.start = ByteOrderMark::Past;
         match start {
-            Start::Nothing | Start::Past => Ok(()),
-            Start::OneByte => self.take_after(MARK[0]),
-            Start::TwoBytes => {
+            ByteOrderMark::Nothing | ByteOrderMark::Past => Ok(()),
+            ByteOrderMark::OneByte => self.take_after(MARK[0]),
+            ByteOrderMark::TwoBytes => {
                 self.take_after(MARK[0])?;
                 self.take_after(MARK[1])
             }
@@ -165,7 +167,7 @@ impl Letters<'_> {
             inside.CountsBytes self.old self.new (take len bytes.now)) }
         ensures stops { IfErr result (inside.StopsAt self.old self.new bytes.now) }
     {
-        if self.start == Start::Past {
+        if self.start == ByteOrderMark::Past {
             return self.take_some_after(bytes);
         }
         self.take_byte(bytes[0])?;

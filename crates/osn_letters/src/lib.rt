@@ -1,7 +1,7 @@
 //! Letters: a table in CSV, each row of which gets the days that its date means in its place. What
 //! the crate promises to those above: `write_letters` writes the table of the definition and
 //! nothing else, in whatever pieces the bytes come. It returns where the table ended early and why,
-//! and how many rows have each remark. The fields after a row are those of `letter_fields`: the
+//! and how many rows have each remark. The fields after a row are those of `row_fields`: the
 //! days that its date means in the territory. `read_places` returns the entries of a table of
 //! places, or its first fault.
 #![tactic(auto)]
@@ -37,7 +37,7 @@ mod tally;
 pub use added_column::AddedColumn;
 pub use columns::{ColumnNames, Columns, DateColumns, DateNames, WeekdayName, find_columns};
 pub use fault::{Column, LettersFault};
-pub use letter::{LetterFields, letter_fields};
+pub use letter::{LetterFields, row_fields};
 pub use place_reader::read_places;
 pub use places::Places;
 pub use places_fault::{PlacesColumn, PlacesFault};

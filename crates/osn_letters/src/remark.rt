@@ -7,7 +7,7 @@ ghost use Rattle.osn_letters.specs.Remarks as spec;
 
 use itertools::Itertools;
 use osn_days::Weekday;
-use osn_lands::DatedDay;
+use osn_territory::DatedDay;
 use osn_written::{AnyDate, DateFault, NoDay, WrittenDate, has_weekday, is_not_counted_double};
 use std::alloc::{AllocError, Global};
 use std::fmt;
@@ -75,13 +75,13 @@ impl fmt::Display for Remark {
 pub(crate) type PossibleRemark = (bool, Remark);
 
 /// Returns the remarks that apply: those on the days, and then those beside them, in their order.
-pub(crate) fn those_that_apply(
+pub(crate) fn applying(
     alloc: Global,
     on_days: &[PossibleRemark],
     beside: &[PossibleRemark],
 ) -> Result<Vec<Remark>, AllocError>
     ensures { IfOk result (λ remarks.
-        remarks.items ≡ spec.those_that_apply (on_days.now ++ beside.now)) }
+        remarks.items ≡ spec.applying (on_days.now ++ beside.now)) }
 {
     on_days
         .iter()

@@ -6,8 +6,8 @@ ghost use Rattle.osn_letters.specs.RowFields as spec;
 use crate::places::Places;
 use osn_days::Weekday;
 use osn_grammar::{DateOrder, Written, members_of, read_date};
-use osn_lands::Territory;
 use osn_register::Register;
+use osn_territory::Territory;
 use osn_written::{AnyDate, DateFault, weekday_named};
 use std::alloc::{AllocError, Global};
 use std::str;
@@ -53,16 +53,16 @@ pub(crate) fn members_in(alloc: Global, field: &[u8]) -> Result<Vec<AnyDate>, Al
 /// Returns the territory of a code, if some territory has it.
 fn territory_of_code<'a>(register: &'a Register, code: &str) -> Option<&'a Territory>
     ensures { option_map (λ t. t.now) result
-        ≡ spec.territory_of_code register.now.lands code.now }
+        ≡ spec.territory_of_code register.now.territories code.now }
 {
-    let (_, territory) = register.land(code).ok()?;
+    let (_, territory) = register.territory(code).ok()?;
     Some(territory)
 }
 
 /// Returns the territory of a code, or else the first one of a name.
 fn territory_of_text<'a>(register: &'a Register, text: &str) -> Option<&'a Territory>
     ensures { option_map (λ t. t.now) result
-        ≡ spec.territory_of_text register.now.lands text.now }
+        ≡ spec.territory_of_text register.now.territories text.now }
 {
     match territory_of_code(register, text) {
         Some(territory) => Some(territory),
@@ -84,7 +84,7 @@ pub(crate) fn territory_in<'a>(
     places: Option<&Places>,
     place: &[u8],
 ) -> Option<&'a Territory>
-    ensures { option_map (λ t. t.now) result ≡ spec.territory_in register.now.lands
+    ensures { option_map (λ t. t.now) result ≡ spec.territory_in register.now.territories
         (unwrap_or (option_map (λ places. places.now) places.entry) []) place.now }
 {
     let text = text_in_field(place)?;

@@ -1,6 +1,6 @@
 //! The fields of a letter's date that is a set of dates.
 ghost use Rattle.std.specs.Prelude.{◌≡◌, option_map, IfOk};
-ghost use Rattle.osn_days.specs.Profile.{newest_rules};
+ghost use Rattle.osn_days.specs.Rules.{newest_rules};
 ghost use Rattle.osn_letters.specs.Fields as spec;
 ghost use Rattle.osn_letters.specs.RowFields.{members_in as members_in_field};
 ghost use Rattle.osn_written.specs.SetsMeant.{set_list_of};
@@ -8,10 +8,10 @@ ghost use Rattle.osn_written.specs.SetsMeant.{set_list_of};
 use crate::added_fields::Summary;
 use crate::edtf::{edtf_of_runs, sign_of};
 use crate::letter::{LetterFields, fields_of_none, fields_with};
-use crate::remark::{PossibleRemark, Remark, remarks_beside_set, those_that_apply};
+use crate::remark::{PossibleRemark, Remark, applying, remarks_beside_set};
 use crate::row_field::{is_malformed_weekday, members_in, weekday_in};
 use crate::span::span_of_set;
-use osn_lands::{Run, Territory};
+use osn_territory::{Run, Territory};
 use osn_written::{AbsentMember, AnyDate, Kind, find_set, is_set_approximate, is_set_uncertain};
 use std::alloc::{AllocError, Global};
 
@@ -33,7 +33,7 @@ fn fields_of_set_runs(
     };
     let sign = sign_of(is_set_uncertain(members), is_set_approximate(members));
     let edtf = edtf_of_runs(alloc, sign, runs)?;
-    let remarks = those_that_apply(alloc, &[], beside)?;
+    let remarks = applying(alloc, &[], beside)?;
     Ok(fields_with(alloc, summary, edtf, remarks))
 }
 

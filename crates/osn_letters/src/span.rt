@@ -3,7 +3,7 @@ ghost use Rattle.std.specs.Prelude.{◌≡◌};
 ghost use Rattle.osn_letters.specs.Span as spec;
 
 use osn_days::Day;
-use osn_lands::{DatedDay, Run};
+use osn_territory::{DatedDay, Run};
 use osn_written::{Extent, first_of, last_of};
 
 /// The first and the last day that a date may mean. A bound has one of them, and a date that means

@@ -2,7 +2,7 @@
 ghost use Rattle.std.specs.Prelude.{◌≡◌, ◌+◌, ◌≤◌, ◌<◌, ◌^◌, [], length, true, false, IfErr};
 ghost use Rattle.std.specs.Prelude.{IfOk, IfSome, OnOk, MatchResult};
 ghost use Rattle.std.specs.Io.KnownBytes.{IsAtEnd};
-ghost use Rattle.osn_days.specs.Profile.{newest_rules};
+ghost use Rattle.osn_days.specs.Rules.{newest_rules};
 ghost use Rattle.osn_letters.specs.Faults.{EndsStream, is_of_stream, is_read_fault, is_write_fault};
 ghost use Rattle.osn_letters.specs.LettersInside as inside;
 ghost use Rattle.osn_letters.specs.RowRemarks.{IsTallyOf};
@@ -111,7 +111,7 @@ fn finish_and_write<W: Sink>(letters: &mut Letters<'_>, sink: &mut W) -> Result<
 }
 
 /// Writes a table of letters in CSV from one in CSV. The header has twelve names after its own.
-/// Each record has the twelve fields of `letter_fields` after its own, by the register of that
+/// Each record has the twelve fields of `row_fields` after its own, by the register of that
 /// edition. The settings name the columns of the places, of the dates or their parts, and of the
 /// weekdays. The fields are separated by what the settings name. If they name nothing, the
 /// separator is the first comma, semicolon or tab of the header that is not in quotes, or the comma
@@ -151,13 +151,13 @@ pub fn write_letters<R: Source, W: Sink, P: Progress>(
     ensures whole { OnOk result (IfSome (R.remaining source.old) (λ text.
         spec.IsWhole (W.contents sink.old) (W.contents sink.new)
         (spec.letters_written
-        (spec.basis newest_rules register.now.lands edition settings.entry) text))) }
+        (spec.basis newest_rules register.now.territories edition settings.entry) text))) }
     ensures early { IfErr result (λ fault. IfSome (R.remaining source.old) (λ text.
         spec.EndsEarly (W.contents sink.old) (W.contents sink.new)
         (spec.letters_written
-        (spec.basis newest_rules register.now.lands edition settings.entry) text) fault)) }
+        (spec.basis newest_rules register.now.territories edition settings.entry) text) fault)) }
     ensures tally { IfOk result (λ tally. IfSome (R.remaining source.old) (λ text. IsTallyOf
-        (spec.basis newest_rules register.now.lands edition settings.entry) text tally)) }
+        (spec.basis newest_rules register.now.territories edition settings.entry) text tally)) }
     // All was read, and nothing is held back.
     ensures end { OnOk result
         (IsAtEnd (R.remaining source.new) × (W.holds_back sink.new ≡ false)) }
@@ -170,11 +170,11 @@ pub fn write_letters<R: Source, W: Sink, P: Progress>(
         × (is_read_fault f ≡ true → spec.EndsRead (R.remaining source.old)
         (R.remaining source.new) (W.contents sink.old) (W.contents sink.new)
         (spec.letters_written
-        (spec.basis newest_rules register.now.lands edition settings.entry)))) }
+        (spec.basis newest_rules register.now.territories edition settings.entry)))) }
     ensures sink { MatchResult result (λ _. W.has_failed sink.new ≡ W.has_failed sink.old)
         (λ f. EndsStream (is_write_fault f) (W.has_failed sink.old) (W.has_failed sink.new)
         (IfSome (R.remaining source.old) (λ text. spec.IsLong (spec.letters_written
-        (spec.basis newest_rules register.now.lands edition settings.entry) text)))) }
+        (spec.basis newest_rules register.now.territories edition settings.entry) text)))) }
 
     // As laws: the records of a text are those that the kit reads, if no record has a fault. And a
     // table may be cut between its records and written in parts, each after the header.

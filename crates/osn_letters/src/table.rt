@@ -14,7 +14,7 @@ use crate::columns::{Columns, DateColumns, field_at, find_columns};
 use crate::csv_text::{RowWriter, push_names};
 use crate::date_parts::parts_text;
 use crate::fault::LettersFault;
-use crate::letter::{LetterFields, letter_fields};
+use crate::letter::{LetterFields, row_fields};
 use crate::separator::Separator;
 use crate::settings::TableSettings;
 use crate::tally::Tally;
@@ -110,7 +110,7 @@ impl Table<'_> {
         ensures { IfOk result (λ made. fields_and_remarks made ≡ spec.letter_with_date
             (inside.source_of self.now) columns (fields_of row.now) date.now) }
     {
-        letter_fields(
+        row_fields(
             self.alloc,
             self.register,
             self.edition,

@@ -7,7 +7,7 @@ use thiserror::Error;
 #[derive(Debug, Drop, Error)]
 #[error("after {lines} lines {cause}")]
 #[error_bound(C: Display)]
-pub struct Interrupted<C> {
+pub struct EndedEarly<C> {
     /// The number of lines that were done before.
     pub lines: u64,
     /// The cause of the end.

@@ -20,7 +20,7 @@ mod whole;
 
 pub use bytes::Bytes;
 pub use ended::ended_length;
-pub use fault::{Interrupted, TakeFault};
+pub use fault::{EndedEarly, TakeFault};
 pub use line::{LONGEST_LINE, Line};
 pub use plain::Plain;
 pub use progress::Progress;

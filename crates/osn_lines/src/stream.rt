@@ -9,7 +9,7 @@ ghost use Rattle.osn_lines.specs.Taking.{Takes, Stops, TakesAll, TakesFirst, Tak
 ghost use Rattle.osn_lines.specs.Taking.{HasKeptUp, StopsAfter};
 
 use crate::cut::{take_line, take_piece};
-use crate::fault::{Interrupted, TakeFault};
+use crate::fault::{EndedEarly, TakeFault};
 use crate::source::{Source, buffer_of};
 use crate::taker::LineTaker;
 use crate::unended_line::UnendedLine;
@@ -21,7 +21,7 @@ fn take_rest<T: LineTaker>(
     taker: &mut T,
     unended: &mut UnendedLine,
     count: u64,
-) -> Result<u64, Interrupted<TakeFault<T::Stop>>>
+) -> Result<u64, EndedEarly<TakeFault<T::Stop>>>
     requires { count + 1 < 2 ^ 64 }
     ensures takes { IfOk result (λ n. (part : List ℕ) → IsUnended unended.old part →
         Takes T.after taker.old taker.new (lines part) × (n ≡ count + length (lines part))) }
@@ -37,7 +37,7 @@ fn take_rest<T: LineTaker>(
     }
     match take_line(taker, unended, &[]) {
         Ok(()) => Ok(count + 1),
-        Err(cause) => Err(Interrupted {
+        Err(cause) => Err(EndedEarly {
             lines: count,
             cause,
         }),
@@ -61,7 +61,7 @@ pub fn take_lines<T: LineTaker, R: Source>(
     alloc: Global,
     taker: &mut T,
     source: &mut R,
-) -> Result<u64, Interrupted<TakeFault<T::Stop>>>
+) -> Result<u64, EndedEarly<TakeFault<T::Stop>>>
     ensures takes { IfOk result (TakesAll T.after taker.old taker.new (R.remaining source.old)) }
     ensures end { OnOk result (IsAtEnd (R.remaining source.new)) }
     ensures fault { IfErr result (λ end. MatchFault end.cause
@@ -91,7 +91,7 @@ pub fn take_lines<T: LineTaker, R: Source>(
         (λ _. R.has_failed source.new ≡ R.has_failed source.old)) }
 {
     let Ok(mut buffer) = buffer_of(alloc, source.room()) else {
-        return Err(Interrupted {
+        return Err(EndedEarly {
             lines: 0,
             cause: TakeFault::NoMemory,
         });
@@ -100,13 +100,13 @@ pub fn take_lines<T: LineTaker, R: Source>(
     let mut lines = 0;
     for _call in 0..u32::MAX {
         if let Err(why) = taker.before_read() {
-            return Err(Interrupted {
+            return Err(EndedEarly {
                 lines,
                 cause: TakeFault::Stopped(why),
             });
         }
         let Ok(read) = source.read(&mut buffer) else {
-            return Err(Interrupted {
+            return Err(EndedEarly {
                 lines,
                 cause: TakeFault::ReadFault,
             });
@@ -115,10 +115,10 @@ pub fn take_lines<T: LineTaker, R: Source>(
             return take_rest(taker, &mut unended, lines);
         }
         if let Err(cause) = take_piece(taker, &mut unended, &buffer[..read], &mut lines) {
-            return Err(Interrupted { lines, cause });
+            return Err(EndedEarly { lines, cause });
         }
     }
-    Err(Interrupted {
+    Err(EndedEarly {
         lines,
         cause: TakeFault::ReadFault,
     })

@@ -5,7 +5,7 @@ use Rattle.std.proofs.Common.{Ok, Err, IfOk, Vec}
 use Rattle.std.specs.declared.alloc.Global.{Global}
 use Rattle.std.proofs.lemmas.List.{take-append-le}
 use Rattle.std.proofs.lemmas.Grind.{common_steps}
-use Rattle.osn_days.specs.Profile.{Profile}
+use Rattle.osn_days.specs.Rules.{Rules}
 use Rattle.osn_register.specs.declared.limits.Limits.{Limits}
 use Rattle.osn_register.specs.declared.edit.Edit.{Edit}
 use Rattle.osn_register.specs.declared.query.Query.{Query}
@@ -25,7 +25,7 @@ take_begins k xs ys low b = subst (λ (l : List (List Edit)). take k xs ≡ take
     (sym (take-append-le k xs b.rest low))
 
 -- under more batches
-pub replies_later : (p : Profile) (l : Limits) (xs ys : List (List Edit)) (floor : ℕ)
+pub replies_later : (p : Rules) (l : Limits) (xs ys : List (List Edit)) (floor : ℕ)
     (qs : List Query) (rs : List Reply) → Begins xs ys → AreReplies p l xs floor qs rs →
     AreReplies p l ys floor qs rs
 replies_later p l xs ys floor [] [] b h = tt
@@ -42,7 +42,7 @@ replies_later p l xs ys floor (q ∷ qs) [] b h = absurd h
 take_whole : (xs : List (List Edit)) → take (length xs) xs ≡ xs
 take_whole xs = grind (arith, common_steps)
 
-pub replies_more : (p : Profile) (l : Limits) (xs : List (List Edit)) (floor : ℕ)
+pub replies_more : (p : Rules) (l : Limits) (xs : List (List Edit)) (floor : ℕ)
     (qs : List Query) (rs : List Reply) (q : Query) → floor ≤ length xs →
     AreReplies p l xs floor qs rs →
     AreReplies p l xs floor (qs ++ q ∷ []) (rs ++ reply_at p l xs q ∷ [])
@@ -65,7 +65,7 @@ later_first xs ys zs (inr h) le =
     let none : h.0.rest ≡ [] = no_rest ys h.0.rest (omega (arith, ap length h.0.is, le)) in
     record { rest = []; is = append-nil xs ∙ sym h.0.is ∙ ap (λ r. ys ++ r) none ∙ append-nil ys }
 
-pub replies_settled : (p : Profile) (l : Limits) (xs ys : List (List Edit)) (qs : List Query)
+pub replies_settled : (p : Rules) (l : Limits) (xs ys : List (List Edit)) (qs : List Query)
     (r : Result (Vec Reply Global) WorkFault) → Begins xs ys →
     IfOk r (λ rs. AreReplies p l xs 0 qs rs.items) → IfOk r (λ rs. AreReplies p l ys 0 qs rs.items)
 replies_settled p l xs ys qs (Ok rs) b h = replies_later p l xs ys 0 qs rs.items b h

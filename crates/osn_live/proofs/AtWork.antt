@@ -127,9 +127,9 @@ fault_at who seen published lists replies f one few (inr e) =
 pub gate_at : (passes : Bool) (who seen published : ℕ)
     (replies : Result (Vec Reply Global) WorkFault) (f : DeskFault) →
     IfErr replies (IsOfPassing passes) → IsFaultOf who seen published replies f → IsOfGate passes f
-gate_at passes who seen published replies f told (inl e) =
-    subst (IsOfGate passes) (sym e.2) (subst (λ r. IfErr r (IsOfPassing passes)) e.1 told)
-gate_at passes who seen published replies f told (inr e) = subst (IsOfGate passes) (sym e.0) tt
+gate_at passes who seen published replies f called (inl e) =
+    subst (IsOfGate passes) (sym e.2) (subst (λ r. IfErr r (IsOfPassing passes)) e.1 called)
+gate_at passes who seen published replies f called (inr e) = subst (IsOfGate passes) (sym e.0) tt
 
 -- a reader that finds no place or no memory was not stopped by a gate
 pub ask_at : (passes : Bool) (f : AskFault) → IsOfPassing passes (by_ask f)

@@ -1,7 +1,7 @@
 -- The replies to readers at work, each to its own list of questions.
 use Rattle.std.specs.Prelude.{◌≡◌, ℕ, ◌+◌, ◌<◌, ◌≤◌, List, [], ◌∷◌, length, take, Vec}
 use Rattle.std.specs.declared.alloc.Global.{Global}
-use Rattle.osn_days.specs.Profile.{Profile}
+use Rattle.osn_days.specs.Rules.{Rules}
 use Rattle.osn_register.specs.declared.limits.Limits.{Limits}
 use Rattle.osn_register.specs.declared.edit.Edit.{Edit}
 use Rattle.osn_register.specs.declared.query.Query.{Query}
@@ -9,12 +9,12 @@ use Rattle.osn_core.specs.declared.step.Reply.{Reply}
 use Rattle.osn_core.specs.Sequential.{reply_at}
 
 -- the reply is the definition's under the first of these batches, as many as it names
-abbrev pub IsReplyWithin : Profile → Limits → List (List Edit) → Query → Reply → Type 0
+abbrev pub IsReplyWithin : Rules → Limits → List (List Edit) → Query → Reply → Type 0
 IsReplyWithin p limits batches q r =
     (r.edition ≤ length batches) × (r ≡ reply_at p limits (take r.edition batches) q)
 
 -- one reply to each question, in its place, and no edition below the one before it
-abbrev pub AreReplies : Profile → Limits → List (List Edit) → ℕ → List Query → List Reply → Type 0
+abbrev pub AreReplies : Rules → Limits → List (List Edit) → ℕ → List Query → List Reply → Type 0
 AreReplies p limits batches floor [] [] = Unit {0}
 AreReplies p limits batches floor (q ∷ qs) (r ∷ rs) =
     (floor ≤ r.edition) × IsReplyWithin p limits batches q r
@@ -23,7 +23,7 @@ AreReplies p limits batches floor [] (r ∷ rs) = ⊥
 AreReplies p limits batches floor (q ∷ qs) [] = ⊥
 
 -- to each list of questions its list of replies, in its place
-abbrev pub AreAll : Profile → Limits → List (List Edit) → List (Vec Query Global) →
+abbrev pub AreAll : Rules → Limits → List (List Edit) → List (Vec Query Global) →
     List (Vec Reply Global) → Type 0
 AreAll p limits batches [] [] = Unit {0}
 AreAll p limits batches (qs ∷ lists) (rs ∷ all) =

@@ -61,7 +61,7 @@ AreNumbered who [] = Unit {0}
 AreNumbered who (h ∷ hs) = (h.promise.3 ≡ who) × AreNumbered (who + 1) hs
 
 -- what works at one gate called it for the items of each list
-pub record TellTheirGate {G : Type 0} (let_pass saw_end : G → ℕ → ℕ → Type 0)
+pub record CallTheirGate {G : Type 0} (let_pass saw_end : G → ℕ → ℕ → Type 0)
     (handles : List (PromisedHandle Worked (Works G))) (lists : List (Vec Query Global)) : Type 0
   where
     pub of : (gate : G) → AreAt gate handles → HearsOfLists let_pass saw_end gate 1 lists

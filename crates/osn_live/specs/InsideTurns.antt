@@ -4,7 +4,7 @@ use Rattle.osn_live.specs.Desk.{HearsOf}
 use Rattle.osn_live.specs.declared.turns.Turns.{Turns}
 
 -- of that many items, each before it and then after it, in order, by the same one
-pub record HasTold {G : Type 0} (let_pass saw_end : G → ℕ → ℕ → Type 0) (old new : Turns G)
+pub record HasCalled {G : Type 0} (let_pass saw_end : G → ℕ → ℕ → Type 0) (old new : Turns G)
     (items : ℕ) : Type 0 where
   pub gate : new.gate ≡ old.gate
   pub who : new.who ≡ old.who

@@ -1,14 +1,14 @@
 //! Readers and one editor at work at the same time, each in its own thread.
 ghost use Rattle.std.specs.Prelude.{◌≡◌, ◌≤◌, length, vec_len, IfOk, IfErr, OnOk, Ok, Err};
 ghost use Rattle.std.specs.List.{All};
-ghost use Rattle.osn_days.specs.Profile.{newest_rules};
+ghost use Rattle.osn_days.specs.Rules.{newest_rules};
 ghost use Rattle.osn_core.specs.Script.{script_after, editions_of};
 ghost use Rattle.osn_live.specs.declared.protocol.Origin.{Origin};
 ghost use Rattle.osn_live.specs.Desk.{AreReplies, AreAll, HearsOfAll};
 ghost use Rattle.osn_live.specs.Faults.{IsBadCount, IsDeskFault, IsOfGate};
 ghost use Rattle.osn_live.specs.InsideDesk.{IsFaultAt, IsFaultOf, IsOfTheirGate, AreStarted, AreAt};
-ghost use Rattle.osn_live.specs.InsideDesk.{AreNumbered, NamesReader, TellTheirGate};
-ghost use Rattle.osn_live.specs.InsideTurns.{HasTold};
+ghost use Rattle.osn_live.specs.InsideDesk.{AreNumbered, NamesReader, CallTheirGate};
+ghost use Rattle.osn_live.specs.InsideTurns.{HasCalled};
 ghost use Rattle.osn_live.specs.InsideWork.{IsOfPassing, IsWork};
 ghost use Rattle.osn_live.specs.Running.{IsNew};
 
@@ -71,8 +71,8 @@ fn edit_all<R: Wait, G: Gate>(
 ) -> Result<(), WorkFault>
     requires begun { turns.old.begun ≡ 0 }
     requires ended { turns.old.ended ≡ 0 }
-    ensures tells { OnOk result
-        (HasTold G.let_pass G.saw_end turns.old turns.new (length commands.now)) }
+    ensures calls { OnOk result
+        (HasCalled G.let_pass G.saw_end turns.old turns.new (length commands.now)) }
     ensures origin { editor.new.origin ≡ editor.old.origin }
     ensures ok { OnOk result
         (editor.new.object ≡ script_after newest_rules editor.old.object commands.now) }
@@ -127,8 +127,8 @@ fn collect<R: Threads, G: Gate>(
     requires few { length lists.now ≤ 64 }
     requires started { AreStarted editor.now.origin handles.items lists.now }
     requires numbers { AreNumbered 1 handles.items }
-    ensures tell { OnOk result
-        (TellTheirGate G.let_pass G.saw_end handles.items lists.now) }
+    ensures calls { OnOk result
+        (CallTheirGate G.let_pass G.saw_end handles.items lists.now) }
     ensures replies { IfOk result (λ all. AreAll newest_rules editor.now.origin.limits
         editor.now.object.batches lists.now all.items) }
     ensures fault { IfErr result

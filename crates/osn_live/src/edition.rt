@@ -1,9 +1,9 @@
 //! What is published: a register, with the certificate of the batches that it is made of.
 ghost use Rattle.std.specs.Prelude.{◌≡◌, true, IfOk, OnErr};
 ghost use Rattle.std.specs.Arc.{arc_value};
-ghost use Rattle.osn_days.specs.Profile.{newest_rules};
+ghost use Rattle.osn_days.specs.Rules.{newest_rules};
 ghost use Rattle.osn_register.specs.Answer.{takes_memory};
-ghost use Rattle.osn_core.specs.Sequential.{lands_of, reply_at};
+ghost use Rattle.osn_core.specs.Sequential.{territories_of, reply_at};
 
 use crate::history::Certificate;
 use left_right::Absorb;
@@ -55,7 +55,11 @@ impl Absorb<Edition> for Edition {
 impl Edition {
     pub fn new(limits: Limits, register: Arc<Register>, certificate: Certificate) -> Edition
         requires { arc_value register ≡
-            record { limits = limits; lands = lands_of newest_rules limits certificate.batches } }
+            record {
+              limits = limits;
+              territories =
+                  territories_of newest_rules limits certificate.batches;
+            } }
         ensures { result ≡ record { limits = limits; certificate = certificate } }
     {
         Edition {

@@ -3,8 +3,8 @@
 ghost use Rattle.std.specs.Prelude.{◌≡◌, ◌+◌, ◌<◌, [], length, drop, IfOk, IfErr, OnOk, OnErr};
 ghost use Rattle.std.specs.Prelude.{MatchResult, Some, None};
 ghost use Rattle.left_right.specs.Sides.{view};
-ghost use Rattle.osn_days.specs.Profile.{newest_rules};
-ghost use Rattle.osn_register.specs.Refusal.{IsTestOf, IsRefusalOrNoMemory};
+ghost use Rattle.osn_days.specs.Rules.{newest_rules};
+ghost use Rattle.osn_register.specs.Refusal.{IsCheckOf, IsRefusalOrNoMemory};
 ghost use Rattle.osn_core.specs.Sequential.{opened, with_pending, with_edition, stage_refusal};
 ghost use Rattle.osn_core.specs.Sequential.{publish_refusal, stage_after, publish_after};
 ghost use Rattle.osn_core.specs.Script.{command_after};
@@ -167,7 +167,7 @@ impl Editor {
 
     /// Checks whether an edit may be staged now.
     fn check(&self, edit: &Edit) -> Result<u32, Refusal>
-        ensures { IsTestOf (stage_refusal newest_rules self.now.object edit.now) result }
+        ensures { IsCheckOf (stage_refusal newest_rules self.now.object edit.now) result }
     {
         self.draft.check(edit)
     }

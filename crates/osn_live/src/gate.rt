@@ -16,11 +16,11 @@ pub trait Gate {
     /// Called before an item. If it returns false, the desk ends.
     fn before(&self, who: u32, index: usize) -> bool
         ensures open { is_open self.now ≡ true → result ≡ true }
-        ensures told { result ≡ true → let_pass self.now who index };
+        ensures called { result ≡ true → let_pass self.now who index };
 
     /// Called after an item.
     fn after(&self, who: u32, index: usize)
-        ensures told { saw_end self.now who index };
+        ensures called { saw_end self.now who index };
 }
 
 /// The gate that lets everything pass.

@@ -2,7 +2,7 @@
 //! seen.
 ghost use Rattle.std.specs.Prelude.{◌≡◌, true, length, IfOk, IfErr, OnErr, Some};
 ghost use Rattle.left_right.specs.Sides.{view};
-ghost use Rattle.osn_days.specs.Profile.{newest_rules};
+ghost use Rattle.osn_days.specs.Rules.{newest_rules};
 ghost use Rattle.osn_register.specs.Answer.{takes_memory};
 ghost use Rattle.osn_core.specs.Sequential.{reply_at};
 ghost use Rattle.osn_live.specs.declared.protocol.Origin.{Origin};

@@ -38,7 +38,7 @@ impl<'a, G: Gate> Turns<'a, G> {
         requires few { self.old.begun + 1 < 2 ^ 64 }
         ensures ok { OnOk result
             (self.new ≡ record self.old { begun = self.old.begun + 1 }) }
-        ensures told { OnOk result
+        ensures called { OnOk result
             (G.let_pass self.old.gate.now self.old.who self.old.begun) }
         ensures gate { IfErr result (IsOfPassing (G.is_open self.old.gate.now)) }
         ensures closed { IfErr result (λ why. why ≡ WorkFault.GateClosed) }
@@ -54,7 +54,7 @@ impl<'a, G: Gate> Turns<'a, G> {
     pub fn end(&mut self)
         requires { self.old.begun ≡ self.old.ended + 1 }
         ensures counts { self.new ≡ record self.old { ended = self.old.ended + 1 } }
-        ensures told { G.saw_end self.old.gate.now self.old.who self.old.ended }
+        ensures called { G.saw_end self.old.gate.now self.old.who self.old.ended }
     {
         let _most = self.begun;
         self.gate.after(self.who, self.ended);

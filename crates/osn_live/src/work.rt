@@ -1,9 +1,9 @@
 //! A reader at work through a list of questions.
 ghost use Rattle.std.specs.Prelude.{◌≡◌, length, IfOk, IfErr, OnOk};
-ghost use Rattle.osn_days.specs.Profile.{newest_rules};
+ghost use Rattle.osn_days.specs.Rules.{newest_rules};
 ghost use Rattle.osn_live.specs.Desk.{AreReplies};
 ghost use Rattle.osn_live.specs.InsideWork.{IsOfPassing, IsWork};
-ghost use Rattle.osn_live.specs.InsideTurns.{HasTold};
+ghost use Rattle.osn_live.specs.InsideTurns.{HasCalled};
 
 use crate::gate::Gate;
 use crate::reader::Reader;
@@ -58,8 +58,8 @@ fn answer_all<G: Gate>(
 ) -> Result<Vec<Reply>, WorkFault>
     requires begun { turns.old.begun ≡ 0 }
     requires ended { turns.old.ended ≡ 0 }
-    ensures tells { OnOk result
-        (HasTold G.let_pass G.saw_end turns.old turns.new (length questions.now)) }
+    ensures calls { OnOk result
+        (HasCalled G.let_pass G.saw_end turns.old turns.new (length questions.now)) }
     ensures origin { reader.new.origin ≡ reader.old.origin }
     ensures replies { IfOk result (λ rs.
         AreReplies newest_rules reader.old.origin.limits reader.new.seen 0 questions.now rs.items) }

@@ -47,7 +47,7 @@ pub(crate) const QUERIES: [&str; 8] = [
 ];
 
 /// The queries whose answers show the state of a register.
-const TELLING: [&str; 5] = [
+const STATE_QUERIES: [&str; 5] = [
     r#"{"op":"lands","reader":1}"#,
     r#"{"op":"periods","reader":1,"code":"GB"}"#,
     r#"{"op":"periods","reader":1,"code":"FR"}"#,
@@ -90,7 +90,7 @@ pub(crate) fn push_register<R: AllocGlobal + Abort>(
     register: &Register,
     text: &mut String,
 ) {
-    for line in TELLING {
+    for line in STATE_QUERIES {
         let answer = answer_text(rt, register, line);
         text.push_str(answer.as_str()).expect(rt, line);
     }

@@ -2,7 +2,7 @@
 use crate::register_lines::{JOURNAL, loaded, object_text};
 use crate::scarce::{Ample, Change, is_sound};
 use osn_core::Object;
-use osn_lines::{Interrupted, Plain};
+use osn_lines::{EndedEarly, Plain};
 use osn_register::Limits;
 use osn_service::{ServeFault, serve, serve_from};
 use osn_test_texts::joined;
@@ -37,7 +37,7 @@ no request
 {"op":"publish"}
 "#;
 
-type Served = Result<u64, Interrupted<ServeFault>>;
+type Served = Result<u64, EndedEarly<ServeFault>>;
 
 /// An object, the replies that a service has written, and to how many lines.
 #[derive(Drop)]
@@ -77,7 +77,7 @@ impl Session {
                 Some(Ok(self.lines))
             }
             Err(
-                Interrupted {
+                EndedEarly {
                     lines,
                     cause: ServeFault::NoMemory,
                 },
@@ -85,7 +85,7 @@ impl Session {
                 self.lines = self.lines.saturating_add(lines);
                 None
             }
-            Err(interrupted) => Some(Err(interrupted)),
+            Err(ended_early) => Some(Err(ended_early)),
         }
     }
 

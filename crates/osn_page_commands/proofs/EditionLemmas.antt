@@ -18,6 +18,6 @@ module _ (number : Option ℕ) (s : ObjectState) (Does : EditionModel → Type 0
   -- there is none, which was reported
   pub on_no_edition : (fault : EditionFault) → IsEditionFault number s fault → o.new ≡ o.old
       → TellsEditionFault fault e status → OnEdition number s Does o e status
-  on_no_edition (TooLate late newest) is same told =
-      inr (rw (is.1.1, is.0, ← is.1.0) (same, told))
-  on_no_edition NoMemory is same told = inl (is, same, told)
+  on_no_edition (TooLate late newest) is same message =
+      inr (rw (is.1.1, is.0, ← is.1.0) (same, message))
+  on_no_edition NoMemory is same message = inl (is, same, message)

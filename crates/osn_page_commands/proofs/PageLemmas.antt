@@ -1,23 +1,24 @@
 -- A command that prints a page, or reports why there is none, did what its contract says.
 use Rattle.std.proofs.Common.{◌≡◌, Bool, List, ℕ, Option, Some, None, Ok, ◌∙◌, ap, refl, subst₂, inl, inr}
 use Rattle.osn_editions.specs.Edition.{EditionModel}
-use Rattle.osn_invocation.specs.Invocation.{PageWordsModel}
+use Rattle.osn_invocation.specs.Invocation.{PageRequestModel}
 use Rattle.osn_lines.specs.Streams.{Output}
 use Rattle.osn_register.specs.Refusal.{IsRefusalOrNoMemory}
 use Rattle.osn_register.specs.declared.limits.Limits.{Limits}
 use Rattle.osn_register.specs.declared.refusal.Refusal.{Refusal}
 use Rattle.osn_register.specs.declared.refusal.Refusal.TheVariants as refusals
-use Rattle.osn_page_commands.specs.PageWords.{land_word, date_text_of, topic_of_words}
+use Rattle.osn_page_commands.specs.PageRequest.{territory_word, date_text_of, topic_of_words}
 use Rattle.osn_page_commands.specs.Page.{PrintsTopic, RunsNumbered, PrintsPageOf, PrintsPageOn}
 use Rattle.osn_page_commands.specs.Page.{topic_refusal, topic_text, refusal_line}
 use Rattle.osn_page_commands.specs.Page.{ended, lacks_strict_day, PrintsTopicText}
 use Rattle.osn_page_commands.specs.declared.place.Place.{Place}
 use Rattle.osn_page_commands.specs.declared.place.Place.TheVariants.{One, NotOne}
-use Rattle.osn_page_commands.specs.declared.page_words.Topic.{Topic}
-use Rattle.osn_page_commands.specs.declared.page_words.Topic.TheVariants.{Almanac, Year, Land}
-use Rattle.osn_page_commands.specs.declared.page_words.Topic.TheVariants.{Set, Lands}
+use Rattle.osn_page_commands.specs.declared.page_request.Topic.{Topic}
+use Rattle.osn_page_commands.specs.declared.page_request.Topic.TheVariants.{Almanac, Year}
+use Rattle.osn_page_commands.specs.declared.page_request.Topic.TheVariants.{Territory, Set}
+use Rattle.osn_page_commands.specs.declared.page_request.Topic.TheVariants.{Territories}
 use Rattle.osn_report.specs.Folders.{Folders, ReadsOne}
-use Rattle.osn_report.specs.Messages.{EndsBy, TellsIfMade}
+use Rattle.osn_report.specs.Messages.{EndsBy, ReportsIfMade}
 use Rattle.osn_report.specs.declared.fault.CommandFault.TheVariants.{NoMemory}
 use Rattle.osn_report.specs.declared.status.Status.{Status}
 use Rattle.osn_report.specs.declared.status.Status.TheVariants as statuses
@@ -30,19 +31,19 @@ unmade_same lacks status is = rw is refl
 -- there was no memory for the text of a page
 lacks_text : (topic : Topic) (text : List ℕ) (o e : Output) (status : Status)
     → o.new ≡ o.old → EndsBy e NoMemory status → PrintsTopicText topic text o e status
-lacks_text (Almanac year) text o e status same told = inr (same, told)
-lacks_text (Year year) text o e status same told = inr (same, told)
-lacks_text (Land page form) text o e status same told = inr (same, told)
-lacks_text (Set given form) text o e status same told = inr (same, told)
-lacks_text (Lands is_json) text o e status same told = inr (same, told)
+lacks_text (Almanac year) text o e status same message = inr (same, message)
+lacks_text (Year year) text o e status same message = inr (same, message)
+lacks_text (Territory page form) text o e status same message = inr (same, message)
+lacks_text (Set given form) text o e status same message = inr (same, message)
+lacks_text (Territories is_json) text o e status same message = inr (same, message)
 
 module _ (s : EditionModel) (path code date : List ℕ) (topic : Topic) (o e : Output)
     (status : Status)
   where
     -- the page was printed, and a day that was asked for is missing or not
     pub page_made : (printed : Status) (lacks : Bool)
-        → topic_refusal s.lands code topic ≡ None
-        → lacks ≡ lacks_strict_day s.lands code date topic
+        → topic_refusal s.territories code topic ≡ None
+        → lacks ≡ lacks_strict_day s.territories code date topic
         → PrintsTopicText topic (topic_text s code date topic) o e printed
         → status ≡ ended lacks printed
         → PrintsPageOf s path code date topic o e status
@@ -50,27 +51,27 @@ module _ (s : EditionModel) (path code date : List ℕ) (topic : Topic) (o e : O
         rw none (printed, h, same ∙ ap (λ x. ended x printed) is)
 
     -- memory ran out, whatever is refused
-    unmade_by : (refused : Option Refusal) → topic_refusal s.lands code topic ≡ refused
+    unmade_by : (refused : Option Refusal) → topic_refusal s.territories code topic ≡ refused
         → o.new ≡ o.old → EndsBy e NoMemory status → PrintsPageOf s path code date topic o e status
-    unmade_by (Some refusal) is same told = rw is (same, inr told)
-    unmade_by None is same told =
+    unmade_by (Some refusal) is same message = rw is (same, inr message)
+    unmade_by None is same message =
         rw is (
           status,
-          lacks_text topic (topic_text s code date topic) o e status same told,
-          unmade_same (lacks_strict_day s.lands code date topic) status told.0,
+          lacks_text topic (topic_text s code date topic) o e status same message,
+          unmade_same (lacks_strict_day s.territories code date topic) status message.0,
         )
 
     pub page_unmade : o.new ≡ o.old → EndsBy e NoMemory status
         → PrintsPageOf s path code date topic o e status
-    page_unmade = unmade_by (topic_refusal s.lands code topic) refl
+    page_unmade = unmade_by (topic_refusal s.territories code topic) refl
 
     -- it is refused
     pub page_refused : (refusal : Refusal) → (refusal ≡ refusals.NoMemory → ⊥) → o.new ≡ o.old
-        → IsRefusalOrNoMemory (topic_refusal s.lands code topic) refusal
-        → TellsIfMade e statuses.Refused (refusal_line path code topic refusal) status
+        → IsRefusalOrNoMemory (topic_refusal s.territories code topic) refusal
+        → ReportsIfMade e statuses.Refused (refusal_line path code topic refusal) status
         → PrintsPageOf s path code date topic o e status
-    page_refused refusal other same (inl some) told = rw some (same, told)
-    page_refused refusal other same (inr none) told = absurd (other none.0)
+    page_refused refusal other same (inl some) message = rw some (same, message)
+    page_refused refusal other same (inr none) message = absurd (other none.0)
 
 -- there was no memory to find what a word names
 pub place_unknown : (s : EditionModel) (path word date : List ℕ) (topic : Topic) (place : Place)
@@ -78,12 +79,12 @@ pub place_unknown : (s : EditionModel) (path word date : List ℕ) (topic : Topi
     → PrintsPageOn s path word date topic place o e status
 place_unknown s path word date topic (One code) o e status = page_unmade s path code date topic o e
     status
-place_unknown s path word date topic (NotOne named) o e status = λ same told. (same, inr told)
+place_unknown s path word date topic (NotOne named) o e status = λ same message. (same, inr message)
 
 -- the page was printed that these words ask for
-pub page_printed : (limits : Limits) (path : List ℕ) (number : Option ℕ) (words : PageWordsModel)
+pub page_printed : (limits : Limits) (path : List ℕ) (number : Option ℕ) (words : PageRequestModel)
     (CanFail : Bool → Type 0) (d : Folders) (topic : Topic) (code date : List ℕ) (o e : Output)
-    (status : Status) → topic_of_words words ≡ Ok topic → code ≡ land_word words
+    (status : Status) → topic_of_words words ≡ Ok topic → code ≡ territory_word words
     → date ≡ date_text_of words
     → ReadsOne path CanFail d
     (λ file. PrintsTopic limits path number file code date topic o e status)

@@ -4,14 +4,14 @@ use Rattle.std.specs.Prelude.{Option, Some, None, is_some}
 use Rattle.std.specs.Result.{is_ok}
 use Rattle.osn_grammar.specs.ReadDate.{written_date}
 use Rattle.osn_near.specs.Near.{is_near}
-use Rattle.osn_shown.specs.Shown.{shown}
+use Rattle.osn_shown.specs.Escaped.{escaped}
 use Rattle.osn_written.specs.WrittenDate.{number_of, parts_at}
 use Rattle.osn_written.specs.declared.written_date.DateFault.TheVariants as faults
 use Rattle.osn_page_commands.specs.MonthWord.{month_in_date}
 use Rattle.osn_page_commands.specs.Pieces.{pieces}
 use Rattle.osn_page_commands.specs.Place.{first_or}
 use Rattle.osn_report.specs.Misuse.{misuse_line}
-use Rattle.osn_report.specs.Messages.{TellsIfMade}
+use Rattle.osn_report.specs.Messages.{ReportsIfMade}
 use Rattle.osn_report.specs.declared.misuse.Misuse.{Misuse}
 use Rattle.osn_report.specs.declared.misuse.Misuse.TheVariants as misuses
 use Rattle.osn_report.specs.declared.status.Status.{Status}
@@ -53,7 +53,7 @@ first_hint (word ∷ words) = hint_or word (nearest_name word) (first_hint words
 abbrev pub hint_line : Option (List ℕ × List ℕ) → List ℕ
 hint_line None = []
 hint_line (Some hint) = codes "help: "
-    ++ (shown hint.0 ++ (codes ": did you mean " ++ (hint.1 ++ codes "?\n")))
+    ++ (escaped hint.0 ++ (codes ": did you mean " ++ (hint.1 ++ codes "?\n")))
 
 -- that of the words between the spaces of a text
 abbrev pub name_help : List ℕ → List ℕ
@@ -79,6 +79,6 @@ abbrev pub misuse_lines : Misuse → List ℕ → List ℕ
 misuse_lines misuse typed = misuse_line misuse typed ++ misuse_help misuse typed
 
 -- those were written
-abbrev pub TellsWord : Output → Misuse → List ℕ → Status → Type 0
-TellsWord e misuse typed status =
-    TellsIfMade e statuses.Misused (misuse_lines misuse typed) status
+abbrev pub ReportsWord : Output → Misuse → List ℕ → Status → Type 0
+ReportsWord e misuse typed status =
+    ReportsIfMade e statuses.Misused (misuse_lines misuse typed) status

@@ -2,7 +2,7 @@
 use Rattle.std.specs.Prelude.{ℕ, pos, ◌-◌, nat_lt, Bool, if◌then◌else◌, codes, List}
 use Rattle.std.specs.Prelude.{Option, Some, None, option_map, Result, Ok, Err}
 use Rattle.std.specs.Str.{str_eq_ignore_ascii_case}
-use Rattle.osn_days.specs.Profile.{newest_rules}
+use Rattle.osn_days.specs.Rules.{newest_rules}
 use Rattle.osn_register.specs.Plain.{is_off_line}
 use Rattle.osn_written.specs.WrittenDate.{number_of, parts_at}
 use Rattle.osn_report.specs.declared.misuse.Misuse.{Misuse}

@@ -9,21 +9,21 @@ use Rattle.osn_editions.specs.Edition.{EditionModel, edition_of}
 use Rattle.osn_editions.specs.declared.edition.EditionFault.{EditionFault}
 use Rattle.osn_editions.specs.declared.edition.EditionFault.TheVariants.{TooLate, NoMemory}
 use Rattle.osn_lines.specs.Streams.{Output}
-use Rattle.osn_report.specs.Messages.{EndsBy, TellsIfMade}
+use Rattle.osn_report.specs.Messages.{EndsBy, ReportsIfMade}
 use Rattle.osn_report.specs.declared.fault.CommandFault.TheVariants as faults
 use Rattle.osn_report.specs.declared.status.Status.{Status}
 use Rattle.osn_report.specs.declared.status.Status.TheVariants as statuses
-use Rattle.osn_shown.specs.Shown.{shown}
+use Rattle.osn_shown.specs.Escaped.{escaped}
 
 -- the line on a word that is not the number of an edition
 unfoldable pub word_line : List ℕ → List ℕ
 word_line word = codes "oldstyle: "
-    ++ (shown word
+    ++ (escaped word
     ++ codes ": an edition is a number, such as 3\n")
 
 -- that was reported
 abbrev pub TellsEditionWord : List ℕ → Output → Status → Type 0
-TellsEditionWord word e status = TellsIfMade e statuses.Misused (word_line word) status
+TellsEditionWord word e status = ReportsIfMade e statuses.Misused (word_line word) status
 
 -- what to do about it
 abbrev pub late_help : ℕ → List ℕ
@@ -41,7 +41,7 @@ late_lines number newest = codes "oldstyle: edition "
 -- it was reported why there is no such edition
 abbrev pub TellsEditionFault : EditionFault → Output → Status → Type 0
 TellsEditionFault (TooLate number newest) e status =
-    TellsIfMade e statuses.Refused (late_lines number newest) status
+    ReportsIfMade e statuses.Refused (late_lines number newest) status
 TellsEditionFault NoMemory e status = EndsBy e faults.NoMemory status
 
 -- a number was given that is greater than that of the newest edition, which was reported, and
@@ -49,7 +49,7 @@ TellsEditionFault NoMemory e status = EndsBy e faults.NoMemory status
 abbrev pub IsLate : Option ℕ → ℕ → Output → Output → Status → Type 0
 IsLate None newest o e status = ⊥
 IsLate (Some number) newest o e status =
-    (o.new ≡ o.old) × TellsIfMade e statuses.Refused (late_lines number newest) status
+    (o.new ≡ o.old) × ReportsIfMade e statuses.Refused (late_lines number newest) status
 
 -- This was done with the edition of a number, or the newest one without a number; or the object has
 -- no edition of the number. For a number, memory may run out first, which was reported, and nothing

@@ -5,7 +5,7 @@ use Rattle.std.specs.Prelude.{List, [], length, codes}
 use Rattle.std.specs.Prelude.{Option, IfSome, option_map, unwrap_or}
 use Rattle.std.specs.Fmt.{decimal}
 use Rattle.std.specs.List.{list_any}
-use Rattle.osn_days.specs.Profile.{newest_rules}
+use Rattle.osn_days.specs.Rules.{newest_rules}
 use Rattle.osn_grammar.specs.declared.written.DateOrder.{DateOrder}
 use Rattle.osn_register.specs.declared.limits.Limits.{Limits}
 use Rattle.osn_core.specs.Sequential.{ObjectState}
@@ -31,9 +31,9 @@ use Rattle.osn_letters.specs.declared.separator.Separator.{Separator}
 use Rattle.osn_letters.specs.declared.settings.TableSettings.{TableSettings}
 use Rattle.osn_page_commands.specs.declared.letters.TableRules.{TableRules}
 use Rattle.osn_report.specs.Journal.{MakesObject, MakesNoObject}
-use Rattle.osn_shown.specs.Shown.{shown}
+use Rattle.osn_shown.specs.Escaped.{escaped}
 use Rattle.osn_report.specs.Printing.{EndsUnwritten, PrintsNone}
-use Rattle.osn_report.specs.Messages.{EndsBy, Tells, TellsIfMade, TellsNothing}
+use Rattle.osn_report.specs.Messages.{EndsBy, Reports, ReportsIfMade, ReportsNothing}
 use Rattle.osn_report.specs.declared.fault.CommandFault.TheVariants.{File, NoMemory}
 use Rattle.osn_report.specs.declared.status.Status.{Status}
 use Rattle.osn_report.specs.declared.status.Status.TheVariants as statuses
@@ -97,9 +97,9 @@ abbrev pub columns_line : NameTexts → Column → ℕ → List ℕ → List ℕ
 columns_line names missing line found = codes "oldstyle: letters line "
     ++ (decimal line
     ++ (codes ": no column "
-    ++ (shown (name_of names missing)
+    ++ (escaped (name_of names missing)
     ++ (codes ": the columns are "
-    ++ (shown found ++ (codes ": name yours with " ++ (option_of missing ++ codes "\n")))))))
+    ++ (escaped found ++ (codes ": name yours with " ++ (option_of missing ++ codes "\n")))))))
 
 -- the line on a header that lacks a column
 abbrev pub lacks_line : NameTexts → Column → ℕ → List ℕ → List ℕ
@@ -118,24 +118,24 @@ has_line line added =
     column_line line (added_name added) (codes "is already there: remove it or rename it")
 
 -- it was reported why the table ended early; nothing is reported about an output that failed
-abbrev pub TellsTable : NameTexts → Output → LettersFault → Status → Type 0
-TellsTable names e ends.NoHeader status = TellsIfMade e statuses.Refused
+abbrev pub ReportsTable : NameTexts → Output → LettersFault → Status → Type 0
+ReportsTable names e ends.NoHeader status = ReportsIfMade e statuses.Refused
     (record_line 1 (codes "no header: the first line has the names of the columns")) status
-TellsTable names e (ends.LacksColumn missing line found) status =
-    TellsIfMade e statuses.Refused (lacks_line names missing line found) status
-TellsTable names e (ends.HasColumn line added) status =
-    TellsIfMade e statuses.Refused (has_line line added) status
-TellsTable names e (ends.BadRecord line) status = TellsIfMade e statuses.Refused
+ReportsTable names e (ends.LacksColumn missing line found) status =
+    ReportsIfMade e statuses.Refused (lacks_line names missing line found) status
+ReportsTable names e (ends.HasColumn line added) status =
+    ReportsIfMade e statuses.Refused (has_line line added) status
+ReportsTable names e (ends.BadRecord line) status = ReportsIfMade e statuses.Refused
     (record_line line (codes "a different number of fields than the header")) status
-TellsTable names e (ends.TooLong line) status = TellsIfMade e statuses.Refused
+ReportsTable names e (ends.TooLong line) status = ReportsIfMade e statuses.Refused
     (record_line line (codes "a record of more than 65536 bytes")) status
-TellsTable names e (ends.OpenQuote line) status = TellsIfMade e statuses.Refused
+ReportsTable names e (ends.OpenQuote line) status = ReportsIfMade e statuses.Refused
     (record_line line (codes "a quote that opens in this record is never closed")) status
-TellsTable names e (ends.TextAfterQuote line) status = TellsIfMade e statuses.Refused
+ReportsTable names e (ends.TextAfterQuote line) status = ReportsIfMade e statuses.Refused
     (record_line line (codes "text follows a closing quote")) status
-TellsTable names e ends.ReadFault status = Tells e (File file_faults.ReadFault) status
-TellsTable names e ends.WriteFault status = EndsUnwritten e status
-TellsTable names e ends.NoMemory status = EndsBy e NoMemory status
+ReportsTable names e ends.ReadFault status = Reports e (File file_faults.ReadFault) status
+ReportsTable names e ends.WriteFault status = EndsUnwritten e status
+ReportsTable names e ends.NoMemory status = EndsBy e NoMemory status
 
 -- ---- what was written
 
@@ -143,7 +143,7 @@ TellsTable names e ends.NoMemory status = EndsBy e NoMemory status
 abbrev pub basis_of : EditionModel → SettingsModel → TableBasis
 basis_of s settings = record {
   rules = newest_rules;
-  lands = s.lands;
+  territories = s.territories;
   edition = s.number;
   names = settings.names;
   separator = settings.separator;
@@ -177,22 +177,22 @@ status_by is_strict has_remarks =
 
 -- this text was written to standard error if it was asked for, or else nothing; and the status is
 -- this one
-abbrev pub TellsIfAsked : Bool → List ℕ → Output → Status → Status → Type 0
-TellsIfAsked false text e given status = (status ≡ given) × TellsNothing e
-TellsIfAsked true text e given status = TellsIfMade e given text status
+abbrev pub ReportsIfAsked : Bool → List ℕ → Output → Status → Status → Type 0
+ReportsIfAsked false text e given status = (status ≡ given) × ReportsNothing e
+ReportsIfAsked true text e given status = ReportsIfMade e given text status
 
 -- a table with this tally was written whole, and the tally was reported if that is asked for. The
 -- status says whether a row has a remark, if that is asked for
-abbrev pub TellsEnd : TableRules → TallyModel → Output → Status → Type 0
-TellsEnd rules tally e status =
-    TellsIfAsked rules.summary (tally_text (codes "oldstyle: letters: ") tally) e
+abbrev pub ReportsEnd : TableRules → TallyModel → Output → Status → Type 0
+ReportsEnd rules tally e status =
+    ReportsIfAsked rules.summary (tally_text (codes "oldstyle: letters: ") tally) e
     (status_by rules.strict (has_remarks tally)) status
 
 -- all was written, and the end reported
 abbrev pub EndsWhole : EditionModel → SettingsModel → TableRules → Input → Output → Output → Status
     → Type 0
 EndsWhole s settings rules i o e status =
-    (tally : TallyModel) × TellsEnd rules tally e status
+    (tally : TallyModel) × ReportsEnd rules tally e status
     × IfSome i.bytes (λ text. IsWhole o.old o.new (table_of s settings text))
     × IfSome i.bytes (λ text. IsTallyOf (basis_of s settings) text tally)
 
@@ -202,7 +202,7 @@ abbrev pub WritesTable : EditionModel → SettingsModel → TableRules → Input
     → Type 0
 WritesTable s settings rules i o e status =
     EndsWhole s settings rules i o e status
-    ⊎ ((ended : LettersFault) × TellsTable settings.names e ended status
+    ⊎ ((ended : LettersFault) × ReportsTable settings.names e ended status
     × EndsTable (table_of s settings) i o ended × IsReason (table_of s settings) i o ended)
 
 -- how the command ends: the journal is refused, and nothing was written; or it makes an object, and

@@ -11,14 +11,14 @@ use Rattle.osn_letters.specs.declared.places_fault.PlacesFault.{PlacesFault}
 use Rattle.osn_lines.specs.Streams.{Input, Output}
 use Rattle.osn_register.specs.declared.limits.Limits.{Limits}
 use Rattle.osn_page_commands.specs.Letters.{PrintsLetters, SettingsModel}
-use Rattle.osn_page_commands.specs.Places.{IsPlacesFault, TellsPlaces}
+use Rattle.osn_page_commands.specs.Places.{IsPlacesFault, ReportsPlaces}
 use Rattle.osn_page_commands.specs.TableWords.{settings_of_options}
 use Rattle.osn_page_commands.specs.declared.letters.TableRules.{TableRules}
 use Rattle.osn_report.specs.Folders.{Folders, IsReadOf, ReadsOne}
 use Rattle.osn_editions.specs.Edition.{edition_of_word}
 use Rattle.osn_page_commands.specs.Editions.{TellsEditionWord}
-use Rattle.osn_report.specs.Messages.{TellsIfMade, TellsMisuse}
-use Rattle.osn_report.specs.Unopened.{unopened_line}
+use Rattle.osn_report.specs.Messages.{ReportsIfMade, ReportsMisuse}
+use Rattle.osn_report.specs.OpenFailure.{open_failure_line}
 use Rattle.osn_report.specs.declared.status.Status.{Status}
 use Rattle.osn_report.specs.declared.status.Status.TheVariants as statuses
 
@@ -31,13 +31,14 @@ rules_of options number =
 abbrev pub MissesPlaces : List ℕ → Folders → Output → Output → Status → Type 0
 MissesPlaces path d o e status =
     CannotOpen (path ∷ []) d.before d.after × (o.new ≡ o.old)
-    × (cause : OpenFailed) × TellsIfMade e statuses.ReadFault (unopened_line path cause) status
+    × (cause : OpenFailed)
+    × ReportsIfMade e statuses.ReadFault (open_failure_line path cause) status
 
 -- it has a fault, which was reported, and nothing was written
 abbrev pub RefusesPlaces : List ℕ → Input → Output → Output → Status → Type 0
 RefusesPlaces path table o e status =
     (fault : PlacesFault) × IsPlacesFault table fault × (o.new ≡ o.old)
-    × TellsPlaces path e fault status
+    × ReportsPlaces path e fault status
 
 -- it has these entries, and letters were read by them
 abbrev pub ReadsByEntries : Limits → Input → Input → SettingsModel → TableRules → Input → Output
@@ -75,7 +76,7 @@ RunsNumbered limits journal options number CanFail d i o e status = MatchResult
     (settings_of_options options)
     (λ settings. PrintsTable limits journal options.places settings (rules_of options number)
     CanFail d i o e status)
-    (λ wrong. (d.after ≡ d.before) × (o.new ≡ o.old) × TellsMisuse e wrong.0 wrong.1 status)
+    (λ wrong. (d.after ≡ d.before) × (o.new ≡ o.old) × ReportsMisuse e wrong.0 wrong.1 status)
 
 -- what the command has done: that, by the word of the edition, if there is one; or it is not the
 -- number of an edition, which was reported, and no file was opened and nothing written

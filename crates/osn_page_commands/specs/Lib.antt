@@ -1,7 +1,7 @@
 pub mod Order
 pub mod DayNumber
 pub mod MonthWord
-pub mod PageWords
+pub mod PageRequest
 pub mod Pieces
 pub mod Place
 pub mod DateHint

@@ -2,13 +2,13 @@
 ghost use Rattle.std.specs.Prelude.{◌≡◌};
 ghost use Rattle.osn_lines.specs.Streams.{output_of};
 ghost use Rattle.osn_page_commands.specs.Conversion.{PrintsConversion};
-ghost use Rattle.osn_page_commands.specs.PageWords as spec;
+ghost use Rattle.osn_page_commands.specs.PageRequest as spec;
 
-use crate::date_hint::tell_word;
-use crate::page_words::conversion_of_words;
+use crate::date_hint::report_word;
+use crate::page_request::conversion_of_words;
 use osn_lines::Sink;
 use osn_pages::conversion_page;
-use osn_report::{Misuse, Status, print, tell_no_memory};
+use osn_report::{Misuse, Status, print, report_no_memory};
 use std::alloc::Global;
 
 /// Returns which of the words of a conversion is not what its place asks for.
@@ -41,8 +41,8 @@ pub fn convert_command<W: Sink, E: Sink>(
         Ok(Ok((day, given))) => print(conversion_page(alloc, day, given), output, errors),
         Ok(Err(misuse)) => {
             let word = wrong_word_of_conversion(calendar, date, misuse);
-            tell_word(alloc, errors, misuse, word)
+            report_word(alloc, errors, misuse, word)
         }
-        Err(_) => tell_no_memory(errors),
+        Err(_) => report_no_memory(errors),
     }
 }

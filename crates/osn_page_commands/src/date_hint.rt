@@ -9,8 +9,8 @@ use crate::month_word::month_in_date;
 use osn_grammar::parse_day;
 use osn_lines::Sink;
 use osn_near::is_near;
-use osn_report::{Misuse, Status, misuse_line, tell_line};
-use osn_shown::Shown;
+use osn_report::{Misuse, Status, misuse_line, report_line};
+use osn_shown::Escaped;
 use osn_written::{DateFault, number_of, parts_at};
 use std::alloc::{AllocError, Global};
 
@@ -116,7 +116,7 @@ fn push_name_help(lines: &mut String, alloc: Global, text: &str) -> Result<(), A
         ≡ string_bytes lines.old ++ spec.name_help text.now) }
 {
     match first_hint(alloc, text)? {
-        Some((word, name)) => writeln!(lines, "help: {}: did you mean {name}?", Shown(word)),
+        Some((word, name)) => writeln!(lines, "help: {}: did you mean {name}?", Escaped(word)),
         None => Ok(()),
     }
 }
@@ -167,15 +167,15 @@ fn misuse_lines(alloc: Global, misuse: Misuse, typed: &str) -> Result<String, Al
 
 /// Reports on standard error what the place of a word asks for, and what may be meant by the word
 /// as it was typed. Returns the status.
-pub(crate) fn tell_word<E: Sink>(
+pub(crate) fn report_word<E: Sink>(
     alloc: Global,
     errors: &mut E,
     misuse: Misuse,
     typed: &str,
 ) -> Status
-    ensures { spec.TellsWord
+    ensures { spec.ReportsWord
         (output_of E.contents E.has_failed E.holds_back errors.old errors.new) misuse typed.now
         result }
 {
-    tell_line(errors, Status::Misused, misuse_lines(alloc, misuse, typed))
+    report_line(errors, Status::Misused, misuse_lines(alloc, misuse, typed))
 }

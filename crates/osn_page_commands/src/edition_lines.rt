@@ -5,8 +5,8 @@ ghost use Rattle.osn_page_commands.specs.Editions as spec;
 
 use osn_editions::EditionFault;
 use osn_lines::Sink;
-use osn_report::{Status, tell_line, tell_no_memory};
-use osn_shown::Shown;
+use osn_report::{Status, report_line, report_no_memory};
+use osn_shown::Escaped;
 use std::alloc::{AllocError, Global};
 
 /// Returns the line on a word that is not the number of an edition.
@@ -14,7 +14,7 @@ use std::alloc::{AllocError, Global};
 fn word_line(alloc: Global, word: &str) -> Result<String, AllocError>
     ensures { IfOk result (λ line. string_bytes line ≡ spec.word_line word.now) }
 {
-    let word = Shown(word);
+    let word = Escaped(word);
     format!(in alloc; "oldstyle: {word}: an edition is a number, such as 3\n")
 }
 
@@ -23,7 +23,7 @@ pub fn tell_edition_word<E: Sink>(alloc: Global, errors: &mut E, word: &str) -> 
     ensures { spec.TellsEditionWord word.now
         (output_of E.contents E.has_failed E.holds_back errors.old errors.new) result }
 {
-    tell_line(errors, Status::Misused, word_line(alloc, word))
+    report_line(errors, Status::Misused, word_line(alloc, word))
 }
 
 /// Returns what to do about a number that a journal has no edition of, whose newest one is this.
@@ -55,8 +55,8 @@ pub fn tell_edition_fault<E: Sink>(alloc: Global, errors: &mut E, fault: Edition
     match fault {
         EditionFault::TooLate { number, newest } => {
             let lines = late_lines(alloc, number, newest);
-            tell_line(errors, Status::Refused, lines)
+            report_line(errors, Status::Refused, lines)
         }
-        EditionFault::NoMemory => tell_no_memory(errors),
+        EditionFault::NoMemory => report_no_memory(errors),
     }
 }

@@ -3,31 +3,31 @@
 ghost use Rattle.std.specs.Prelude.{◌≡◌, IfErr, IfOk, option_map};
 ghost use Rattle.osn_page_commands.specs.Editions.{OnEdition};
 ghost use Rattle.osn_folder.specs.Folder.{MayFail};
-ghost use Rattle.osn_invocation.specs.Invocation.{page_words};
+ghost use Rattle.osn_invocation.specs.Invocation.{page_request};
 ghost use Rattle.osn_lines.specs.Streams.{output_of};
 ghost use Rattle.osn_page_commands.specs.Page as spec;
 ghost use Rattle.osn_report.specs.Folders.{folders_of};
 
-use crate::date_hint::tell_word;
+use crate::date_hint::report_word;
 use crate::edition_lines::{tell_edition_fault, tell_edition_word};
 use crate::page::print_page;
-use crate::page_words::{Topic, date_text_of, land_word, topic_of_words, wrong_word};
+use crate::page_request::{Topic, date_text_of, territory_word, topic_of_words, wrong_word};
 use osn_core::Object;
 use osn_editions::{edition_of, edition_of_word};
 use osn_files::load_journal;
 use osn_folder::{Folder, OpenFailed, open_named};
-use osn_invocation::PageWords;
+use osn_invocation::PageRequest;
 use osn_lines::Sink;
 use osn_register::Limits;
-use osn_report::{CommandFault, Failure, Status, tell_no_memory};
+use osn_report::{CommandFault, Failure, Status, report_no_memory};
 use std::alloc::Global;
 
 /// Returns the fault of a page whose journal could not be opened, by its cause.
-fn unopened(words: PageWords<'_>, cause: OpenFailed) -> CommandFault
-    ensures { result ≡ spec.unopened (page_words words.entry) cause }
+fn open_failure(words: PageRequest<'_>, cause: OpenFailed) -> CommandFault
+    ensures { result ≡ spec.open_failure (page_request words.entry) cause }
 {
     match words {
-        PageWords::Almanac { .. } => CommandFault::ReadFault(cause),
+        PageRequest::Almanac { .. } => CommandFault::ReadFault(cause),
         _ => CommandFault::NotOpened(cause),
     }
 }
@@ -45,7 +45,7 @@ fn print_numbered<W: Sink, E: Sink>(
     errors: &mut E,
 ) -> Status
     ensures { OnEdition number object (λ edition. spec.PrintsPageOn edition
-        path.now word.now date.now topic.now (spec.place_of topic.now word.now edition.lands)
+        path.now word.now date.now topic.now (spec.place_of topic.now word.now edition.territories)
         (output_of W.contents W.has_failed W.holds_back output.old output.new)
         (output_of E.contents E.has_failed E.holds_back errors.old errors.new) result)
         (output_of W.contents W.has_failed W.holds_back output.old output.new)
@@ -69,16 +69,16 @@ fn numbered_page_in_folder<'a, D: Folder, W: Sink, E: Sink>(
     folder: &mut D,
     journal: &'a str,
     number: Option<u32>,
-    words: PageWords<'_>,
+    words: PageRequest<'_>,
     output: &mut W,
     errors: &mut E,
 ) -> Result<Status, Failure<'a>>
-    ensures ok { IfOk result (spec.RunsNumbered limits journal.now number (page_words words.entry)
+    ensures ok { IfOk result (spec.RunsNumbered limits journal.now number (page_request words.entry)
         (MayFail D.File.has_failed) (folders_of D.known folder.old folder.new)
         (output_of W.contents W.has_failed W.holds_back output.old output.new)
         (output_of E.contents E.has_failed E.holds_back errors.old errors.new)) }
     ensures err { IfErr result (λ failure. spec.PageFails limits journal.now
-        (page_words words.entry) (MayFail D.File.has_failed)
+        (page_request words.entry) (MayFail D.File.has_failed)
         (folders_of D.known folder.old folder.new) failure.path.now failure.fault
         × (output.new ≡ output.old) × (errors.new ≡ errors.old)) }
 {
@@ -86,20 +86,20 @@ fn numbered_page_in_folder<'a, D: Folder, W: Sink, E: Sink>(
         Ok(Ok(topic)) => topic,
         Ok(Err(misuse)) => {
             let word = wrong_word(words, misuse);
-            return Ok(tell_word(alloc, errors, misuse, word));
+            return Ok(report_word(alloc, errors, misuse, word));
         }
-        Err(_) => return Ok(tell_no_memory(errors)),
+        Err(_) => return Ok(report_no_memory(errors)),
     };
     let mut file = match open_named(folder, journal) {
         Ok(file) => file,
         Err(why) => {
             return Err(Failure {
                 path: why.path,
-                fault: unopened(words, why.cause),
+                fault: open_failure(words, why.cause),
             });
         }
     };
-    let word = land_word(words);
+    let word = territory_word(words);
     let date = date_text_of(words);
     match load_journal(alloc, limits, &mut file) {
         Ok(object) => Ok(print_numbered(
@@ -130,17 +130,17 @@ pub fn page_in_folder<'a, D: Folder, W: Sink, E: Sink>(
     folder: &mut D,
     journal: &'a str,
     edition: Option<&str>,
-    words: PageWords<'_>,
+    words: PageRequest<'_>,
     output: &mut W,
     errors: &mut E,
 ) -> Result<Status, Failure<'a>>
     ensures ok { IfOk result (spec.RunsPage limits journal.now
-        (option_map (λ word. word.now) edition.entry) (page_words words.entry)
+        (option_map (λ word. word.now) edition.entry) (page_request words.entry)
         (MayFail D.File.has_failed) (folders_of D.known folder.old folder.new)
         (output_of W.contents W.has_failed W.holds_back output.old output.new)
         (output_of E.contents E.has_failed E.holds_back errors.old errors.new)) }
     ensures err { IfErr result (λ failure. spec.PageFails limits journal.now
-        (page_words words.entry) (MayFail D.File.has_failed)
+        (page_request words.entry) (MayFail D.File.has_failed)
         (folders_of D.known folder.old folder.new) failure.path.now failure.fault
         × (output.new ≡ output.old) × (errors.new ≡ errors.old)) }
 {

@@ -6,14 +6,14 @@ ghost use Rattle.osn_lines.specs.Streams.{input_of, output_of};
 ghost use Rattle.osn_page_commands.specs.Letters as spec;
 
 use crate::edition_lines::tell_edition_fault;
-use crate::table_faults::tell_table;
+use crate::table_faults::report_table;
 use osn_core::Object;
 use osn_editions::{Edition, edition_of};
 use osn_files::load_journal;
 use osn_letters::{TableSettings, Tally, write_letters};
 use osn_lines::{Progress, Sink, Source};
 use osn_register::Limits;
-use osn_report::{CommandFault, Status, report, tell_line};
+use osn_report::{CommandFault, Status, report, report_line};
 use std::alloc::Global;
 
 /// What is asked for a table besides its columns.
@@ -40,12 +40,12 @@ fn status_by(is_strict: bool, has_remarks: bool) -> Status
 
 /// Ends a table that was written whole, and reports its tally if that is asked for.
 fn end_whole<E: Sink>(alloc: Global, errors: &mut E, rules: TableRules, tally: &Tally) -> Status
-    ensures { spec.TellsEnd rules tally.now
+    ensures { spec.ReportsEnd rules tally.now
         (output_of E.contents E.has_failed E.holds_back errors.old errors.new) result }
 {
     let status = status_by(rules.strict, tally.has_remarks());
     if rules.summary {
-        tell_line(errors, status, tally.text(alloc, "oldstyle: letters: "))
+        report_line(errors, status, tally.text(alloc, "oldstyle: letters: "))
     } else {
         status
     }
@@ -72,7 +72,7 @@ fn write_table<R: Source, W: Sink, E: Sink, P: Progress>(
     let register = edition.register();
     match write_letters(alloc, register, number, settings, input, output, progress) {
         Ok(tally) => end_whole(alloc, errors, rules, &tally),
-        Err(fault) => tell_table(alloc, errors, settings.names, &fault),
+        Err(fault) => report_table(alloc, errors, settings.names, &fault),
     }
 }
 

@@ -10,7 +10,7 @@ ghost use Rattle.osn_report.specs.Folders.{folders_of};
 
 use crate::edition_lines::tell_edition_word;
 use crate::letters::{TableRules, letters_command};
-use crate::places::tell_places;
+use crate::places::report_places;
 use crate::table_words::settings_of_options;
 use osn_editions::edition_of_word;
 use osn_folder::{Folder, OpenFailed, open_file};
@@ -18,7 +18,7 @@ use osn_invocation::LettersOptions;
 use osn_letters::{TableSettings, read_places};
 use osn_lines::{Progress, Sink, Source};
 use osn_register::Limits;
-use osn_report::{ReadProgress, Status, tell_misuse, tell_unopened};
+use osn_report::{ReadProgress, Status, report_misuse, report_open_failure};
 use std::alloc::Global;
 
 /// Returns what is asked for a table besides its columns, by the options and the number of the
@@ -58,7 +58,7 @@ fn letters_by_places<D: Folder, R: Source, W: Sink, E: Sink, P: Progress>(
 {
     let mut table = match open_file(folder, path) {
         Ok(table) => table,
-        Err(cause) => return tell_unopened(alloc, errors, path, cause),
+        Err(cause) => return report_open_failure(alloc, errors, path, cause),
     };
     match read_places(alloc, &mut table) {
         Ok(places) => {
@@ -70,7 +70,7 @@ fn letters_by_places<D: Folder, R: Source, W: Sink, E: Sink, P: Progress>(
                 alloc, limits, journal, settings, rules, input, output, errors, progress,
             )
         }
-        Err(fault) => tell_places(alloc, errors, path, &fault),
+        Err(fault) => report_places(alloc, errors, path, &fault),
     }
 }
 
@@ -158,7 +158,7 @@ fn numbered_letters_in_folder<D: Folder, R: Source, W: Sink, E: Sink, T: Sink + 
             alloc, limits, folder, journal, options, number, settings, input, output, errors,
             terminal,
         ),
-        Err(wrong) => Ok(tell_misuse(alloc, errors, wrong.misuse, wrong.typed)),
+        Err(wrong) => Ok(report_misuse(alloc, errors, wrong.misuse, wrong.typed)),
     }
 }
 

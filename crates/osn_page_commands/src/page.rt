@@ -8,7 +8,7 @@ ghost use Rattle.osn_page_commands.specs.Page as spec;
 ghost use Rattle.osn_page_commands.specs.Place as places;
 
 use crate::answer_line::{page_line, query_line, set_line};
-use crate::page_words::Topic;
+use crate::page_request::Topic;
 use crate::place::{Place, place_named};
 use crate::place_lines::place_lines;
 use crate::refusal_lines::refusal_line;
@@ -20,7 +20,7 @@ use osn_pages::{
     Page, Published, has_no_day, page_text, set_has_no_day, set_page_text, territories_page,
 };
 use osn_register::{BorrowedQuery, Refusal, Register};
-use osn_report::{Status, print, print_or_report, tell_line, tell_no_memory};
+use osn_report::{Status, print, print_or_report, report_line, report_no_memory};
 use std::alloc::{AllocError, Global};
 
 /// Returns the number of an edition, and how many edits wait.
@@ -35,7 +35,7 @@ fn heading_of(edition: &Edition) -> Published
 
 /// Returns a page on the territory of a code, or the line of JSON of its answer. `date` is the text
 /// of its date.
-fn land_text(
+fn entry_text(
     alloc: Global,
     edition: &Edition,
     code: &str,
@@ -43,17 +43,18 @@ fn land_text(
     page: Page,
     is_json: bool,
 ) -> Result<String, Refusal>
-    ensures lawful { OnOk result (code_refusal (edition_model edition.now).lands code.now ≡ None) }
+    ensures lawful { OnOk result
+        (code_refusal (edition_model edition.now).territories code.now ≡ None) }
     ensures text { IfOk result (λ text. string_bytes text
-        ≡ spec.land_text (edition_model edition.now) code.now date.now page is_json) }
+        ≡ spec.entry_text (edition_model edition.now) code.now date.now page is_json) }
     ensures refused { IfErr result
-        (IsRefusalOrNoMemory (code_refusal (edition_model edition.now).lands code.now)) }
+        (IsRefusalOrNoMemory (code_refusal (edition_model edition.now).territories code.now)) }
 {
     let register = edition.register();
     if !is_json {
         return page_text(alloc, register, code, heading_of(edition), page);
     }
-    register.land(code)?;
+    register.territory(code)?;
     match page_line(alloc, edition, code, date, &page)? {
         Some(line) => Ok(line),
         None => page_text(alloc, register, code, heading_of(edition), page),
@@ -69,27 +70,28 @@ fn set_text(
     weekday: Option<Weekday>,
     is_json: bool,
 ) -> Result<String, Refusal>
-    ensures lawful { OnOk result (code_refusal (edition_model edition.now).lands code.now ≡ None) }
+    ensures lawful { OnOk result
+        (code_refusal (edition_model edition.now).territories code.now ≡ None) }
     ensures text { IfOk result (λ text. string_bytes text
         ≡ spec.set_text (edition_model edition.now) code.now date.now weekday is_json) }
     ensures refused { IfErr result
-        (IsRefusalOrNoMemory (code_refusal (edition_model edition.now).lands code.now)) }
+        (IsRefusalOrNoMemory (code_refusal (edition_model edition.now).territories code.now)) }
 {
     let register = edition.register();
     if !is_json {
         return set_page_text(alloc, register, code, heading_of(edition), date, weekday);
     }
-    register.land(code)?;
+    register.territory(code)?;
     Ok(set_line(alloc, edition, code, date, weekday)?)
 }
 
 /// Returns the page of all territories, or the line of JSON of the answer.
-fn lands_text(alloc: Global, edition: &Edition, is_json: bool) -> Result<String, AllocError>
+fn territories_text(alloc: Global, edition: &Edition, is_json: bool) -> Result<String, AllocError>
     ensures { IfOk result (λ text.
-        string_bytes text ≡ spec.lands_text (edition_model edition.now) is_json) }
+        string_bytes text ≡ spec.territories_text (edition_model edition.now) is_json) }
 {
     if is_json {
-        query_line(alloc, edition, BorrowedQuery::Lands)
+        query_line(alloc, edition, BorrowedQuery::Territories)
     } else {
         territories_page(alloc, edition.register(), heading_of(edition))
     }
@@ -104,47 +106,55 @@ fn text_of(
     topic: &Topic,
 ) -> Result<String, Refusal>
     ensures lawful { OnOk result
-        (spec.topic_refusal (edition_model edition.now).lands code.now topic.now ≡ None) }
+        (spec.topic_refusal (edition_model edition.now).territories code.now topic.now ≡ None) }
     ensures text { IfOk result (λ text.
         string_bytes text
         ≡ spec.topic_text (edition_model edition.now) code.now date.now topic.now) }
     ensures refused { IfErr result (IsRefusalOrNoMemory
-        (spec.topic_refusal (edition_model edition.now).lands code.now topic.now)) }
+        (spec.topic_refusal (edition_model edition.now).territories code.now topic.now)) }
 {
     let register = edition.register();
     match *topic {
         Topic::Almanac(year) => almanac_text(alloc, register, code, i64::from(year)),
         Topic::Year(year) => year_page_text(alloc, register, code, heading_of(edition), year),
-        Topic::Land { page, form } => land_text(alloc, edition, code, date, page, form.is_json),
+        Topic::Territory { page, form } => entry_text(
+            alloc,
+            edition,
+            code,
+            date,
+            page,
+            form.is_json,
+        ),
         Topic::Set { weekday, form } => {
             set_text(alloc, edition, code, date, weekday, form.is_json)
         }
-        Topic::Lands { is_json } => Ok(lands_text(alloc, edition, is_json)?),
+        Topic::Territories { is_json } => Ok(territories_text(alloc, edition, is_json)?),
     }
 }
 
 /// Returns whether the date of a page means no day in the territory of the code. Other pages have
 /// no date.
 fn lacks_day(alloc: Global, register: &Register, code: &str, page: Page) -> Result<bool, Refusal>
-    ensures value { IfOk result (λ lacks. lacks ≡ spec.lacks_day register.now.lands code.now page) }
+    ensures value { IfOk result
+        (λ lacks. lacks ≡ spec.lacks_day register.now.territories code.now page) }
     ensures refused { IfErr result
-        (IsRefusalOrNoMemory (code_refusal register.now.lands code.now)) }
+        (IsRefusalOrNoMemory (code_refusal register.now.territories code.now)) }
 {
     let Page::Reading { date, .. } = page else {
         return Ok(false);
     };
-    let (_, territory) = register.land(code)?;
+    let (_, territory) = register.territory(code)?;
     Ok(has_no_day(alloc, territory, date)?)
 }
 
 /// Returns whether a date of a set means no day in the territory of the code.
 fn lacks_set(alloc: Global, register: &Register, code: &str, date: &str) -> Result<bool, Refusal>
     ensures value { IfOk result (λ lacks.
-        lacks ≡ spec.lacks_set register.now.lands code.now date.now) }
+        lacks ≡ spec.lacks_set register.now.territories code.now date.now) }
     ensures refused { IfErr result
-        (IsRefusalOrNoMemory (code_refusal register.now.lands code.now)) }
+        (IsRefusalOrNoMemory (code_refusal register.now.territories code.now)) }
 {
-    let (_, territory) = register.land(code)?;
+    let (_, territory) = register.territory(code)?;
     Ok(set_has_no_day(alloc, territory, date)?)
 }
 
@@ -157,13 +167,13 @@ fn lacks_strict_day(
     topic: &Topic,
 ) -> Result<bool, Refusal>
     ensures value { IfOk result (λ lacks.
-        lacks ≡ spec.lacks_strict_day (edition_model edition.now).lands code.now date.now
+        lacks ≡ spec.lacks_strict_day (edition_model edition.now).territories code.now date.now
         topic.now) }
     ensures refused { IfErr result (IsRefusalOrNoMemory
-        (spec.topic_refusal (edition_model edition.now).lands code.now topic.now)) }
+        (spec.topic_refusal (edition_model edition.now).territories code.now topic.now)) }
 {
     match *topic {
-        Topic::Land { page, form } if form.is_strict => {
+        Topic::Territory { page, form } if form.is_strict => {
             lacks_day(alloc, edition.register(), code, page)
         }
         Topic::Set { form, .. } if form.is_strict => {
@@ -188,14 +198,15 @@ fn page_of(
     topic: &Topic,
 ) -> Result<Made, Refusal>
     ensures lawful { OnOk result
-        (spec.topic_refusal (edition_model edition.now).lands code.now topic.now ≡ None) }
+        (spec.topic_refusal (edition_model edition.now).territories code.now topic.now ≡ None) }
     ensures text { IfOk result (λ made.
         string_bytes made.text
         ≡ spec.topic_text (edition_model edition.now) code.now date.now topic.now) }
     ensures lacks { IfOk result (λ made. made.lacks_day
-        ≡ spec.lacks_strict_day (edition_model edition.now).lands code.now date.now topic.now) }
+        ≡ spec.lacks_strict_day (edition_model edition.now).territories code.now date.now
+        topic.now) }
     ensures refused { IfErr result (IsRefusalOrNoMemory
-        (spec.topic_refusal (edition_model edition.now).lands code.now topic.now)) }
+        (spec.topic_refusal (edition_model edition.now).territories code.now topic.now)) }
 {
     let text = text_of(alloc, edition, code, date, topic)?;
     let lacks_day = lacks_strict_day(alloc, edition, code, date, topic)?;
@@ -226,9 +237,8 @@ fn print_text_of<W: Sink, E: Sink>(
 {
     match topic {
         Topic::Almanac(_) => print_or_report(Ok(text), output, errors),
-        Topic::Year(_) | Topic::Land { .. } | Topic::Set { .. } | Topic::Lands { .. } => {
-            print(Ok(text), output, errors)
-        }
+        Topic::Year(_) | Topic::Territory { .. } | Topic::Set { .. } | Topic::Territories { .. } =>
+            { print(Ok(text), output, errors) }
     }
 }
 
@@ -251,10 +261,10 @@ fn print_page_of<W: Sink, E: Sink>(
         Ok(Made { text, lacks_day }) => {
             ended(lacks_day, print_text_of(topic, text, output, errors))
         }
-        Err(Refusal::NoMemory) => tell_no_memory(errors),
+        Err(Refusal::NoMemory) => report_no_memory(errors),
         Err(refusal) => {
             let line = refusal_line(alloc, path, code, topic, refusal);
-            tell_line(errors, Status::Refused, line)
+            report_line(errors, Status::Refused, line)
         }
     }
 }
@@ -272,7 +282,7 @@ fn print_page_named<W: Sink, E: Sink>(
     errors: &mut E,
 ) -> Status
     ensures { spec.PrintsPageOn (edition_model edition.now) path.now word.now date.now topic.now
-        (places.place_named word.now (edition_model edition.now).lands)
+        (places.place_named word.now (edition_model edition.now).territories)
         (output_of W.contents W.has_failed W.holds_back output.old output.new)
         (output_of E.contents E.has_failed E.holds_back errors.old errors.new) result }
 {
@@ -282,11 +292,11 @@ fn print_page_named<W: Sink, E: Sink>(
             let code = code.as_str();
             print_page_of(alloc, edition, path, code, date, topic, output, errors)
         }
-        Ok(Place::NotOne(lands)) => {
-            let lines = place_lines(alloc, path, word, lands.as_slice(), register);
-            tell_line(errors, Status::Refused, lines)
+        Ok(Place::NotOne(territories)) => {
+            let lines = place_lines(alloc, path, word, territories.as_slice(), register);
+            report_line(errors, Status::Refused, lines)
         }
-        Err(_) => tell_no_memory(errors),
+        Err(_) => report_no_memory(errors),
     }
 }
 
@@ -303,15 +313,15 @@ pub(crate) fn print_page<W: Sink, E: Sink>(
     errors: &mut E,
 ) -> Status
     ensures { spec.PrintsPageOn (edition_model edition.now) path.now word.now date.now topic.now
-        (spec.place_of topic.now word.now (edition_model edition.now).lands)
+        (spec.place_of topic.now word.now (edition_model edition.now).territories)
         (output_of W.contents W.has_failed W.holds_back output.old output.new)
         (output_of E.contents E.has_failed E.holds_back errors.old errors.new) result }
 {
     match topic {
-        Topic::Almanac(_) | Topic::Lands { .. } => {
+        Topic::Almanac(_) | Topic::Territories { .. } => {
             print_page_of(alloc, edition, path, word, date, topic, output, errors)
         }
-        Topic::Year(_) | Topic::Land { .. } | Topic::Set { .. } => {
+        Topic::Year(_) | Topic::Territory { .. } | Topic::Set { .. } => {
             print_page_named(alloc, edition, path, word, date, topic, output, errors)
         }
     }

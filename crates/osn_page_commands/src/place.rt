@@ -17,30 +17,31 @@ pub(crate) enum Place {
 }
 
 /// Returns whether a territory has the word as its code or its name, in capital or small letters.
-fn is_called(word: &str, land: &Land) -> bool
-    ensures { result ≡ spec.is_called word.now land.now }
+fn is_called(word: &str, territory: &Land) -> bool
+    ensures { result ≡ spec.is_called word.now territory.now }
 {
-    land.code.as_str().eq_ignore_ascii_case(word) || land.name.as_str().eq_ignore_ascii_case(word)
+    territory.code.as_str().eq_ignore_ascii_case(word)
+        || territory.name.as_str().eq_ignore_ascii_case(word)
 }
 
 /// Returns the only one of these territories, or all of them.
-fn only_of(lands: Vec<Land>) -> Result<Place, AllocError>
-    ensures { IfOk result (λ place. place ≡ spec.only_of lands.items) }
+fn only_of(territories: Vec<Land>) -> Result<Place, AllocError>
+    ensures { IfOk result (λ place. place ≡ spec.only_of territories.items) }
 {
-    if let [only] = lands.as_slice() {
+    if let [only] = territories.as_slice() {
         return Ok(Place::One(only.code.copy()?));
     }
-    Ok(Place::NotOne(Listing::new(lands)))
+    Ok(Place::NotOne(Listing::new(territories)))
 }
 
 /// Returns the territories that have the word as their code or their name.
-fn lands_called(register: &Register, word: &str) -> Result<Vec<Land>, AllocError>
-    ensures { IfOk result (λ lands.
-        lands.items ≡ spec.lands_called word.now register.now.lands) }
+fn territories_called(register: &Register, word: &str) -> Result<Vec<Land>, AllocError>
+    ensures { IfOk result (λ territories.
+        territories.items ≡ spec.territories_called word.now register.now.territories) }
 {
-    let mut lands = register.listed()?;
-    lands.retain(|land| is_called(word, land));
-    Ok(lands)
+    let mut territories = register.listed()?;
+    territories.retain(|territory| is_called(word, territory));
+    Ok(territories)
 }
 
 /// Returns what a word names: the territory whose code it is, as published; or else the only one
@@ -50,21 +51,26 @@ pub(crate) fn place_named(
     register: &Register,
     word: &str,
 ) -> Result<Place, AllocError>
-    ensures { IfOk result (λ place. place ≡ spec.place_named word.now register.now.lands) }
+    ensures { IfOk result (λ place. place ≡ spec.place_named word.now register.now.territories) }
 {
-    if register.find_land(word).is_some() {
+    if register.find_territory(word).is_some() {
         return Ok(Place::One(Text::from_str(alloc, word)?));
     }
-    only_of(lands_called(register, word)?)
+    only_of(territories_called(register, word)?)
 }
 
 /// Returns whether the code or the name of a territory is near a word, and no further than `most`.
-fn is_land_near(alloc: Global, most: usize, word: &str, land: &Land) -> Result<bool, AllocError>
-    ensures { IfOk result (λ near. near ≡ spec.is_land_near most word.now land.now) }
+fn is_territory_near(
+    alloc: Global,
+    most: usize,
+    word: &str,
+    territory: &Land,
+) -> Result<bool, AllocError>
+    ensures { IfOk result (λ near. near ≡ spec.is_territory_near most word.now territory.now) }
 {
     Ok(
-        is_near(alloc, most, word, land.code.as_str())?
-            || is_near(alloc, most, word, land.name.as_str())?,
+        is_near(alloc, most, word, territory.code.as_str())?
+            || is_near(alloc, most, word, territory.name.as_str())?,
     )
 }
 
@@ -73,30 +79,30 @@ fn first_near<'a>(
     alloc: Global,
     most: usize,
     word: &str,
-    lands: &'a [Land],
+    territories: &'a [Land],
 ) -> Result<Option<&'a Land>, AllocError>
-    ensures { IfOk result (λ found. option_map (λ land. land.now) found
-        ≡ find (spec.is_land_near most word.now) lands.now) }
+    ensures { IfOk result (λ found. option_map (λ territory. territory.now) found
+        ≡ find (spec.is_territory_near most word.now) territories.now) }
 {
-    for land in lands {
-        if is_land_near(alloc, most, word, land)? {
-            return Ok(Some(land));
+    for territory in territories {
+        if is_territory_near(alloc, most, word, territory)? {
+            return Ok(Some(territory));
         }
     }
     Ok(None)
 }
 
 /// Returns the nearest of these territories, by its code or its name, if one is near the word.
-pub(crate) fn nearest_land<'a>(
+pub(crate) fn nearest_territory<'a>(
     alloc: Global,
     word: &str,
-    lands: &'a [Land],
+    territories: &'a [Land],
 ) -> Result<Option<&'a Land>, AllocError>
-    ensures { IfOk result (λ found. option_map (λ land. land.now) found
-        ≡ spec.nearest_land word.now lands.now) }
+    ensures { IfOk result (λ found. option_map (λ territory. territory.now) found
+        ≡ spec.nearest_territory word.now territories.now) }
 {
-    match first_near(alloc, 1, word, lands)? {
-        Some(land) => Ok(Some(land)),
-        None => first_near(alloc, 2, word, lands),
+    match first_near(alloc, 1, word, territories)? {
+        Some(territory) => Ok(Some(territory)),
+        None => first_near(alloc, 2, word, territories),
     }
 }

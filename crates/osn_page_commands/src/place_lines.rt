@@ -4,25 +4,25 @@ ghost use Rattle.std.specs.List.{flat_map};
 ghost use Rattle.osn_register.specs.Answer.{listed};
 ghost use Rattle.osn_page_commands.specs.Place as spec;
 
-use crate::place::nearest_land;
+use crate::place::nearest_territory;
 use osn_register::{Land, Register};
-use osn_shown::Shown;
+use osn_shown::Escaped;
 use std::alloc::{AllocError, Global};
 use std::fmt;
 use std::fmt::Write;
 
 /// A territory by its code and its name, such as `GB (Great Britain)`.
 #[derive(Clone, Copy)]
-struct LandWords<'a>(&'a Land);
+struct TerritoryTitle<'a>(&'a Land);
 
-impl<'a> fmt::Display for LandWords<'a> {
+impl<'a> fmt::Display for TerritoryTitle<'a> {
     ghost use Rattle.std.specs.Prelude.{Some};
-    ghost use Rattle.osn_page_commands.specs.Place.{land_words};
+    ghost use Rattle.osn_page_commands.specs.Place.{territory_title};
 
-    ghost output = { λ x. Some (land_words x.0.now) };
+    ghost output = { λ x. Some (territory_title x.0.now) };
 
     fn fmt<W: fmt::Write>(&self, f: &mut fmt::Formatter<W>) -> fmt::Result {
-        let name = Shown(self.0.name.as_str());
+        let name = Escaped(self.0.name.as_str());
         write!(f, "{} ({name})", self.0.code.as_str())
     }
 }
@@ -30,10 +30,10 @@ impl<'a> fmt::Display for LandWords<'a> {
 /// Appends the territory that may be meant, if one is near.
 fn push_suggestion(line: &mut String, nearest: Option<&Land>) -> Result<(), AllocError>
     ensures { OnOk result (string_bytes line.new ≡ string_bytes line.old
-        ++ spec.suggestion (option_map (λ land. land.now) nearest.entry)) }
+        ++ spec.suggestion (option_map (λ territory. territory.now) nearest.entry)) }
 {
     match nearest {
-        Some(land) => write!(line, ": did you mean {}?", LandWords(land)),
+        Some(territory) => write!(line, ": did you mean {}?", TerritoryTitle(territory)),
         None => Ok(()),
     }
 }
@@ -41,9 +41,9 @@ fn push_suggestion(line: &mut String, nearest: Option<&Land>) -> Result<(), Allo
 /// Returns the line on a word that names no territory, without its end.
 fn unknown_line(alloc: Global, word: &str, nearest: Option<&Land>) -> Result<String, AllocError>
     ensures { IfOk result (λ line. string_bytes line
-        ≡ spec.unknown_line word.now (option_map (λ land. land.now) nearest.entry)) }
+        ≡ spec.unknown_line word.now (option_map (λ territory. territory.now) nearest.entry)) }
 {
-    let word = Shown(word);
+    let word = Escaped(word);
     let mut line = format!(in alloc; "oldstyle: no territory has the code or the name {word}")?;
     push_suggestion(&mut line, nearest)?;
     Ok(line)
@@ -54,14 +54,14 @@ fn unknown_lines(
     alloc: Global,
     path: &str,
     word: &str,
-    lands: &[Land],
+    territories: &[Land],
 ) -> Result<String, AllocError>
     ensures { IfOk result (λ lines.
-        string_bytes lines ≡ spec.unknown_lines path.now word.now lands.now) }
+        string_bytes lines ≡ spec.unknown_lines path.now word.now territories.now) }
 {
-    let nearest = nearest_land(alloc, word, lands)?;
+    let nearest = nearest_territory(alloc, word, territories)?;
     let mut lines = unknown_line(alloc, word, nearest)?;
-    let path = Shown(path);
+    let path = Escaped(path);
     write!(
         lines,
         "\nhelp: oldstyle territory {path} lists the territories\n"
@@ -70,25 +70,26 @@ fn unknown_lines(
 }
 
 /// Appends a line for each of these territories.
-fn push_notes(lines: &mut String, lands: &[Land]) -> Result<(), AllocError>
+fn push_notes(lines: &mut String, territories: &[Land]) -> Result<(), AllocError>
     ensures { OnOk result (string_bytes lines.new
-        ≡ string_bytes lines.old ++ flat_map spec.note_line lands.now) }
+        ≡ string_bytes lines.old ++ flat_map spec.note_line territories.now) }
 {
-    for land in lands {
-        writeln!(lines, "note: {}", LandWords(land))?;
+    for territory in territories {
+        writeln!(lines, "note: {}", TerritoryTitle(territory))?;
     }
     Ok(())
 }
 
 /// Returns the lines on a word that names all of these territories.
-fn several_lines(alloc: Global, word: &str, lands: &[Land]) -> Result<String, AllocError>
-    ensures { IfOk result (λ lines. string_bytes lines ≡ spec.several_lines word.now lands.now) }
+fn several_lines(alloc: Global, word: &str, territories: &[Land]) -> Result<String, AllocError>
+    ensures { IfOk result
+        (λ lines. string_bytes lines ≡ spec.several_lines word.now territories.now) }
 {
-    let word = Shown(word);
+    let word = Escaped(word);
     let mut lines = format!(in alloc;
         "oldstyle: {word}: several territories have this code or name: write the code of one\n"
     )?;
-    push_notes(&mut lines, lands)?;
+    push_notes(&mut lines, territories)?;
     Ok(lines)
 }
 
@@ -102,11 +103,11 @@ pub(crate) fn place_lines(
     register: &Register,
 ) -> Result<String, AllocError>
     ensures { IfOk result (λ lines. string_bytes lines
-        ≡ spec.place_lines path.now word.now named.now (map listed register.now.lands)) }
+        ≡ spec.place_lines path.now word.now named.now (map listed register.now.territories)) }
 {
     if named.is_empty() {
-        let lands = register.listed()?;
-        unknown_lines(alloc, path, word, lands.as_slice())
+        let territories = register.listed()?;
+        unknown_lines(alloc, path, word, territories.as_slice())
     } else {
         several_lines(alloc, word, named)
     }

@@ -2,15 +2,15 @@
 ghost use Rattle.std.specs.Prelude.{◌≡◌, IfOk, string_bytes};
 ghost use Rattle.osn_lines.specs.Streams.{output_of};
 ghost use Rattle.osn_page_commands.specs.Places as spec;
-ghost use Rattle.osn_report.specs.Messages.{TellsIfMade};
+ghost use Rattle.osn_report.specs.Messages.{ReportsIfMade};
 ghost use Rattle.osn_report.specs.declared.status.Status.{Status};
 
 use crate::table_faults::{WIDE, is_wide};
 use osn_folder::OpenFailed;
 use osn_letters::{PlacesColumn, PlacesFault};
 use osn_lines::Sink;
-use osn_report::{Status, tell_line, tell_no_memory, tell_unopened};
-use osn_shown::Shown;
+use osn_report::{Status, report_line, report_no_memory, report_open_failure};
+use osn_shown::Escaped;
 use std::alloc::{AllocError, Global};
 
 const NO_HEADER: &str = "no header: the first line names the columns place and code";
@@ -27,9 +27,10 @@ const NOT_UTF8: &str = "a place or a code is not UTF-8: save the table as UTF-8"
 
 /// Returns the report on a line of the table of this path.
 fn places_line(alloc: Global, path: &str, line: u64, text: &str) -> Result<String, AllocError>
-    ensures { IfOk result (λ told. string_bytes told ≡ spec.places_line path.now line text.now) }
+    ensures { IfOk result
+        (λ message. string_bytes message ≡ spec.places_line path.now line text.now) }
 {
-    format!(in alloc; "oldstyle: {} line {line}: {text}\n", Shown(path))
+    format!(in alloc; "oldstyle: {} line {line}: {text}\n", Escaped(path))
 }
 
 /// Returns the line on a header that lacks a column, with the names that it has.
@@ -46,8 +47,8 @@ fn columns_line(
     let name = column.name();
     format!(in alloc;
         "oldstyle: {} line {line}: no column {name}: the columns are {}: name one {name}\n",
-        Shown(path),
-        Shown(header)
+        Escaped(path),
+        Escaped(header)
     )
 }
 
@@ -70,23 +71,30 @@ fn lacks_line(
 
 /// Returns the line on a place that has two codes.
 fn codes_line(alloc: Global, path: &str, line: u64, place: &str) -> Result<String, AllocError>
-    ensures { IfOk result (λ told. string_bytes told ≡ spec.codes_line path.now line place.now) }
+    ensures { IfOk result
+        (λ message. string_bytes message ≡ spec.codes_line path.now line place.now) }
 {
     format!(in alloc;
         "oldstyle: {} line {line}: the place {} has another code already: take one of the two \
 rows out\n",
-        Shown(path),
-        Shown(place)
+        Escaped(path),
+        Escaped(place)
     )
 }
 
 /// Reports on standard error what is wrong with the record on a line.
-fn tell_record<E: Sink>(alloc: Global, errors: &mut E, path: &str, line: u64, text: &str) -> Status
-    ensures { TellsIfMade
+fn report_record<E: Sink>(
+    alloc: Global,
+    errors: &mut E,
+    path: &str,
+    line: u64,
+    text: &str,
+) -> Status
+    ensures { ReportsIfMade
         (output_of E.contents E.has_failed E.holds_back errors.old errors.new) Status.Refused
         (spec.places_line path.now line text.now) result }
 {
-    tell_line(
+    report_line(
         errors,
         Status::Refused,
         places_line(alloc, path, line, text),
@@ -94,37 +102,37 @@ fn tell_record<E: Sink>(alloc: Global, errors: &mut E, path: &str, line: u64, te
 }
 
 /// Reports on standard error why the table of this path was not read. Returns the status.
-pub(crate) fn tell_places<E: Sink>(
+pub(crate) fn report_places<E: Sink>(
     alloc: Global,
     errors: &mut E,
     path: &str,
     fault: &PlacesFault,
 ) -> Status
-    ensures { spec.TellsPlaces path.now
+    ensures { spec.ReportsPlaces path.now
         (output_of E.contents E.has_failed E.holds_back errors.old errors.new) fault.now result }
 {
     match fault {
-        PlacesFault::NoHeader => tell_record(alloc, errors, path, 1, NO_HEADER),
+        PlacesFault::NoHeader => report_record(alloc, errors, path, 1, NO_HEADER),
         PlacesFault::LacksColumn {
             column,
             line,
             header,
         } => {
-            let told = lacks_line(alloc, path, *column, *line, header.as_str());
-            tell_line(errors, Status::Refused, told)
+            let message = lacks_line(alloc, path, *column, *line, header.as_str());
+            report_line(errors, Status::Refused, message)
         }
         PlacesFault::TwoCodes { line, place } => {
-            let told = codes_line(alloc, path, *line, place.as_str());
-            tell_line(errors, Status::Refused, told)
+            let message = codes_line(alloc, path, *line, place.as_str());
+            report_line(errors, Status::Refused, message)
         }
-        PlacesFault::BadRecord { line } => tell_record(alloc, errors, path, *line, BAD_RECORD),
-        PlacesFault::TooLong { line } => tell_record(alloc, errors, path, *line, TOO_LONG),
-        PlacesFault::OpenQuote { line } => tell_record(alloc, errors, path, *line, OPEN_QUOTE),
+        PlacesFault::BadRecord { line } => report_record(alloc, errors, path, *line, BAD_RECORD),
+        PlacesFault::TooLong { line } => report_record(alloc, errors, path, *line, TOO_LONG),
+        PlacesFault::OpenQuote { line } => report_record(alloc, errors, path, *line, OPEN_QUOTE),
         PlacesFault::TextAfterQuote { line } => {
-            tell_record(alloc, errors, path, *line, AFTER_QUOTE)
+            report_record(alloc, errors, path, *line, AFTER_QUOTE)
         }
-        PlacesFault::NotUtf8 { line } => tell_record(alloc, errors, path, *line, NOT_UTF8),
-        PlacesFault::ReadFault => tell_unopened(alloc, errors, path, OpenFailed::Other),
-        PlacesFault::NoMemory => tell_no_memory(errors),
+        PlacesFault::NotUtf8 { line } => report_record(alloc, errors, path, *line, NOT_UTF8),
+        PlacesFault::ReadFault => report_open_failure(alloc, errors, path, OpenFailed::Other),
+        PlacesFault::NoMemory => report_no_memory(errors),
     }
 }

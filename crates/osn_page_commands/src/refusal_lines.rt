@@ -2,10 +2,10 @@
 ghost use Rattle.std.specs.Prelude.{◌≡◌, ◌++◌, IfOk, OnOk, string_bytes, codes};
 ghost use Rattle.osn_page_commands.specs.Page as spec;
 
-use crate::page_words::Topic;
+use crate::page_request::Topic;
 use osn_register::Refusal;
 use osn_report::refused;
-use osn_shown::Shown;
+use osn_shown::Escaped;
 use std::alloc::{AllocError, Global};
 use std::fmt;
 use std::fmt::Write;
@@ -21,7 +21,7 @@ impl<'a> fmt::Display for NoCode<'a> {
     ghost output = { λ x. Some (no_code x.0.now) };
 
     fn fmt<W: fmt::Write>(&self, f: &mut fmt::Formatter<W>) -> fmt::Result {
-        let code = Shown(self.0);
+        let code = Escaped(self.0);
         write!(
             f,
             "{code}: a code is 2 to 8 capital letters or digits, the first a letter"
@@ -31,20 +31,20 @@ impl<'a> fmt::Display for NoCode<'a> {
 
 /// That the journal of a path has no territory of a code.
 #[derive(Clone, Copy)]
-struct NoLand<'a> {
+struct NoTerritory<'a> {
     path: &'a str,
     code: &'a str,
 }
 
-impl<'a> fmt::Display for NoLand<'a> {
+impl<'a> fmt::Display for NoTerritory<'a> {
     ghost use Rattle.std.specs.Prelude.{Some};
-    ghost use Rattle.osn_page_commands.specs.Page.{no_land};
+    ghost use Rattle.osn_page_commands.specs.Page.{no_territory};
 
-    ghost output = { λ x. Some (no_land x.path.now x.code.now) };
+    ghost output = { λ x. Some (no_territory x.path.now x.code.now) };
 
     fn fmt<W: fmt::Write>(&self, f: &mut fmt::Formatter<W>) -> fmt::Result {
-        let code = Shown(self.code);
-        let path = Shown(self.path);
+        let code = Escaped(self.code);
+        let path = Escaped(self.path);
         write!(
             f,
             "no territory has the code {code}: see oldstyle territory {path}"
@@ -57,18 +57,18 @@ impl<'a> fmt::Display for NoLand<'a> {
 /// # Errors
 ///
 /// Only that memory ran out.
-pub fn land_refusal_line(
+pub fn territory_refusal_line(
     alloc: Global,
     path: &str,
     code: &str,
     refusal: Refusal,
 ) -> Result<String, AllocError>
     ensures { IfOk result (λ line.
-        string_bytes line ≡ spec.land_refusal_line path.now code.now refusal) }
+        string_bytes line ≡ spec.territory_refusal_line path.now code.now refusal) }
 {
     match refusal {
         Refusal::BadCode => format!(in alloc; "oldstyle: {}\n", NoCode(code)),
-        Refusal::UnknownLand => format!(in alloc; "oldstyle: {}\n", NoLand { path, code }),
+        Refusal::UnknownLand => format!(in alloc; "oldstyle: {}\n", NoTerritory { path, code }),
         _ => refused(alloc, refusal.number(), refusal.name()),
     }
 }
@@ -86,7 +86,7 @@ fn push_help(
 {
     match refusal {
         Refusal::BadCode => writeln!(line, "help: {}", NoCode(code)),
-        Refusal::UnknownLand => writeln!(line, "help: {}", NoLand { path, code }),
+        Refusal::UnknownLand => writeln!(line, "help: {}", NoTerritory { path, code }),
         Refusal::YearOffRange => writeln!(line, "help: {year}: a year is 1 to 9999"),
         _ => Ok(()),
     }
@@ -121,9 +121,9 @@ pub(crate) fn refusal_line(
 {
     match *topic {
         Topic::Almanac(year) => almanac_lines(alloc, path, code, year, refusal),
-        Topic::Year(_) | Topic::Land { .. } | Topic::Set { .. } => {
-            land_refusal_line(alloc, path, code, refusal)
+        Topic::Year(_) | Topic::Territory { .. } | Topic::Set { .. } => {
+            territory_refusal_line(alloc, path, code, refusal)
         }
-        Topic::Lands { .. } => refused(alloc, refusal.number(), refusal.name()),
+        Topic::Territories { .. } => refused(alloc, refusal.number(), refusal.name()),
     }
 }

@@ -3,14 +3,14 @@ ghost use Rattle.std.specs.Prelude.{◌≡◌, IfOk, string_bytes};
 ghost use Rattle.osn_letters.specs.Columns.{dates_of, names_of};
 ghost use Rattle.osn_lines.specs.Streams.{output_of};
 ghost use Rattle.osn_page_commands.specs.Letters as spec;
-ghost use Rattle.osn_report.specs.Messages.{TellsIfMade};
+ghost use Rattle.osn_report.specs.Messages.{ReportsIfMade};
 ghost use Rattle.osn_report.specs.declared.status.Status.{Status};
 
 use osn_files::FileFault;
 use osn_letters::{AddedColumn, Column, ColumnNames, DateNames, LettersFault, WeekdayName};
 use osn_lines::Sink;
-use osn_report::{CommandFault, Status, report, tell_line, tell_no_memory};
-use osn_shown::Shown;
+use osn_report::{CommandFault, Status, report, report_line, report_no_memory};
+use osn_shown::Escaped;
 use std::alloc::{AllocError, Global};
 
 const NO_HEADER: &str = "no header: the first line has the names of the columns";
@@ -76,7 +76,7 @@ fn option_of(column: Column) -> &'static str
 
 /// Returns the line on a record that ends a table early.
 fn record_line(alloc: Global, line: u64, text: &str) -> Result<String, AllocError>
-    ensures { IfOk result (λ told. string_bytes told ≡ spec.record_line line text.now) }
+    ensures { IfOk result (λ message. string_bytes message ≡ spec.record_line line text.now) }
 {
     format!(in alloc; "oldstyle: letters line {line}: {text}\n")
 }
@@ -104,8 +104,8 @@ fn columns_line(
     format!(in alloc;
         "oldstyle: letters line {line}: no column {}: the columns are {}: \
 name yours with {option}\n",
-        Shown(name),
-        Shown(header)
+        Escaped(name),
+        Escaped(header)
     )
 }
 
@@ -128,14 +128,15 @@ fn lacks_line(
 
 /// Returns the line on a column of a header.
 fn column_line(alloc: Global, line: u64, name: &str, text: &str) -> Result<String, AllocError>
-    ensures { IfOk result (λ told. string_bytes told ≡ spec.column_line line name.now text.now) }
+    ensures { IfOk result
+        (λ message. string_bytes message ≡ spec.column_line line name.now text.now) }
 {
     format!(in alloc; "oldstyle: letters line {line}: the column {name} {text}\n")
 }
 
 /// Returns the line on a header that has a column already.
 fn has_line(alloc: Global, line: u64, column: AddedColumn) -> Result<String, AllocError>
-    ensures { IfOk result (λ told. string_bytes told ≡ spec.has_line line column) }
+    ensures { IfOk result (λ message. string_bytes message ≡ spec.has_line line column) }
 {
     let name = column.name();
     column_line(
@@ -147,46 +148,46 @@ fn has_line(alloc: Global, line: u64, column: AddedColumn) -> Result<String, All
 }
 
 /// Reports on standard error what is wrong with the record on a line.
-fn tell_record<E: Sink>(alloc: Global, errors: &mut E, line: u64, text: &str) -> Status
-    ensures { TellsIfMade
+fn report_record<E: Sink>(alloc: Global, errors: &mut E, line: u64, text: &str) -> Status
+    ensures { ReportsIfMade
         (output_of E.contents E.has_failed E.holds_back errors.old errors.new) Status.Refused
         (spec.record_line line text.now) result }
 {
-    tell_line(errors, Status::Refused, record_line(alloc, line, text))
+    report_line(errors, Status::Refused, record_line(alloc, line, text))
 }
 
 /// Reports on standard error why a table ended early. Writes nothing if the output failed, which
 /// the status alone says.
-pub(crate) fn tell_table<E: Sink>(
+pub(crate) fn report_table<E: Sink>(
     alloc: Global,
     errors: &mut E,
     names: ColumnNames<'_>,
     fault: &LettersFault,
 ) -> Status
-    ensures { spec.TellsTable (names_of names.entry)
+    ensures { spec.ReportsTable (names_of names.entry)
         (output_of E.contents E.has_failed E.holds_back errors.old errors.new) fault.now result }
 {
     match fault {
-        LettersFault::NoHeader => tell_record(alloc, errors, 1, NO_HEADER),
+        LettersFault::NoHeader => report_record(alloc, errors, 1, NO_HEADER),
         LettersFault::LacksColumn {
             column,
             line,
             header,
         } => {
-            let told = lacks_line(alloc, names, *column, *line, header.as_str());
-            tell_line(errors, Status::Refused, told)
+            let message = lacks_line(alloc, names, *column, *line, header.as_str());
+            report_line(errors, Status::Refused, message)
         }
         LettersFault::HasColumn { line, column } => {
-            tell_line(errors, Status::Refused, has_line(alloc, *line, *column))
+            report_line(errors, Status::Refused, has_line(alloc, *line, *column))
         }
-        LettersFault::BadRecord { line } => tell_record(alloc, errors, *line, BAD_RECORD),
-        LettersFault::TooLong { line } => tell_record(alloc, errors, *line, TOO_LONG),
-        LettersFault::OpenQuote { line } => tell_record(alloc, errors, *line, OPEN_QUOTE),
-        LettersFault::TextAfterQuote { line } => tell_record(alloc, errors, *line, AFTER_QUOTE),
+        LettersFault::BadRecord { line } => report_record(alloc, errors, *line, BAD_RECORD),
+        LettersFault::TooLong { line } => report_record(alloc, errors, *line, TOO_LONG),
+        LettersFault::OpenQuote { line } => report_record(alloc, errors, *line, OPEN_QUOTE),
+        LettersFault::TextAfterQuote { line } => report_record(alloc, errors, *line, AFTER_QUOTE),
         LettersFault::ReadFault => {
             report(alloc, errors, CommandFault::File(FileFault::ReadFault))
         }
         LettersFault::WriteFault => Status::Unwritten,
-        LettersFault::NoMemory => tell_no_memory(errors),
+        LettersFault::NoMemory => report_no_memory(errors),
     }
 }

@@ -10,7 +10,7 @@ use Rattle.std.proofs.Padding.{padded_integral_right}
 use Rattle.std.proofs.lemmas.List.{get_or_default}
 use Rattle.std.proofs.lemmas.List.Concat.{flat_map-cons}
 use Rattle.osn_days.specs.Line.{weekday}
-use Rattle.osn_lands.specs.declared.dated.DatedDay.{DatedDay}
+use Rattle.osn_territory.specs.declared.dated.DatedDay.{DatedDay}
 use Rattle.osn_pages.specs.Grid as spec
 
 -- ---- pieces

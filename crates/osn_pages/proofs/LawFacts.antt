@@ -6,9 +6,9 @@ use Rattle.std.proofs.lemmas.Int.{ints}
 use Rattle.std.specs.Fmt.{decimal}
 use Rattle.osn_days.specs.declared.date.Date.{Date}
 use Rattle.osn_days.specs.Chain.{date_of, days_with_date}
-use Rattle.osn_days.specs.Profile.{newest_rules}
+use Rattle.osn_days.specs.Rules.{newest_rules}
 use Rattle.osn_days.proofs.LineFacts.{date_of_line, day_of_date}
-use Rattle.osn_lands.specs.Dual.{year_text}
+use Rattle.osn_territory.specs.Dual.{year_text}
 use Rattle.osn_written.specs.declared.written_date.WrittenDate.{WrittenDate}
 use Rattle.osn_grammar.specs.ReadDate.{written_date}
 use Rattle.osn_written.specs.DateInWords.{weekday_before}

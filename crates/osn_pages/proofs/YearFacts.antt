@@ -3,11 +3,11 @@ use Rattle.std.proofs.Common.{◌≡◌, ◌<◌, ◌≤◌, ◌+◌, ◌-◌, �
 use Rattle.std.proofs.Common.{get_or, ap, ◌∙◌, refl, sym, arith, append-nil}
 use Rattle.std.specs.List.{range_with_len}
 use Rattle.std.proofs.lemmas.List.Concat.{flat_map-cons}
-use Rattle.osn_days.specs.Profile.{Profile}
-use Rattle.osn_lands.specs.declared.runs.Run.{Run}
-use Rattle.osn_lands.specs.Dated.{dated_on}
-use Rattle.osn_lands.specs.Runs.{days_in, days_of_run, AreRuns, AreRunsAfter}
-use Rattle.osn_lands.specs.Territory.{TerritoryModel}
+use Rattle.osn_days.specs.Rules.{Rules}
+use Rattle.osn_territory.specs.declared.runs.Run.{Run}
+use Rattle.osn_territory.specs.Dated.{dated_on}
+use Rattle.osn_territory.specs.Runs.{days_in, days_of_run, AreRuns, AreRunsAfter}
+use Rattle.osn_territory.specs.Territory.{TerritoryModel}
 use Rattle.osn_pages.specs.Why as spec
 
 last_of_range : (d a n : ℕ) → a ≡ d + 1 → spec.last_day d (range_with_len a n) ≡ d + n
@@ -61,7 +61,7 @@ last_at r [] d = refl
 last_at r (next ∷ rs) d = last_at next rs d
 
 -- the line of a year by its runs
-pub year_of_runs : (p : Profile) (t : TerritoryModel) (year : ℕ) (runs : List Run)
+pub year_of_runs : (p : Rules) (t : TerritoryModel) (year : ℕ) (runs : List Run)
     (first last : Run) → AreRuns runs → 0 < length runs → first ≡ get_or runs 0 first
     → last ≡ get_or runs (length runs - 1) last
     → spec.year_ends_line year (dated_on p t first.first) (dated_on p t last.last)
@@ -80,7 +80,7 @@ year_of_runs p t year (r ∷ rs) first last are some is_first is_last =
     ∙ ap (spec.year_line p t year) (sym both.begins)
 
 -- a year with no run has no day
-pub year_of_none : (p : Profile) (t : TerritoryModel) (year : ℕ) (runs : List Run)
+pub year_of_none : (p : Rules) (t : TerritoryModel) (year : ℕ) (runs : List Run)
     → length runs ≡ 0 → spec.no_year_line year ≡ spec.year_line p t year (days_in runs)
 year_of_none p t year [] none = refl
 year_of_none p t year (r ∷ rs) none = absurd (omega (arith, none))

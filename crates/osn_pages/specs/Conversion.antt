@@ -8,7 +8,7 @@ use Rattle.osn_days.specs.declared.date.Date.{Date}
 use Rattle.osn_days.specs.declared.weekday.Weekday.{Weekday}
 use Rattle.osn_days.specs.Chain.{days_with_date}
 use Rattle.osn_days.specs.Line.{julian_day}
-use Rattle.osn_days.specs.Profile.{Profile}
+use Rattle.osn_days.specs.Rules.{Rules}
 use Rattle.osn_written.specs.declared.written_date.WrittenDate.{WrittenDate}
 use Rattle.osn_pages.specs.Reading.{verdict}
 use Rattle.osn_pages.specs.Words.{calendar_words, weekday_words}
@@ -40,6 +40,6 @@ numbered_date year month day = record { year = pos year; month = month; day = da
 
 -- the days of the line that have the written date in the calendar. A double date is that of a
 -- territory, and no calendar has it
-abbrev pub days_of_written : Profile → Calendar → WrittenDate → List ℕ
+abbrev pub days_of_written : Rules → Calendar → WrittenDate → List ℕ
 days_of_written p c w =
     if w.is_double then [] else days_with_date p c (numbered_date w.year w.month w.day)

@@ -4,12 +4,12 @@ use Rattle.std.specs.Prelude.{ℕ, Bool, List, [], ◌∷◌, ◌++◌, Option, 
 use Rattle.std.specs.Prelude.{codes}
 use Rattle.std.specs.Result.{is_err}
 use Rattle.osn_days.specs.declared.weekday.Weekday.{Weekday}
-use Rattle.osn_days.specs.Profile.{Profile}
+use Rattle.osn_days.specs.Rules.{Rules}
 use Rattle.osn_written.specs.declared.any_date.Extent.{Extent}
 use Rattle.osn_written.specs.declared.any_date.AnyDate.{AnyDate}
-use Rattle.osn_lands.specs.declared.dated.DatedDay.{DatedDay}
-use Rattle.osn_lands.specs.declared.runs.Run.{Run}
-use Rattle.osn_lands.specs.Territory.{TerritoryModel}
+use Rattle.osn_territory.specs.declared.dated.DatedDay.{DatedDay}
+use Rattle.osn_territory.specs.declared.runs.Run.{Run}
+use Rattle.osn_territory.specs.Territory.{TerritoryModel}
 use Rattle.osn_register.specs.Sources.{SourcesModel}
 use Rattle.osn_written.specs.declared.absence.Absence.{Absence}
 use Rattle.osn_written.specs.declared.finding.NoDay.{NoDay}
@@ -29,7 +29,7 @@ use Rattle.osn_pages.specs.Why.{why_lines, why_text}
 -- ---- one day
 
 -- the days that a date means, as the place itself dated them, or why it means none
-abbrev pub reading_lines : Profile → TerritoryModel → Option SourcesModel → WrittenDate
+abbrev pub reading_lines : Rules → TerritoryModel → Option SourcesModel → WrittenDate
     → Option Weekday → List DatedDay → List ℕ
 reading_lines p t sources w given [] = why_lines p t sources w
 reading_lines p t sources w given (day ∷ days) = days_text w given (day ∷ days)
@@ -42,14 +42,14 @@ off_the_line kinds.Before = codes "no day of the line is before it\n"
 off_the_line kind = codes "no day of the line is after it\n"
 
 -- why the last date of a range means no day
-abbrev pub last_absent_lines : Profile → TerritoryModel → Option SourcesModel → WrittenDate
+abbrev pub last_absent_lines : Rules → TerritoryModel → Option SourcesModel → WrittenDate
     → Absence → List ℕ
 last_absent_lines p t sources last absence =
     codes "of the last date:\n" ++ why_text p t sources last absence
 
 -- why no day is meant, as the territory by whose reckoning the date is read has it, with the
 -- sources of the place
-abbrev pub no_day_lines : Profile → TerritoryModel → Option SourcesModel → Extent → NoDay → List ℕ
+abbrev pub no_day_lines : Rules → TerritoryModel → Option SourcesModel → Extent → NoDay → List ℕ
 no_day_lines p t sources e (Absent absence) =
     why_text p t sources (first_day_of (ends_of e).0) absence
 no_day_lines p t sources e (LastAbsent absence) =
@@ -59,7 +59,7 @@ no_day_lines p t sources e OffTheLine = off_the_line (kind_of e)
 no_day_lines p t sources e NoFeast = codes "that feast did not fall in that year\n"
 
 -- the days, as the place itself dated them, or why no day is meant
-abbrev pub found_lines : Profile → TerritoryModel → TerritoryModel → Option SourcesModel → Extent
+abbrev pub found_lines : Rules → TerritoryModel → TerritoryModel → Option SourcesModel → Extent
     → Result (List Run) NoDay → List ℕ
 found_lines p own t sources e (Ok runs) = runs_text p own (kind_of e) runs
 found_lines p own t sources e (Err reason) = no_day_lines p t sources e reason
@@ -67,7 +67,7 @@ found_lines p own t sources e (Err reason) = no_day_lines p t sources e reason
 -- ---- any date
 
 -- the date by the reckoning of a territory, in a place of its own reckoning
-abbrev pub lines_of : Profile → TerritoryModel → TerritoryModel → Option SourcesModel → AnyDate
+abbrev pub lines_of : Rules → TerritoryModel → TerritoryModel → Option SourcesModel → AnyDate
     → Option Weekday → Option WrittenDate → List ℕ
 lines_of p own t sources w given (Some day) =
     reading_lines p t sources day given (dated_by p own (meaning p t day given))
@@ -75,10 +75,10 @@ lines_of p own t sources w given None =
     found_lines p own t sources w.extent (extent_meant p t w.extent)
 
 -- if the date names a calendar, it is read as if the place had used that one
-abbrev pub date_lines : Profile → TerritoryModel → Option SourcesModel → AnyDate → Option Weekday
+abbrev pub date_lines : Rules → TerritoryModel → Option SourcesModel → AnyDate → Option Weekday
     → List ℕ
 date_lines p t sources w given = lines_of p t (reckoned t w.reckoning) sources w given (one_day w)
 
 -- the date means no day
-abbrev pub has_no_day : Profile → TerritoryModel → AnyDate → Bool
+abbrev pub has_no_day : Rules → TerritoryModel → AnyDate → Bool
 has_no_day p t w = is_err (extent_meant p (reckoned t w.reckoning) w.extent)

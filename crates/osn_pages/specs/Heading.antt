@@ -4,13 +4,13 @@ use Rattle.std.specs.Prelude.{ℕ, ◌==◌, if◌then◌else◌, List, [], ◌+
 use Rattle.std.specs.Fmt.{decimal}
 
 -- the territory and the edition: Great Britain (GB), edition 5
-unfoldable pub land_heading : List ℕ → List ℕ → ℕ → List ℕ
-land_heading name code edition =
+unfoldable pub territory_heading : List ℕ → List ℕ → ℕ → List ℕ
+territory_heading name code edition =
     name ++ (codes " (" ++ (code ++ (codes "), edition " ++ (decimal edition ++ codes "\n"))))
 
 -- the same after what the page is of: 11 February 1731/2 in Great Britain (GB), edition 5
 unfoldable pub heading : List ℕ → List ℕ → List ℕ → ℕ → List ℕ
-heading subject name code edition = subject ++ (codes " in " ++ land_heading name code edition)
+heading subject name code edition = subject ++ (codes " in " ++ territory_heading name code edition)
 
 -- how many edits are not published yet, if any
 unfoldable pub pending_line : ℕ → List ℕ

@@ -5,38 +5,38 @@ use Rattle.std.specs.List.{All}
 use Rattle.osn_days.specs.declared.calendar.Calendar.{Calendar}
 use Rattle.osn_days.specs.Chain.{date_of}
 use Rattle.osn_days.specs.Line.{IsDay}
-use Rattle.osn_days.specs.Profile.{Profile}
-use Rattle.osn_lands.specs.Territory.{Holds}
+use Rattle.osn_days.specs.Rules.{Rules}
+use Rattle.osn_territory.specs.Territory.{Holds}
 use Rattle.osn_register.specs.declared.answer.Answer.{Answer}
 use Rattle.osn_register.specs.declared.answer.Answer.TheVariants as answers
 use Rattle.osn_register.specs.declared.answer.PeriodAndSource.{PeriodAndSource}
 use Rattle.osn_register.specs.declared.query.Query.TheVariants.{DayIn, Periods}
 use Rattle.osn_register.specs.Answer.{answer, found_under}
-use Rattle.osn_register.specs.Plain.{LandModel}
+use Rattle.osn_register.specs.Plain.{EntryModel}
 use Rattle.osn_written.specs.declared.written_date.WrittenDate.{WrittenDate}
 use Rattle.osn_grammar.specs.ReadDate.{written_date}
 use Rattle.osn_pages.specs.Words.{calendar_words}
 use Rattle.osn_pages.specs.Conversion.{days_of_written}
 
 -- the text is a date as people write it, and the calendar has that date on the day and no other
-pub record IsDateOf (p : Profile) (c : Calendar) (d : ℕ) (text : List ℕ) : Type 0 where
+pub record IsDateOf (p : Rules) (c : Calendar) (d : ℕ) (text : List ℕ) : Type 0 where
   pub date : WrittenDate
   pub is : written_date text ≡ Ok date
   pub day : days_of_written p c date ≡ d ∷ []
 
 -- so are the words of each day of the line, by each calendar, from the year 100 on
-unfoldable pub AreCalendarWordsWritten : Profile → Type 0
+unfoldable pub AreCalendarWordsWritten : Rules → Type 0
 AreCalendarWordsWritten p =
     (c : Calendar) (d : ℕ) → IsDay p d → pos 100 ≤ℤ (date_of c d).year
     → IsDateOf p c d (calendar_words c d)
 
 -- a period has a day, and to each of its days the register answers that period and its source, with
 -- the day as the period's regime dates it
-abbrev pub IsPeriodAnswered : Profile → List LandModel → List ℕ → PeriodAndSource → Type 0
-IsPeriodAnswered p lands code item =
+abbrev pub IsPeriodAnswered : Rules → List EntryModel → List ℕ → PeriodAndSource → Type 0
+IsPeriodAnswered p territories code item =
     (item.period.first ≤ item.period.last)
     × ((d : ℕ) → Holds d item.period
-    → answer p lands (DayIn code (pos d))
+    → answer p territories (DayIn code (pos d))
     ≡ answers.OnDay (found_under p item.period.regime d) item)
 
 -- the periods that are answered, with their sources
@@ -46,6 +46,6 @@ periods_in other = []
 
 -- so it is with each period of the territory. Its page says from which day and until which one the
 -- period is in force. The pages of these two days name them alike
-unfoldable pub ArePeriodsAnswered : Profile → List LandModel → List ℕ → Type 0
-ArePeriodsAnswered p lands code =
-    All (IsPeriodAnswered p lands code) (periods_in (answer p lands (Periods code)))
+unfoldable pub ArePeriodsAnswered : Rules → List EntryModel → List ℕ → Type 0
+ArePeriodsAnswered p territories code =
+    All (IsPeriodAnswered p territories code) (periods_in (answer p territories (Periods code)))

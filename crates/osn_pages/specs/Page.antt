@@ -4,20 +4,20 @@ use Rattle.std.specs.Fmt.{decimal}
 use Rattle.std.specs.List.{flat_map}
 use Rattle.std.specs.Option.{option_to_list}
 use Rattle.osn_days.specs.declared.weekday.Weekday.{Weekday}
-use Rattle.osn_days.specs.Profile.{Profile}
-use Rattle.osn_lands.specs.Dated.{dated_on}
-use Rattle.osn_lands.specs.Runs.{days_of_month}
-use Rattle.osn_lands.specs.Territory.{TerritoryModel, periods_of}
+use Rattle.osn_days.specs.Rules.{Rules}
+use Rattle.osn_territory.specs.Dated.{dated_on}
+use Rattle.osn_territory.specs.Runs.{days_of_month}
+use Rattle.osn_territory.specs.Territory.{TerritoryModel, periods_of}
 use Rattle.osn_register.specs.Answer.{period_on}
 use Rattle.osn_register.specs.Named.{named_of}
-use Rattle.osn_register.specs.Plain.{LandModel, sources_of}
+use Rattle.osn_register.specs.Plain.{EntryModel, sources_of}
 use Rattle.osn_register.specs.Sources.{SourcesModel}
 use Rattle.osn_pages.specs.declared.page.Page.{Page}
 use Rattle.osn_pages.specs.declared.page.Page.TheVariants as pages
 use Rattle.osn_pages.specs.declared.page.Published.{Published}
 use Rattle.osn_pages.specs.DateLines.{date_lines}
 use Rattle.osn_pages.specs.Grid.{grids}
-use Rattle.osn_pages.specs.Heading.{land_heading, heading, pending_line}
+use Rattle.osn_pages.specs.Heading.{territory_heading, heading, pending_line}
 use Rattle.osn_pages.specs.Law.{ArePeriodsAnswered}
 use Rattle.osn_pages.specs.Periods.{period_lines}
 use Rattle.osn_pages.specs.Reading.{day_line, verdict}
@@ -28,46 +28,47 @@ use Rattle.osn_pages.specs.Territory.{territory_lines}
 
 -- a day as the territory dated it, with the remark on the weekday that its date names, if any; and
 -- the period that holds it
-abbrev pub day_lines : Profile → TerritoryModel → Option SourcesModel → ℕ → Option Weekday → List ℕ
+abbrev pub day_lines : Rules → TerritoryModel → Option SourcesModel → ℕ → Option Weekday → List ℕ
 day_lines p t sources d weekday =
     day_line (verdict weekday None d) (dated_on p t d)
     ++ flat_map (period_lines p sources) (option_to_list (period_on (periods_of p t) d))
 
 -- a month as the territory dated it
-abbrev pub month_lines : Profile → TerritoryModel → ℕ → ℕ → List ℕ
+abbrev pub month_lines : Rules → TerritoryModel → ℕ → ℕ → List ℕ
 month_lines p t year month = grids (map (dated_on p t) (days_of_month p t (pos year) month))
 
 -- the lines of a page, its heading first
-unfoldable pub land_lines : Profile → List ℕ → TerritoryModel → Option SourcesModel → List ℕ → ℕ
+unfoldable pub page_lines : Rules → List ℕ → TerritoryModel → Option SourcesModel → List ℕ → ℕ
     → Page → List ℕ
-land_lines p name t sources code edition (pages.Reading date given) =
+page_lines p name t sources code edition (pages.Reading date given) =
     heading (subject date) name code edition
     ++ (date_lines p t sources date given ++ remark_lines p name t date given)
-land_lines p name t sources code edition (pages.OfDay day weekday) =
+page_lines p name t sources code edition (pages.OfDay day weekday) =
     heading (codes "day " ++ decimal day) name code edition ++ day_lines p t sources day weekday
-land_lines p name t sources code edition (pages.Month year month) =
-    land_heading name code edition ++ month_lines p t year month
-land_lines p name t sources code edition pages.Periods =
-    land_heading name code edition ++ territory_lines p t sources
+page_lines p name t sources code edition (pages.Month year month) =
+    territory_heading name code edition ++ month_lines p t year month
+page_lines p name t sources code edition pages.Periods =
+    territory_heading name code edition ++ territory_lines p t sources
 
 -- ---- the whole
 
 -- the lines, of the name, the territory and the sources of the code, and how many edits wait
-abbrev pub page_of_land : Profile → Option (List ℕ × TerritoryModel) → Option SourcesModel
+abbrev pub page_of_territory : Rules → Option (List ℕ × TerritoryModel) → Option SourcesModel
     → List ℕ → Published → Page → List ℕ
-page_of_land p None sources code published page = []
-page_of_land p (Some named) sources code published page =
-    land_lines p named.0 named.1 sources code published.edition page
+page_of_territory p None sources code published page = []
+page_of_territory p (Some named) sources code published page =
+    page_lines p named.0 named.1 sources code published.edition page
     ++ pending_line published.pending
 
 -- the text of a page. A code that no territory has is refused
-abbrev pub page_text : Profile → List LandModel → List ℕ → Published → Page → List ℕ
-page_text p lands code published page =
-    page_of_land p (named_of code lands) (sources_of code lands) code published page
+abbrev pub page_text : Rules → List EntryModel → List ℕ → Published → Page → List ℕ
+page_text p territories code published page =
+    page_of_territory p (named_of code territories) (sources_of code territories) code published
+    page
 
 -- as a law: the periods that the page of a territory lists are those that hold its days
-abbrev pub AnswersPeriods : Profile → List LandModel → List ℕ → Page → Type 0
-AnswersPeriods p lands code (pages.Reading date given) = ⊤
-AnswersPeriods p lands code (pages.OfDay day weekday) = ⊤
-AnswersPeriods p lands code (pages.Month year month) = ⊤
-AnswersPeriods p lands code pages.Periods = ArePeriodsAnswered p lands code
+abbrev pub AnswersPeriods : Rules → List EntryModel → List ℕ → Page → Type 0
+AnswersPeriods p territories code (pages.Reading date given) = ⊤
+AnswersPeriods p territories code (pages.OfDay day weekday) = ⊤
+AnswersPeriods p territories code (pages.Month year month) = ⊤
+AnswersPeriods p territories code pages.Periods = ArePeriodsAnswered p territories code

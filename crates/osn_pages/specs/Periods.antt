@@ -3,10 +3,10 @@
 use Rattle.std.specs.Prelude.{ℕ, Bool, true, false, ◌==◌, List, ◌++◌, Option, codes}
 use Rattle.osn_computus.specs.RuleWords.{rule_word}
 use Rattle.osn_days.specs.CalendarWords.{calendar_word}
-use Rattle.osn_days.specs.Profile.{Profile}
-use Rattle.osn_lands.specs.declared.period.Period.{Period}
-use Rattle.osn_lands.specs.Dated.{dated_day}
-use Rattle.osn_lands.specs.StyleWords.{style_word, beginning_of_year}
+use Rattle.osn_days.specs.Rules.{Rules}
+use Rattle.osn_territory.specs.declared.period.Period.{Period}
+use Rattle.osn_territory.specs.Dated.{dated_day}
+use Rattle.osn_territory.specs.StyleWords.{style_word, beginning_of_year}
 use Rattle.osn_register.specs.Answer.{period_source}
 use Rattle.osn_register.specs.Sources.{SourcesModel}
 use Rattle.osn_pages.specs.SourceLine.{source_text}
@@ -25,11 +25,11 @@ span_text false false first last = codes "from " ++ (first ++ (codes " until " +
 abbrev pub begins_line : Period → Bool
 begins_line period = period.first == 1
 
-unfoldable pub ends_line : Profile → Period → Bool
+unfoldable pub ends_line : Rules → Period → Bool
 ends_line p period = period.last == p.high
 
 -- the days of a period, as its own regime dates them
-unfoldable pub span : Profile → Period → List ℕ
+unfoldable pub span : Rules → Period → List ℕ
 span p period =
     span_text (begins_line period) (ends_line p period)
     (numbered_day (dated_day p period.regime period.first))
@@ -38,7 +38,7 @@ span p period =
 -- ---- how a regime reckons
 
 -- the line of a period
-unfoldable pub period_line : Profile → Period → List ℕ
+unfoldable pub period_line : Rules → Period → List ℕ
 period_line p period =
     span p period
     ++ (codes ": "
@@ -50,6 +50,6 @@ period_line p period =
     ++ (codes "), " ++ (rule_word period.regime.rule ++ codes " rule\n"))))))))
 
 -- the line of a period, and that of its source
-unfoldable pub period_lines : Profile → Option SourcesModel → Period → List ℕ
+unfoldable pub period_lines : Rules → Option SourcesModel → Period → List ℕ
 period_lines p sources period =
     period_line p period ++ source_text (period_source sources period.first)

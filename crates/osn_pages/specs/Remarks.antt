@@ -4,16 +4,16 @@ use Rattle.std.specs.Prelude.{ℕ, ◌==◌, Bool, if◌then◌else◌, List, []
 use Rattle.std.specs.Prelude.{Result, Ok, Err, codes}
 use Rattle.std.specs.Option.{option_or}
 use Rattle.osn_days.specs.declared.weekday.Weekday.{Weekday}
-use Rattle.osn_days.specs.Profile.{Profile}
+use Rattle.osn_days.specs.Rules.{Rules}
 use Rattle.osn_days.specs.Weekday.{weekday_name}
 use Rattle.osn_written.specs.declared.any_date.Reckoning.{Reckoning}
 use Rattle.osn_written.specs.declared.any_date.Reckoning.TheVariants.{OldStyle, NewStyle}
 use Rattle.osn_written.specs.declared.any_date.AnyDate.{AnyDate}
 use Rattle.osn_written.specs.AnyDate.{has_three_digits}
-use Rattle.osn_lands.specs.declared.dated.DatedDay.{DatedDay}
-use Rattle.osn_lands.specs.declared.runs.Run.{Run}
-use Rattle.osn_lands.specs.Dated.{dated_on, dated_text}
-use Rattle.osn_lands.specs.Territory.{TerritoryModel}
+use Rattle.osn_territory.specs.declared.dated.DatedDay.{DatedDay}
+use Rattle.osn_territory.specs.declared.runs.Run.{Run}
+use Rattle.osn_territory.specs.Dated.{dated_on, dated_text}
+use Rattle.osn_territory.specs.Territory.{TerritoryModel}
 use Rattle.osn_written.specs.declared.finding.NoDay.{NoDay}
 use Rattle.osn_written.specs.declared.written_date.DateFault.{DateFault}
 use Rattle.osn_written.specs.declared.written_date.WrittenDate.{WrittenDate}
@@ -83,19 +83,19 @@ unfoldable pub own_day : List ℕ → DatedDay → List ℕ
 own_day name x = name ++ (codes " itself dated that day " ++ (dated_text x ++ codes "\n"))
 
 -- how the place of that name itself dated days: a single one is named, and others are written above
-unfoldable pub own_days : Profile → List ℕ → TerritoryModel → Option ℕ → List ℕ
+unfoldable pub own_days : Rules → List ℕ → TerritoryModel → Option ℕ → List ℕ
 own_days p name t (Some d) = own_day name (dated_on p t d)
 own_days p name t None = name ++ codes " itself dated these days as they are written above\n"
 
 -- the same of what the date means by the calendar that it names. If it means no day by that one, it
 -- does by the place's own
-unfoldable pub own_dates : Profile → List ℕ → TerritoryModel → Result (List Run) NoDay → List ℕ
+unfoldable pub own_dates : Rules → List ℕ → TerritoryModel → Result (List Run) NoDay → List ℕ
 own_dates p name t (Ok runs) = own_days p name t (only_day runs)
 own_dates p name t (Err reason) =
     codes "by its own reckoning " ++ (name ++ codes " has that date\n")
 
 -- by which calendar the date is read, if it means other days by the place's own reckoning
-abbrev pub calendar_line : Profile → List ℕ → TerritoryModel → AnyDate → Option Reckoning → List ℕ
+abbrev pub calendar_line : Rules → List ℕ → TerritoryModel → AnyDate → Option Reckoning → List ℕ
 calendar_line p name t w None = []
 calendar_line p name t w (Some reckoning) =
     if is_by_other_calendar p t w then
@@ -119,7 +119,7 @@ weekday_line weekday None = not_sought_line weekday
 
 -- ---- all of them
 
-unfoldable pub remark_lines : Profile → List ℕ → TerritoryModel → AnyDate → Option Weekday → List ℕ
+unfoldable pub remark_lines : Rules → List ℕ → TerritoryModel → AnyDate → Option Weekday → List ℕ
 remark_lines p name t w given =
     sureness_line w
     ++ (three_digits_line w

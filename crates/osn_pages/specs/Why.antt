@@ -4,15 +4,15 @@ use Rattle.std.specs.Prelude.{Option, codes}
 use Rattle.std.specs.List.{flat_map, list_any}
 use Rattle.std.specs.Str.{bytes_eq}
 use Rattle.osn_days.specs.Month.{month_name}
-use Rattle.osn_days.specs.Profile.{Profile}
-use Rattle.osn_lands.specs.declared.dated.DatedDay.{DatedDay}
-use Rattle.osn_lands.specs.declared.style.Style.{Style}
-use Rattle.osn_lands.specs.Dated.{dated_on}
-use Rattle.osn_lands.specs.LabelOrder.{gaps}
-use Rattle.osn_lands.specs.MonthDay.{has_month_day}
-use Rattle.osn_lands.specs.Runs.{days_of_year}
-use Rattle.osn_lands.specs.StyleWords.{style_word, beginning_of_year}
-use Rattle.osn_lands.specs.Territory.{TerritoryModel, regime_at, reading}
+use Rattle.osn_days.specs.Rules.{Rules}
+use Rattle.osn_territory.specs.declared.dated.DatedDay.{DatedDay}
+use Rattle.osn_territory.specs.declared.style.Style.{Style}
+use Rattle.osn_territory.specs.Dated.{dated_on}
+use Rattle.osn_territory.specs.LabelOrder.{gaps}
+use Rattle.osn_territory.specs.MonthDay.{has_month_day}
+use Rattle.osn_territory.specs.Runs.{days_of_year}
+use Rattle.osn_territory.specs.StyleWords.{style_word, beginning_of_year}
+use Rattle.osn_territory.specs.Territory.{TerritoryModel, regime_at, reading}
 use Rattle.osn_register.specs.Answer.{period_source}
 use Rattle.osn_register.specs.Sources.{SourcesModel}
 use Rattle.osn_written.specs.declared.absence.Absence.{Absence}
@@ -36,7 +36,7 @@ unfoldable pub nearest_line : DatedDay → List ℕ
 nearest_line x = codes "nearest: " ++ (numbered_day x ++ codes "\n")
 
 -- the lines of the nearest days
-abbrev pub nearest_lines : Profile → TerritoryModel → WrittenDate → List ℕ
+abbrev pub nearest_lines : Rules → TerritoryModel → WrittenDate → List ℕ
 nearest_lines p t w = flat_map nearest_line (nearest p t w)
 
 -- ---- off the line
@@ -50,14 +50,14 @@ line_ends first last =
 -- ---- a date of no calendar
 
 -- how many days a month has that lacks one of them by every calendar of the territory
-abbrev pub month_length : Profile → TerritoryModel → ℕ → List ℕ
+abbrev pub month_length : Rules → TerritoryModel → ℕ → List ℕ
 month_length p t month =
     if month == 2 then
     (if list_any (λ s. has_month_day p s.1.calendar 2 30) t.starts then codes "has at most 30 days"
     else codes "has at most 29 days")
     else codes "has 30 days"
 
-unfoldable pub not_of_calendar_line : Profile → TerritoryModel → ℕ → List ℕ
+unfoldable pub not_of_calendar_line : Rules → TerritoryModel → ℕ → List ℕ
 not_of_calendar_line p t month =
     codes "no date of its calendar: "
     ++ (month_name month ++ (codes " " ++ (month_length p t month ++ codes "\n")))
@@ -78,12 +78,12 @@ abbrev pub is_style : Style → Style → Bool
 is_style a b = bytes_eq (style_word a) (style_word b)
 
 -- that a change is one of the year's beginning, if it is, and the nearest days
-unfoldable pub beginning_lines : Profile → TerritoryModel → WrittenDate → Style → Style → List ℕ
+unfoldable pub beginning_lines : Rules → TerritoryModel → WrittenDate → Style → Style → List ℕ
 beginning_lines p t w old new =
     if is_style old new then [] else beginning_line old new ++ nearest_lines p t w
 
 -- the lines of a change in whose gap the date lies
-unfoldable pub skip_lines : Profile → TerritoryModel → Option SourcesModel → WrittenDate → ℕ
+unfoldable pub skip_lines : Rules → TerritoryModel → Option SourcesModel → WrittenDate → ℕ
     → List ℕ
 skip_lines p t sources w change =
     skip_line (dated_on p t (change - 1)) (dated_on p t change)
@@ -107,14 +107,14 @@ abbrev pub no_year_line : ℕ → List ℕ
 no_year_line year = codes "no such date in that year: " ++ empty_year_line year
 
 -- the same of the days that the year had there
-abbrev pub year_line : Profile → TerritoryModel → ℕ → List ℕ → List ℕ
+abbrev pub year_line : Rules → TerritoryModel → ℕ → List ℕ → List ℕ
 year_line p t year [] = no_year_line year
 year_line p t year (d ∷ ds) = year_ends_line year (dated_on p t d) (dated_on p t (last_day d ds))
 
 -- ---- the whole
 
 -- the lines of a reason, in a territory whose changes have these sources
-abbrev pub why_text : Profile → TerritoryModel → Option SourcesModel → WrittenDate → Absence
+abbrev pub why_text : Rules → TerritoryModel → Option SourcesModel → WrittenDate → Absence
     → List ℕ
 why_text p t sources w why.NotWithBothYears =
     flat_map with_one_year_line (map (dated_on p t) (reading p t (label_of w)))
@@ -125,5 +125,5 @@ why_text p t sources w why.NotInThatYear =
     year_line p t w.year (days_of_year p t (pos w.year)) ++ nearest_lines p t w
 
 -- why the date means no day
-abbrev pub why_lines : Profile → TerritoryModel → Option SourcesModel → WrittenDate → List ℕ
+abbrev pub why_lines : Rules → TerritoryModel → Option SourcesModel → WrittenDate → List ℕ
 why_lines p t sources w = why_text p t sources w (absence p t w)

@@ -7,8 +7,8 @@ use Rattle.osn_days.specs.Chain.{date_of}
 use Rattle.osn_days.specs.Line.{weekday}
 use Rattle.osn_days.specs.Month.{month_name}
 use Rattle.osn_days.specs.Weekday.{weekday_name, weekday_numbered}
-use Rattle.osn_lands.specs.declared.dated.DatedDay.{DatedDay}
-use Rattle.osn_lands.specs.Dated.{dated_text}
+use Rattle.osn_territory.specs.declared.dated.DatedDay.{DatedDay}
+use Rattle.osn_territory.specs.Dated.{dated_text}
 
 -- a date with its year counted from 1 January: 22 February 1732
 abbrev pub words_of_date : Date → List ℕ

@@ -1,7 +1,7 @@
 //! The page of a conversion, a day by each calendar, and the day of a date in one of them.
 ghost use Rattle.std.specs.Prelude.{◌≡◌, ◌++◌, IfOk, OnOk, string_bytes};
 ghost use Rattle.std.specs.Option.{option_to_list};
-ghost use Rattle.osn_days.specs.Profile.{newest_rules};
+ghost use Rattle.osn_days.specs.Rules.{newest_rules};
 ghost use Rattle.osn_pages.specs.Conversion as spec;
 ghost use Rattle.osn_pages.specs.Law.{AreCalendarWordsWritten};
 

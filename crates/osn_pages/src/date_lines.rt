@@ -1,17 +1,17 @@
 //! The lines of a date with all that is written of it: its days, or why it has none.
 ghost use Rattle.std.specs.Prelude.{◌≡◌, ◌++◌, IfOk, OnOk, string_bytes, is_err};
-ghost use Rattle.osn_days.specs.Profile.{newest_rules};
+ghost use Rattle.osn_days.specs.Rules.{newest_rules};
 ghost use Rattle.osn_written.specs.Finding.{extent_meant};
 ghost use Rattle.osn_written.specs.Meaning.{dated_by, meaning};
 ghost use Rattle.osn_written.specs.PlainDay.{one_day};
 ghost use Rattle.osn_pages.specs.DateLines as spec;
 
-use crate::land_sources::LandSources;
 use crate::reading::push_days;
 use crate::runs::push_runs;
+use crate::territory_sources::TerritorySources;
 use crate::why::{push_reason, push_why};
 use osn_days::Weekday;
-use osn_lands::Territory;
+use osn_territory::Territory;
 use osn_written::{
     Absence, AnyDate, Extent, Kind, NoDay, WrittenDate, by_reckoning, dated_by, days_meant,
     ends_of, find_runs, first_day_of, kind_of,
@@ -25,7 +25,7 @@ fn push_reading(
     out: &mut String,
     own: &Territory,
     territory: &Territory,
-    sources: &LandSources<'_>,
+    sources: &TerritorySources<'_>,
     date: WrittenDate,
     given: Option<Weekday>,
 ) -> Result<(), AllocError>
@@ -56,7 +56,7 @@ fn push_last_absent(
     alloc: Global,
     out: &mut String,
     territory: &Territory,
-    sources: &LandSources<'_>,
+    sources: &TerritorySources<'_>,
     last: WrittenDate,
     absence: Absence,
 ) -> Result<(), AllocError>
@@ -73,7 +73,7 @@ pub(crate) fn push_no_day(
     alloc: Global,
     out: &mut String,
     territory: &Territory,
-    sources: &LandSources<'_>,
+    sources: &TerritorySources<'_>,
     extent: Extent,
     reason: NoDay,
 ) -> Result<(), AllocError>
@@ -101,7 +101,7 @@ fn push_found(
     out: &mut String,
     own: &Territory,
     territory: &Territory,
-    sources: &LandSources<'_>,
+    sources: &TerritorySources<'_>,
     extent: Extent,
 ) -> Result<(), AllocError>
     ensures { OnOk result (string_bytes out.new ≡ string_bytes out.old
@@ -120,7 +120,7 @@ fn push_lines(
     out: &mut String,
     own: &Territory,
     territory: &Territory,
-    sources: &LandSources<'_>,
+    sources: &TerritorySources<'_>,
     date: AnyDate,
     given: Option<Weekday>,
 ) -> Result<(), AllocError>
@@ -140,7 +140,7 @@ pub(crate) fn push_date(
     alloc: Global,
     out: &mut String,
     territory: &Territory,
-    sources: &LandSources<'_>,
+    sources: &TerritorySources<'_>,
     date: AnyDate,
     given: Option<Weekday>,
 ) -> Result<(), AllocError>

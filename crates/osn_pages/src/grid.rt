@@ -6,7 +6,7 @@ ghost use Rattle.osn_days.specs.Line.{weekday};
 ghost use Rattle.osn_pages.specs.Grid as spec;
 
 use osn_days::{Day, month_name};
-use osn_lands::{DatedDay, DatedYears};
+use osn_territory::{DatedDay, DatedYears};
 use std::alloc::{AllocError, Global};
 use std::fmt::Write;
 

@@ -10,15 +10,15 @@ use std::fmt::Write;
 /// # Errors
 ///
 /// If memory runs out, and in no other case.
-#[tactic(auto, unfolding(crate::specs::Heading::land_heading))]
-pub fn push_land_heading(
+#[tactic(auto, unfolding(crate::specs::Heading::territory_heading))]
+pub fn push_territory_heading(
     out: &mut String,
     name: &str,
     code: &str,
     edition: usize,
 ) -> Result<(), AllocError>
     ensures { OnOk result (string_bytes out.new
-        ≡ string_bytes out.old ++ spec.land_heading name.now code.now edition) }
+        ≡ string_bytes out.old ++ spec.territory_heading name.now code.now edition) }
 {
     writeln!(out, "{} ({}), edition {}", name, code, edition)
 }

@@ -1,13 +1,13 @@
 //! The days of a month as a territory dated them.
 ghost use Rattle.std.specs.Prelude.{◌≡◌, ◌++◌, map, IfOk, OnOk, string_bytes, pos};
-ghost use Rattle.osn_days.specs.Profile.{newest_rules};
-ghost use Rattle.osn_lands.specs.Dated.{dated_on};
-ghost use Rattle.osn_lands.specs.Runs.{days_in, days_of_run, days_of_month};
+ghost use Rattle.osn_days.specs.Rules.{newest_rules};
+ghost use Rattle.osn_territory.specs.Dated.{dated_on};
+ghost use Rattle.osn_territory.specs.Runs.{days_in, days_of_run, days_of_month};
 ghost use Rattle.osn_pages.specs.Grid.{grids};
 
 use crate::grid::push_grids;
 use osn_days::Day;
-use osn_lands::{DatedDay, Run, Territory};
+use osn_territory::{DatedDay, Run, Territory};
 use std::alloc::{AllocError, Global};
 
 /// Appends the days of a run, as the territory dated them.

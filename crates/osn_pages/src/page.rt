@@ -1,7 +1,7 @@
 //! The pages on a territory: which there are, and the text of each.
 ghost use Rattle.std.specs.Prelude.{◌≡◌, ◌++◌, ◌∷◌, None, IfOk, IfErr, OnOk, string_bytes, codes};
 ghost use Rattle.std.specs.Fmt.{decimal};
-ghost use Rattle.osn_days.specs.Profile.{newest_rules};
+ghost use Rattle.osn_days.specs.Rules.{newest_rules};
 ghost use Rattle.osn_register.specs.Refusal.{IsRefusalOrNoMemory};
 ghost use Rattle.osn_register.specs.Plain.{code_refusal};
 ghost use Rattle.osn_pages.specs.DateLines.{date_lines};
@@ -10,16 +10,16 @@ ghost use Rattle.osn_pages.specs.Page as spec;
 ghost use Rattle.osn_pages.specs.Remarks.{remark_lines, subject};
 
 use crate::date_lines::push_date;
-use crate::heading::{push_land_heading, push_pending};
-use crate::land_sources::LandSources;
+use crate::heading::{push_pending, push_territory_heading};
 use crate::month::push_month;
 use crate::periods::push_period;
 use crate::reading::push_named_day;
 use crate::remarks::{Subject, push_remarks};
 use crate::territory::push_territory;
+use crate::territory_sources::TerritorySources;
 use osn_days::{Day, Weekday};
-use osn_lands::Territory;
 use osn_register::{Refusal, Register};
+use osn_territory::Territory;
 use osn_written::AnyDate;
 use std::alloc::{AllocError, Global};
 use std::fmt::Write;
@@ -65,7 +65,7 @@ pub(crate) struct Place<'a> {
     pub(crate) name: &'a str,
     pub(crate) code: &'a str,
     pub(crate) territory: &'a Territory,
-    pub(crate) sources: &'a LandSources<'a>,
+    pub(crate) sources: &'a TerritorySources<'a>,
     pub(crate) edition: usize,
 }
 
@@ -76,7 +76,7 @@ pub(crate) const ROOM: usize = 512;
 fn push_day_lines(
     out: &mut String,
     territory: &Territory,
-    sources: &LandSources<'_>,
+    sources: &TerritorySources<'_>,
     day: Day,
     weekday: Option<Weekday>,
 ) -> Result<(), AllocError>
@@ -103,7 +103,7 @@ fn push_reading_page(
         ++ remark_lines newest_rules place.entry.name.now place.entry.territory.now date given))) }
 {
     write!(out, "{} in ", Subject(date))?;
-    push_land_heading(out, place.name, place.code, place.edition)?;
+    push_territory_heading(out, place.name, place.code, place.edition)?;
     push_date(alloc, out, place.territory, place.sources, date, given)?;
     push_remarks(alloc, out, place.name, place.territory, date, given)
 }
@@ -122,12 +122,12 @@ fn push_day_page(
         place.entry.sources.now day weekday)) }
 {
     write!(out, "day {} in ", day.number())?;
-    push_land_heading(out, place.name, place.code, place.edition)?;
+    push_territory_heading(out, place.name, place.code, place.edition)?;
     push_day_lines(out, place.territory, place.sources, day, weekday)
 }
 
 /// Appends the lines of a page, its heading first.
-#[tactic(auto, unfolding(crate::specs::Page::land_lines))]
+#[tactic(auto, unfolding(crate::specs::Page::page_lines))]
 fn push_page(
     alloc: Global,
     out: &mut String,
@@ -135,18 +135,18 @@ fn push_page(
     page: Page,
 ) -> Result<(), AllocError>
     ensures { OnOk result (string_bytes out.new ≡ string_bytes out.old
-        ++ spec.land_lines newest_rules place.entry.name.now place.entry.territory.now
+        ++ spec.page_lines newest_rules place.entry.name.now place.entry.territory.now
         place.entry.sources.now place.entry.code.now place.entry.edition page) }
 {
     match page {
         Page::Reading { date, weekday } => push_reading_page(alloc, out, place, date, weekday),
         Page::OfDay { day, weekday } => push_day_page(out, place, day, weekday),
         Page::Month { year, month } => {
-            push_land_heading(out, place.name, place.code, place.edition)?;
+            push_territory_heading(out, place.name, place.code, place.edition)?;
             push_month(alloc, out, place.territory, year, month)
         }
         Page::Periods => {
-            push_land_heading(out, place.name, place.code, place.edition)?;
+            push_territory_heading(out, place.name, place.code, place.edition)?;
             push_territory(out, place.territory, place.sources)
         }
     }
@@ -160,7 +160,7 @@ fn text_of(
     page: Page,
 ) -> Result<String, AllocError>
     ensures { IfOk result (λ s. string_bytes s
-        ≡ spec.land_lines newest_rules place.entry.name.now place.entry.territory.now
+        ≡ spec.page_lines newest_rules place.entry.name.now place.entry.territory.now
         place.entry.sources.now place.entry.code.now place.entry.edition page
         ++ pending_line pending) }
 {
@@ -183,21 +183,21 @@ pub fn page_text(
     published: Published,
     page: Page,
 ) -> Result<String, Refusal>
-    ensures lawful { OnOk result (code_refusal register.now.lands code.now ≡ None) }
+    ensures lawful { OnOk result (code_refusal register.now.territories code.now ≡ None) }
     ensures text { IfOk result (λ s. string_bytes s
-        ≡ spec.page_text newest_rules register.now.lands code.now published page) }
+        ≡ spec.page_text newest_rules register.now.territories code.now published page) }
     ensures refused { IfErr result
-        (IsRefusalOrNoMemory (code_refusal register.now.lands code.now)) }
+        (IsRefusalOrNoMemory (code_refusal register.now.territories code.now)) }
 
     // As a law: to each day of a period that the page of a territory lists the register answers
     // that period, with the source that the page cites.
     ensures answered { OnOk result
-        (spec.AnswersPeriods newest_rules register.now.lands code.now page) }
+        (spec.AnswersPeriods newest_rules register.now.territories code.now page) }
 {
     // Its contract says that the periods of each territory cover the line.
     let _limits = register.limits();
-    let (name, territory) = register.land(code)?;
-    let sources = LandSources::new(register, code);
+    let (name, territory) = register.territory(code)?;
+    let sources = TerritorySources::new(register, code);
     let place = Place {
         name,
         code,

@@ -1,13 +1,13 @@
 //! The periods of a territory, a line each, and the sources of those that have one.
 ghost use Rattle.std.specs.Prelude.{◌≡◌, ◌++◌, OnOk, string_bytes};
-ghost use Rattle.osn_days.specs.Profile.{newest_rules};
+ghost use Rattle.osn_days.specs.Rules.{newest_rules};
 ghost use Rattle.osn_pages.specs.Periods as spec;
 
-use crate::land_sources::LandSources;
 use crate::source_line::push_source;
+use crate::territory_sources::TerritorySources;
 use crate::words::NumberedDay;
 use osn_days::{Day, Keyword};
-use osn_lands::{Period, dated_day};
+use osn_territory::{Period, dated_day};
 use std::alloc::AllocError;
 use std::fmt::Write;
 
@@ -57,7 +57,7 @@ fn push_period_line(out: &mut String, period: &Period) -> Result<(), AllocError>
 #[tactic(auto, unfolding(crate::specs::Periods::period_lines))]
 pub(crate) fn push_period(
     out: &mut String,
-    sources: &LandSources<'_>,
+    sources: &TerritorySources<'_>,
     period: &Period,
 ) -> Result<(), AllocError>
     ensures { OnOk result (string_bytes out.new

@@ -5,7 +5,7 @@ ghost use Rattle.osn_pages.specs.Reading as spec;
 
 use crate::words::{DayInCalendar, NamedDay};
 use osn_days::{Calendar, Day, Weekday};
-use osn_lands::DatedDay;
+use osn_territory::DatedDay;
 use osn_written::{WrittenDate, is_not_counted_double, is_on};
 use std::alloc::AllocError;
 use std::fmt;

@@ -1,11 +1,11 @@
 //! How a page names a date, and what is remarked after its days.
 ghost use Rattle.std.specs.Prelude.{◌≡◌, ◌++◌, OnOk, string_bytes};
-ghost use Rattle.osn_days.specs.Profile.{newest_rules};
+ghost use Rattle.osn_days.specs.Rules.{newest_rules};
 ghost use Rattle.osn_written.specs.Finding.{list_of};
 ghost use Rattle.osn_pages.specs.Remarks as spec;
 
 use osn_days::{Day, Weekday};
-use osn_lands::{DatedDay, Run, Territory};
+use osn_territory::{DatedDay, Run, Territory};
 use osn_written::{
     AnyDate, DateInWords, NoDay, Reckoning, WrittenDate, by_reckoning, find_runs,
     is_by_other_calendar, plain_day,

@@ -1,11 +1,11 @@
 //! The lines of days that follow one another, which a month, a year, a range or a bound means.
 ghost use Rattle.std.specs.Prelude.{◌≡◌, ◌++◌, ◌+◌, ◌-◌, OnOk, string_bytes};
-ghost use Rattle.osn_days.specs.Profile.{newest_rules};
+ghost use Rattle.osn_days.specs.Rules.{newest_rules};
 ghost use Rattle.osn_pages.specs.Runs as spec;
 
 use crate::reading::push_day;
 use osn_days::Day;
-use osn_lands::{DatedDay, Run, Territory};
+use osn_territory::{DatedDay, Run, Territory};
 use osn_written::Kind;
 use std::alloc::AllocError;
 use std::fmt::Write;

@@ -1,6 +1,6 @@
 //! The page of a set of dates, of which one is meant.
 ghost use Rattle.std.specs.Prelude.{◌≡◌, ◌++◌, None, IfOk, IfErr, OnOk, is_err, string_bytes};
-ghost use Rattle.osn_days.specs.Profile.{newest_rules};
+ghost use Rattle.osn_days.specs.Rules.{newest_rules};
 ghost use Rattle.osn_grammar.specs.Reading.{members};
 ghost use Rattle.osn_pages.specs.Heading.{heading, pending_line};
 ghost use Rattle.osn_pages.specs.SetPage as spec;
@@ -9,15 +9,15 @@ ghost use Rattle.osn_register.specs.Refusal.{IsRefusalOrNoMemory};
 ghost use Rattle.osn_written.specs.SetsMeant.{set_meant, set_list_of};
 
 use crate::date_lines::push_no_day;
-use crate::heading::{push_land_heading, push_pending};
-use crate::land_sources::LandSources;
+use crate::heading::{push_pending, push_territory_heading};
 use crate::page::{Place, Published, ROOM};
 use crate::remarks::push_not_sought;
 use crate::runs::push_runs;
+use crate::territory_sources::TerritorySources;
 use osn_days::Weekday;
 use osn_grammar::members_of;
-use osn_lands::{Run, Territory};
 use osn_register::{Refusal, Register};
+use osn_territory::{Run, Territory};
 use osn_written::{AbsentMember, AnyDate, Kind, find_set, is_set_approximate, is_set_uncertain};
 use std::alloc::{AllocError, Global};
 use std::fmt::Write;
@@ -39,7 +39,7 @@ fn push_found_set(
     alloc: Global,
     out: &mut String,
     territory: &Territory,
-    sources: &LandSources<'_>,
+    sources: &TerritorySources<'_>,
     found: Result<Vec<Run>, AbsentMember>,
 ) -> Result<(), AllocError>
     ensures { OnOk result (string_bytes out.new ≡ string_bytes out.old
@@ -57,7 +57,7 @@ fn push_set(
     alloc: Global,
     out: &mut String,
     territory: &Territory,
-    sources: &LandSources<'_>,
+    sources: &TerritorySources<'_>,
     members: &[AnyDate],
     given: Option<Weekday>,
 ) -> Result<(), AllocError>
@@ -86,7 +86,7 @@ fn push_set_page(
 {
     let members = members_of(alloc, text)?;
     write!(out, "{text} in ")?;
-    push_land_heading(out, place.name, place.code, place.edition)?;
+    push_territory_heading(out, place.name, place.code, place.edition)?;
     push_set(
         alloc,
         out,
@@ -131,14 +131,15 @@ pub fn set_page_text(
     text: &str,
     given: Option<Weekday>,
 ) -> Result<String, Refusal>
-    ensures lawful { OnOk result (code_refusal register.now.lands code.now ≡ None) }
+    ensures lawful { OnOk result (code_refusal register.now.territories code.now ≡ None) }
     ensures text { IfOk result (λ s. string_bytes s
-        ≡ spec.set_page_text newest_rules register.now.lands code.now published text.now given) }
+        ≡ spec.set_page_text newest_rules register.now.territories code.now published text.now
+        given) }
     ensures refused { IfErr result
-        (IsRefusalOrNoMemory (code_refusal register.now.lands code.now)) }
+        (IsRefusalOrNoMemory (code_refusal register.now.territories code.now)) }
 {
-    let (name, territory) = register.land(code)?;
-    let sources = LandSources::new(register, code);
+    let (name, territory) = register.territory(code)?;
+    let sources = TerritorySources::new(register, code);
     let place = Place {
         name,
         code,

@@ -1,23 +1,23 @@
 //! The lines of a territory: its periods and its listed Easters, with their sources.
 ghost use Rattle.std.specs.Prelude.{◌≡◌, ◌++◌, OnOk, string_bytes};
 ghost use Rattle.std.specs.List.{flat_map};
-ghost use Rattle.osn_days.specs.Profile.{newest_rules};
+ghost use Rattle.osn_days.specs.Rules.{newest_rules};
 ghost use Rattle.osn_pages.specs.Periods.{period_lines};
 ghost use Rattle.osn_pages.specs.Territory as spec;
 
-use crate::land_sources::LandSources;
 use crate::periods::push_period;
 use crate::source_line::push_source;
+use crate::territory_sources::TerritorySources;
 use crate::words::NumberedDay;
 use osn_days::{Day, Year};
-use osn_lands::{Period, Territory};
+use osn_territory::{Period, Territory};
 use std::alloc::AllocError;
 use std::fmt::Write;
 
 /// Appends the lines of these periods.
 fn push_periods(
     out: &mut String,
-    sources: &LandSources<'_>,
+    sources: &TerritorySources<'_>,
     periods: &[Period],
 ) -> Result<(), AllocError>
     ensures { OnOk result (string_bytes out.new
@@ -49,7 +49,7 @@ fn push_easter_line(
 fn push_easter(
     out: &mut String,
     territory: &Territory,
-    sources: &LandSources<'_>,
+    sources: &TerritorySources<'_>,
     year: Year,
     day: Day,
 ) -> Result<(), AllocError>
@@ -64,7 +64,7 @@ fn push_easter(
 fn push_easters(
     out: &mut String,
     territory: &Territory,
-    sources: &LandSources<'_>,
+    sources: &TerritorySources<'_>,
 ) -> Result<(), AllocError>
     ensures { OnOk result (string_bytes out.new ≡ string_bytes out.old ++ flat_map
         (spec.easter_lines newest_rules territory.now sources.now) territory.now.exceptions) }
@@ -80,7 +80,7 @@ fn push_easters(
 pub(crate) fn push_territory(
     out: &mut String,
     territory: &Territory,
-    sources: &LandSources<'_>,
+    sources: &TerritorySources<'_>,
 ) -> Result<(), AllocError>
     ensures { OnOk result (string_bytes out.new
         ≡ string_bytes out.old ++ spec.territory_lines newest_rules territory.now sources.now) }

@@ -22,21 +22,26 @@ fn push_list_heading(out: &mut String, edition: usize) -> Result<(), AllocError>
 }
 
 /// Appends the line of a territory.
-#[tactic(auto, unfolding(crate::specs::Territory::land_line))]
-fn push_land(out: &mut String, land: &Land) -> Result<(), AllocError>
+#[tactic(auto, unfolding(crate::specs::Territory::list_line))]
+fn push_list_line(out: &mut String, territory: &Land) -> Result<(), AllocError>
     ensures { OnOk result (string_bytes out.new
-        ≡ string_bytes out.old ++ spec.land_line land.now) }
+        ≡ string_bytes out.old ++ spec.list_line territory.now) }
 {
-    writeln!(out, "{} ({})", land.name.as_str(), land.code.as_str())
+    writeln!(
+        out,
+        "{} ({})",
+        territory.name.as_str(),
+        territory.code.as_str()
+    )
 }
 
 /// Appends the lines of these territories.
-fn push_lands(out: &mut String, lands: &[Land]) -> Result<(), AllocError>
+fn push_territories(out: &mut String, territories: &[Land]) -> Result<(), AllocError>
     ensures { OnOk result (string_bytes out.new
-        ≡ string_bytes out.old ++ flat_map spec.land_line lands.now) }
+        ≡ string_bytes out.old ++ flat_map spec.list_line territories.now) }
 {
-    for land in lands {
-        push_land(out, land)?;
+    for territory in territories {
+        push_list_line(out, territory)?;
     }
     Ok(())
 }
@@ -52,13 +57,13 @@ pub fn territories_page(
     register: &Register,
     published: Published,
 ) -> Result<String, AllocError>
-    ensures { IfOk result (λ s. string_bytes s ≡ spec.territories_page register.now.lands
+    ensures { IfOk result (λ s. string_bytes s ≡ spec.territories_page register.now.territories
         published.edition published.pending) }
 {
     let mut text = String::with_capacity(alloc, ROOM)?;
-    let lands = register.listed()?;
+    let territories = register.listed()?;
     push_list_heading(&mut text, published.edition)?;
-    push_lands(&mut text, lands.as_slice())?;
+    push_territories(&mut text, territories.as_slice())?;
     push_pending(&mut text, published.pending)?;
     Ok(text)
 }

@@ -1,19 +1,19 @@
 //! The lines that say why a written date means no day.
 ghost use Rattle.std.specs.Prelude.{◌≡◌, ◌++◌, ◌<◌, ◌-◌, OnOk, map, pos, string_bytes};
 ghost use Rattle.std.specs.List.{flat_map, All};
-ghost use Rattle.osn_days.specs.Profile.{newest_rules};
-ghost use Rattle.osn_lands.specs.Dated.{dated_on};
-ghost use Rattle.osn_lands.specs.Runs.{days_in, days_of_year, AreRuns};
+ghost use Rattle.osn_days.specs.Rules.{newest_rules};
+ghost use Rattle.osn_territory.specs.Dated.{dated_on};
+ghost use Rattle.osn_territory.specs.Runs.{days_in, days_of_year, AreRuns};
 ghost use Rattle.osn_written.specs.Absence.{absence};
 ghost use Rattle.osn_written.specs.Nearest.{nearest_days as days_nearest};
 ghost use Rattle.osn_pages.specs.Why as spec;
 
-use crate::land_sources::LandSources;
 use crate::source_line::push_source;
+use crate::territory_sources::TerritorySources;
 use crate::turn::push_turned;
 use crate::words::{Followed, NumberedDay, YearEnds, push_empty_year};
 use osn_days::{Day, Keyword, month_name};
-use osn_lands::{DatedDay, Run, Style, Territory};
+use osn_territory::{DatedDay, Run, Style, Territory};
 use osn_written::{Absence, WrittenDate, absence_of, nearest_days};
 use std::alloc::{AllocError, Global};
 use std::fmt::Write;
@@ -169,7 +169,7 @@ fn push_skip(
     alloc: Global,
     out: &mut String,
     territory: &Territory,
-    sources: &LandSources<'_>,
+    sources: &TerritorySources<'_>,
     date: WrittenDate,
     change: Day,
 ) -> Result<(), AllocError>
@@ -190,7 +190,7 @@ fn push_skips(
     alloc: Global,
     out: &mut String,
     territory: &Territory,
-    sources: &LandSources<'_>,
+    sources: &TerritorySources<'_>,
     date: WrittenDate,
     changes: &[Day],
 ) -> Result<(), AllocError>
@@ -277,7 +277,7 @@ pub(crate) fn push_reason(
     alloc: Global,
     out: &mut String,
     territory: &Territory,
-    sources: &LandSources<'_>,
+    sources: &TerritorySources<'_>,
     date: WrittenDate,
     reason: Absence,
 ) -> Result<(), AllocError>
@@ -306,7 +306,7 @@ pub(crate) fn push_why(
     alloc: Global,
     out: &mut String,
     territory: &Territory,
-    sources: &LandSources<'_>,
+    sources: &TerritorySources<'_>,
     date: WrittenDate,
 ) -> Result<(), AllocError>
     ensures { OnOk result (string_bytes out.new

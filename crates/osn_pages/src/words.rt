@@ -3,7 +3,7 @@ ghost use Rattle.std.specs.Prelude.{◌≡◌, ◌++◌, OnOk, string_bytes};
 ghost use Rattle.osn_pages.specs.Words as spec;
 
 use osn_days::{Calendar, Day, date_of, month_name};
-use osn_lands::DatedDay;
+use osn_territory::DatedDay;
 use std::alloc::AllocError;
 use std::fmt;
 use std::fmt::Write;

@@ -13,8 +13,8 @@ use Rattle.std.specs.BTreeMap.{insert_entry}
 use Rattle.std.specs.declared.cmp.Ordering.{Ordering}
 use Rattle.std.specs.declared.cmp.Ordering.TheVariants.{Less, Equal, Greater}
 use Rattle.std.specs.Ordering.{match_ordering, nat_cmp}
-use Rattle.osn_lands.specs.declared.regime.Regime.{Regime}
-use Rattle.osn_lands.specs.Changes.{with_start}
+use Rattle.osn_territory.specs.declared.regime.Regime.{Regime}
+use Rattle.osn_territory.specs.Changes.{with_start}
 use Rattle.osn_plan.proofs.Rows.{look, IsFrom, look_here, look_there, look_below, parts, weaken}
 use Rattle.osn_plan.proofs.Rows.{not_none, some_is}
 

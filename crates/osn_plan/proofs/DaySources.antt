@@ -3,8 +3,8 @@ use Rattle.std.proofs.Common.{◌≡◌, ℕ, inl, inr, ◌+◌, ◌≤◌, Bool
 use Rattle.std.proofs.Common.{[], ◌∷◌, ◌++◌, None, Some, is_some, refl, sym, ap, ◌∙◌, arith}
 use Rattle.std.proofs.lemmas.Bool.{cases_eq, false≢true, and_parts}
 use Rattle.std.specs.List.{flat_map}
-use Rattle.osn_lands.specs.Territory.{TerritoryModel}
-use Rattle.osn_lands.specs.Exceptions.{exception_of}
+use Rattle.osn_territory.specs.Territory.{TerritoryModel}
+use Rattle.osn_territory.specs.Exceptions.{exception_of}
 use Rattle.osn_register.specs.Sources.{SourcesModel, source_of, with_easter_source}
 use Rattle.osn_plan.specs.Change.{Change}
 use Rattle.osn_plan.specs.Change.Change.{DropDay}
@@ -13,7 +13,7 @@ use Rattle.osn_plan.specs.Differences.{is_day, lists, day_agrees, dropped_except
 use Rattle.osn_plan.specs.Differences.{added_exception, wanted_exception}
 use Rattle.osn_plan.proofs.Rows.{look, IsFrom, look_here, look_there, look_below, parts, some_is}
 use Rattle.osn_plan.proofs.SourceRows.{source_here, source_apart, same_is}
-use Rattle.osn_plan.proofs.Fresh.{sides_of, cited_after, AreFresh}
+use Rattle.osn_plan.proofs.Fresh.{pair_of, cited_after, AreFresh}
 
 -- the drops of listed days: what is not dropped keeps its source
 
@@ -21,7 +21,7 @@ pub record DayDropsCited (w : TerritoryModel) (old new s : SourcesModel) (ys : L
     (es : List Change) : Type 0 where
   pub fresh : AreFresh old s es
   pub periods : (cited_after es s).periods ≡ s.periods
-  pub kept : (k d : ℕ) → look k ys ≡ Some d → day_agrees (sides_of old new) w (k, d) ≡ true →
+  pub kept : (k d : ℕ) → look k ys ≡ Some d → day_agrees (pair_of old new) w (k, d) ≡ true →
       source_of k (cited_after es s).easters ≡ source_of k s.easters
   pub others : (k : ℕ) → look k ys ≡ None →
       source_of k (cited_after es s).easters ≡ source_of k s.easters
@@ -30,12 +30,12 @@ pub record DayDropsCited (w : TerritoryModel) (old new s : SourcesModel) (ys : L
 abbrev LaterDrops : TerritoryModel → SourcesModel → SourcesModel → ℕ → List (ℕ × ℕ) → Type 0
 LaterDrops w old new n ys = (u : SourcesModel) →
     ((k : ℕ) → n ≤ k → source_of k u.easters ≡ source_of k old.easters) →
-    DayDropsCited w old new u ys (flat_map (dropped_exception (sides_of old new) w) ys)
+    DayDropsCited w old new u ys (flat_map (dropped_exception (pair_of old new) w) ys)
 
 pub day_drops_cited : (w : TerritoryModel) (old new s : SourcesModel) (n : ℕ)
     (ys : List (ℕ × ℕ)) → IsFrom n ys →
     ((k : ℕ) → n ≤ k → source_of k s.easters ≡ source_of k old.easters) →
-    DayDropsCited w old new s ys (flat_map (dropped_exception (sides_of old new) w) ys)
+    DayDropsCited w old new s ys (flat_map (dropped_exception (pair_of old new) w) ys)
 day_drops_cited w old new s n [] from same = record {
   fresh = tt;
   periods = refl;
@@ -43,23 +43,23 @@ day_drops_cited w old new s n [] from same = record {
   others = λ k none. refl;
 }
 day_drops_cited w old new s n (y ∷ ys) from same =
-    by (day_agrees (sides_of old new) w y) refl
+    by (day_agrees (pair_of old new) w y) refl
     (λ u rest. day_drops_cited w old new u (y.0 + 1) ys from.1 rest)
   where
     -- the day that is found is the one that is dropped
     contrary : (k d : ℕ) → k ≡ y.0 → look k (y ∷ ys) ≡ Some d →
-        day_agrees (sides_of old new) w (k, d) ≡ true →
-        day_agrees (sides_of old new) w y ≡ false → ⊥
+        day_agrees (pair_of old new) w (k, d) ≡ true →
+        day_agrees (pair_of old new) w y ≡ false → ⊥
     contrary k d e found agrees off =
         let value : y.1 ≡ d = some_is (sym (look_here k y ys e) ∙ found) in
         false≢true (sym off
-        ∙ ap (λ v. is_day v (exception_of w y.0) && same_easter (sides_of old new) y.0) value
-        ∙ ap (λ m. is_day d (exception_of w m) && same_easter (sides_of old new) m) (sym e)
+        ∙ ap (λ v. is_day v (exception_of w y.0) && same_easter (pair_of old new) y.0) value
+        ∙ ap (λ m. is_day d (exception_of w m) && same_easter (pair_of old new) m) (sym e)
         ∙ agrees)
 
-    by : (b : Bool) → day_agrees (sides_of old new) w y ≡ b →
+    by : (b : Bool) → day_agrees (pair_of old new) w y ≡ b →
         LaterDrops w old new (y.0 + 1) ys → DayDropsCited w old new s (y ∷ ys)
-        (cond b [] (DropDay y.0 ∷ []) ++ flat_map (dropped_exception (sides_of old new) w) ys)
+        (cond b [] (DropDay y.0 ∷ []) ++ flat_map (dropped_exception (pair_of old new) w) ys)
     by true on next =
         let rest = next s (λ k high. same k (omega (arith, from.0, high))) in
         record {
@@ -107,16 +107,16 @@ cited_for y new s = with_easter_source y (source_of y new.easters) s
 abbrev Stand : SourcesModel → SourcesModel → TerritoryModel → ℕ → List (ℕ × ℕ) → SourcesModel
     → Type 0
 Stand old new t n ys s = (k d : ℕ) → n ≤ k → look k ys ≡ Some d →
-    day_agrees (sides_of old new) t (k, d) ≡ true →
+    day_agrees (pair_of old new) t (k, d) ≡ true →
     source_of k s.easters ≡ source_of k old.easters
 
 abbrev LaterDays : SourcesModel → SourcesModel → TerritoryModel → ℕ → List (ℕ × ℕ) → Type 0
 LaterDays old new t n ys = (u : SourcesModel) → Stand old new t n ys u →
-    DaysCited old new u ys (flat_map (wanted_exception (sides_of old new) t) ys)
+    DaysCited old new u ys (flat_map (wanted_exception (pair_of old new) t) ys)
 
 pub days_cited : (old new s : SourcesModel) (t : TerritoryModel) (n : ℕ) (ys : List (ℕ × ℕ)) →
     IsFrom n ys → Stand old new t n ys s →
-    DaysCited old new s ys (flat_map (wanted_exception (sides_of old new) t) ys)
+    DaysCited old new s ys (flat_map (wanted_exception (pair_of old new) t) ys)
 days_cited old new s t n [] from same = record {
   fresh = tt;
   periods = refl;
@@ -124,7 +124,7 @@ days_cited old new s t n [] from same = record {
   others = λ k none. refl;
 }
 days_cited old new s t n (y ∷ ys) from same =
-    by (day_agrees (sides_of old new) t y) refl
+    by (day_agrees (pair_of old new) t y) refl
     (λ u rest. days_cited old new u t (y.0 + 1) ys from.1 rest)
   where
     later : (k : ℕ) → y.0 + 1 ≤ k → look k (y ∷ ys) ≡ look k ys
@@ -134,15 +134,15 @@ days_cited old new s t n (y ∷ ys) from same =
     still = λ k d high found agrees.
         same k d (omega (arith, from.0, high)) (later k high ∙ found) agrees
 
-    by : (b : Bool) → day_agrees (sides_of old new) t y ≡ b →
+    by : (b : Bool) → day_agrees (pair_of old new) t y ≡ b →
         LaterDays old new t (y.0 + 1) ys → DaysCited old new s (y ∷ ys)
         (cond b [] (added_exception (Some new) y)
-        ++ flat_map (wanted_exception (sides_of old new) t) ys)
+        ++ flat_map (wanted_exception (pair_of old new) t) ys)
     by true on next =
         let rest = next s still in
         let one : source_of y.0 old.easters ≡ source_of y.0 new.easters =
         same_is (source_of y.0 old.easters) (source_of y.0 new.easters)
-        (and_parts (lists t y) (same_easter (sides_of old new) y.0) on).1 in
+        (and_parts (lists t y) (same_easter (pair_of old new) y.0) on).1 in
         record {
           fresh = rest.fresh;
           periods = rest.periods;

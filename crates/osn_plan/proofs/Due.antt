@@ -1,7 +1,7 @@
 -- Changes of one territory towards a wanted one, each of them needed in its turn.
 use Rattle.std.proofs.Common.{◌≡◌, true, false, List, [], ◌∷◌, ◌++◌}
 use Rattle.std.proofs.Common.{◌<◌, length, Some, None, is_some, refl}
-use Rattle.osn_lands.specs.Territory.{TerritoryModel}
+use Rattle.osn_territory.specs.Territory.{TerritoryModel}
 use Rattle.osn_register.specs.Answer.{period_source, easter_source}
 use Rattle.osn_plan.specs.Change.{Change}
 use Rattle.osn_plan.specs.Change.Change.{Add, Alter, Drop}

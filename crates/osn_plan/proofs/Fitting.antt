@@ -6,14 +6,14 @@ use Rattle.std.proofs.lemmas.Bool.{not-false}
 use Rattle.std.proofs.lemmas.Slice.Eq.{bytes_eq-Decides}
 use Rattle.std.specs.List.{list_any}
 use Rattle.std.specs.Str.{bytes_eq}
-use Rattle.osn_days.specs.Profile.{Profile}
-use Rattle.osn_lands.specs.declared.regime.Regime.{Regime}
-use Rattle.osn_lands.specs.Territory.{TerritoryModel, Covers, last_before, periods_from}
-use Rattle.osn_lands.specs.Changes.{starts_on}
-use Rattle.osn_lands.specs.Exceptions.{exception_of}
-use Rattle.osn_register.specs.SameLand.{IsSameLand, AreSameLand}
+use Rattle.osn_days.specs.Rules.{Rules}
+use Rattle.osn_territory.specs.declared.regime.Regime.{Regime}
+use Rattle.osn_territory.specs.Territory.{TerritoryModel, Covers, last_before, periods_from}
+use Rattle.osn_territory.specs.Changes.{starts_on}
+use Rattle.osn_territory.specs.Exceptions.{exception_of}
+use Rattle.osn_register.specs.SameEntry.{IsSameEntry, AreSameEntry}
 use Rattle.osn_register.specs.declared.limits.Limits.{Limits}
-use Rattle.osn_register.specs.Plain.{LandModel, land_of, IsSoundTerritory, AreSound, AreNamed}
+use Rattle.osn_register.specs.Plain.{EntryModel, entry_of, IsSoundTerritory, AreSound, AreNamed}
 use Rattle.osn_register.proofs.YearFacts.{AscendFrom, ascend_from}
 use Rattle.osn_plan.specs.Fault.{has_other_name, first_renamed}
 use Rattle.osn_plan.specs.Needed.{name_in}
@@ -42,7 +42,7 @@ opens_of high (s ∷ rest) low covers = (
       (covers_from high (last_before high rest + 1) rest covers.2),
 )
 
-opens : (p : Profile) (limits : Limits) (t : TerritoryModel) → 1 ≤ p.high →
+opens : (p : Rules) (limits : Limits) (t : TerritoryModel) → 1 ≤ p.high →
     IsSoundTerritory p limits t → Opens t
 opens p limits t low sound =
     let found = opens_of p.high t.starts low sound.periods in
@@ -58,7 +58,7 @@ covers_end high first (s ∷ rest) covers = omega (
   covers_end high (last_before high rest + 1) rest covers.2,
 )
 
-covers_days : (p : Profile) (first : ℕ) (ss : List (ℕ × Regime)) → 1 ≤ first →
+covers_days : (p : Rules) (first : ℕ) (ss : List (ℕ × Regime)) → 1 ≤ first →
     Covers first p.high (periods_from p.high ss) → AreDays p ss
 covers_days p first [] low covers = tt
 covers_days p first (s ∷ rest) low covers = (
@@ -69,7 +69,7 @@ covers_days p first (s ∷ rest) low covers = (
   covers_days p (last_before p.high rest + 1) rest (omega arith) covers.2,
 )
 
-allowed : (p : Profile) (limits : Limits) (t : TerritoryModel) → 1 ≤ p.high →
+allowed : (p : Rules) (limits : Limits) (t : TerritoryModel) → 1 ≤ p.high →
     IsSoundTerritory p limits t → Allowed p t
 allowed p limits t low sound = record {
   opening = ap (list_any (λ (s : ℕ × Regime). s.0 == 1)) (opens p limits t low sound).is;
@@ -82,50 +82,51 @@ year_from : (n : ℕ) (es : List (ℕ × ℕ)) → AscendFrom n es → IsFrom n 
 year_from n [] from = tt
 year_from n (e ∷ es) from = (from.0, year_from (e.0 + 1) es from.1)
 
-ascends : (p : Profile) (limits : Limits) (t : TerritoryModel) → IsSoundTerritory p limits t →
+ascends : (p : Rules) (limits : Limits) (t : TerritoryModel) → IsSoundTerritory p limits t →
     Ascends t
 ascends p limits t sound = record {
   starts = weaken 0 1 t.starts (omega arith) (covers_from p.high 1 t.starts sound.periods);
   years = year_from 0 t.exceptions (ascend_from t sound.years);
 }
 
-sound_found : (p : Profile) (limits : Limits) (ls : List LandModel) (code : List ℕ)
-    (l : LandModel) → AreSound p limits ls → land_of code ls ≡ Some l →
+sound_found : (p : Rules) (limits : Limits) (ls : List EntryModel) (code : List ℕ)
+    (l : EntryModel) → AreSound p limits ls → entry_of code ls ≡ Some l →
     IsSoundTerritory p limits l.territory
 sound_found p limits [] code l sound found = not_none (sym found)
 sound_found p limits (k ∷ ls) code l sound found =
     by (bytes_eq code k.code) found (sound_found p limits ls code l sound.1)
   where
-    by : (b : Bool) → cond b (Some k) (land_of code ls) ≡ Some l →
-        (land_of code ls ≡ Some l → IsSoundTerritory p limits l.territory) →
+    by : (b : Bool) → cond b (Some k) (entry_of code ls) ≡ Some l →
+        (entry_of code ls ≡ Some l → IsSoundTerritory p limits l.territory) →
         IsSoundTerritory p limits l.territory
     by true found later =
-        subst (λ (m : LandModel). IsSoundTerritory p limits m.territory) (some_is found) sound.0
+        subst (λ (m : EntryModel). IsSoundTerritory p limits m.territory) (some_is found) sound.0
     by false found later = later found
 
-fits : (p : Profile) (limits : Limits) (lands : List LandModel) (l : LandModel)
-    (o : Option LandModel) → AreSound p limits lands → land_of l.code lands ≡ o →
-    1 ≤ p.high → has_other_name l.name (option_map (λ (k : LandModel). k.name) o) ≡ false →
+fits : (p : Rules) (limits : Limits) (territories : List EntryModel) (l : EntryModel)
+    (o : Option EntryModel) → AreSound p limits territories → entry_of l.code territories ≡ o →
+    1 ≤ p.high → has_other_name l.name (option_map (λ (k : EntryModel). k.name) o) ≡ false →
     Fits p l o
-fits p limits lands l None sound known low named = tt
-fits p limits lands l (Some s) sound known low named =
-    let standing = sound_found p limits lands l.code s sound known in (
+fits p limits territories l None sound known low named = tt
+fits p limits territories l (Some s) sound known low named =
+    let standing = sound_found p limits territories l.code s sound known in (
       (bytes_eq-Decides s.name l.name).0 (not-false (bytes_eq s.name l.name) named),
       ascends p limits s.territory standing,
       allowed p limits s.territory low standing,
     )
 
-pub are_fit : (p : Profile) (room limits : Limits) (wanted lands : List LandModel) → 1 ≤ p.high →
-    AreNamed wanted → AreSound p room wanted → AreSound p limits lands →
-    first_renamed wanted lands ≡ None → AreFit p lands wanted
-are_fit p room limits [] lands low named sound standing none = tt
-are_fit p room limits (l ∷ wanted) lands low named sound standing none =
-    by (has_other_name l.name (name_in lands l.code)) refl none
-    (are_fit p room limits wanted lands low named.2 sound.1 standing)
+pub are_fit : (p : Rules) (room limits : Limits) (wanted territories : List EntryModel) → 1 ≤ p.high
+    → AreNamed wanted → AreSound p room wanted → AreSound p limits territories →
+    first_renamed wanted territories ≡ None → AreFit p territories wanted
+are_fit p room limits [] territories low named sound standing none = tt
+are_fit p room limits (l ∷ wanted) territories low named sound standing none =
+    by (has_other_name l.name (name_in territories l.code)) refl none
+    (are_fit p room limits wanted territories low named.2 sound.1 standing)
   where
-    by : (b : Bool) → has_other_name l.name (name_in lands l.code) ≡ b →
-        cond b (Some l) (first_renamed wanted lands) ≡ None →
-        (first_renamed wanted lands ≡ None → AreFit p lands wanted) → AreFit p lands (l ∷ wanted)
+    by : (b : Bool) → has_other_name l.name (name_in territories l.code) ≡ b →
+        cond b (Some l) (first_renamed wanted territories) ≡ None →
+        (first_renamed wanted territories ≡ None → AreFit p territories wanted) →
+        AreFit p territories (l ∷ wanted)
     by true e none later = not_none none
     by false e none later = (
       record {
@@ -134,30 +135,30 @@ are_fit p room limits (l ∷ wanted) lands low named sound standing none =
         code = named.0;
         name = named.1;
         allowed = allowed p room l.territory low sound.0;
-        standing = fits p limits lands l (land_of l.code lands) standing refl low e;
+        standing = fits p limits territories l (entry_of l.code territories) standing refl low e;
       },
       later none,
     )
 
 -- what is present as it is wanted says the same as the wanted territory
-pub stands_same : (p : Profile) (room limits : Limits) (wanted ls : List LandModel) (code : List ℕ)
-    (l : LandModel) → AreSound p room wanted → AreSound p limits ls → land_of code wanted ≡ Some l →
-    Stands l (land_of code ls) → AreSameLand (land_of code ls) (Some l)
+pub stands_same : (p : Rules) (room limits : Limits) (wanted ls : List EntryModel) (code : List ℕ)
+    (l : EntryModel) → AreSound p room wanted → AreSound p limits ls → entry_of code wanted ≡ Some l
+    → Stands l (entry_of code ls) → AreSameEntry (entry_of code ls) (Some l)
 stands_same p room limits wanted ls code l sound other found stands =
     let up = ascends p room l.territory (sound_found p room wanted code l sound found) in
-    let from = ascends p limits stands.land.territory
-    (sound_found p limits ls code stands.land other stands.is) in
-    let starts : stands.land.territory.starts ≡ l.territory.starts =
-    ext 0 stands.land.territory.starts l.territory.starts from.starts up.starts stands.starts in
-    let years : stands.land.territory.exceptions ≡ l.territory.exceptions =
-    ext 0 stands.land.territory.exceptions l.territory.exceptions from.years up.years
+    let from = ascends p limits stands.entry.territory
+    (sound_found p limits ls code stands.entry other stands.is) in
+    let starts : stands.entry.territory.starts ≡ l.territory.starts =
+    ext 0 stands.entry.territory.starts l.territory.starts from.starts up.starts stands.starts in
+    let years : stands.entry.territory.exceptions ≡ l.territory.exceptions =
+    ext 0 stands.entry.territory.exceptions l.territory.exceptions from.years up.years
     stands.years in
-    let same : stands.land.territory ≡ l.territory =
+    let same : stands.entry.territory ≡ l.territory =
     ap (λ (ss : List (ℕ × Regime)). let t : TerritoryModel = record
-    { starts = ss; exceptions = stands.land.territory.exceptions } in t) starts
+    { starts = ss; exceptions = stands.entry.territory.exceptions } in t) starts
     ∙ ap (λ (ys : List (ℕ × ℕ)). let t : TerritoryModel = record
     { starts = l.territory.starts; exceptions = ys } in t) years in
-    let one : IsSameLand stands.land l = record {
+    let one : IsSameEntry stands.entry l = record {
       name = stands.name;
       territory = same;
       periods = λ day on. stands.periods day
@@ -165,4 +166,4 @@ stands_same p room limits wanted ls code l sound other found stands =
       easters = λ year some. stands.easters year
           (sym (ap (λ (t : TerritoryModel). is_some (exception_of t year)) same) ∙ some);
     } in
-    subst (λ (o : Option LandModel). AreSameLand o (Some l)) (sym stands.is) one
+    subst (λ (o : Option EntryModel). AreSameEntry o (Some l)) (sym stands.is) one

@@ -7,8 +7,8 @@ use Rattle.osn_plan.specs.Change.Change.{Add, Alter, Drop, ListDay, DropDay}
 use Rattle.osn_plan.specs.Cited.{BothSources}
 
 -- the present sources, and the wanted ones
-abbrev pub sides_of : SourcesModel → SourcesModel → BothSources
-sides_of old new = record { standing = Some old; wanted = Some new }
+abbrev pub pair_of : SourcesModel → SourcesModel → BothSources
+pair_of old new = record { standing = Some old; wanted = Some new }
 
 -- the sources after changes in turn
 abbrev pub cited_after : List Change → SourcesModel → SourcesModel

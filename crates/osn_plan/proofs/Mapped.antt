@@ -6,18 +6,18 @@ use Rattle.std.specs.Result.{OnOk, IfErr, IsErrAnd}
 use Rattle.std.proofs.lemmas.Result.{err_from_is_err_and}
 use Rattle.std.proofs.lemmas.List.{map-append, take_rest}
 use Rattle.std.specs.List.{flat_map}
-use Rattle.osn_days.specs.Profile.{newest_rules}
-use Rattle.osn_lands.specs.declared.regime.Regime.{Regime}
-use Rattle.osn_lands.specs.declared.period.Period.{Period}
-use Rattle.osn_lands.specs.Territory.{TerritoryModel, periods_from, periods_of}
+use Rattle.osn_days.specs.Rules.{newest_rules}
+use Rattle.osn_territory.specs.declared.regime.Regime.{Regime}
+use Rattle.osn_territory.specs.declared.period.Period.{Period}
+use Rattle.osn_territory.specs.Territory.{TerritoryModel, periods_from, periods_of}
 use Rattle.osn_register.specs.declared.edit.Edit.{Edit}
-use Rattle.osn_register.specs.Plain.{LandModel}
+use Rattle.osn_register.specs.Plain.{EntryModel}
 use Rattle.osn_register.specs.Sources.{SourcesModel}
 use Rattle.osn_plan.specs.Cited.{BothSources}
 use Rattle.osn_plan.specs.Change.{edit_of}
 use Rattle.osn_plan.specs.Differences.{dropped_change, added_change, wanted_change, later}
 use Rattle.osn_plan.specs.Differences.{dropped_exception, added_exception, wanted_exception}
-use Rattle.osn_plan.specs.Differences.{differences, land_edits}
+use Rattle.osn_plan.specs.Differences.{differences, entry_edits}
 
 module _ {A B : Type 0} (f : A → B) where
   pub periods_mapped : (g : ℕ × Regime → List A) (high : ℕ) (ss : List (ℕ × Regime)) →
@@ -103,13 +103,14 @@ later_mapped code cited w ps is =
     ∙ sym (map-append f a b)
 
 -- the edits of a territory by what it is listed as
-pub same_land_edits : (wanted lands : List LandModel) (l : LandModel) (code name : List ℕ)
+pub same_entry_edits : (wanted territories : List EntryModel) (l : EntryModel) (code name : List ℕ)
     (t : TerritoryModel) → l.code ≡ code → l.name ≡ name → l.territory ≡ t →
-    land_edits wanted lands l.code l.name l.territory ≡ land_edits wanted lands code name t
-same_land_edits wanted lands l code name t code_is name_is territory_is =
-    ap (λ (c : List ℕ). land_edits wanted lands c l.name l.territory) code_is
-    ∙ ap (λ (n : List ℕ). land_edits wanted lands code n l.territory) name_is
-    ∙ ap (λ (u : TerritoryModel). land_edits wanted lands code name u) territory_is
+    entry_edits wanted territories l.code l.name l.territory
+    ≡ entry_edits wanted territories code name t
+same_entry_edits wanted territories l code name t code_is name_is territory_is =
+    ap (λ (c : List ℕ). entry_edits wanted territories c l.name l.territory) code_is
+    ∙ ap (λ (n : List ℕ). entry_edits wanted territories code n l.territory) name_is
+    ∙ ap (λ (u : TerritoryModel). entry_edits wanted territories code name u) territory_is
 
 module _ {B : Type 0} where
   -- what four steps append

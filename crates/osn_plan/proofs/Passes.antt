@@ -5,9 +5,9 @@ use Rattle.std.proofs.Common.{◌∙◌, ◌<◌, ◌&&◌, length, arith}
 use Rattle.std.proofs.lemmas.Bool.{cases_eq, false≢true, and_parts}
 use Rattle.std.specs.List.{flat_map}
 use Rattle.std.specs.Option.{option_or}
-use Rattle.osn_lands.specs.declared.regime.Regime.{Regime}
-use Rattle.osn_lands.specs.Territory.{TerritoryModel, no_start, regime_at}
-use Rattle.osn_lands.specs.Changes.{starts_on, with_change, with_altered, without_change}
+use Rattle.osn_territory.specs.declared.regime.Regime.{Regime}
+use Rattle.osn_territory.specs.Territory.{TerritoryModel, no_start, regime_at}
+use Rattle.osn_territory.specs.Changes.{starts_on, with_change, with_altered, without_change}
 use Rattle.osn_plan.specs.Change.{Change}
 use Rattle.osn_plan.specs.Change.Change.{Alter, Drop}
 use Rattle.osn_register.specs.Answer.{period_source}

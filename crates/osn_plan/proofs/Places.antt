@@ -4,9 +4,9 @@ use Rattle.std.proofs.Common.{option_map, refl, sym, ap, subst, ◌∙◌}
 use Rattle.std.proofs.lemmas.List.{drop_more}
 use Rattle.std.proofs.lemmas.Option.{slice_get_within, get_or_from_slice_get}
 use Rattle.std.specs.List.{slice_get}
-use Rattle.osn_lands.specs.Territory.{TerritoryModel}
+use Rattle.osn_territory.specs.Territory.{TerritoryModel}
 use Rattle.osn_register.specs.Named.{listing_of}
-use Rattle.osn_register.specs.Plain.{LandModel}
+use Rattle.osn_register.specs.Plain.{EntryModel}
 use Rattle.osn_plan.proofs.Rows.{not_none, some_is}
 
 module _ {X : Type 0} where
@@ -22,36 +22,36 @@ module _ {X : Type 0} where
   none_left (x ∷ xs) (suc i) none = none_left xs i none
 
 -- the territory at a place has this code, this name and this model
-pub record IsListed (o : Option LandModel) (code name : List ℕ) (t : TerritoryModel) : Type 0
+pub record IsListed (o : Option EntryModel) (code name : List ℕ) (t : TerritoryModel) : Type 0
   where
-    pub land : LandModel
-    pub is : o ≡ Some land
-    pub code_is : land.code ≡ code
-    pub name_is : land.name ≡ name
-    pub territory_is : land.territory ≡ t
+    pub entry : EntryModel
+    pub is : o ≡ Some entry
+    pub code_is : entry.code ≡ code
+    pub name_is : entry.name ≡ name
+    pub territory_is : entry.territory ≡ t
 
 abbrev Listing : Type 0
 Listing = List ℕ × List ℕ × TerritoryModel
 
-pub is_listed : (o : Option LandModel) (code name : List ℕ) (t : TerritoryModel) →
+pub is_listed : (o : Option EntryModel) (code name : List ℕ) (t : TerritoryModel) →
     option_map listing_of o ≡ Some (code, name, t) → IsListed o code name t
 is_listed None code name t listed = not_none (sym listed)
 is_listed (Some l) code name t listed =
     let same : listing_of l ≡ (code, name, t) = some_is listed in
     record {
-      land = l;
+      entry = l;
       is = refl;
       code_is = ap (λ (x : Listing). x.0) same;
       name_is = ap (λ (x : Listing). x.1) same;
       territory_is = ap (λ (x : Listing). x.2) same;
     }
 
-pub none_listed : (o : Option LandModel) → option_map listing_of o ≡ None → o ≡ None
+pub none_listed : (o : Option EntryModel) → option_map listing_of o ≡ None → o ≡ None
 none_listed None none = refl
 none_listed (Some l) none = not_none none
 
 -- what holds of the code and the name holds of the territory's
-pub of_land : (P : List ℕ → List ℕ → Type 0) (l : LandModel) (code name : List ℕ) →
+pub of_entry : (P : List ℕ → List ℕ → Type 0) (l : EntryModel) (code name : List ℕ) →
     l.code ≡ code → l.name ≡ name → P code name → P l.code l.name
-of_land P l code name code_is name_is holds =
+of_entry P l code name code_is name_is holds =
     subst (λ n. P l.code n) (sym name_is) (subst (λ c. P c name) (sym code_is) holds)

@@ -5,9 +5,9 @@ use Rattle.std.proofs.Common.{◌∙◌, ◌||◌, ◌&&◌, arith}
 use Rattle.std.proofs.lemmas.Bool.{eq-eqb, ne_eqb, cases_eq, false≢true, and_from}
 use Rattle.std.specs.List.{flat_map}
 use Rattle.std.specs.Option.{option_or}
-use Rattle.osn_lands.specs.declared.regime.Regime.{Regime}
-use Rattle.osn_lands.specs.Territory.{TerritoryModel, opened, regime_at}
-use Rattle.osn_lands.specs.Changes.{starts_on}
+use Rattle.osn_territory.specs.declared.regime.Regime.{Regime}
+use Rattle.osn_territory.specs.Territory.{TerritoryModel, opened, regime_at}
+use Rattle.osn_territory.specs.Changes.{starts_on}
 use Rattle.osn_register.specs.Answer.{period_source}
 use Rattle.osn_register.specs.Sources.{SourcesModel, opening_sources}
 use Rattle.osn_plan.specs.Change.{Change}

@@ -4,11 +4,11 @@ use Rattle.std.proofs.lemmas.Bool.{and_parts, and_from}
 use denote.Enum.Bare.{sameb, same_true, true_same}
 use Rattle.osn_days.specs.contracts.calendar.Calendar as calendar
 use Rattle.osn_computus.specs.contracts.rule.Rule as rule
-use Rattle.osn_lands.specs.contracts.style.Style as style
+use Rattle.osn_territory.specs.contracts.style.Style as style
 use Rattle.osn_days.specs.declared.calendar.Calendar.{Calendar}
 use Rattle.osn_computus.specs.declared.rule.Rule.{Rule}
-use Rattle.osn_lands.specs.declared.style.Style.{Style}
-use Rattle.osn_lands.specs.declared.regime.Regime.{Regime}
+use Rattle.osn_territory.specs.declared.style.Style.{Style}
+use Rattle.osn_territory.specs.declared.regime.Regime.{Regime}
 use Rattle.osn_plan.specs.Differences.{is_same}
 
 pub same_regime : (a b : Regime) → is_same a b ≡ true → a ≡ b

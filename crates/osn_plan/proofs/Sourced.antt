@@ -3,9 +3,9 @@ use Rattle.std.proofs.Common.{◌≡◌, ℕ, true, List, ◌++◌, Option, Some
 use Rattle.std.proofs.Common.{refl, sym, ap, ◌∙◌}
 use Rattle.std.proofs.lemmas.Bool.{eq-eqb, eqb-true, false≢true, and_parts, and_from}
 use Rattle.std.specs.List.{flat_map}
-use Rattle.osn_lands.specs.declared.regime.Regime.{Regime}
-use Rattle.osn_lands.specs.Territory.{TerritoryModel}
-use Rattle.osn_lands.specs.Changes.{starts_on}
+use Rattle.osn_territory.specs.declared.regime.Regime.{Regime}
+use Rattle.osn_territory.specs.Territory.{TerritoryModel}
+use Rattle.osn_territory.specs.Changes.{starts_on}
 use Rattle.osn_register.specs.Sources.{SourcesModel, source_of}
 use Rattle.osn_plan.specs.Change.{Change}
 use Rattle.osn_plan.specs.Cited.{same_easter}
@@ -14,7 +14,7 @@ use Rattle.osn_plan.specs.Differences.{dropped_exception, wanted_exception, diff
 use Rattle.osn_plan.proofs.Rows.{look}
 use Rattle.osn_plan.proofs.Changed.{starts_found}
 use Rattle.osn_plan.proofs.Reached.{Ascends}
-use Rattle.osn_plan.proofs.Fresh.{sides_of, cited_after, AreFresh, cited_after-append}
+use Rattle.osn_plan.proofs.Fresh.{pair_of, cited_after, AreFresh, cited_after-append}
 use Rattle.osn_plan.proofs.Fresh.{AreFresh-append}
 use Rattle.osn_plan.proofs.StartSources.{DropsCited, drops_cited, StartsCited, starts_cited}
 use Rattle.osn_plan.proofs.DaySources.{DayDropsCited, day_drops_cited, DaysCited, days_cited}
@@ -32,9 +32,9 @@ is_day_is d None on = absurd (false≢true on)
 is_day_is d (Some other) on = ap (λ n. Some n) (eqb-true other d on)
 
 pub cites : (w t : TerritoryModel) (old new : SourcesModel) → Ascends w → Ascends t →
-    Cites w old new (differences (sides_of old new) t w)
+    Cites w old new (differences (pair_of old new) t w)
 cites w t old new up from =
-    let both = sides_of old new in
+    let both = pair_of old new in
     let es0 = flat_map (λ (s : ℕ × Regime). dropped_change w s.0) t.starts in
     let es1 = flat_map (wanted_change both t) w.starts in
     let es2 = flat_map (dropped_exception both w) t.exceptions in

@@ -3,9 +3,9 @@ use Rattle.std.proofs.Common.{◌≡◌, ℕ, inl, inr, ◌+◌, ◌≤◌, Bool
 use Rattle.std.proofs.Common.{[], ◌∷◌, ◌++◌, None, Some, is_some, refl, sym, ap, ◌∙◌, arith}
 use Rattle.std.proofs.lemmas.Bool.{cases_eq, false≢true, and_parts}
 use Rattle.std.specs.List.{flat_map}
-use Rattle.osn_lands.specs.declared.regime.Regime.{Regime}
-use Rattle.osn_lands.specs.Territory.{TerritoryModel, regime_at}
-use Rattle.osn_lands.specs.Changes.{starts_on}
+use Rattle.osn_territory.specs.declared.regime.Regime.{Regime}
+use Rattle.osn_territory.specs.Territory.{TerritoryModel, regime_at}
+use Rattle.osn_territory.specs.Changes.{starts_on}
 use Rattle.osn_register.specs.Sources.{SourcesModel, source_of, with_period_source}
 use Rattle.osn_plan.specs.Change.{Change}
 use Rattle.osn_plan.specs.Change.Change.{Alter, Drop}
@@ -14,7 +14,7 @@ use Rattle.osn_plan.specs.Differences.{is_same, start_agrees, dropped_change, ad
 use Rattle.osn_plan.specs.Differences.{wanted_change}
 use Rattle.osn_plan.proofs.Rows.{look, IsFrom, look_here, look_there, look_below, parts}
 use Rattle.osn_plan.proofs.SourceRows.{source_here, source_apart, same_is}
-use Rattle.osn_plan.proofs.Fresh.{sides_of, cited_after, AreFresh}
+use Rattle.osn_plan.proofs.Fresh.{pair_of, cited_after, AreFresh}
 
 -- the drops of changes: a wanted day keeps its source
 
@@ -64,13 +64,13 @@ abbrev Later : SourcesModel → SourcesModel → TerritoryModel → ℕ → List
 Later old new t n ss = (u : SourcesModel) →
     ((k : ℕ) → n ≤ k → is_some (look k ss) ≡ true →
     source_of k u.periods ≡ source_of k old.periods) →
-    StartsCited old new u ss (flat_map (wanted_change (sides_of old new) t) ss)
+    StartsCited old new u ss (flat_map (wanted_change (pair_of old new) t) ss)
 
 pub starts_cited : (old new s : SourcesModel) (t : TerritoryModel) (n : ℕ)
     (ss : List (ℕ × Regime)) → IsFrom n ss →
     ((k : ℕ) → n ≤ k → is_some (look k ss) ≡ true →
     source_of k s.periods ≡ source_of k old.periods) →
-    StartsCited old new s ss (flat_map (wanted_change (sides_of old new) t) ss)
+    StartsCited old new s ss (flat_map (wanted_change (pair_of old new) t) ss)
 starts_cited old new s t n [] from same = record {
   fresh = tt;
   easters = refl;
@@ -78,7 +78,7 @@ starts_cited old new s t n [] from same = record {
   others = λ k none. refl;
 }
 starts_cited old new s t n (x ∷ ss) from same =
-    by (starts_on t x.0) (start_agrees (sides_of old new) (regime_at t x.0) x) refl
+    by (starts_on t x.0) (start_agrees (pair_of old new) (regime_at t x.0) x) refl
     (λ u rest. starts_cited old new u t (x.0 + 1) ss from.1 rest)
   where
     later : (k : ℕ) → x.0 + 1 ≤ k → look k (x ∷ ss) ≡ look k ss
@@ -94,7 +94,7 @@ starts_cited old new s t n (x ∷ ss) from same =
 
     given : Later old new t (x.0 + 1) ss →
         StartsCited old new (cited_on x.0 new s) ss
-        (flat_map (wanted_change (sides_of old new) t) ss)
+        (flat_map (wanted_change (pair_of old new) t) ss)
     given next = next (cited_on x.0 new s)
         (λ k high some. source_apart k x.0 (source_of x.0 new.periods) s.periods
         (λ e. omega (arith, e, high)) ∙ still k high some)
@@ -118,15 +118,15 @@ starts_cited old new s t n (x ∷ ss) from same =
         rest.others k apart.1
         ∙ source_apart k x.0 (source_of x.0 new.periods) s.periods apart.0
 
-    by : (b c : Bool) → start_agrees (sides_of old new) (regime_at t x.0) x ≡ c →
+    by : (b c : Bool) → start_agrees (pair_of old new) (regime_at t x.0) x ≡ c →
         Later old new t (x.0 + 1) ss → StartsCited old new s (x ∷ ss)
         (cond b (cond c [] (Alter x.0 x.1 (source_of x.0 new.periods) ∷ []))
-        (added_change (Some new) x) ++ flat_map (wanted_change (sides_of old new) t) ss)
+        (added_change (Some new) x) ++ flat_map (wanted_change (pair_of old new) t) ss)
     by true true agrees next =
         let rest = next s still in
         let one : source_of x.0 old.periods ≡ source_of x.0 new.periods =
         same_is (source_of x.0 old.periods) (source_of x.0 new.periods)
-        (and_parts (is_same (regime_at t x.0) x.1) (same_period (sides_of old new) x.0) agrees).1
+        (and_parts (is_same (regime_at t x.0) x.1) (same_period (pair_of old new) x.0) agrees).1
         in
         record {
           fresh = rest.fresh;
@@ -144,14 +144,14 @@ starts_cited old new s t n (x ∷ ss) from same =
         record {
           fresh = (now, rest.fresh);
           easters = rest.easters;
-          periods = found (flat_map (wanted_change (sides_of old new) t) ss) rest;
-          others = elsewhere (flat_map (wanted_change (sides_of old new) t) ss) rest;
+          periods = found (flat_map (wanted_change (pair_of old new) t) ss) rest;
+          others = elsewhere (flat_map (wanted_change (pair_of old new) t) ss) rest;
         }
     by false c agrees next =
         let rest = given next in
         record {
           fresh = (tt, rest.fresh);
           easters = rest.easters;
-          periods = found (flat_map (wanted_change (sides_of old new) t) ss) rest;
-          others = elsewhere (flat_map (wanted_change (sides_of old new) t) ss) rest;
+          periods = found (flat_map (wanted_change (pair_of old new) t) ss) rest;
+          others = elsewhere (flat_map (wanted_change (pair_of old new) t) ss) rest;
         }

@@ -7,11 +7,11 @@ use Rattle.std.proofs.lemmas.Bool.{ltb-true, leb-true}
 use Rattle.std.proofs.lemmas.Bool.Decides.{nat_tests}
 use Rattle.std.proofs.lemmas.Int.{ints}
 use Rattle.std.specs.List.{flat_map}
-use Rattle.osn_days.specs.Profile.{Profile}
+use Rattle.osn_days.specs.Rules.{Rules}
 use Rattle.osn_days.specs.Line.{IsDay, IsYear}
-use Rattle.osn_lands.specs.declared.regime.Regime.{Regime}
-use Rattle.osn_lands.specs.Territory.{TerritoryModel, regime_at}
-use Rattle.osn_lands.specs.Changes.{starts_on}
+use Rattle.osn_territory.specs.declared.regime.Regime.{Regime}
+use Rattle.osn_territory.specs.Territory.{TerritoryModel, regime_at}
+use Rattle.osn_territory.specs.Changes.{starts_on}
 use Rattle.osn_register.specs.declared.edit.Edit.{Edit}
 use Rattle.osn_register.specs.declared.limits.Limits.{Limits}
 use Rattle.osn_register.specs.declared.refusal.Refusal.{Refusal}
@@ -19,8 +19,8 @@ use Rattle.osn_register.specs.declared.refusal.Refusal.TheVariants as refusals
 use Rattle.osn_plan.specs.Change.{Change}
 use Rattle.osn_plan.specs.Change.Change.{Add, Alter, Drop}
 use Rattle.osn_plan.specs.Change.Change.{ListDay, DropDay}
-use Rattle.osn_register.specs.Plain.{LandModel, land_of, territory_of, refusal, refusal_in, inside}
-use Rattle.osn_register.specs.Plain.{effect, is_off_line, is_off_years, is_style_refused}
+use Rattle.osn_register.specs.Plain.{EntryModel, entry_of, territory_of, refusal, refusal_in}
+use Rattle.osn_register.specs.Plain.{inside, effect, is_off_line, is_off_years, is_style_refused}
 use Rattle.osn_register.specs.Plain.{AreStyled, AreListed}
 use Rattle.osn_register.specs.Code.{is_code}
 use Rattle.osn_register.specs.Refusal.{first_refusal, or_else}
@@ -39,31 +39,31 @@ use Rattle.osn_plan.proofs.Due.{IsDue, AreDue}
 use Rattle.osn_plan.proofs.Found.{changed, step_here}
 
 -- what is said of days, years and regimes may be said
-abbrev pub IsValid : Profile → Change → Type 0
+abbrev pub IsValid : Rules → Change → Type 0
 IsValid p (Add d r c) = IsDay p d × (d ≡ 1 → ⊥) × (is_style_refused p r ≡ false)
 IsValid p (Alter d r c) = IsDay p d × (is_style_refused p r ≡ false)
 IsValid p (Drop d) = IsDay p d × (d ≡ 1 → ⊥)
 IsValid p (ListDay y d c) = IsYear p y × IsDay p d
 IsValid p (DropDay y) = IsYear p y
 
-abbrev pub AreValid : Profile → List Change → Type 0
+abbrev pub AreValid : Rules → List Change → Type 0
 AreValid p [] = Unit {0}
 AreValid p (e ∷ es) = IsValid p e × AreValid p es
 
-AreValid-append : (p : Profile) (es fs : List Change) → AreValid p es → AreValid p fs →
+AreValid-append : (p : Rules) (es fs : List Change) → AreValid p es → AreValid p fs →
     AreValid p (es ++ fs)
 AreValid-append p [] fs valid later = later
 AreValid-append p (e ∷ es) fs valid later = (valid.0, AreValid-append p es fs valid.1 later)
 
 -- one change
 
-on_line : (p : Profile) (d : ℕ) → IsDay p d → is_off_line p (pos d) ≡ false
+on_line : (p : Rules) (d : ℕ) → IsDay p d → is_off_line p (pos d) ≡ false
 on_line p d day = by day.0 day.1
   where
     by : 1 ≤ d → d ≤ p.high → is_off_line p (pos d) ≡ false
     by low high = grind (arith, ints, nat_tests)
 
-in_years : (p : Profile) (y : ℕ) → IsYear p y → is_off_years p (pos y) ≡ false
+in_years : (p : Rules) (y : ℕ) → IsYear p y → is_off_years p (pos y) ≡ false
 in_years p y year = by year.0 year.1
   where
     by : 1 ≤ y → y ≤ p.last_year → is_off_years p (pos y) ≡ false
@@ -87,7 +87,7 @@ starts_there : (t : TerritoryModel) (d : ℕ) → is_some (look d t.starts) ≡ 
     not (starts_on t d) ≡ false
 starts_there t d some = ap not (starts_found d t.starts ∙ some)
 
-only_limit : (p : Profile) (limits : Limits) (both : BothSources) (w : LandModel)
+only_limit : (p : Rules) (limits : Limits) (both : BothSources) (w : EntryModel)
     (t : TerritoryModel) (e : Change) → IsDue both w.territory t e → IsValid p e →
     (f : Refusal) → change_refusal p limits e t ≡ Some f → IsOver limits (Some w) f
 only_limit p limits both w t (Add d r c) due valid f refused =
@@ -118,10 +118,10 @@ only_limit p limits both w t (DropDay y) due valid f refused =
     (skip (is_off_years p (pos y)) _ _ f (in_years p y valid) refused)))
 
 -- each edit in turn is refused by a limit, if it is
-abbrev pub AreLimited : Profile → Limits → List LandModel → List LandModel → List Edit → Type 0
+abbrev pub AreLimited : Rules → Limits → List EntryModel → List EntryModel → List Edit → Type 0
 AreLimited p limits wanted ls [] = Unit {0}
 AreLimited p limits wanted ls (e ∷ es) =
-    ((f : Refusal) → refusal p limits ls e ≡ Some f → IsOver limits (land_of (code_of e) wanted) f)
+    ((f : Refusal) → refusal p limits ls e ≡ Some f → IsOver limits (entry_of (code_of e) wanted) f)
     × AreLimited p limits wanted (effect ls e) es
 
 code_is : (code : List ℕ) (e : Change) → code_of (edit_of code e) ≡ code
@@ -131,18 +131,18 @@ code_is code (Drop d) = refl
 code_is code (ListDay y d c) = refl
 code_is code (DropDay y) = refl
 
-refusal_known : (ls : List LandModel) (code : List ℕ) (l : LandModel)
-    (refused : TerritoryModel → Option Refusal) → is_code code ≡ true → land_of code ls ≡ Some l →
+refusal_known : (ls : List EntryModel) (code : List ℕ) (l : EntryModel)
+    (refused : TerritoryModel → Option Refusal) → is_code code ≡ true → entry_of code ls ≡ Some l →
     refusal_in ls code refused ≡ refused l.territory
 refusal_known ls code l refused is known =
     ap (λ b. or_else (cond (not b) (Some refusals.BadCode)
-    (first_refusal ((is_none (land_of code ls), refusals.UnknownLand) ∷ [])))
+    (first_refusal ((is_none (entry_of code ls), refusals.UnknownLand) ∷ [])))
     (inside refused (territory_of code ls))) is
     ∙ ap (λ o. or_else (cond (is_none o) (Some refusals.UnknownLand) None)
-    (inside refused (option_map (λ (k : LandModel). k.territory) o))) known
+    (inside refused (option_map (λ (k : EntryModel). k.territory) o))) known
 
-refusal_is : (p : Profile) (limits : Limits) (ls : List LandModel) (code : List ℕ) (l : LandModel)
-    (e : Change) → is_code code ≡ true → land_of code ls ≡ Some l →
+refusal_is : (p : Rules) (limits : Limits) (ls : List EntryModel) (code : List ℕ) (l : EntryModel)
+    (e : Change) → is_code code ≡ true → entry_of code ls ≡ Some l →
     refusal p limits ls (edit_of code e) ≡ change_refusal p limits e l.territory
 refusal_is p limits ls code l (Add d r c) is known =
     refusal_known ls code l (change_refusal p limits (Add d r c)) is known
@@ -155,15 +155,15 @@ refusal_is p limits ls code l (ListDay y d c) is known =
 refusal_is p limits ls code l (DropDay y) is known =
     refusal_known ls code l (change_refusal p limits (DropDay y)) is known
 
-pub are_limited : (p : Profile) (limits : Limits) (wanted : List LandModel) (both : BothSources)
-    (code : List ℕ) (w : LandModel) → land_of code wanted ≡ Some w → (es : List Change)
-    (ls : List LandModel) (l : LandModel) → is_code code ≡ true → land_of code ls ≡ Some l →
+pub are_limited : (p : Rules) (limits : Limits) (wanted : List EntryModel) (both : BothSources)
+    (code : List ℕ) (w : EntryModel) → entry_of code wanted ≡ Some w → (es : List Change)
+    (ls : List EntryModel) (l : EntryModel) → is_code code ≡ true → entry_of code ls ≡ Some l →
     AreDue both w.territory l.territory es → AreValid p es →
     AreLimited p limits wanted ls (map (edit_of code) es)
 are_limited p limits wanted both code w at [] ls l is known due valid = tt
 are_limited p limits wanted both code w at (e ∷ es) ls l is known due valid = (
   (λ f refused. subst (λ o. IsOver limits o f)
-      (sym (ap (λ c. land_of c wanted) (code_is code e) ∙ at))
+      (sym (ap (λ c. entry_of c wanted) (code_is code e) ∙ at))
       (only_limit p limits both w l.territory e due.0 valid.0 f
       (sym (refusal_is p limits ls code l e is known) ∙ refused))),
   are_limited p limits wanted both code w at es (effect ls (edit_of code e))
@@ -173,12 +173,12 @@ are_limited p limits wanted both code w at (e ∷ es) ls l is known due valid = 
 
 -- the differences of two territories
 
-abbrev pub AreDays : Profile → List (ℕ × Regime) → Type 0
+abbrev pub AreDays : Rules → List (ℕ × Regime) → Type 0
 AreDays p [] = Unit {0}
 AreDays p (s ∷ ss) = IsDay p s.0 × AreDays p ss
 
 -- what a territory says may be said, and a period of it starts on day 1
-pub record Allowed (p : Profile) (t : TerritoryModel) : Type 0 where
+pub record Allowed (p : Rules) (t : TerritoryModel) : Type 0 where
   pub opening : starts_on t 1 ≡ true
   pub days : AreDays p t.starts
   pub styles : AreStyled p t.starts
@@ -188,7 +188,7 @@ not_first : (t : TerritoryModel) (d : ℕ) → starts_on t 1 ≡ true → starts
     d ≡ 1 → ⊥
 not_first t d on off e = false≢true (sym off ∙ ap (starts_on t) e ∙ on)
 
-drops_valid : (p : Profile) (w : TerritoryModel) (ss : List (ℕ × Regime)) →
+drops_valid : (p : Rules) (w : TerritoryModel) (ss : List (ℕ × Regime)) →
     starts_on w 1 ≡ true → AreDays p ss →
     AreValid p (flat_map (λ s. dropped_change w s.0) ss)
 drops_valid p w [] on days = tt
@@ -201,7 +201,7 @@ drops_valid p w (s ∷ ss) on days =
     by true e rest = rest
     by false e rest = ((days.0, not_first w s.0 on e), rest)
 
-starts_valid : (p : Profile) (both : BothSources) (t : TerritoryModel) (ss : List (ℕ × Regime)) →
+starts_valid : (p : Rules) (both : BothSources) (t : TerritoryModel) (ss : List (ℕ × Regime)) →
     starts_on t 1 ≡ true → AreDays p ss → AreStyled p ss →
     AreValid p (flat_map (wanted_change both t) ss)
 starts_valid p both t [] on days styles = tt
@@ -216,7 +216,7 @@ starts_valid p both t (s ∷ ss) on days styles =
     by true false e rest = ((days.0, styles.0), rest)
     by false c e rest = ((days.0, not_first t s.0 on e, styles.0), rest)
 
-year_drops_valid : (p : Profile) (both : BothSources) (w : TerritoryModel)
+year_drops_valid : (p : Rules) (both : BothSources) (w : TerritoryModel)
     (ys : List (ℕ × ℕ)) → AreListed p ys → AreValid p (flat_map (dropped_exception both w) ys)
 year_drops_valid p both w [] listed = tt
 year_drops_valid p both w (y ∷ ys) listed =
@@ -227,7 +227,7 @@ year_drops_valid p both w (y ∷ ys) listed =
     by true rest = rest
     by false rest = (listed.0, rest)
 
-years_valid : (p : Profile) (both : BothSources) (t : TerritoryModel) (ys : List (ℕ × ℕ)) →
+years_valid : (p : Rules) (both : BothSources) (t : TerritoryModel) (ys : List (ℕ × ℕ)) →
     AreListed p ys → AreValid p (flat_map (wanted_exception both t) ys)
 years_valid p both t [] listed = tt
 years_valid p both t (y ∷ ys) listed =
@@ -239,7 +239,7 @@ years_valid p both t (y ∷ ys) listed =
     by true rest = rest
     by false rest = ((listed.0, listed.1), rest)
 
-pub differences_valid : (p : Profile) (both : BothSources) (t w : TerritoryModel) → Allowed p t →
+pub differences_valid : (p : Rules) (both : BothSources) (t w : TerritoryModel) → Allowed p t →
     Allowed p w → AreValid p (differences both t w)
 differences_valid p both t w standing wanted =
     AreValid-append p (flat_map (λ s. dropped_change w s.0) t.starts) _

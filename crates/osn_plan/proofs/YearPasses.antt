@@ -6,8 +6,8 @@ use Rattle.std.proofs.Common.{◌∙◌, ◌<◌, ◌&&◌, length, arith}
 use Rattle.std.proofs.lemmas.Bool.{eq-eqb, cases_eq}
 use Rattle.std.specs.List.{flat_map}
 use Rattle.std.specs.Option.{option_or}
-use Rattle.osn_lands.specs.Territory.{TerritoryModel}
-use Rattle.osn_lands.specs.Exceptions.{with_exception, without_exception}
+use Rattle.osn_territory.specs.Territory.{TerritoryModel}
+use Rattle.osn_territory.specs.Exceptions.{with_exception, without_exception}
 use Rattle.osn_plan.specs.Change.{Change}
 use Rattle.osn_plan.specs.Change.Change.{DropDay}
 use Rattle.osn_plan.specs.Cited.{BothSources, same_easter}

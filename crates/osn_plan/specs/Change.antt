@@ -1,10 +1,10 @@
 -- The changes that a territory takes towards a wanted one, and what each does in it.
 use Rattle.std.specs.Prelude.{ℕ, pos, List, Option, None}
-use Rattle.osn_days.specs.Profile.{Profile}
-use Rattle.osn_lands.specs.declared.regime.Regime.{Regime}
-use Rattle.osn_lands.specs.Territory.{TerritoryModel}
-use Rattle.osn_lands.specs.Changes.{with_change, with_altered, without_change}
-use Rattle.osn_lands.specs.Exceptions.{with_exception, without_exception}
+use Rattle.osn_days.specs.Rules.{Rules}
+use Rattle.osn_territory.specs.declared.regime.Regime.{Regime}
+use Rattle.osn_territory.specs.Territory.{TerritoryModel}
+use Rattle.osn_territory.specs.Changes.{with_change, with_altered, without_change}
+use Rattle.osn_territory.specs.Exceptions.{with_exception, without_exception}
 use Rattle.osn_register.specs.declared.edit.Edit.{Edit}
 use Rattle.osn_register.specs.declared.edit.Edit.TheVariants.{AddChange, AlterChange, DropChange}
 use Rattle.osn_register.specs.declared.edit.Edit.TheVariants.{AddException, DropException}
@@ -50,7 +50,7 @@ sources_after (ListDay year day source) s = with_easter_source year source s
 sources_after (DropDay year) s = with_easter_source year None s
 
 -- why a change is refused by what the territory contains
-abbrev pub change_refusal : Profile → Limits → Change → TerritoryModel → Option Refusal
+abbrev pub change_refusal : Rules → Limits → Change → TerritoryModel → Option Refusal
 change_refusal p limits (Add day regime source) t = add_change_refusal p limits (pos day) regime t
 change_refusal p limits (Alter day regime source) t = alter_change_refusal p (pos day) regime t
 change_refusal p limits (Drop day) t = drop_change_refusal p (pos day) t

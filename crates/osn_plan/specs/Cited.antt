@@ -2,7 +2,7 @@
 use Rattle.std.specs.Prelude.{ℕ, Bool, true, false, List, Option, Some, None}
 use Rattle.std.specs.Str.{bytes_eq}
 use Rattle.osn_register.specs.Answer.{period_source, easter_source}
-use Rattle.osn_register.specs.Plain.{LandModel, sources_of}
+use Rattle.osn_register.specs.Plain.{EntryModel, sources_of}
 use Rattle.osn_register.specs.Sources.{SourcesModel}
 
 pub record BothSources : Type 0 where
@@ -10,9 +10,9 @@ pub record BothSources : Type 0 where
   pub wanted : Option SourcesModel
 
 -- those of the territory that has the code
-abbrev pub both_sources : List ℕ → List LandModel → List LandModel → BothSources
-both_sources code lands wanted =
-    record { standing = sources_of code lands; wanted = sources_of code wanted }
+abbrev pub both_sources : List ℕ → List EntryModel → List EntryModel → BothSources
+both_sources code territories wanted =
+    record { standing = sources_of code territories; wanted = sources_of code wanted }
 
 -- the two are one, or neither is given
 abbrev pub same_source : Option (List ℕ) → Option (List ℕ) → Bool

@@ -5,15 +5,15 @@ use Rattle.std.specs.Prelude.{◌∷◌, ◌++◌, map, drop, flat_map, Option, 
 use denote.Enum.Bare.{sameb}
 use Rattle.osn_days.specs.contracts.calendar.Calendar as calendar
 use Rattle.osn_computus.specs.contracts.rule.Rule as rule
-use Rattle.osn_lands.specs.contracts.style.Style as style
-use Rattle.osn_lands.specs.declared.regime.Regime.{Regime}
-use Rattle.osn_lands.specs.Territory.{TerritoryModel, no_start, regime_at}
-use Rattle.osn_lands.specs.Changes.{starts_on}
-use Rattle.osn_lands.specs.Exceptions.{exception_of}
+use Rattle.osn_territory.specs.contracts.style.Style as style
+use Rattle.osn_territory.specs.declared.regime.Regime.{Regime}
+use Rattle.osn_territory.specs.Territory.{TerritoryModel, no_start, regime_at}
+use Rattle.osn_territory.specs.Changes.{starts_on}
+use Rattle.osn_territory.specs.Exceptions.{exception_of}
 use Rattle.osn_register.specs.declared.edit.Edit.{Edit}
 use Rattle.osn_register.specs.declared.edit.Edit.TheVariants.{AddLand}
 use Rattle.osn_register.specs.Answer.{period_source, easter_source}
-use Rattle.osn_register.specs.Plain.{LandModel, land_of, sources_of}
+use Rattle.osn_register.specs.Plain.{EntryModel, entry_of, sources_of}
 use Rattle.osn_register.specs.Sources.{SourcesModel}
 use Rattle.osn_plan.specs.Change.{Change, edit_of}
 use Rattle.osn_plan.specs.Change.Change.{Add, Alter, Drop, ListDay, DropDay}
@@ -93,7 +93,7 @@ later cited wanted =
     flat_map (added_change cited) (drop 1 wanted.starts)
     ++ flat_map (added_exception cited) wanted.exceptions
 
-abbrev pub edits_from : Option SourcesModel → List ℕ → List ℕ → TerritoryModel → Option LandModel
+abbrev pub edits_from : Option SourcesModel → List ℕ → List ℕ → TerritoryModel → Option EntryModel
     → List Edit
 edits_from cited code name wanted None =
     AddLand code name (opening wanted.starts) (period_source cited 1)
@@ -103,16 +103,16 @@ edits_from cited code name wanted (Some standing) =
     standing.territory wanted)
 
 -- the edits that take the territory of a code to the wanted one, or add it
-abbrev pub land_edits : List LandModel → List LandModel → List ℕ → List ℕ → TerritoryModel
+abbrev pub entry_edits : List EntryModel → List EntryModel → List ℕ → List ℕ → TerritoryModel
     → List Edit
-land_edits wanted lands code name territory =
-    edits_from (sources_of code wanted) code name territory (land_of code lands)
+entry_edits wanted territories code name territory =
+    edits_from (sources_of code wanted) code name territory (entry_of code territories)
 
 -- those of these wanted territories in turn
-abbrev pub edits_for : List LandModel → List LandModel → List LandModel → List Edit
-edits_for wanted lands left =
-    flat_map (λ l. land_edits wanted lands l.code l.name l.territory) left
+abbrev pub edits_for : List EntryModel → List EntryModel → List EntryModel → List Edit
+edits_for wanted territories left =
+    flat_map (λ l. entry_edits wanted territories l.code l.name l.territory) left
 
 -- those of all wanted territories
-abbrev pub all_edits : List LandModel → List LandModel → List Edit
-all_edits wanted lands = edits_for wanted lands wanted
+abbrev pub all_edits : List EntryModel → List EntryModel → List Edit
+all_edits wanted territories = edits_for wanted territories wanted

@@ -1,7 +1,8 @@
 -- What the crate reads of the two registers of a plan.
-use Rattle.osn_plan.specs.declared.sides.Sides.{Sides}
+use Rattle.osn_plan.specs.declared.pair.TerritoryPair.{TerritoryPair}
 use Rattle.osn_plan.specs.Cited.{BothSources, both_sources}
 
 -- the sources of the territory in both
-abbrev pub sources_at : Sides → BothSources
-sources_at sides = both_sources sides.code.now sides.register.now.lands sides.wanted.now.lands
+abbrev pub sources_at : TerritoryPair → BothSources
+sources_at pair = both_sources pair.code.now pair.register.now.territories
+    pair.wanted.now.territories

@@ -3,75 +3,78 @@ use Rattle.std.specs.Prelude.{ℕ, ◌≡◌, ◌==◌, true, List, [], ◌∷�
 use Rattle.std.specs.Prelude.{is_some, option_map}
 use Rattle.std.specs.Option.{option_and_then}
 use Rattle.std.specs.Map.{lookup}
-use Rattle.osn_lands.specs.declared.regime.Regime.{Regime}
-use Rattle.osn_lands.specs.Territory.{TerritoryModel}
-use Rattle.osn_lands.specs.Exceptions.{exception_of}
+use Rattle.osn_territory.specs.declared.regime.Regime.{Regime}
+use Rattle.osn_territory.specs.Territory.{TerritoryModel}
+use Rattle.osn_territory.specs.Exceptions.{exception_of}
 use Rattle.osn_register.specs.declared.edit.Edit.{Edit}
 use Rattle.osn_register.specs.declared.edit.Edit.TheVariants.{AddLand, AddChange, AlterChange}
 use Rattle.osn_register.specs.declared.edit.Edit.TheVariants.{DropChange, AddException}
 use Rattle.osn_register.specs.declared.edit.Edit.TheVariants.{DropException}
 use Rattle.osn_register.specs.Answer.{period_source, easter_source}
-use Rattle.osn_register.specs.Plain.{LandModel, land_of, territory_of, sources_of, effect}
+use Rattle.osn_register.specs.Plain.{EntryModel, entry_of, territory_of, sources_of, effect}
 
 -- the name of the territory that has the code
-abbrev pub name_in : List LandModel → List ℕ → Option (List ℕ)
-name_in lands code = option_map (λ l. l.name) (land_of code lands)
+abbrev pub name_in : List EntryModel → List ℕ → Option (List ℕ)
+name_in territories code = option_map (λ l. l.name) (entry_of code territories)
 
 -- the regime that starts on a day, if one does
 abbrev pub regime_from : TerritoryModel → ℕ → Option Regime
 regime_from t d = lookup (λ day. d == day) t.starts
 
 -- the same in the territory that has the code
-abbrev pub regime_in : List LandModel → List ℕ → ℕ → Option Regime
-regime_in lands code d = option_and_then (λ t. regime_from t d) (territory_of code lands)
+abbrev pub regime_in : List EntryModel → List ℕ → ℕ → Option Regime
+regime_in territories code d =
+    option_and_then (λ t. regime_from t d) (territory_of code territories)
 
 -- the day that is listed as the Easter of a year, in the territory that has the code
-abbrev pub easter_in : List LandModel → List ℕ → ℕ → Option ℕ
-easter_in lands code y = option_and_then (λ t. exception_of t y) (territory_of code lands)
+abbrev pub easter_in : List EntryModel → List ℕ → ℕ → Option ℕ
+easter_in territories code y =
+    option_and_then (λ t. exception_of t y) (territory_of code territories)
 
 -- the source of the period that starts on a day, in the territory that has the code
-abbrev pub period_cited : List LandModel → List ℕ → ℕ → Option (List ℕ)
-period_cited lands code d = period_source (sources_of code lands) d
+abbrev pub period_cited : List EntryModel → List ℕ → ℕ → Option (List ℕ)
+period_cited territories code d = period_source (sources_of code territories) d
 
 -- the source of the listed Easter of a year, in the territory that has the code
-abbrev pub easter_cited : List LandModel → List ℕ → ℕ → Option (List ℕ)
-easter_cited lands code y = easter_source (sources_of code lands) y
+abbrev pub easter_cited : List EntryModel → List ℕ → ℕ → Option (List ℕ)
+easter_cited territories code y = easter_source (sources_of code territories) y
 
 -- The edit changes what differs. It adds a territory or a change that only the wanted register has.
 -- It alters a regime that starts in both, if the wanted one or its source is another. It drops a
 -- change that only the first register has, of a territory that is wanted. It lists a wanted day for
 -- a year without one, and drops a day that is not the wanted day of its year, or has another
 -- source. What it adds, alters or lists has the wanted source.
-abbrev pub IsNeeded : List LandModel → List LandModel → Edit → Type 0
-IsNeeded wanted lands (AddLand code name regime source) =
-    (land_of code lands ≡ None) × (name_in wanted code ≡ Some name)
+abbrev pub IsNeeded : List EntryModel → List EntryModel → Edit → Type 0
+IsNeeded wanted territories (AddLand code name regime source) =
+    (entry_of code territories ≡ None) × (name_in wanted code ≡ Some name)
     × (regime_in wanted code 1 ≡ Some regime) × (source ≡ period_cited wanted code 1)
-IsNeeded wanted lands (AddChange code day regime source) =
-    (regime_in lands code (unsigned_abs day) ≡ None)
+IsNeeded wanted territories (AddChange code day regime source) =
+    (regime_in territories code (unsigned_abs day) ≡ None)
     × (regime_in wanted code (unsigned_abs day) ≡ Some regime)
     × (source ≡ period_cited wanted code (unsigned_abs day))
-IsNeeded wanted lands (AlterChange code day regime source) =
-    (is_some (regime_in lands code (unsigned_abs day)) ≡ true)
-    × (regime_in lands code (unsigned_abs day) ≡ Some regime
-    → period_cited lands code (unsigned_abs day) ≡ source → ⊥)
+IsNeeded wanted territories (AlterChange code day regime source) =
+    (is_some (regime_in territories code (unsigned_abs day)) ≡ true)
+    × (regime_in territories code (unsigned_abs day) ≡ Some regime
+    → period_cited territories code (unsigned_abs day) ≡ source → ⊥)
     × (regime_in wanted code (unsigned_abs day) ≡ Some regime)
     × (source ≡ period_cited wanted code (unsigned_abs day))
-IsNeeded wanted lands (DropChange code day) =
-    (is_some (land_of code wanted) ≡ true)
-    × (is_some (regime_in lands code (unsigned_abs day)) ≡ true)
+IsNeeded wanted territories (DropChange code day) =
+    (is_some (entry_of code wanted) ≡ true)
+    × (is_some (regime_in territories code (unsigned_abs day)) ≡ true)
     × (regime_in wanted code (unsigned_abs day) ≡ None)
-IsNeeded wanted lands (AddException code year day source) =
-    (easter_in lands code (unsigned_abs year) ≡ None)
+IsNeeded wanted territories (AddException code year day source) =
+    (easter_in territories code (unsigned_abs year) ≡ None)
     × (easter_in wanted code (unsigned_abs year) ≡ Some (unsigned_abs day))
     × (source ≡ easter_cited wanted code (unsigned_abs year))
-IsNeeded wanted lands (DropException code year) =
-    (is_some (land_of code wanted) ≡ true)
-    × (is_some (easter_in lands code (unsigned_abs year)) ≡ true)
-    × (easter_in wanted code (unsigned_abs year) ≡ easter_in lands code (unsigned_abs year)
-    → easter_cited wanted code (unsigned_abs year) ≡ easter_cited lands code (unsigned_abs year)
-    → ⊥)
+IsNeeded wanted territories (DropException code year) =
+    (is_some (entry_of code wanted) ≡ true)
+    × (is_some (easter_in territories code (unsigned_abs year)) ≡ true)
+    × (easter_in wanted code (unsigned_abs year) ≡ easter_in territories code (unsigned_abs year)
+    → easter_cited wanted code (unsigned_abs year)
+    ≡ easter_cited territories code (unsigned_abs year) → ⊥)
 
 -- each edit is needed in its turn, from these territories on
-abbrev pub AreNeeded : List LandModel → List LandModel → List Edit → Type 0
-AreNeeded wanted lands [] = Unit {0}
-AreNeeded wanted lands (e ∷ es) = IsNeeded wanted lands e × AreNeeded wanted (effect lands e) es
+abbrev pub AreNeeded : List EntryModel → List EntryModel → List Edit → Type 0
+AreNeeded wanted territories [] = Unit {0}
+AreNeeded wanted territories (e ∷ es) = IsNeeded wanted territories e
+    × AreNeeded wanted (effect territories e) es

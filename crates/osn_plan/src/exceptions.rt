@@ -4,10 +4,10 @@ ghost use Rattle.osn_plan.specs.Change.{edit_of};
 ghost use Rattle.osn_plan.specs.Differences as spec;
 ghost use Rattle.osn_plan.specs.Inside.{sources_at};
 
-use crate::sides::Sides;
+use crate::pair::TerritoryPair;
 use osn_days::{Day, Year};
-use osn_lands::Territory;
 use osn_register::Edit;
+use osn_territory::Territory;
 use std::alloc::AllocError;
 
 /// Returns whether the territory lists the day as the Easter of the year.
@@ -18,29 +18,29 @@ fn lists(territory: &Territory, year: Year, day: Day) -> bool
 }
 
 /// Returns whether the territory lists the day as the Easter of the year, with the wanted source.
-fn agrees(sides: Sides<'_>, territory: &Territory, year: Year, day: Day) -> bool
-    ensures { result ≡ spec.day_agrees (sources_at sides.entry) territory.now (year, day) }
+fn agrees(pair: TerritoryPair<'_>, territory: &Territory, year: Year, day: Day) -> bool
+    ensures { result ≡ spec.day_agrees (sources_at pair.entry) territory.now (year, day) }
 {
-    lists(territory, year, day) && sides.has_easter_source(year)
+    lists(territory, year, day) && pair.has_easter_source(year)
 }
 
 /// Appends the drop of a listed day, unless it is wanted with its source.
 fn push_drop(
-    sides: Sides<'_>,
+    pair: TerritoryPair<'_>,
     wanted: &Territory,
     year: Year,
     day: Day,
     edits: &mut Vec<Edit>,
 ) -> Result<(), AllocError>
     ensures { OnOk result (edits.new.items ≡ edits.old.items
-        ++ map (edit_of sides.entry.code.now) (spec.dropped_exception (sources_at sides.entry)
+        ++ map (edit_of pair.entry.code.now) (spec.dropped_exception (sources_at pair.entry)
         wanted.now (year, day))) }
 {
-    if agrees(sides, wanted, year, day) {
+    if agrees(pair, wanted, year, day) {
         return Ok(());
     }
     edits.push(Edit::DropException {
-        code: sides.code_text()?,
+        code: pair.code_text()?,
         year: i64::from(year.number()),
     })?;
     Ok(())
@@ -48,88 +48,88 @@ fn push_drop(
 
 /// Appends the drops of the listed days that are not wanted, or whose sources differ.
 pub(crate) fn push_drops(
-    sides: Sides<'_>,
+    pair: TerritoryPair<'_>,
     standing: &Territory,
     wanted: &Territory,
     edits: &mut Vec<Edit>,
 ) -> Result<(), AllocError>
     ensures { OnOk result (edits.new.items ≡ edits.old.items ++ flat_map
-        (λ e. map (edit_of sides.entry.code.now) (spec.dropped_exception
-        (sources_at sides.entry) wanted.now e)) standing.now.exceptions) }
+        (λ e. map (edit_of pair.entry.code.now) (spec.dropped_exception
+        (sources_at pair.entry) wanted.now e)) standing.now.exceptions) }
 {
     for (year, day) in standing.exceptions() {
-        push_drop(sides, wanted, *year, *day, edits)?;
+        push_drop(pair, wanted, *year, *day, edits)?;
     }
     Ok(())
 }
 
 /// Appends the edit that lists a wanted day as the Easter of a year.
 fn push_addition(
-    sides: Sides<'_>,
+    pair: TerritoryPair<'_>,
     year: Year,
     day: Day,
     edits: &mut Vec<Edit>,
 ) -> Result<(), AllocError>
     ensures { OnOk result (edits.new.items ≡ edits.old.items
-        ++ map (edit_of sides.entry.code.now) (spec.added_exception
-        (sources_at sides.entry).wanted (year, day))) }
+        ++ map (edit_of pair.entry.code.now) (spec.added_exception
+        (sources_at pair.entry).wanted (year, day))) }
 {
     edits.push(Edit::AddException {
-        code: sides.code_text()?,
+        code: pair.code_text()?,
         year: i64::from(year.number()),
         day: i64::from(day.number()),
-        source: sides.easter_source(year)?,
+        source: pair.easter_source(year)?,
     })?;
     Ok(())
 }
 
 /// Appends the edits that list the days of a wanted territory.
 pub(crate) fn push_additions(
-    sides: Sides<'_>,
+    pair: TerritoryPair<'_>,
     wanted: &Territory,
     edits: &mut Vec<Edit>,
 ) -> Result<(), AllocError>
     ensures { OnOk result (edits.new.items ≡ edits.old.items ++ flat_map
-        (λ e. map (edit_of sides.entry.code.now) (spec.added_exception
-        (sources_at sides.entry).wanted e)) wanted.now.exceptions) }
+        (λ e. map (edit_of pair.entry.code.now) (spec.added_exception
+        (sources_at pair.entry).wanted e)) wanted.now.exceptions) }
 {
     for (year, day) in wanted.exceptions() {
-        push_addition(sides, *year, *day, edits)?;
+        push_addition(pair, *year, *day, edits)?;
     }
     Ok(())
 }
 
 /// Appends the edit that lists a wanted day, unless it is listed already with its source.
 fn push_wanted(
-    sides: Sides<'_>,
+    pair: TerritoryPair<'_>,
     standing: &Territory,
     year: Year,
     day: Day,
     edits: &mut Vec<Edit>,
 ) -> Result<(), AllocError>
     ensures { OnOk result (edits.new.items ≡ edits.old.items
-        ++ map (edit_of sides.entry.code.now) (spec.wanted_exception (sources_at sides.entry)
+        ++ map (edit_of pair.entry.code.now) (spec.wanted_exception (sources_at pair.entry)
         standing.now (year, day))) }
 {
-    if agrees(sides, standing, year, day) {
+    if agrees(pair, standing, year, day) {
         return Ok(());
     }
-    push_addition(sides, year, day, edits)
+    push_addition(pair, year, day, edits)
 }
 
 /// Appends the edits that list the wanted days that are not listed already with their sources.
 pub(crate) fn push_all_wanted(
-    sides: Sides<'_>,
+    pair: TerritoryPair<'_>,
     standing: &Territory,
     wanted: &Territory,
     edits: &mut Vec<Edit>,
 ) -> Result<(), AllocError>
     ensures { OnOk result (edits.new.items ≡ edits.old.items ++ flat_map
-        (λ e. map (edit_of sides.entry.code.now) (spec.wanted_exception
-        (sources_at sides.entry) standing.now e)) wanted.now.exceptions) }
+        (λ e. map (edit_of pair.entry.code.now) (spec.wanted_exception
+        (sources_at pair.entry) standing.now e)) wanted.now.exceptions) }
 {
     for (year, day) in wanted.exceptions() {
-        push_wanted(sides, standing, *year, *day, edits)?;
+        push_wanted(pair, standing, *year, *day, edits)?;
     }
     Ok(())
 }

@@ -6,10 +6,10 @@
 mod changes;
 mod exceptions;
 mod fault;
-mod lands;
 mod names;
+mod pair;
 mod planning;
-mod sides;
+mod territories;
 mod trial;
 
 pub use fault::PlanFault;

@@ -22,10 +22,10 @@ fn renamed(alloc: Global, code: &str, name: &str, wanted: &str) -> Result<PlanFa
 /// Checks that the code has this name, if it is present.
 fn check_name(alloc: Global, register: &Register, code: &str, name: &str) -> Result<(), PlanFault>
     ensures ok { OnOk result
-        (has_other_name name.now (name_in register.now.lands code.now) ≡ false) }
-    ensures err { IfErr result (IsNameFault register.now.lands code.now name.now) }
+        (has_other_name name.now (name_in register.now.territories code.now) ≡ false) }
+    ensures err { IfErr result (IsNameFault register.now.territories code.now name.now) }
 {
-    match register.find_land(code) {
+    match register.find_territory(code) {
         Some((standing, _)) if standing != name => Err(renamed(alloc, code, standing, name)?),
         _ => Ok(()),
     }
@@ -37,14 +37,15 @@ pub(crate) fn check_names(
     register: &Register,
     wanted: &Register,
 ) -> Result<(), PlanFault>
-    ensures ok { OnOk result (first_renamed wanted.now.lands register.now.lands ≡ None) }
+    ensures ok { OnOk result
+        (first_renamed wanted.now.territories register.now.territories ≡ None) }
     ensures err { IfErr result
-        (IsFault register.now.limits wanted.now.lands register.now.lands) }
+        (IsFault register.now.limits wanted.now.territories register.now.territories) }
 {
     // There are no more territories than the limit, so that each place fits.
     let _most = wanted.limits().lands;
     let mut place = 0;
-    while let Some((code, name, _)) = wanted.land_at(place) {
+    while let Some((code, name, _)) = wanted.territory_at(place) {
         check_name(alloc, register, code, name)?;
         place += 1;
     }

@@ -5,29 +5,30 @@ ghost use Rattle.osn_plan.specs.Fault.{IsFault};
 ghost use Rattle.osn_plan.specs.Plan.{IsPlan};
 
 use crate::fault::PlanFault;
-use crate::lands::push_edits;
 use crate::names::check_names;
-use crate::sides::Sides;
+use crate::pair::TerritoryPair;
+use crate::territories::push_edits;
 use crate::trial::try_edits;
 use osn_register::{Edit, Register};
 use std::alloc::{AllocError, Global};
 
 /// Returns the edits that each wanted territory needs, in the order of these.
 fn all_edits(alloc: Global, register: &Register, wanted: &Register) -> Result<Vec<Edit>, AllocError>
-    ensures { IfOk result (λ es. es.items ≡ all_edits wanted.now.lands register.now.lands) }
+    ensures { IfOk result
+        (λ es. es.items ≡ all_edits wanted.now.territories register.now.territories) }
 {
     // There are no more territories than the limit, so that each place fits.
     let _most = wanted.limits().lands;
     let mut edits = Vec::new(alloc);
     let mut place = 0;
-    while let Some((code, name, territory)) = wanted.land_at(place) {
-        let sides = Sides {
+    while let Some((code, name, territory)) = wanted.territory_at(place) {
+        let pair = TerritoryPair {
             alloc,
             code,
             register,
             wanted,
         };
-        push_edits(sides, name, territory, &mut edits)?;
+        push_edits(pair, name, territory, &mut edits)?;
         place += 1;
     }
     Ok(edits)
@@ -43,10 +44,10 @@ fn all_edits(alloc: Global, register: &Register, wanted: &Register) -> Result<Ve
 /// the register refuses an edit that is needed, such as one territory more than its limit. Returns
 /// `NoMemory` if memory runs out.
 pub fn plan(alloc: Global, register: &Register, wanted: &Register) -> Result<Vec<Edit>, PlanFault>
-    ensures ok { IfOk result (λ edits. IsPlan register.now.limits wanted.now.lands
-        register.now.lands edits.items) }
+    ensures ok { IfOk result (λ edits. IsPlan register.now.limits wanted.now.territories
+        register.now.territories edits.items) }
     ensures err { IfErr result
-        (IsFault register.now.limits wanted.now.lands register.now.lands) }
+        (IsFault register.now.limits wanted.now.territories register.now.territories) }
 {
     // What both contain is sound, as of every register.
     let _limits = (register.limits(), wanted.limits());

@@ -1,6 +1,6 @@
 //! Whether a register takes edits, tried on a copy of it.
 ghost use Rattle.std.specs.Prelude.{◌≡◌, None, OnOk, IfErr};
-ghost use Rattle.osn_days.specs.Profile.{newest_rules};
+ghost use Rattle.osn_days.specs.Rules.{newest_rules};
 ghost use Rattle.osn_register.specs.Lawful.{AreLawful};
 ghost use Rattle.osn_register.specs.Plain.{refusal, applied_all, IsWellFormed};
 ghost use Rattle.osn_plan.specs.Fault as spec;
@@ -11,8 +11,9 @@ use osn_register::{Edit, Register};
 /// Checks that the register takes the edit now.
 fn check_edit(register: &Register, edit: &Edit) -> Result<(), PlanFault>
     ensures ok { OnOk result
-        (refusal newest_rules register.now.limits register.now.lands edit.now ≡ None) }
-    ensures err { IfErr result (spec.IsEditFault register.now.limits register.now.lands edit.now) }
+        (refusal newest_rules register.now.limits register.now.territories edit.now ≡ None) }
+    ensures err { IfErr result
+        (spec.IsEditFault register.now.limits register.now.territories edit.now) }
 {
     match register.check(edit) {
         Ok(()) => Ok(()),
@@ -26,12 +27,12 @@ fn check_edit(register: &Register, edit: &Edit) -> Result<(), PlanFault>
 /// Checks that the register takes the edits, each after those before it.
 pub(crate) fn try_edits(register: &Register, edits: &[Edit]) -> Result<(), PlanFault>
     ensures lawful { OnOk result
-        (AreLawful newest_rules register.now.limits register.now.lands edits.now) }
+        (AreLawful newest_rules register.now.limits register.now.territories edits.now) }
     ensures well_formed { OnOk result (IsWellFormed newest_rules (record register.now {
-      lands = applied_all newest_rules register.now.limits register.now.lands edits.now;
+      territories = applied_all newest_rules register.now.limits register.now.territories edits.now;
     })) }
     ensures err { IfErr result
-        (spec.IsTrialFault register.now.limits register.now.lands edits.now) }
+        (spec.IsTrialFault register.now.limits register.now.territories edits.now) }
 {
     let mut draft = register.copy()?;
     for edit in edits {

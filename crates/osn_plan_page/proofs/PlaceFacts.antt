@@ -4,17 +4,17 @@ use Rattle.std.proofs.Common.{ap, arith, refl, sym, append_assoc, append-nil, op
 use Rattle.std.specs.Prelude.{slice_get}
 use Rattle.std.proofs.lemmas.List.{drop_all, drop_more}
 use Rattle.std.proofs.lemmas.Option.{get_or_from_slice_get, slice_get_within}
-use Rattle.osn_lands.specs.Territory.{TerritoryModel}
+use Rattle.osn_territory.specs.Territory.{TerritoryModel}
 use Rattle.osn_register.specs.Named.{listing_of}
-use Rattle.osn_register.specs.Plain.{LandModel}
+use Rattle.osn_register.specs.Plain.{EntryModel}
 use Rattle.osn_plan_page.specs.PlanPage.{absent_line, absent_lines}
 
 -- the one at the place, and those after it
-left_at : (lands : List LandModel) (place : ℕ) (l : LandModel) → slice_get lands place ≡ Some l
-    → drop place lands ≡ l ∷ drop (place + 1) lands
-left_at lands place l there =
-    drop_more lands place l (slice_get_within lands place l there)
-    ∙ ap (λ x. x ∷ drop (place + 1) lands) (get_or_from_slice_get lands place l l there)
+left_at : (territories : List EntryModel) (place : ℕ) (l : EntryModel) → slice_get territories place
+    ≡ Some l → drop place territories ≡ l ∷ drop (place + 1) territories
+left_at territories place l there =
+    drop_more territories place l (slice_get_within territories place l there)
+    ∙ ap (λ x. x ∷ drop (place + 1) territories) (get_or_from_slice_get territories place l l there)
 
 -- what a place lists, and the code of it
 abbrev Listed : Type 0
@@ -25,48 +25,49 @@ code_in None = []
 code_in (Some listed) = listed.0
 
 -- the line of the one at the place was written, if it has one
-next_written_of : (wanted lands : List LandModel) (place : ℕ) (found : Option LandModel)
+next_written_of : (wanted territories : List EntryModel) (place : ℕ) (found : Option EntryModel)
     (code name : List ℕ) (t : TerritoryModel) (all old new : List ℕ)
-    → slice_get lands place ≡ found → option_map listing_of found ≡ Some (code, name, t)
-    → all ≡ old ++ absent_lines wanted (drop place lands)
+    → slice_get territories place ≡ found → option_map listing_of found ≡ Some (code, name, t)
+    → all ≡ old ++ absent_lines wanted (drop place territories)
     → new ≡ old ++ absent_line wanted code
-    → all ≡ new ++ absent_lines wanted (drop (place + 1) lands)
-next_written_of wanted lands place None code name t all old new there is before written =
+    → all ≡ new ++ absent_lines wanted (drop (place + 1) territories)
+next_written_of wanted territories place None code name t all old new there is before written =
     absurd (cc)
-next_written_of wanted lands place (Some l) code name t all old new there is before written =
-    let rest = absent_lines wanted (drop (place + 1) lands) in
+next_written_of wanted territories place (Some l) code name t all old new there is before written =
+    let rest = absent_lines wanted (drop (place + 1) territories) in
     before
-    ∙ ap (λ xs. old ++ absent_lines wanted xs) (left_at lands place l there)
+    ∙ ap (λ xs. old ++ absent_lines wanted xs) (left_at territories place l there)
     ∙ sym (append_assoc old (absent_line wanted l.code) rest)
     ∙ ap (λ (listed : Listed). (old ++ absent_line wanted (code_in listed)) ++ rest) is
     ∙ ap (λ text. text ++ rest) (sym written)
 
-pub next_written : (wanted lands : List LandModel) (place : ℕ) (code name : List ℕ)
+pub next_written : (wanted territories : List EntryModel) (place : ℕ) (code name : List ℕ)
     (t : TerritoryModel) (all old new : List ℕ)
-    → option_map listing_of (slice_get lands place) ≡ Some (code, name, t)
-    → all ≡ old ++ absent_lines wanted (drop place lands)
+    → option_map listing_of (slice_get territories place) ≡ Some (code, name, t)
+    → all ≡ old ++ absent_lines wanted (drop place territories)
     → new ≡ old ++ absent_line wanted code
-    → all ≡ new ++ absent_lines wanted (drop (place + 1) lands)
-next_written wanted lands place code name t all old new =
-    next_written_of wanted lands place (slice_get lands place) code name t all old new refl
+    → all ≡ new ++ absent_lines wanted (drop (place + 1) territories)
+next_written wanted territories place code name t all old new =
+    next_written_of wanted territories place (slice_get territories place) code name t all old new
+    refl
 
 -- no territory is left if there is none at the place
-none_left : (lands : List LandModel) (place : ℕ) → slice_get lands place ≡ None
-    → drop place lands ≡ []
+none_left : (territories : List EntryModel) (place : ℕ) → slice_get territories place ≡ None
+    → drop place territories ≡ []
 none_left [] place none = drop_all place [] (omega arith)
-none_left (l ∷ lands) zero none = absurd (cc)
-none_left (l ∷ lands) (suc place) none = none_left lands place none
+none_left (l ∷ territories) zero none = absurd (cc)
+none_left (l ∷ territories) (suc place) none = none_left territories place none
 
-all_written_of : (wanted lands : List LandModel) (place : ℕ) (found : Option LandModel)
-    (all old : List ℕ) → slice_get lands place ≡ found → option_map listing_of found ≡ None
-    → all ≡ old ++ absent_lines wanted (drop place lands) → old ≡ all
-all_written_of wanted lands place None all old there is before =
-    sym (before ∙ ap (λ xs. old ++ absent_lines wanted xs) (none_left lands place there)
+all_written_of : (wanted territories : List EntryModel) (place : ℕ) (found : Option EntryModel)
+    (all old : List ℕ) → slice_get territories place ≡ found → option_map listing_of found ≡ None
+    → all ≡ old ++ absent_lines wanted (drop place territories) → old ≡ all
+all_written_of wanted territories place None all old there is before =
+    sym (before ∙ ap (λ xs. old ++ absent_lines wanted xs) (none_left territories place there)
     ∙ append-nil old)
-all_written_of wanted lands place (Some l) all old there is before = absurd (cc)
+all_written_of wanted territories place (Some l) all old there is before = absurd (cc)
 
-pub all_written : (wanted lands : List LandModel) (place : ℕ) (all old : List ℕ)
-    → option_map listing_of (slice_get lands place) ≡ None
-    → all ≡ old ++ absent_lines wanted (drop place lands) → old ≡ all
-all_written wanted lands place all old =
-    all_written_of wanted lands place (slice_get lands place) all old refl
+pub all_written : (wanted territories : List EntryModel) (place : ℕ) (all old : List ℕ)
+    → option_map listing_of (slice_get territories place) ≡ None
+    → all ≡ old ++ absent_lines wanted (drop place territories) → old ≡ all
+all_written wanted territories place all old =
+    all_written_of wanted territories place (slice_get territories place) all old refl

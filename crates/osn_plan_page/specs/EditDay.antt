@@ -2,16 +2,16 @@
 use Rattle.std.specs.Prelude.{ℕ, ◌-◌, ◌==◌, if◌then◌else◌, ℤ, unsigned_abs, List, ◌++◌, codes}
 use Rattle.std.specs.Prelude.{Option, Some, None, option_map, option_and_then}
 use Rattle.std.specs.Fmt.{signed_decimal}
-use Rattle.osn_days.specs.Profile.{Profile}
-use Rattle.osn_lands.specs.declared.dated.DatedDay.{DatedDay}
-use Rattle.osn_lands.specs.declared.regime.Regime.{Regime}
-use Rattle.osn_lands.specs.Dated.{dated_on}
-use Rattle.osn_lands.specs.Territory.{TerritoryModel, regime_at}
+use Rattle.osn_days.specs.Rules.{Rules}
+use Rattle.osn_territory.specs.declared.dated.DatedDay.{DatedDay}
+use Rattle.osn_territory.specs.declared.regime.Regime.{Regime}
+use Rattle.osn_territory.specs.Dated.{dated_on}
+use Rattle.osn_territory.specs.Territory.{TerritoryModel, regime_at}
 use Rattle.osn_pages.specs.Words.{numbered_day}
 use Rattle.osn_register.specs.Plain.{is_off_line}
 
 -- the day of a number, if the line has it
-abbrev pub day_numbered : Profile → ℤ → Option ℕ
+abbrev pub day_numbered : Rules → ℤ → Option ℕ
 day_numbered p number = if is_off_line p number then None else Some (unsigned_abs number)
 
 -- the day before a day, if the line has it
@@ -19,12 +19,12 @@ abbrev pub day_before : ℕ → Option ℕ
 day_before day = if day == 1 then None else Some (day - 1)
 
 -- the day of a number as a territory dates it
-abbrev pub dated_in : Profile → Option TerritoryModel → ℤ → Option DatedDay
+abbrev pub dated_in : Rules → Option TerritoryModel → ℤ → Option DatedDay
 dated_in p None number = None
 dated_in p (Some t) number = option_map (dated_on p t) (day_numbered p number)
 
 -- the regime of a territory on the day before that of a number
-abbrev pub regime_before : Profile → Option TerritoryModel → ℤ → Option Regime
+abbrev pub regime_before : Rules → Option TerritoryModel → ℤ → Option Regime
 regime_before p None number = None
 regime_before p (Some t) number =
     option_map (regime_at t) (option_and_then day_before (day_numbered p number))

@@ -3,8 +3,8 @@ use Rattle.std.specs.Prelude.{ℕ, ℤ, List, ◌++◌, codes}
 use Rattle.std.specs.Fmt.{signed_decimal}
 
 -- GB: new territory Great Britain: julian calendar, years from 25 March, julian rule
-unfoldable pub land_words : List ℕ → List ℕ → List ℕ → List ℕ
-land_words code name regime =
+unfoldable pub territory_words : List ℕ → List ℕ → List ℕ → List ℕ
+territory_words code name regime =
     code ++ (codes ": new territory " ++ (name ++ (codes ": " ++ regime)))
 
 -- GB: from Thursday 14 September 1752 (day 639797): gregorian calendar, gregorian rule

@@ -5,8 +5,8 @@ use Rattle.std.specs.List.{flat_map}
 use Rattle.std.specs.Str.{bytes_eq}
 use Rattle.osn_computus.specs.RuleWords.{rule_word}
 use Rattle.osn_days.specs.CalendarWords.{calendar_word}
-use Rattle.osn_lands.specs.declared.regime.Regime.{Regime}
-use Rattle.osn_lands.specs.StyleWords.{style_word, beginning_of_year}
+use Rattle.osn_territory.specs.declared.regime.Regime.{Regime}
+use Rattle.osn_territory.specs.StyleWords.{style_word, beginning_of_year}
 use Rattle.osn_plan_page.specs.declared.part.Part.{Part}
 use Rattle.osn_plan_page.specs.declared.part.Part.TheVariants.{Calendar, Beginning, Easter}
 

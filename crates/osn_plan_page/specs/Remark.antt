@@ -8,8 +8,8 @@ use Rattle.osn_days.specs.declared.calendar.Calendar.{Calendar}
 use Rattle.osn_days.specs.declared.calendar.Calendar.TheVariants.{Julian, Gregorian}
 use Rattle.osn_days.specs.declared.date.Date.{Date}
 use Rattle.osn_days.specs.Chain.{date_of}
-use Rattle.osn_days.specs.Profile.{Profile}
-use Rattle.osn_lands.specs.declared.regime.Regime.{Regime}
+use Rattle.osn_days.specs.Rules.{Rules}
+use Rattle.osn_territory.specs.declared.regime.Regime.{Regime}
 use Rattle.osn_pages.specs.Words.{weekday_words}
 use Rattle.osn_plan_page.specs.EditDay.{day_numbered}
 use Rattle.osn_plan_page.specs.Part.{is_other_regime}
@@ -59,5 +59,5 @@ easter_notes_on code year None = []
 easter_notes_on code year (Some day) =
     weekday_note code (weekday_words day) ++ season_note code year day
 
-abbrev pub easter_notes : Profile → List ℕ → ℤ → ℤ → List ℕ
+abbrev pub easter_notes : Rules → List ℕ → ℤ → ℤ → List ℕ
 easter_notes p code year number = easter_notes_on code year (day_numbered p number)

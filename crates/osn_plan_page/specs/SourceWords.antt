@@ -1,21 +1,21 @@
 -- What the line of an edit says of the source of what it changes. This project's profile.
 use Rattle.std.specs.Prelude.{ℕ, ℤ, List, [], ◌++◌, codes, Option, Some, None, option_and_then}
-use Rattle.osn_days.specs.Profile.{Profile}
+use Rattle.osn_days.specs.Rules.{Rules}
 use Rattle.osn_register.specs.declared.edit.Edit.{Edit}
 use Rattle.osn_register.specs.declared.edit.Edit.TheVariants.{AlterChange}
 use Rattle.osn_register.specs.Answer.{period_source}
-use Rattle.osn_register.specs.Plain.{LandModel, sources_of}
+use Rattle.osn_register.specs.Plain.{EntryModel, sources_of}
 use Rattle.osn_plan_page.specs.EditDay.{day_numbered}
 
 -- the source of the period of a territory that starts on the day of a number
-abbrev pub source_on : Profile → List LandModel → List ℕ → ℤ → Option (List ℕ)
-source_on p lands code number =
-    option_and_then (period_source (sources_of code lands)) (day_numbered p number)
+abbrev pub source_on : Rules → List EntryModel → List ℕ → ℤ → Option (List ℕ)
+source_on p territories code number =
+    option_and_then (period_source (sources_of code territories)) (day_numbered p number)
 
 -- the present source of what an edit alters
-abbrev pub source_before : Profile → List LandModel → Edit → Option (List ℕ)
-source_before p lands (AlterChange code day regime source) = source_on p lands code day
-source_before p lands edit = None
+abbrev pub source_before : Rules → List EntryModel → Edit → Option (List ℕ)
+source_before p territories (AlterChange code day regime source) = source_on p territories code day
+source_before p territories edit = None
 
 -- a source: ; source: Calendar (New Style) Act 1750
 unfoldable pub source_part : List ℕ → List ℕ

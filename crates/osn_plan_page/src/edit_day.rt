@@ -1,20 +1,20 @@
 //! What an edit names: a territory by its code, and a day by its number.
 ghost use Rattle.std.specs.Prelude.{◌≡◌, option_map};
-ghost use Rattle.osn_days.specs.Profile.{newest_rules};
+ghost use Rattle.osn_days.specs.Rules.{newest_rules};
 ghost use Rattle.osn_register.specs.Plain.{territory_of};
 ghost use Rattle.osn_plan_page.specs.EditDay as spec;
 
 use osn_days::Day;
-use osn_lands::{DatedDay, Regime, Territory};
 use osn_pages::NumberedDay;
 use osn_register::Register;
+use osn_territory::{DatedDay, Regime, Territory};
 use std::fmt;
 
 /// Returns the territory of a code, if a territory has it.
 pub(crate) fn territory_of<'a>(register: &'a Register, code: &str) -> Option<&'a Territory>
-    ensures { option_map (λ t. t.now) result ≡ territory_of code.now register.now.lands }
+    ensures { option_map (λ t. t.now) result ≡ territory_of code.now register.now.territories }
 {
-    match register.find_land(code) {
+    match register.find_territory(code) {
         Some((_, territory)) => Some(territory),
         None => None,
     }

@@ -1,23 +1,25 @@
 //! The line of an edit that changes a register towards a wanted one.
 ghost use Rattle.std.specs.Prelude.{◌≡◌, ◌++◌, OnOk, string_bytes};
-ghost use Rattle.osn_days.specs.Profile.{newest_rules};
+ghost use Rattle.osn_days.specs.Rules.{newest_rules};
 ghost use Rattle.osn_plan_page.specs.EditLine as spec;
 ghost use Rattle.osn_plan_page.specs.EditDay.{day_words};
 
 use crate::edit_day::{EditDay, dated_in, opening_regime, regime_before, territory_of};
 use crate::followed::push_followed;
-use crate::line::{push_change, push_drop, push_easter, push_land, push_no_easter, push_opening};
+use crate::line::{
+    push_change, push_drop, push_easter, push_no_easter, push_opening, push_territory,
+};
 use crate::part::regime_words;
 use crate::remark::{push_easter_notes, push_same_regime};
 use crate::source_words::{push_source_words, source_before};
-use osn_lands::Regime;
 use osn_register::{Edit, Register};
+use osn_territory::Regime;
 use std::alloc::{AllocError, Global};
 
 /// Returns the day of a number, as the territory of a code dates it.
 fn day_in(register: &Register, code: &str, number: i64) -> EditDay
     ensures { day_words result.dated result.number
-        ≡ spec.day_in newest_rules register.now.lands code.now number }
+        ≡ spec.day_in newest_rules register.now.territories code.now number }
 {
     EditDay {
         dated: dated_in(territory_of(register, code), number),
@@ -26,7 +28,7 @@ fn day_in(register: &Register, code: &str, number: i64) -> EditDay
 }
 
 /// Appends that a territory is added.
-fn push_new_land(
+fn push_new_territory(
     alloc: Global,
     out: &mut String,
     code: &str,
@@ -34,10 +36,10 @@ fn push_new_land(
     regime: Regime,
 ) -> Result<(), AllocError>
     ensures { OnOk result (string_bytes out.new ≡ string_bytes out.old
-        ++ spec.new_land code.now name.now regime) }
+        ++ spec.new_territory code.now name.now regime) }
 {
     let words = regime_words(alloc, None, regime)?;
-    push_land(out, code, name, words.as_str())
+    push_territory(out, code, name, words.as_str())
 }
 
 /// Appends that a regime holds from a day on.
@@ -50,7 +52,7 @@ fn push_new_change(
     regime: Regime,
 ) -> Result<(), AllocError>
     ensures { OnOk result (string_bytes out.new ≡ string_bytes out.old
-        ++ spec.new_change newest_rules wanted.now.lands code.now day regime) }
+        ++ spec.new_change newest_rules wanted.now.territories code.now day regime) }
 {
     let before = regime_before(territory_of(wanted, code), day);
     let words = regime_words(alloc, before, regime)?;
@@ -66,7 +68,7 @@ fn push_new_opening(
     regime: Regime,
 ) -> Result<(), AllocError>
     ensures { OnOk result (string_bytes out.new ≡ string_bytes out.old
-        ++ spec.new_opening register.now.lands code.now regime) }
+        ++ spec.new_opening register.now.territories code.now regime) }
 {
     let before = opening_regime(territory_of(register, code));
     let words = regime_words(alloc, before, regime)?;
@@ -83,7 +85,7 @@ fn push_edit_words(
     edit: &Edit,
 ) -> Result<(), AllocError>
     ensures { OnOk result (string_bytes out.new ≡ string_bytes out.old
-        ++ spec.edit_words newest_rules register.now.lands wanted.now.lands edit.now) }
+        ++ spec.edit_words newest_rules register.now.territories wanted.now.territories edit.now) }
 {
     match edit {
         Edit::AddLand {
@@ -91,7 +93,7 @@ fn push_edit_words(
             name,
             regime,
             ..
-        } => push_new_land(alloc, out, code.as_str(), name.as_str(), *regime),
+        } => push_new_territory(alloc, out, code.as_str(), name.as_str(), *regime),
         Edit::AlterChange {
             code,
             day,
@@ -139,7 +141,7 @@ fn push_change_remarks(
     regime: Regime,
 ) -> Result<(), AllocError>
     ensures { OnOk result (string_bytes out.new ≡ string_bytes out.old
-        ++ spec.change_remarks newest_rules wanted.now.lands code.now day regime) }
+        ++ spec.change_remarks newest_rules wanted.now.territories code.now day regime) }
 {
     let territory = territory_of(wanted, code);
     push_followed(out, code, territory, day)?;
@@ -150,7 +152,7 @@ fn push_change_remarks(
 #[tactic(auto, unfolding(crate::specs::EditLine::remarks))]
 fn push_remarks(out: &mut String, wanted: &Register, edit: &Edit) -> Result<(), AllocError>
     ensures { OnOk result (string_bytes out.new
-        ≡ string_bytes out.old ++ spec.remarks newest_rules wanted.now.lands edit.now) }
+        ≡ string_bytes out.old ++ spec.remarks newest_rules wanted.now.territories edit.now) }
 {
     match edit {
         Edit::AddChange {
@@ -194,7 +196,7 @@ pub(crate) fn push_edit(
     edit: &Edit,
 ) -> Result<(), AllocError>
     ensures { OnOk result (string_bytes out.new ≡ string_bytes out.old
-        ++ spec.edit_line newest_rules register.now.lands wanted.now.lands edit.now) }
+        ++ spec.edit_line newest_rules register.now.territories wanted.now.territories edit.now) }
 {
     push_edit_words(alloc, out, register, wanted, edit)?;
     push_source_words(out, edit.source(), source_before(register, edit))?;

@@ -1,12 +1,12 @@
 //! The line on a change of regime that shows the last day before it and the first one after.
 ghost use Rattle.std.specs.Prelude.{◌≡◌, ◌++◌, OnOk, option_map, string_bytes};
-ghost use Rattle.osn_days.specs.Profile.{newest_rules};
+ghost use Rattle.osn_days.specs.Rules.{newest_rules};
 ghost use Rattle.osn_plan_page.specs.Followed as spec;
 
 use crate::edit_day::{day_before, day_numbered};
 use osn_days::{Day, date_of, day_of};
-use osn_lands::{DatedDay, Territory};
 use osn_pages::{NamedDay, push_gap};
+use osn_territory::{DatedDay, Territory};
 use std::alloc::AllocError;
 use std::fmt::Write;
 

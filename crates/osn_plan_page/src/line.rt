@@ -8,15 +8,15 @@ use std::alloc::AllocError;
 use std::fmt::Write;
 
 /// Appends that a territory is added, with the words of its opening regime.
-#[tactic(auto, unfolding(crate::specs::Line::land_words))]
-pub(crate) fn push_land(
+#[tactic(auto, unfolding(crate::specs::Line::territory_words))]
+pub(crate) fn push_territory(
     out: &mut String,
     code: &str,
     name: &str,
     regime: &str,
 ) -> Result<(), AllocError>
     ensures { OnOk result (string_bytes out.new
-        ≡ string_bytes out.old ++ spec.land_words code.now name.now regime.now) }
+        ≡ string_bytes out.old ++ spec.territory_words code.now name.now regime.now) }
 {
     write!(out, "{code}: new territory {name}: {regime}")
 }

@@ -1,7 +1,7 @@
 //! The text of a plan.
 ghost use Rattle.std.specs.Prelude.{◌≡◌, ◌++◌, IfOk, OnOk, string_bytes};
 ghost use Rattle.std.specs.List.{flat_map};
-ghost use Rattle.osn_days.specs.Profile.{newest_rules};
+ghost use Rattle.osn_days.specs.Rules.{newest_rules};
 ghost use Rattle.osn_plan_page.specs.EditLine.{edit_line};
 ghost use Rattle.osn_plan_page.specs.PlanPage as spec;
 
@@ -19,7 +19,8 @@ fn push_edits(
     edits: &[Edit],
 ) -> Result<(), AllocError>
     ensures { OnOk result (string_bytes out.new ≡ string_bytes out.old
-        ++ flat_map (edit_line newest_rules register.now.lands wanted.now.lands) edits.now) }
+        ++ flat_map (edit_line newest_rules register.now.territories wanted.now.territories)
+        edits.now) }
 {
     for edit in edits {
         push_edit(alloc, out, register, wanted, edit)?;
@@ -31,9 +32,9 @@ fn push_edits(
 #[tactic(auto, unfolding(crate::specs::PlanPage::absent_line))]
 fn push_absent_line(out: &mut String, wanted: &Register, code: &str) -> Result<(), AllocError>
     ensures { OnOk result (string_bytes out.new
-        ≡ string_bytes out.old ++ spec.absent_line wanted.now.lands code.now) }
+        ≡ string_bytes out.old ++ spec.absent_line wanted.now.territories code.now) }
 {
-    if wanted.find_land(code).is_some() {
+    if wanted.find_territory(code).is_some() {
         return Ok(());
     }
     writeln!(out, "{code}: not in the text, stays as it is")
@@ -46,10 +47,10 @@ fn push_absent_lines(
     wanted: &Register,
 ) -> Result<(), AllocError>
     ensures { OnOk result (string_bytes out.new ≡ string_bytes out.old
-        ++ spec.absent_lines wanted.now.lands register.now.lands) }
+        ++ spec.absent_lines wanted.now.territories register.now.territories) }
 {
     for place in 0..register.limits().lands as usize {
-        let Some((code, _, _)) = register.land_at(place) else {
+        let Some((code, _, _)) = register.territory_at(place) else {
             return Ok(());
         };
         push_absent_line(out, wanted, code)?;
@@ -71,7 +72,7 @@ pub fn plan_page(
     edits: &[Edit],
 ) -> Result<String, AllocError>
     ensures { IfOk result (λ s. string_bytes s
-        ≡ spec.plan_page newest_rules register.now.lands wanted.now.lands edits.now) }
+        ≡ spec.plan_page newest_rules register.now.territories wanted.now.territories edits.now) }
 {
     let mut text = String::new(alloc);
     push_edits(alloc, &mut text, register, wanted, edits)?;

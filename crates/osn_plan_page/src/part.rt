@@ -5,7 +5,7 @@ ghost use Rattle.osn_plan_page.specs.Part as spec;
 
 use osn_computus::Rule;
 use osn_days::{Calendar, Keyword};
-use osn_lands::{Regime, Style};
+use osn_territory::{Regime, Style};
 use std::alloc::{AllocError, Global};
 use std::fmt;
 use std::fmt::Write;

@@ -1,13 +1,13 @@
 //! The notes on an edit that an editor may not have meant.
 ghost use Rattle.std.specs.Prelude.{◌≡◌, ◌++◌, OnOk, string_bytes};
-ghost use Rattle.osn_days.specs.Profile.{newest_rules};
+ghost use Rattle.osn_days.specs.Rules.{newest_rules};
 ghost use Rattle.osn_pages.specs.Words.{weekday_words};
 ghost use Rattle.osn_plan_page.specs.Remark as spec;
 
 use crate::edit_day::day_numbered;
 use crate::part::is_other_regime;
 use osn_days::{Calendar, Day, date_of};
-use osn_lands::Regime;
+use osn_territory::Regime;
 use std::alloc::AllocError;
 use std::fmt::Write;
 

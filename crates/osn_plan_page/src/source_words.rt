@@ -1,6 +1,6 @@
 //! What the line of an edit says of the source of what it changes.
 ghost use Rattle.std.specs.Prelude.{◌≡◌, ◌++◌, OnOk, option_map, string_bytes};
-ghost use Rattle.osn_days.specs.Profile.{newest_rules};
+ghost use Rattle.osn_days.specs.Rules.{newest_rules};
 ghost use Rattle.osn_plan_page.specs.SourceWords as spec;
 
 use crate::edit_day::day_numbered;
@@ -12,7 +12,7 @@ use std::fmt::Write;
 /// one.
 fn source_on<'a>(register: &'a Register, code: &str, number: i64) -> Option<&'a Source>
     ensures { option_map (λ s. s.now) result
-        ≡ spec.source_on newest_rules register.now.lands code.now number }
+        ≡ spec.source_on newest_rules register.now.territories code.now number }
 {
     match day_numbered(number) {
         Some(day) => register.period_source(code, day),
@@ -23,7 +23,7 @@ fn source_on<'a>(register: &'a Register, code: &str, number: i64) -> Option<&'a 
 /// Returns the present source of what an edit alters.
 pub(crate) fn source_before<'a>(register: &'a Register, edit: &Edit) -> Option<&'a Source>
     ensures { option_map (λ s. s.now) result
-        ≡ spec.source_before newest_rules register.now.lands edit.now }
+        ≡ spec.source_before newest_rules register.now.territories edit.now }
 {
     match edit {
         Edit::AlterChange { code, day, .. } => source_on(register, code.as_str(), *day),

@@ -6,14 +6,14 @@ use Rattle.std.proofs.Common.{get_or, take, drop, map, filter, refl, sym, ap, su
 use Rattle.std.proofs.lemmas.Bool.{false≢true}
 use Rattle.std.proofs.lemmas.Bool.Decides.{nat_tests}
 use Rattle.std.specs.List.{list_any, HoldsAt}
-use Rattle.osn_days.specs.Profile.{Profile}
-use Rattle.osn_lands.specs.declared.regime.Regime.{Regime}
-use Rattle.osn_lands.specs.declared.period.Period.{Period}
-use Rattle.osn_lands.specs.Territory.{TerritoryModel, Covers, CoversLine, periods_from, periods_of}
-use Rattle.osn_lands.specs.Territory.{last_before}
-use Rattle.osn_lands.specs.Changes.{with_start, with_change, with_altered, without_change}
-use Rattle.osn_lands.specs.Changes.{starts_on}
-use Rattle.osn_lands.proofs.CoverFacts.{at_place, begins}
+use Rattle.osn_days.specs.Rules.{Rules}
+use Rattle.osn_territory.specs.declared.regime.Regime.{Regime}
+use Rattle.osn_territory.specs.declared.period.Period.{Period}
+use Rattle.osn_territory.specs.Territory.{TerritoryModel, Covers, CoversLine, periods_from}
+use Rattle.osn_territory.specs.Territory.{periods_of, last_before}
+use Rattle.osn_territory.specs.Changes.{with_start, with_change, with_altered, without_change}
+use Rattle.osn_territory.specs.Changes.{starts_on}
+use Rattle.osn_territory.proofs.CoverFacts.{at_place, begins}
 use Rattle.osn_register.specs.Answer.{holds, period_on}
 
 abbrev Start : Type 0
@@ -110,7 +110,7 @@ not_earlier d n one low = grind (arith, nat_tests)
 other_day : (d n : ℕ) → n ≡ 1 → 1 < d → (n == d) ≡ false
 other_day d n one low = grind (arith, nat_tests)
 
-pub covers-with_change : (p : Profile) (t : TerritoryModel) (d : ℕ) (regime : Regime) →
+pub covers-with_change : (p : Rules) (t : TerritoryModel) (d : ℕ) (regime : Regime) →
     CoversLine p (periods_of p t) → 1 < d → d ≤ p.high → starts_on t d ≡ false →
     CoversLine p (periods_of p (with_change t d regime))
 covers-with_change p t d regime covers low within none = by t.starts covers none
@@ -127,12 +127,12 @@ covers-with_change p t d regime covers low within none = by t.starts covers none
         (cond b ((d, regime) ∷ s ∷ rest) (s ∷ with_start d regime rest))))
         (sym (not_earlier d s.0 h.0 low)) (h.0, more.1, more.2)
 
-pub covers-with_altered : (p : Profile) (t : TerritoryModel) (d : ℕ) (regime : Regime) →
+pub covers-with_altered : (p : Rules) (t : TerritoryModel) (d : ℕ) (regime : Regime) →
     CoversLine p (periods_of p t) → CoversLine p (periods_of p (with_altered t d regime))
 covers-with_altered p t d regime covers = covers-map p.high 1 (alter d regime) (alter-day d regime)
     t.starts covers
 
-pub covers-without_change : (p : Profile) (t : TerritoryModel) (d : ℕ) →
+pub covers-without_change : (p : Rules) (t : TerritoryModel) (d : ℕ) →
     CoversLine p (periods_of p t) → 1 < d → CoversLine p (periods_of p (without_change t d))
 covers-without_change p t d covers low = by t.starts covers
   where

@@ -10,20 +10,21 @@ use Rattle.osn_computus.specs.declared.rule.Rule.TheVariants as rule
 use Rattle.osn_computus.proofs.EarlierEasters.{same_easter}
 use Rattle.osn_computus.proofs.EarlierLetters.{same_letters}
 use Rattle.osn_days.specs.declared.calendar.Calendar.TheVariants as calendar
-use Rattle.osn_days.specs.Profile.{Profile, first_rules, newest_rules}
+use Rattle.osn_days.specs.Rules.{Rules, first_rules, newest_rules}
 use Rattle.osn_days.specs.Line.{line, IsOnLine, IsYear, IsYearNumber}
 use Rattle.osn_days.specs.declared.weekday.Weekday.{Weekday}
-use Rattle.osn_lands.specs.declared.regime.Regime.{Regime}
-use Rattle.osn_lands.specs.declared.label.Label.{Label}
-use Rattle.osn_lands.specs.declared.period.Period.{Period}
-use Rattle.osn_lands.specs.Label.{local_label}
-use Rattle.osn_lands.specs.Dual.{dual_text}
-use Rattle.osn_lands.specs.Territory.{TerritoryModel, regime_at, periods_of, periods_from, reading}
-use Rattle.osn_lands.specs.Exceptions.{exception_of}
-use Rattle.osn_lands.specs.Easters.{is_easter, easters_by_rule, unless_listed}
-use Rattle.osn_lands.specs.EarlierRules.{days_of_line}
-use Rattle.osn_lands.proofs.EarlierRulesFacts.{same_local, same_text, same_reading, same_easters}
-use Rattle.osn_lands.proofs.EarlierRulesFacts.{plain_year}
+use Rattle.osn_territory.specs.declared.regime.Regime.{Regime}
+use Rattle.osn_territory.specs.declared.label.Label.{Label}
+use Rattle.osn_territory.specs.declared.period.Period.{Period}
+use Rattle.osn_territory.specs.Label.{local_label}
+use Rattle.osn_territory.specs.Dual.{dual_text}
+use Rattle.osn_territory.specs.Territory.{TerritoryModel, regime_at, periods_of, periods_from}
+use Rattle.osn_territory.specs.Territory.{reading}
+use Rattle.osn_territory.specs.Exceptions.{exception_of}
+use Rattle.osn_territory.specs.Easters.{is_easter, easters_by_rule, unless_listed}
+use Rattle.osn_territory.specs.EarlierRules.{days_of_line}
+use Rattle.osn_territory.proofs.EarlierRulesFacts.{same_local, same_text, same_reading}
+use Rattle.osn_territory.proofs.EarlierRulesFacts.{same_easters, plain_year}
 use Rattle.osn_register.specs.declared.query.Query.{Query}
 use Rattle.osn_register.specs.declared.query.Query.TheVariants as queries
 use Rattle.osn_register.specs.declared.answer.Answer.{Answer}
@@ -33,7 +34,7 @@ use Rattle.osn_register.specs.declared.refusal.Refusal.{Refusal}
 use Rattle.osn_register.specs.declared.refusal.Refusal.TheVariants.{DayOffLine, YearOffRange}
 use Rattle.osn_register.specs.declared.refusal.Refusal.TheVariants.{BadDate}
 use Rattle.osn_register.specs.Refusal.{first_refusal, or_else}
-use Rattle.osn_register.specs.Plain.{LandModel, territory_of, sources_of, code_refusal}
+use Rattle.osn_register.specs.Plain.{EntryModel, territory_of, sources_of, code_refusal}
 use Rattle.osn_register.specs.Plain.{is_between}
 use Rattle.osn_register.specs.Sources.{SourcesModel}
 use Rattle.osn_register.specs.Answer.{and_source, period_source, easter_source}
@@ -69,10 +70,10 @@ same_years y year =
     ap (λ b. first_refusal ((not b, YearOffRange) ∷ []))
     (both_between 1 first_rules.last_year newest_rules.last_year y (omega arith) year)
 
-same_days : (lands : List LandModel) (code : List ℕ) (day : ℤ) → IsOnLine first_rules day
-    → day_refusal newest_rules lands code day ≡ day_refusal first_rules lands code day
-same_days lands code day on =
-    ap (λ b. or_else (code_refusal lands code) (first_refusal ((not b, DayOffLine) ∷ [])))
+same_days : (territories : List EntryModel) (code : List ℕ) (day : ℤ) → IsOnLine first_rules day
+    → day_refusal newest_rules territories code day ≡ day_refusal first_rules territories code day
+same_days territories code day on =
+    ap (λ b. or_else (code_refusal territories code) (first_refusal ((not b, DayOffLine) ∷ [])))
     (both_between 1 first_rules.high newest_rules.high day (omega arith) on)
 
 same_dates : (y m d : ℤ) → IsLabelYear first_rules y
@@ -134,7 +135,7 @@ keeps_reading (Some t) label = (
       ∙ ap (map (found_on first_rules t)) (same_reading t label),
 )
 
-reading_unless : (p : Profile) (now_refused refused : Option Refusal) (now before : Answer)
+reading_unless : (p : Rules) (now_refused refused : Option Refusal) (now before : Answer)
     → now_refused ≡ refused → KeepsReading p before now
     → KeepsReading p (unless refused before) (unless now_refused now)
 reading_unless p None None now before same kept = kept
@@ -250,7 +251,7 @@ range_named t test a (suc n) until =
     step_named t a (test a) (filter test (range_with_len (a + 1) n)) (omega arith)
     (range_named t test (a + 1) n (omega arith))
 
-line_named : (p : Profile) (t : TerritoryModel) (test : ℕ → Bool) → p.high ≤ first_rules.high
+line_named : (p : Rules) (t : TerritoryModel) (test : ℕ → Bool) → p.high ≤ first_rules.high
     → map (found_on newest_rules t) (filter test (line p))
     ≡ map (found_on first_rules t) (filter test (line p))
 unfolding line
@@ -328,55 +329,56 @@ refused_unless None now before same = same
 refused_unless (Some f) now before same = refl
 
 -- the answer to a query keeps the first rules' answer
-pub keeps_answer : (lands : List LandModel) (q : Query)
-    → KeepsAnswer first_rules lands q (answer newest_rules lands q)
-keeps_answer lands (queries.Read code year month day) =
-    λ within. reading_unless first_rules (read_refusal newest_rules lands code year month day)
-    (read_refusal first_rules lands code year month day)
-    (reading_answer newest_rules (territory_of code lands) (label_from year month day))
-    (reading_answer first_rules (territory_of code lands) (label_from year month day))
-    (ap (or_else (code_refusal lands code)) (same_dates year month day within))
-    (keeps_reading (territory_of code lands) (label_from year month day))
-keeps_answer lands (queries.DayIn code day) =
-    λ on. day_unless (day_refusal newest_rules lands code day)
-    (day_refusal first_rules lands code day)
-    (day_answer newest_rules (territory_of code lands) (sources_of code lands) (unsigned_abs day))
-    (day_answer first_rules (territory_of code lands) (sources_of code lands) (unsigned_abs day))
-    (same_days lands code day on)
-    (keeps_day (territory_of code lands) (sources_of code lands) (unsigned_abs day) (omega
-    (arith, ints, on)))
-keeps_answer lands (queries.Easter code year) =
-    λ within listed. same_unless (easter_refusal newest_rules lands code year)
-    (easter_refusal first_rules lands code year)
-    (easters_answer newest_rules (territory_of code lands) (sources_of code lands)
+pub keeps_answer : (territories : List EntryModel) (q : Query)
+    → KeepsAnswer first_rules territories q (answer newest_rules territories q)
+keeps_answer territories (queries.Read code year month day) =
+    λ within. reading_unless first_rules (read_refusal newest_rules territories code year month day)
+    (read_refusal first_rules territories code year month day)
+    (reading_answer newest_rules (territory_of code territories) (label_from year month day))
+    (reading_answer first_rules (territory_of code territories) (label_from year month day))
+    (ap (or_else (code_refusal territories code)) (same_dates year month day within))
+    (keeps_reading (territory_of code territories) (label_from year month day))
+keeps_answer territories (queries.DayIn code day) =
+    λ on. day_unless (day_refusal newest_rules territories code day)
+    (day_refusal first_rules territories code day)
+    (day_answer newest_rules (territory_of code territories) (sources_of code territories)
+    (unsigned_abs day))
+    (day_answer first_rules (territory_of code territories) (sources_of code territories)
+    (unsigned_abs day)) (same_days territories code day on)
+    (keeps_day (territory_of code territories) (sources_of code territories) (unsigned_abs day)
+    (omega (arith, ints, on)))
+keeps_answer territories (queries.Easter code year) =
+    λ within listed. same_unless (easter_refusal newest_rules territories code year)
+    (easter_refusal first_rules territories code year)
+    (easters_answer newest_rules (territory_of code territories) (sources_of code territories)
     (unsigned_abs year))
-    (easters_answer first_rules (territory_of code lands) (sources_of code lands)
+    (easters_answer first_rules (territory_of code territories) (sources_of code territories)
     (unsigned_abs year))
-    (ap (or_else (code_refusal lands code)) (same_years year within))
-    (keeps_easters (territory_of code lands) (sources_of code lands) (unsigned_abs year)
+    (ap (or_else (code_refusal territories code)) (same_years year within))
+    (keeps_easters (territory_of code territories) (sources_of code territories) (unsigned_abs year)
     (plain_year year within) listed)
-keeps_answer lands (queries.YearFigures year) =
+keeps_answer territories (queries.YearFigures year) =
     λ within. same_unless (year_refusal newest_rules year) (year_refusal first_rules year)
     (figures_of newest_rules (unsigned_abs year)) (figures_of first_rules (unsigned_abs year))
     (same_years year within) (keeps_figures (unsigned_abs year) (plain_year year within))
-keeps_answer lands queries.Lands = refl
-keeps_answer lands (queries.Periods code) =
-    day_unless (code_refusal lands code) (code_refusal lands code)
-    (periods_answer newest_rules (territory_of code lands) (sources_of code lands))
-    (periods_answer first_rules (territory_of code lands) (sources_of code lands)) refl
-    (keeps_periods (territory_of code lands) (sources_of code lands))
-keeps_answer lands (queries.Exceptions code) =
-    refused_unless (code_refusal lands code)
-    (exceptions_answer newest_rules (territory_of code lands) (sources_of code lands))
-    (exceptions_answer first_rules (territory_of code lands) (sources_of code lands))
-    (keeps_exceptions (territory_of code lands) (sources_of code lands))
-keeps_answer lands (queries.Changes code) =
-    refused_unless (code_refusal lands code)
-    (changes_answer newest_rules (territory_of code lands) (sources_of code lands))
-    (changes_answer first_rules (territory_of code lands) (sources_of code lands))
-    (keeps_changes (territory_of code lands) (sources_of code lands))
-keeps_answer lands (queries.Written code text date weekday) =
-    refused_unless (code_refusal lands code)
-    (written_answer newest_rules (territory_of code lands) date weekday)
-    (written_answer first_rules (territory_of code lands) date weekday)
-    (keeps_written (territory_of code lands) date weekday)
+keeps_answer territories queries.Lands = refl
+keeps_answer territories (queries.Periods code) =
+    day_unless (code_refusal territories code) (code_refusal territories code)
+    (periods_answer newest_rules (territory_of code territories) (sources_of code territories))
+    (periods_answer first_rules (territory_of code territories) (sources_of code territories)) refl
+    (keeps_periods (territory_of code territories) (sources_of code territories))
+keeps_answer territories (queries.Exceptions code) =
+    refused_unless (code_refusal territories code)
+    (exceptions_answer newest_rules (territory_of code territories) (sources_of code territories))
+    (exceptions_answer first_rules (territory_of code territories) (sources_of code territories))
+    (keeps_exceptions (territory_of code territories) (sources_of code territories))
+keeps_answer territories (queries.Changes code) =
+    refused_unless (code_refusal territories code)
+    (changes_answer newest_rules (territory_of code territories) (sources_of code territories))
+    (changes_answer first_rules (territory_of code territories) (sources_of code territories))
+    (keeps_changes (territory_of code territories) (sources_of code territories))
+keeps_answer territories (queries.Written code text date weekday) =
+    refused_unless (code_refusal territories code)
+    (written_answer newest_rules (territory_of code territories) date weekday)
+    (written_answer first_rules (territory_of code territories) date weekday)
+    (keeps_written (territory_of code territories) date weekday)

@@ -1,6 +1,6 @@
 pub mod CoverFacts
 pub mod FoundFacts
-pub mod LandFacts
+pub mod EntryFacts
 pub mod PeriodCount
 pub mod EarlierAnswers
 pub mod TerritoryFacts

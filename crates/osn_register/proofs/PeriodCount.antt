@@ -1,7 +1,7 @@
 -- A territory has as many periods as starts.
 use Rattle.std.proofs.Common.{◌≡◌, ℕ, List, [], ◌∷◌, length, suc, refl, ap}
-use Rattle.osn_lands.specs.declared.regime.Regime.{Regime}
-use Rattle.osn_lands.specs.Territory.{periods_from}
+use Rattle.osn_territory.specs.declared.regime.Regime.{Regime}
+use Rattle.osn_territory.specs.Territory.{periods_from}
 
 pub length-periods_from : (high : ℕ) (starts : List (ℕ × Regime)) →
     length (periods_from high starts) ≡ length starts

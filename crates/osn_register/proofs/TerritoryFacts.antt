@@ -11,12 +11,12 @@ use Rattle.std.specs.BTreeMap.{insert_entry}
 use Rattle.std.specs.Map.{lookup, set_value, remove_entry}
 use Rattle.std.specs.declared.cmp.Ordering.TheVariants.{Less, Equal, Greater}
 use Rattle.std.specs.Ordering.{match_ordering, nat_cmp}
-use Rattle.osn_days.specs.Profile.{Profile}
+use Rattle.osn_days.specs.Rules.{Rules}
 use Rattle.osn_days.specs.Line.{IsDay, IsYear}
-use Rattle.osn_lands.specs.declared.regime.Regime.{Regime}
-use Rattle.osn_lands.specs.Territory.{TerritoryModel}
-use Rattle.osn_lands.specs.Changes.{with_start, starts_on}
-use Rattle.osn_lands.specs.Exceptions.{exception_of}
+use Rattle.osn_territory.specs.declared.regime.Regime.{Regime}
+use Rattle.osn_territory.specs.Territory.{TerritoryModel}
+use Rattle.osn_territory.specs.Changes.{with_start, starts_on}
+use Rattle.osn_territory.specs.Exceptions.{exception_of}
 use Rattle.osn_register.specs.declared.limits.Limits.{Limits}
 use Rattle.osn_register.specs.declared.change.TerritoryEdit.{TerritoryEdit}
 use Rattle.osn_register.specs.declared.change.TerritoryEdit.TheVariants.{Add, Alter, Drop}
@@ -25,17 +25,17 @@ use Rattle.osn_register.specs.declared.change.TerritoryEdit.TheVariants.{DropExc
 use Rattle.osn_register.specs.declared.refusal.Refusal.{Refusal}
 use Rattle.osn_register.specs.Code.{is_code}
 use Rattle.osn_register.specs.Sources.{SourcesModel, HasSources}
-use Rattle.osn_register.specs.Plain.{LandModel, RegisterModel, land_of, territory_of, code_refusal}
-use Rattle.osn_register.specs.Plain.{is_off_line, is_off_years, refusal_in, inside, with_territory}
-use Rattle.osn_register.specs.Plain.{AreDistinct, IsSoundTerritory, AreSound, IsWellFormed}
-use Rattle.osn_register.specs.Plain.{is_style_refused, AreStyled, AreListed, AreNamed}
+use Rattle.osn_register.specs.Plain.{EntryModel, RegisterModel, entry_of, territory_of}
+use Rattle.osn_register.specs.Plain.{code_refusal, is_off_line, is_off_years, refusal_in, inside}
+use Rattle.osn_register.specs.Plain.{with_territory, AreDistinct, IsSoundTerritory, AreSound}
+use Rattle.osn_register.specs.Plain.{IsWellFormed, is_style_refused, AreStyled, AreListed, AreNamed}
 use Rattle.osn_register.specs.Plain.{HaveSources}
 use Rattle.osn_register.specs.Refusal.{or_else}
 use Rattle.osn_register.specs.InsideChange.{change_refusal, territory_after}
 use Rattle.osn_register.proofs.CoverFacts.{covers-with_change, covers-with_altered}
 use Rattle.osn_register.proofs.CoverFacts.{covers-without_change}
-use Rattle.osn_register.specs.Inside.{land_in}
-use Rattle.osn_register.proofs.LandFacts.{apart_first}
+use Rattle.osn_register.specs.Inside.{entry_in}
+use Rattle.osn_register.proofs.EntryFacts.{apart_first}
 use Rattle.osn_register.proofs.YearFacts.{ascend_with, ascend_without}
 
 some_is : {X : Type 0} {x y : X} → Some x ≡ Some y → x ≡ y
@@ -44,15 +44,15 @@ some_is h = cc
 not_none : {X Y : Type 0} {x : X} → Some x ≡ None → Y
 not_none h = absurd (false≢true (sym (ap is_some h)))
 
-abbrev land_with : List ℕ → List ℕ → TerritoryModel → SourcesModel → LandModel
-land_with code name t s = record { code = code; name = name; territory = t; sources = s }
+abbrev entry_with : List ℕ → List ℕ → TerritoryModel → SourcesModel → EntryModel
+entry_with code name t s = record { code = code; name = name; territory = t; sources = s }
 
-same_land : (code name called : List ℕ) (t u : TerritoryModel) (s q : SourcesModel) →
-    name ≡ called → t ≡ u → s ≡ q → land_with code name t s ≡ land_with code called u q
-same_land code name called t u s q named land cited =
-    ap (λ n. land_with code n t s) named
-    ∙ ap (λ v. land_with code called v s) land
-    ∙ ap (land_with code called u) cited
+same_entry : (code name called : List ℕ) (t u : TerritoryModel) (s q : SourcesModel) →
+    name ≡ called → t ≡ u → s ≡ q → entry_with code name t s ≡ entry_with code called u q
+same_entry code name called t u s q named altered cited =
+    ap (λ n. entry_with code n t s) named
+    ∙ ap (λ v. entry_with code called v s) altered
+    ∙ ap (entry_with code called u) cited
 
 -- the entry that is written under a key, seen as the plain list
 module _ {K V : Type 0} (text : K → List ℕ) (name : V → List ℕ) (territory : V → TerritoryModel)
@@ -62,49 +62,49 @@ module _ {K V : Type 0} (text : K → List ℕ) (name : V → List ℕ) (territo
         (g : SourcesModel → SourcesModel) (es : List (K × V)) (v w : V) →
         lookup (λ k. bytes_eq code (text k)) es ≡ Some v → name w ≡ name v →
         territory w ≡ f (territory v) → sources w ≡ g (sources v) →
-        map (land_in text name territory sources)
+        map (entry_in text name territory sources)
         (set_value (λ k. bytes_eq code (text k)) es w) ≡ with_territory code f g
-        (map (land_in text name territory sources) es)
-    map-set_value code f g [] v w found called land cited = not_none (sym found)
-    map-set_value code f g (e ∷ es) v w found called land cited =
+        (map (entry_in text name territory sources) es)
+    map-set_value code f g [] v w found called altered cited = not_none (sym found)
+    map-set_value code f g (e ∷ es) v w found called altered cited =
         elim (bytes_eq code (text e.0)) as (λ b. cond b (Some e.1)
         (lookup (λ k. bytes_eq code (text k)) es) ≡ Some v →
-        map (land_in text name territory sources) (cond b ((e.0, w) ∷ es)
+        map (entry_in text name territory sources) (cond b ((e.0, w) ∷ es)
         (e ∷ set_value (λ k. bytes_eq code (text k)) es w)) ≡ cond b
-        (record (land_in text name territory sources e)
+        (record (entry_in text name territory sources e)
         { territory = f (territory e.1); sources = g (sources e.1) } ∷ map
-        (land_in text name territory sources) es)
-        (land_in text name territory sources e ∷ with_territory code f g
-        (map (land_in text name territory sources) es))) [
-          | true ↦ λ h. ap (λ (l : LandModel). l ∷ map (land_in text name territory sources) es)
-              (same_land (text e.0) (name w) (name e.1) (territory w) (f (territory e.1))
+        (entry_in text name territory sources) es)
+        (entry_in text name territory sources e ∷ with_territory code f g
+        (map (entry_in text name territory sources) es))) [
+          | true ↦ λ h. ap (λ (l : EntryModel). l ∷ map (entry_in text name territory sources) es)
+              (same_entry (text e.0) (name w) (name e.1) (territory w) (f (territory e.1))
               (sources w) (g (sources e.1)) (called ∙ ap name (sym (some_is h)))
-              (land ∙ ap (λ x. f (territory x)) (sym (some_is h)))
+              (altered ∙ ap (λ x. f (territory x)) (sym (some_is h)))
               (cited ∙ ap (λ x. g (sources x)) (sym (some_is h))))
-          | false ↦ λ h. ap (λ ls. land_in text name territory sources e ∷ ls)
-              (map-set_value code f g es v w h called land cited)
+          | false ↦ λ h. ap (λ ls. entry_in text name territory sources e ∷ ls)
+              (map-set_value code f g es v w h called altered cited)
         ] found
 
-land_of-with : (code other : List ℕ) (f : TerritoryModel → TerritoryModel)
-    (g : SourcesModel → SourcesModel) (ls : List LandModel) →
-    land_of other ls ≡ None → land_of other (with_territory code f g ls) ≡ None
-land_of-with code other f g [] none = refl
-land_of-with code other f g (l ∷ ls) none =
+entry_of-with : (code other : List ℕ) (f : TerritoryModel → TerritoryModel)
+    (g : SourcesModel → SourcesModel) (ls : List EntryModel) →
+    entry_of other ls ≡ None → entry_of other (with_territory code f g ls) ≡ None
+entry_of-with code other f g [] none = refl
+entry_of-with code other f g (l ∷ ls) none =
     let first = apart_first other l ls none in
-    elim (bytes_eq code l.code) as (λ b. land_of other (cond b
+    elim (bytes_eq code l.code) as (λ b. entry_of other (cond b
     (record l { territory = f l.territory; sources = g l.sources } ∷ ls)
     (l ∷ with_territory code f g ls)) ≡ None) [
       | true ↦ ap (λ b. cond b (Some (record l {
         territory = f l.territory;
         sources = g l.sources;
-      })) (land_of other ls))
+      })) (entry_of other ls))
           first.0 ∙ first.1
-      | false ↦ ap (λ b. cond b (Some l) (land_of other (with_territory code f g ls))) first.0 ∙
-          land_of-with code other f g ls first.1
+      | false ↦ ap (λ b. cond b (Some l) (entry_of other (with_territory code f g ls))) first.0 ∙
+          entry_of-with code other f g ls first.1
     ]
 
 AreDistinct-with : (code : List ℕ) (f : TerritoryModel → TerritoryModel)
-    (g : SourcesModel → SourcesModel) (ls : List LandModel) →
+    (g : SourcesModel → SourcesModel) (ls : List EntryModel) →
     AreDistinct ls → AreDistinct (with_territory code f g ls)
 AreDistinct-with code f g [] distinct = tt
 AreDistinct-with code f g (l ∷ ls) distinct =
@@ -113,14 +113,14 @@ AreDistinct-with code f g (l ∷ ls) distinct =
     (l ∷ with_territory code f g ls))) [
       | true ↦ distinct
       | false ↦ (
-        land_of-with code l.code f g ls distinct.0,
+        entry_of-with code l.code f g ls distinct.0,
         AreDistinct-with code f g ls
             distinct.1,
       )
     ]
 
 AreNamed-with : (code : List ℕ) (f : TerritoryModel → TerritoryModel)
-    (g : SourcesModel → SourcesModel) (ls : List LandModel) →
+    (g : SourcesModel → SourcesModel) (ls : List EntryModel) →
     AreNamed ls → AreNamed (with_territory code f g ls)
 AreNamed-with code f g [] named = tt
 AreNamed-with code f g (l ∷ ls) named =
@@ -132,7 +132,7 @@ AreNamed-with code f g (l ∷ ls) named =
     ]
 
 length-with : (code : List ℕ) (f : TerritoryModel → TerritoryModel)
-    (g : SourcesModel → SourcesModel) (ls : List LandModel) →
+    (g : SourcesModel → SourcesModel) (ls : List EntryModel) →
     length (with_territory code f g ls) ≡ length ls
 length-with code f g [] = refl
 length-with code f g (l ∷ ls) =
@@ -143,15 +143,15 @@ length-with code f g (l ∷ ls) =
       | false ↦ ap suc (length-with code f g ls)
     ]
 
-AreSound-with : (p : Profile) (limits : Limits) (code : List ℕ)
+AreSound-with : (p : Rules) (limits : Limits) (code : List ℕ)
     (f : TerritoryModel → TerritoryModel) (g : SourcesModel → SourcesModel)
-    (ls : List LandModel) → AreSound p limits ls →
+    (ls : List EntryModel) → AreSound p limits ls →
     ((t : TerritoryModel) → territory_of code ls ≡ Some t → IsSoundTerritory p limits t →
     IsSoundTerritory p limits (f t)) → AreSound p limits (with_territory code f g ls)
 AreSound-with p limits code f g [] few still = tt
 AreSound-with p limits code f g (l ∷ ls) few still =
     elim (bytes_eq code l.code) as (λ b. ((t : TerritoryModel) →
-    option_map (λ (k : LandModel). k.territory) (cond b (Some l) (land_of code ls)) ≡ Some t →
+    option_map (λ (k : EntryModel). k.territory) (cond b (Some l) (entry_of code ls)) ≡ Some t →
     IsSoundTerritory p limits t → IsSoundTerritory p limits (f t)) →
     AreSound p limits (cond b (record l { territory = f l.territory; sources = g l.sources } ∷ ls)
     (l ∷ with_territory code f g ls))) [
@@ -160,7 +160,7 @@ AreSound-with p limits code f g (l ∷ ls) few still =
     ] still
 
 HaveSources-with : (code : List ℕ) (f : TerritoryModel → TerritoryModel)
-    (g : SourcesModel → SourcesModel) (ls : List LandModel) → HaveSources ls →
+    (g : SourcesModel → SourcesModel) (ls : List EntryModel) → HaveSources ls →
     ((s : SourcesModel) → HasSources s → HasSources (g s)) →
     HaveSources (with_territory code f g ls)
 HaveSources-with code f g [] given still = tt
@@ -173,25 +173,26 @@ HaveSources-with code f g (l ∷ ls) given still =
     ]
 
 -- a register stays well formed if one of its territories is changed within the limit
-pub IsWellFormed-with : (p : Profile) (r : RegisterModel) (code : List ℕ)
+pub IsWellFormed-with : (p : Rules) (r : RegisterModel) (code : List ℕ)
     (f : TerritoryModel → TerritoryModel) (g : SourcesModel → SourcesModel) → IsWellFormed p r →
-    ((t : TerritoryModel) → territory_of code r.lands ≡ Some t → IsSoundTerritory p r.limits t →
-    IsSoundTerritory p r.limits (f t)) → ((s : SourcesModel) → HasSources s → HasSources (g s)) →
-    IsWellFormed p (record r { lands = with_territory code f g r.lands })
+    ((t : TerritoryModel) → territory_of code r.territories ≡ Some t → IsSoundTerritory p r.limits t
+    → IsSoundTerritory p r.limits (f t)) → ((s : SourcesModel) → HasSources s → HasSources (g s)) →
+    IsWellFormed p (record r { territories = with_territory code f g r.territories })
 IsWellFormed-with p r code f g w still given = record {
-  distinct = AreDistinct-with code f g r.lands w.distinct;
-  named = AreNamed-with code f g r.lands w.named;
-  within = omega (arith, length-with code f g r.lands, w.within);
-  territories = AreSound-with p r.limits code f g r.lands w.territories still;
-  sources = HaveSources-with code f g r.lands w.sources given;
+  distinct = AreDistinct-with code f g r.territories w.distinct;
+  named = AreNamed-with code f g r.territories w.named;
+  within = omega (arith, length-with code f g r.territories, w.within);
+  territories = AreSound-with p r.limits code f g r.territories w.territories still;
+  sources = HaveSources-with code f g r.territories w.sources given;
 }
 
 -- what is lawful in a territory of a known code
-pub lawful_in : (lands : List LandModel) (code : List ℕ) (refused : TerritoryModel → Option Refusal)
-    → refusal_in lands code refused ≡ None → (t : TerritoryModel) →
-    territory_of code lands ≡ Some t → refused t ≡ None
-lawful_in lands code refused h t known = by (code_refusal lands code) (territory_of code lands) h
-    known
+pub lawful_in : (territories : List EntryModel) (code : List ℕ)
+    (refused : TerritoryModel → Option Refusal)
+    → refusal_in territories code refused ≡ None → (t : TerritoryModel) →
+    territory_of code territories ≡ Some t → refused t ≡ None
+lawful_in territories code refused h t known =
+    by (code_refusal territories code) (territory_of code territories) h known
   where
     by : (o : Option Refusal) (u : Option TerritoryModel) → or_else o (inside refused u) ≡ None →
         u ≡ Some t → refused t ≡ None
@@ -199,15 +200,16 @@ lawful_in lands code refused h t known = by (code_refusal lands code) (territory
     by None u h known = rw known at h
 
 -- a known code has a territory
-pub no_territory : (lands : List LandModel) (code : List ℕ)
-    (refused : TerritoryModel → Option Refusal) → refusal_in lands code refused ≡ None →
-    territory_of code lands ≡ None → ⊥
-no_territory lands code refused h none = by (not (is_code code)) (land_of code lands) h none
+pub no_territory : (territories : List EntryModel) (code : List ℕ)
+    (refused : TerritoryModel → Option Refusal) → refusal_in territories code refused ≡ None →
+    territory_of code territories ≡ None → ⊥
+no_territory territories code refused h none =
+    by (not (is_code code)) (entry_of code territories) h none
   where
-    by : (b : Bool) (o : Option LandModel) → or_else (if b then Some Refusal.BadCode else
+    by : (b : Bool) (o : Option EntryModel) → or_else (if b then Some Refusal.BadCode else
         (if is_none o then Some Refusal.UnknownLand else None))
         (inside refused (option_map (λ l. l.territory) o)) ≡ None →
-        option_map (λ (l : LandModel). l.territory) o ≡ None → ⊥
+        option_map (λ (l : EntryModel). l.territory) o ≡ None → ⊥
     by true o h none = not_none h
     by false None h none = not_none h
     by false (Some l) h none = not_none none
@@ -218,7 +220,7 @@ first_passed : (a : Bool) (f : Refusal) (rest : Option Refusal) →
 first_passed true f rest none = not_none none
 first_passed false f rest none = (refl, none)
 
-in_line : (p : Profile) (d : ℕ) → is_off_line p (pos d) ≡ false → (1 ≤ d) × (d ≤ p.high)
+in_line : (p : Rules) (d : ℕ) → is_off_line p (pos d) ≡ false → (1 ≤ d) × (d ≤ p.high)
 in_line p d h = (grind (arith, ints, nat_tests), grind (arith, ints, nat_tests))
 
 not_first : (d : ℕ) → (d == 1) ≡ false → 1 ≤ d → 1 < d
@@ -268,10 +270,10 @@ length-remove_entry test (e ∷ es) =
       | false ↦ omega (arith, length-remove_entry test es)
     ]
 
-in_years : (p : Profile) (y : ℕ) → is_off_years p (pos y) ≡ false → (1 ≤ y) × (y ≤ p.last_year)
+in_years : (p : Rules) (y : ℕ) → is_off_years p (pos y) ≡ false → (1 ≤ y) × (y ≤ p.last_year)
 in_years p y h = (grind (arith, ints, nat_tests), grind (arith, ints, nat_tests))
 
-styled_with : (p : Profile) (d : ℕ) (r : Regime) (ss : List (ℕ × Regime)) →
+styled_with : (p : Rules) (d : ℕ) (r : Regime) (ss : List (ℕ × Regime)) →
     is_style_refused p r ≡ false → AreStyled p ss → AreStyled p (with_start d r ss)
 styled_with p d r [] style styled = (style, tt)
 styled_with p d r (s ∷ ss) style styled =
@@ -280,7 +282,7 @@ styled_with p d r (s ∷ ss) style styled =
       | false ↦ (styled.0, styled_with p d r ss style styled.1)
     ]
 
-styled_altered : (p : Profile) (d : ℕ) (r : Regime) (ss : List (ℕ × Regime)) →
+styled_altered : (p : Rules) (d : ℕ) (r : Regime) (ss : List (ℕ × Regime)) →
     is_style_refused p r ≡ false → AreStyled p ss →
     AreStyled p (map (λ s. if s.0 == d then (d, r) else s) ss)
 styled_altered p d r [] style styled = tt
@@ -294,7 +296,7 @@ styled_altered p d r (s ∷ ss) style styled = (
     by true = style
     by false = styled.0
 
-styled_without : (p : Profile) (test : ℕ × Regime → Bool) (ss : List (ℕ × Regime)) →
+styled_without : (p : Rules) (test : ℕ × Regime → Bool) (ss : List (ℕ × Regime)) →
     AreStyled p ss → AreStyled p (filter test ss)
 styled_without p test [] styled = tt
 styled_without p test (s ∷ ss) styled =
@@ -303,7 +305,7 @@ styled_without p test (s ∷ ss) styled =
       | false ↦ styled_without p test ss styled.1
     ]
 
-listed_with : (p : Profile) (y d : ℕ) (es : List (ℕ × ℕ)) → IsYear p y → IsDay p d →
+listed_with : (p : Rules) (y d : ℕ) (es : List (ℕ × ℕ)) → IsYear p y → IsDay p d →
     AreListed p es → AreListed p (insert_entry nat_cmp es y d)
 listed_with p y d [] year day listed = (year, day, tt)
 listed_with p y d (e ∷ es) year day listed =
@@ -314,7 +316,7 @@ listed_with p y d (e ∷ es) year day listed =
       | Greater ↦ (listed.0, listed.1, listed_with p y d es year day listed.2)
     ]
 
-listed_without : (p : Profile) (test : ℕ → Bool) (es : List (ℕ × ℕ)) → AreListed p es →
+listed_without : (p : Rules) (test : ℕ → Bool) (es : List (ℕ × ℕ)) → AreListed p es →
     AreListed p (remove_entry test es)
 listed_without p test [] listed = tt
 listed_without p test (e ∷ es) listed =
@@ -324,7 +326,7 @@ listed_without p test (e ∷ es) listed =
     ]
 
 -- a lawful change leaves the territory sound
-pub still_sound : (p : Profile) (limits : Limits) (change : TerritoryEdit) (t : TerritoryModel) →
+pub still_sound : (p : Rules) (limits : Limits) (change : TerritoryEdit) (t : TerritoryModel) →
     change_refusal p limits change t ≡ None → IsSoundTerritory p limits t →
     IsSoundTerritory p limits (territory_after change t)
 still_sound p limits (Add d regime) t lawful sound =
@@ -404,7 +406,7 @@ still_sound p limits (DropException y) t lawful sound =
       listed = listed_without p (λ other. y == other) t.exceptions sound.listed;
     }
 
-pub with_same : (code : List ℕ) (ls : List LandModel) → with_territory code (λ t. t)
+pub with_same : (code : List ℕ) (ls : List EntryModel) → with_territory code (λ t. t)
     (λ s. s) ls ≡ ls
 with_same code [] = refl
 with_same code (l ∷ ls) =
@@ -420,17 +422,18 @@ pub register-with : {K V : Type 0} (text : K → List ℕ) (name : V → List �
     (territory : V → TerritoryModel) (sources : V → SourcesModel) (limits : Limits)
     (es new : List (K × V)) (now : RegisterModel) (code : List ℕ)
     (f : TerritoryModel → TerritoryModel) (g : SourcesModel → SourcesModel) (v w : V) →
-    record { limits = limits; lands = map (land_in text name territory sources) es } ≡ now →
+    record { limits = limits; territories = map (entry_in text name territory sources) es } ≡ now →
     new ≡ set_value (λ k. bytes_eq code (text k)) es w →
     lookup (λ k. bytes_eq code (text k)) es ≡ Some v → name w ≡ name v →
     territory w ≡ f (territory v) → sources w ≡ g (sources v) → record {
       limits = limits;
-      lands = map (land_in text name territory sources) new;
-    } ≡ record now { lands = with_territory code f g now.lands }
+      territories = map (entry_in text name territory sources) new;
+    } ≡ record now { territories = with_territory code f g now.territories }
 register-with text name territory sources limits es new now code f g v w is written found called
-    land cited =
-    ap (λ (ls : List LandModel). let r : RegisterModel = record { limits = limits; lands = ls } in
-    r)
-    (ap (map (land_in text name territory sources)) written
-    ∙ map-set_value text name territory sources code f g es v w found called land cited)
-    ∙ ap (λ (r : RegisterModel). record r { lands = with_territory code f g r.lands }) is
+    altered cited =
+    ap (λ (ls : List EntryModel). let r : RegisterModel =
+    record { limits = limits; territories = ls } in r)
+    (ap (map (entry_in text name territory sources)) written
+    ∙ map-set_value text name territory sources code f g es v w found called altered cited)
+    ∙ ap (λ (r : RegisterModel). record r { territories = with_territory code f g r.territories })
+    is

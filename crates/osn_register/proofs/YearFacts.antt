@@ -11,8 +11,8 @@ use Rattle.std.specs.BTreeMap.{insert_entry}
 use Rattle.std.specs.declared.cmp.Ordering.{Ordering}
 use Rattle.std.specs.declared.cmp.Ordering.TheVariants.{Less, Equal, Greater}
 use Rattle.std.specs.Ordering.{match_ordering, nat_cmp}
-use Rattle.osn_lands.specs.Territory.{TerritoryModel}
-use Rattle.osn_lands.specs.Exceptions.{HasAscendingYears, with_exception, without_exception}
+use Rattle.osn_territory.specs.Territory.{TerritoryModel}
+use Rattle.osn_territory.specs.Exceptions.{HasAscendingYears, with_exception, without_exception}
 
 -- the years ascend from this one on
 abbrev pub AscendFrom : ℕ → List (ℕ × ℕ) → Type 0

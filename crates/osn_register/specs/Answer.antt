@@ -4,7 +4,7 @@ use Rattle.std.specs.Prelude.{nat_lt, ◌-◌}
 use Rattle.std.specs.Prelude.{unsigned_abs, List, [], ◌∷◌, map, find, Option, Some, None, is_some}
 use Rattle.std.specs.Prelude.{option_and_then}
 use Rattle.std.specs.List.{flat_map}
-use Rattle.osn_days.specs.Profile.{Profile}
+use Rattle.osn_days.specs.Rules.{Rules}
 use Rattle.osn_days.specs.declared.calendar.Calendar.TheVariants as calendar
 use Rattle.osn_days.specs.declared.weekday.Weekday.{Weekday}
 use Rattle.osn_days.specs.Chain.{date_of, days_with_date}
@@ -13,15 +13,15 @@ use Rattle.osn_computus.specs.declared.letters.Letters.{Letters}
 use Rattle.osn_computus.specs.Figures.{golden_number, indiction, julian_epact, gregorian_epact}
 use Rattle.osn_computus.specs.Letters.{letters_of}
 use Rattle.osn_computus.specs.Easter.{easter_of}
-use Rattle.osn_lands.specs.declared.regime.Regime.{Regime}
-use Rattle.osn_lands.specs.declared.label.Label.{Label}
-use Rattle.osn_lands.specs.Label.{local_label}
-use Rattle.osn_lands.specs.Dual.{dual_text}
-use Rattle.osn_lands.specs.declared.period.Period.{Period}
-use Rattle.osn_lands.specs.declared.runs.Run.{Run}
-use Rattle.osn_lands.specs.Territory.{TerritoryModel, regime_at, periods_of, reading, skipped}
-use Rattle.osn_lands.specs.Exceptions.{exception_of}
-use Rattle.osn_lands.specs.Easters.{easters}
+use Rattle.osn_territory.specs.declared.regime.Regime.{Regime}
+use Rattle.osn_territory.specs.declared.label.Label.{Label}
+use Rattle.osn_territory.specs.Label.{local_label}
+use Rattle.osn_territory.specs.Dual.{dual_text}
+use Rattle.osn_territory.specs.declared.period.Period.{Period}
+use Rattle.osn_territory.specs.declared.runs.Run.{Run}
+use Rattle.osn_territory.specs.Territory.{TerritoryModel, regime_at, periods_of, reading, skipped}
+use Rattle.osn_territory.specs.Exceptions.{exception_of}
+use Rattle.osn_territory.specs.Easters.{easters}
 use Rattle.osn_written.specs.declared.any_date.AnyDate.{AnyDate}
 use Rattle.osn_written.specs.declared.date_reading.DateReading.{DateReading}
 use Rattle.osn_written.specs.declared.date_reading.DateReading.TheVariants as readings
@@ -54,60 +54,62 @@ use Rattle.osn_register.specs.declared.refusal.Refusal.TheVariants.{YearOffRange
 use Rattle.osn_register.specs.Refusal.{first_refusal, or_else}
 use Rattle.osn_register.specs.Remarks.{runs_in, reason_in, set_runs_in, set_reason_in, if_weekday}
 use Rattle.osn_register.specs.Remarks.{remarks_of, remarks_if_read_as, missing_in, missing_in_set}
-use Rattle.osn_register.specs.Plain.{LandModel, territory_of, sources_of, code_refusal}
+use Rattle.osn_register.specs.Plain.{EntryModel, territory_of, sources_of, code_refusal}
 use Rattle.osn_register.specs.Plain.{is_between, is_off_line, is_off_years}
 use Rattle.osn_register.specs.Sources.{SourcesModel, source_of}
 
 -- why a reading is refused for its date
-abbrev pub date_refusal : Profile → ℤ → ℤ → ℤ → Option Refusal
+abbrev pub date_refusal : Rules → ℤ → ℤ → ℤ → Option Refusal
 date_refusal p year month day = first_refusal (
     (not (is_between (pos 0) (pos p.last_label_year) year), YearOffRange)
     ∷ (not (is_between (pos 1) (pos 12) month && is_between (pos 1) (pos 31) day), BadDate)
     ∷ [])
 
 -- why a reading is refused, if it is
-abbrev pub read_refusal : Profile → List LandModel → List ℕ → ℤ → ℤ → ℤ → Option Refusal
-read_refusal p lands code year month day =
-    or_else (code_refusal lands code) (date_refusal p year month day)
+abbrev pub read_refusal : Rules → List EntryModel → List ℕ → ℤ → ℤ → ℤ → Option Refusal
+read_refusal p territories code year month day =
+    or_else (code_refusal territories code) (date_refusal p year month day)
 
 -- why a query of a day is refused
-abbrev pub day_refusal : Profile → List LandModel → List ℕ → ℤ → Option Refusal
-day_refusal p lands code day =
-    or_else (code_refusal lands code) (first_refusal ((is_off_line p day, DayOffLine) ∷ []))
+abbrev pub day_refusal : Rules → List EntryModel → List ℕ → ℤ → Option Refusal
+day_refusal p territories code day =
+    or_else (code_refusal territories code) (first_refusal ((is_off_line p day, DayOffLine) ∷ []))
 
 -- why the figures of a year are refused
-abbrev pub year_refusal : Profile → ℤ → Option Refusal
+abbrev pub year_refusal : Rules → ℤ → Option Refusal
 year_refusal p year = first_refusal ((is_off_years p year, YearOffRange) ∷ [])
 
 -- why a query of a territory's Easters is refused
-abbrev pub easter_refusal : Profile → List LandModel → List ℕ → ℤ → Option Refusal
-easter_refusal p lands code year = or_else (code_refusal lands code) (year_refusal p year)
+abbrev pub easter_refusal : Rules → List EntryModel → List ℕ → ℤ → Option Refusal
+easter_refusal p territories code year =
+    or_else (code_refusal territories code) (year_refusal p year)
 
 -- why a query is refused, if it is
-abbrev pub query_refusal : Profile → List LandModel → Query → Option Refusal
-query_refusal p lands (queries.Read code year month day) = read_refusal p lands code year month day
-query_refusal p lands (queries.DayIn code day) = day_refusal p lands code day
-query_refusal p lands (queries.Easter code year) = easter_refusal p lands code year
-query_refusal p lands (queries.YearFigures year) = year_refusal p year
-query_refusal p lands queries.Lands = None
-query_refusal p lands (queries.Periods code) = code_refusal lands code
-query_refusal p lands (queries.Exceptions code) = code_refusal lands code
-query_refusal p lands (queries.Changes code) = code_refusal lands code
-query_refusal p lands (queries.Written code text date weekday) = code_refusal lands code
+abbrev pub query_refusal : Rules → List EntryModel → Query → Option Refusal
+query_refusal p territories (queries.Read code year month day) =
+    read_refusal p territories code year month day
+query_refusal p territories (queries.DayIn code day) = day_refusal p territories code day
+query_refusal p territories (queries.Easter code year) = easter_refusal p territories code year
+query_refusal p territories (queries.YearFigures year) = year_refusal p year
+query_refusal p territories queries.Lands = None
+query_refusal p territories (queries.Periods code) = code_refusal territories code
+query_refusal p territories (queries.Exceptions code) = code_refusal territories code
+query_refusal p territories (queries.Changes code) = code_refusal territories code
+query_refusal p territories (queries.Written code text date weekday) = code_refusal territories code
 
 -- a day as a regime names it
-abbrev pub found_under : Profile → Regime → ℕ → Found
+abbrev pub found_under : Rules → Regime → ℕ → Found
 found_under p r d = record { day = d; label = local_label p r d; dual = dual_text p r d }
 
 -- a day as the territory names it, by the regime in force on it
-abbrev pub found_on : Profile → TerritoryModel → ℕ → Found
+abbrev pub found_on : Rules → TerritoryModel → ℕ → Found
 found_on p t d = found_under p (regime_at t d) d
 
 abbrev pub label_from : ℤ → ℤ → ℤ → Label
 label_from year month day =
     record { year = year; month = unsigned_abs month; day = unsigned_abs day }
 
-abbrev pub reading_answer : Profile → Option TerritoryModel → Label → Answer
+abbrev pub reading_answer : Rules → Option TerritoryModel → Label → Answer
 reading_answer p None label = Refused UnknownLand
 reading_answer p (Some t) label = Reading (map (found_on p t) (reading p t label))
     (skipped p t label)
@@ -135,13 +137,13 @@ abbrev pub on_day : Option SourcesModel → Option Period → Found → Answer
 on_day sources None found = Refused DayOffLine
 on_day sources (Some period) found = OnDay found (and_source sources period)
 
-abbrev pub day_answer : Profile → Option TerritoryModel → Option SourcesModel → ℕ → Answer
+abbrev pub day_answer : Rules → Option TerritoryModel → Option SourcesModel → ℕ → Answer
 day_answer p None sources d = Refused UnknownLand
 day_answer p (Some t) sources d =
     on_day sources (period_on (periods_of p t) d) (found_on p t d)
 
 -- the Easters of a year, whether they are listed, and the source of that
-abbrev pub easters_answer : Profile → Option TerritoryModel → Option SourcesModel → ℕ → Answer
+abbrev pub easters_answer : Rules → Option TerritoryModel → Option SourcesModel → ℕ → Answer
 easters_answer p None sources y = Refused UnknownLand
 easters_answer p (Some t) sources y =
     Easters (map (found_on p t) (easters p t y)) (is_some (exception_of t y))
@@ -158,24 +160,24 @@ figures_with y (Some julian) (Some gregorian) (Some julian_easter) (Some gregori
     julian gregorian julian_easter gregorian_easter
 
 -- the figures of a year
-abbrev pub figures_of : Profile → ℕ → Answer
+abbrev pub figures_of : Rules → ℕ → Answer
 figures_of p y = figures_with y
     (letters_of p calendar.Julian y) (letters_of p calendar.Gregorian y)
     (easter_of p rule.Julian y) (easter_of p rule.Gregorian y)
 
-abbrev pub periods_answer : Profile → Option TerritoryModel → Option SourcesModel → Answer
+abbrev pub periods_answer : Rules → Option TerritoryModel → Option SourcesModel → Answer
 periods_answer p None sources = Refused UnknownLand
 periods_answer p (Some t) sources = Periods (map (and_source sources) (periods_of p t))
 
 -- a year with a listed Easter: the day as the territory names it, and the source
-abbrev pub exception_on : Profile → TerritoryModel → Option SourcesModel → ℕ × ℕ → Exception
+abbrev pub exception_on : Rules → TerritoryModel → Option SourcesModel → ℕ × ℕ → Exception
 exception_on p t sources listed = record {
   year = listed.0;
   found = found_on p t listed.1;
   source = easter_source sources listed.0;
 }
 
-abbrev pub exceptions_answer : Profile → Option TerritoryModel → Option SourcesModel → Answer
+abbrev pub exceptions_answer : Rules → Option TerritoryModel → Option SourcesModel → Answer
 exceptions_answer p None sources = Refused UnknownLand
 exceptions_answer p (Some t) sources = Exceptions (map (exception_on p t sources) t.exceptions)
 
@@ -191,12 +193,12 @@ twice [] first = None
 twice (same ∷ others) first = Some (first - same)
 
 -- the days that have, by the calendar before a change, the date of its first day
-abbrev pub same_date : Profile → Regime → Regime → ℕ → List ℕ
+abbrev pub same_date : Rules → Regime → Regime → ℕ → List ℕ
 same_date p before after first =
     days_with_date p before.calendar (date_of after.calendar first)
 
 -- the change on a day
-abbrev pub change_on : Profile → TerritoryModel → Option SourcesModel → ℕ → FoundChange
+abbrev pub change_on : Rules → TerritoryModel → Option SourcesModel → ℕ → FoundChange
 change_on p t sources first = record {
   before = found_on p t (first - 1);
   found = found_on p t first;
@@ -208,35 +210,35 @@ change_on p t sources first = record {
 }
 
 -- the change with which a period begins. The opening period, from day 1, begins with none
-abbrev pub change_if : Profile → TerritoryModel → Option SourcesModel → Period → List FoundChange
+abbrev pub change_if : Rules → TerritoryModel → Option SourcesModel → Period → List FoundChange
 change_if p t sources period =
     if nat_lt 1 period.first then change_on p t sources period.first ∷ [] else []
 
-abbrev pub changes_answer : Profile → Option TerritoryModel → Option SourcesModel → Answer
+abbrev pub changes_answer : Rules → Option TerritoryModel → Option SourcesModel → Answer
 changes_answer p None sources = Refused UnknownLand
 changes_answer p (Some t) sources = Changes (flat_map (change_if p t sources) (periods_of p t))
 
 -- ---- a date as it is written
 
 -- days that follow one another, by the first and the last of them
-abbrev pub found_run : Profile → TerritoryModel → Run → FoundRun
+abbrev pub found_run : Rules → TerritoryModel → Run → FoundRun
 found_run p t run = record { first = found_on p t run.first; last = found_on p t run.last }
 
 -- what is near a date that no day has, each day as the territory names it
-abbrev pub near_missing : Profile → TerritoryModel → TerritoryModel → Missing → NearDays
+abbrev pub near_missing : Rules → TerritoryModel → TerritoryModel → Missing → NearDays
 near_missing p t by missing = record {
   days = map (found_on p t) (days_like p by missing);
   changes = changes_over p by missing;
   year = map (found_run p t) (year_without p by missing);
 }
 
-abbrev pub near : Profile → TerritoryModel → TerritoryModel → Option Missing → NearDays
+abbrev pub near : Rules → TerritoryModel → TerritoryModel → Option Missing → NearDays
 near p t by None = record { days = []; changes = []; year = [] }
 near p t by (Some missing) = near_missing p t by missing
 
 -- what a date means in a territory: the days by the calendar that it names, each as the territory
 -- names it
-abbrev pub date_answer : Profile → TerritoryModel → AnyDate → Option Weekday → WrittenAnswer
+abbrev pub date_answer : Rules → TerritoryModel → AnyDate → Option Weekday → WrittenAnswer
 date_answer p t w given = record {
   kind = Some (kind_of w.extent);
   is_approximate = w.is_approximate;
@@ -267,7 +269,7 @@ no_date fault = record {
 }
 
 -- what a set of dates means in a territory. It is not one day, so no weekday is compared
-abbrev pub set_answer : Profile → TerritoryModel → List AnyDate → WrittenAnswer
+abbrev pub set_answer : Rules → TerritoryModel → List AnyDate → WrittenAnswer
 set_answer p t ws = record {
   kind = Some kinds.Set;
   is_approximate = is_set_approximate ws;
@@ -282,13 +284,13 @@ set_answer p t ws = record {
 }
 
 -- the answer about a date that was read
-abbrev pub date_reading_answer : Profile → TerritoryModel → DateReading → Option Weekday
+abbrev pub date_reading_answer : Rules → TerritoryModel → DateReading → Option Weekday
     → WrittenAnswer
 date_reading_answer p t (readings.Date w) given = date_answer p t w given
 date_reading_answer p t (readings.Set ws) given = set_answer p t ws
 date_reading_answer p t (readings.Fault fault) given = no_date fault
 
-abbrev pub written_answer : Profile → Option TerritoryModel → DateReading → Option Weekday → Answer
+abbrev pub written_answer : Rules → Option TerritoryModel → DateReading → Option Weekday → Answer
 written_answer p None date given = Refused UnknownLand
 written_answer p (Some t) date given = Written (date_reading_answer p t date given)
 
@@ -298,59 +300,62 @@ abbrev pub unless : Option Refusal → Answer → Answer
 unless None answer = answer
 unless (Some f) answer = Refused f
 
-abbrev pub listed : LandModel → Land
+abbrev pub listed : EntryModel → Land
 listed l = record { code = l.code; name = l.name }
 
-abbrev pub read_answer : Profile → List LandModel → List ℕ → ℤ → ℤ → ℤ → Answer
-read_answer p lands code year month day =
-    unless (read_refusal p lands code year month day)
-    (reading_answer p (territory_of code lands) (label_from year month day))
+abbrev pub read_answer : Rules → List EntryModel → List ℕ → ℤ → ℤ → ℤ → Answer
+read_answer p territories code year month day =
+    unless (read_refusal p territories code year month day)
+    (reading_answer p (territory_of code territories) (label_from year month day))
 
-abbrev pub day_in_answer : Profile → List LandModel → List ℕ → ℤ → Answer
-day_in_answer p lands code day =
-    unless (day_refusal p lands code day)
-    (day_answer p (territory_of code lands) (sources_of code lands) (unsigned_abs day))
+abbrev pub day_in_answer : Rules → List EntryModel → List ℕ → ℤ → Answer
+day_in_answer p territories code day =
+    unless (day_refusal p territories code day)
+    (day_answer p (territory_of code territories) (sources_of code territories) (unsigned_abs day))
 
-abbrev pub easter_answer : Profile → List LandModel → List ℕ → ℤ → Answer
-easter_answer p lands code year =
-    unless (easter_refusal p lands code year)
-    (easters_answer p (territory_of code lands) (sources_of code lands) (unsigned_abs year))
+abbrev pub easter_answer : Rules → List EntryModel → List ℕ → ℤ → Answer
+easter_answer p territories code year =
+    unless (easter_refusal p territories code year)
+    (easters_answer p (territory_of code territories) (sources_of code territories)
+    (unsigned_abs year))
 
-abbrev pub figures_answer : Profile → ℤ → Answer
+abbrev pub figures_answer : Rules → ℤ → Answer
 figures_answer p year = unless (year_refusal p year) (figures_of p (unsigned_abs year))
 
-abbrev pub periods_in_answer : Profile → List LandModel → List ℕ → Answer
-periods_in_answer p lands code =
-    unless (code_refusal lands code)
-    (periods_answer p (territory_of code lands) (sources_of code lands))
+abbrev pub periods_in_answer : Rules → List EntryModel → List ℕ → Answer
+periods_in_answer p territories code =
+    unless (code_refusal territories code)
+    (periods_answer p (territory_of code territories) (sources_of code territories))
 
-abbrev pub exceptions_in_answer : Profile → List LandModel → List ℕ → Answer
-exceptions_in_answer p lands code =
-    unless (code_refusal lands code)
-    (exceptions_answer p (territory_of code lands) (sources_of code lands))
+abbrev pub exceptions_in_answer : Rules → List EntryModel → List ℕ → Answer
+exceptions_in_answer p territories code =
+    unless (code_refusal territories code)
+    (exceptions_answer p (territory_of code territories) (sources_of code territories))
 
-abbrev pub changes_in_answer : Profile → List LandModel → List ℕ → Answer
-changes_in_answer p lands code =
-    unless (code_refusal lands code)
-    (changes_answer p (territory_of code lands) (sources_of code lands))
+abbrev pub changes_in_answer : Rules → List EntryModel → List ℕ → Answer
+changes_in_answer p territories code =
+    unless (code_refusal territories code)
+    (changes_answer p (territory_of code territories) (sources_of code territories))
 
-abbrev pub written_in_answer : Profile → List LandModel → List ℕ → DateReading → Option Weekday
+abbrev pub written_in_answer : Rules → List EntryModel → List ℕ → DateReading → Option Weekday
     → Answer
-written_in_answer p lands code date given =
-    unless (code_refusal lands code) (written_answer p (territory_of code lands) date given)
+written_in_answer p territories code date given =
+    unless (code_refusal territories code)
+    (written_answer p (territory_of code territories) date given)
 
 -- the answer to a query
-abbrev pub answer : Profile → List LandModel → Query → Answer
-answer p lands (queries.Read code year month day) = read_answer p lands code year month day
-answer p lands (queries.DayIn code day) = day_in_answer p lands code day
-answer p lands (queries.Easter code year) = easter_answer p lands code year
-answer p lands (queries.YearFigures year) = figures_answer p year
-answer p lands queries.Lands = Lands (map listed lands)
-answer p lands (queries.Periods code) = periods_in_answer p lands code
-answer p lands (queries.Exceptions code) = exceptions_in_answer p lands code
-answer p lands (queries.Changes code) = changes_in_answer p lands code
-answer p lands (queries.Written code text date weekday) = written_in_answer p lands code date
-    weekday
+abbrev pub answer : Rules → List EntryModel → Query → Answer
+answer p territories (queries.Read code year month day) =
+    read_answer p territories code year month day
+answer p territories (queries.DayIn code day) = day_in_answer p territories code day
+answer p territories (queries.Easter code year) = easter_answer p territories code year
+answer p territories (queries.YearFigures year) = figures_answer p year
+answer p territories queries.Lands = Lands (map listed territories)
+answer p territories (queries.Periods code) = periods_in_answer p territories code
+answer p territories (queries.Exceptions code) = exceptions_in_answer p territories code
+answer p territories (queries.Changes code) = changes_in_answer p territories code
+answer p territories (queries.Written code text date weekday) =
+    written_in_answer p territories code date weekday
 
 -- the refusal that an answer is, if it is one
 abbrev pub refusal_in : Answer → Option Refusal

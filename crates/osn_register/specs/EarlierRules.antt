@@ -1,18 +1,18 @@
 -- How what the newest rules answer goes with what earlier rules answer, whose line is shorter.
 use Rattle.std.specs.Prelude.{◌≡◌, ℕ, ◌≤◌, nat_le, ℤ, pos, ◌≤ℤ◌, unsigned_abs, List, [], ◌∷◌}
 use Rattle.std.specs.Prelude.{map, filter, Option, IfSome}
-use Rattle.osn_days.specs.Profile.{Profile}
+use Rattle.osn_days.specs.Rules.{Rules}
 use Rattle.osn_days.specs.Line.{IsOnLine, IsYearNumber}
-use Rattle.osn_lands.specs.declared.regime.Regime.{Regime}
-use Rattle.osn_lands.specs.Territory.{TerritoryModel}
-use Rattle.osn_lands.specs.Exceptions.{exception_of}
+use Rattle.osn_territory.specs.declared.regime.Regime.{Regime}
+use Rattle.osn_territory.specs.Territory.{TerritoryModel}
+use Rattle.osn_territory.specs.Exceptions.{exception_of}
 use Rattle.osn_register.specs.declared.query.Query.{Query}
 use Rattle.osn_register.specs.declared.query.Query.TheVariants as queries
 use Rattle.osn_register.specs.declared.answer.Answer.{Answer}
 use Rattle.osn_register.specs.declared.answer.Answer.TheVariants.{Reading, OnDay, Easters, Periods}
 use Rattle.osn_register.specs.declared.answer.Found.{Found}
 use Rattle.osn_register.specs.declared.answer.PeriodAndSource.{PeriodAndSource}
-use Rattle.osn_register.specs.Plain.{LandModel, territory_of}
+use Rattle.osn_register.specs.Plain.{EntryModel, territory_of}
 use Rattle.osn_register.specs.Answer.{answer, refusal_in}
 
 -- the days that an answer has found, each as it is named
@@ -33,20 +33,20 @@ starts_in (Periods periods) = map start_of periods
 starts_in answer = []
 
 -- of the days that were found, those that the line of the rules has
-abbrev pub found_until : Profile → List Found → List Found
+abbrev pub found_until : Rules → List Found → List Found
 found_until p found = filter (λ f. nat_le f.day p.high) found
 
 -- a year of a label that the rules have
-abbrev pub IsLabelYear : Profile → ℤ → Type 0
+abbrev pub IsLabelYear : Rules → ℤ → Type 0
 IsLabelYear p y = (pos 0 ≤ℤ y) × (y ≤ℤ pos p.last_label_year)
 
 -- a day that is listed as the Easter of the year is one that the rules have
-abbrev pub IsListedUntil : Profile → ℕ → Option TerritoryModel → Type 0
+abbrev pub IsListedUntil : Rules → ℕ → Option TerritoryModel → Type 0
 IsListedUntil p y t = IfSome t (λ t. IfSome (exception_of t y) (λ d. d ≤ p.high))
 
 -- refused alike, and of the days found now, those that the line of the rules has are those of
 -- before. Nothing is said of skipped dates
-abbrev pub KeepsReading : Profile → Answer → Answer → Type 0
+abbrev pub KeepsReading : Rules → Answer → Answer → Type 0
 KeepsReading p before now =
     (refusal_in now ≡ refusal_in before) × (found_until p (found_in now) ≡ found_in before)
 
@@ -62,23 +62,23 @@ KeepsDay before now =
 -- keep what the rules' own line has, and periods keep their starts. The listed Easters and
 -- the changes of a territory and a date as it is written are refused alike, and nothing more is said
 -- of them
-abbrev pub KeepsAnswer : Profile → List LandModel → Query → Answer → Type 0
-KeepsAnswer p lands (queries.Read code year month day) now =
+abbrev pub KeepsAnswer : Rules → List EntryModel → Query → Answer → Type 0
+KeepsAnswer p territories (queries.Read code year month day) now =
     IsLabelYear p year
-    → KeepsReading p (answer p lands (queries.Read code year month day)) now
-KeepsAnswer p lands (queries.DayIn code day) now =
-    IsOnLine p day → KeepsDay (answer p lands (queries.DayIn code day)) now
-KeepsAnswer p lands (queries.Easter code year) now =
-    IsYearNumber p year → IsListedUntil p (unsigned_abs year) (territory_of code lands)
-    → now ≡ answer p lands (queries.Easter code year)
-KeepsAnswer p lands (queries.YearFigures year) now =
-    IsYearNumber p year → now ≡ answer p lands (queries.YearFigures year)
-KeepsAnswer p lands queries.Lands now = now ≡ answer p lands queries.Lands
-KeepsAnswer p lands (queries.Periods code) now =
-    KeepsDay (answer p lands (queries.Periods code)) now
-KeepsAnswer p lands (queries.Exceptions code) now =
-    refusal_in now ≡ refusal_in (answer p lands (queries.Exceptions code))
-KeepsAnswer p lands (queries.Changes code) now =
-    refusal_in now ≡ refusal_in (answer p lands (queries.Changes code))
-KeepsAnswer p lands (queries.Written code text date weekday) now =
-    refusal_in now ≡ refusal_in (answer p lands (queries.Written code text date weekday))
+    → KeepsReading p (answer p territories (queries.Read code year month day)) now
+KeepsAnswer p territories (queries.DayIn code day) now =
+    IsOnLine p day → KeepsDay (answer p territories (queries.DayIn code day)) now
+KeepsAnswer p territories (queries.Easter code year) now =
+    IsYearNumber p year → IsListedUntil p (unsigned_abs year) (territory_of code territories)
+    → now ≡ answer p territories (queries.Easter code year)
+KeepsAnswer p territories (queries.YearFigures year) now =
+    IsYearNumber p year → now ≡ answer p territories (queries.YearFigures year)
+KeepsAnswer p territories queries.Lands now = now ≡ answer p territories queries.Lands
+KeepsAnswer p territories (queries.Periods code) now =
+    KeepsDay (answer p territories (queries.Periods code)) now
+KeepsAnswer p territories (queries.Exceptions code) now =
+    refusal_in now ≡ refusal_in (answer p territories (queries.Exceptions code))
+KeepsAnswer p territories (queries.Changes code) now =
+    refusal_in now ≡ refusal_in (answer p territories (queries.Changes code))
+KeepsAnswer p territories (queries.Written code text date weekday) now =
+    refusal_in now ≡ refusal_in (answer p territories (queries.Written code text date weekday))

@@ -1,9 +1,9 @@
 -- How the register makes a lawful edit of a territory, and how it fails to answer a query.
 use Rattle.std.specs.Prelude.{ℕ, pos, Bool, true, false, List, Option}
-use Rattle.osn_days.specs.Profile.{Profile}
-use Rattle.osn_lands.specs.Territory.{TerritoryModel}
-use Rattle.osn_lands.specs.Changes.{with_change, with_altered, without_change}
-use Rattle.osn_lands.specs.Exceptions.{with_exception, without_exception}
+use Rattle.osn_days.specs.Rules.{Rules}
+use Rattle.osn_territory.specs.Territory.{TerritoryModel}
+use Rattle.osn_territory.specs.Changes.{with_change, with_altered, without_change}
+use Rattle.osn_territory.specs.Exceptions.{with_exception, without_exception}
 use Rattle.osn_register.specs.declared.change.TerritoryEdit.{TerritoryEdit}
 use Rattle.osn_register.specs.declared.change.TerritoryEdit.TheVariants.{Add, Alter, Drop}
 use Rattle.osn_register.specs.declared.change.TerritoryEdit.TheVariants.{AddException}
@@ -15,7 +15,7 @@ use Rattle.osn_register.specs.Plain.{add_change_refusal, alter_change_refusal, d
 use Rattle.osn_register.specs.Plain.{add_exception_refusal, drop_exception_refusal}
 
 -- why a change is refused by what the territory holds
-abbrev pub change_refusal : Profile → Limits → TerritoryEdit → TerritoryModel → Option Refusal
+abbrev pub change_refusal : Rules → Limits → TerritoryEdit → TerritoryModel → Option Refusal
 change_refusal p limits (Add day regime) t = add_change_refusal p limits (pos day) regime t
 change_refusal p limits (Alter day regime) t = alter_change_refusal p (pos day) regime t
 change_refusal p limits (Drop day) t = drop_change_refusal p (pos day) t

@@ -1,12 +1,12 @@
 -- Edits that are lawful in turn, and what an edit is of.
 use Rattle.std.specs.Prelude.{ℕ, ◌≡◌, List, [], ◌∷◌, Option, None}
-use Rattle.osn_days.specs.Profile.{Profile}
+use Rattle.osn_days.specs.Rules.{Rules}
 use Rattle.osn_register.specs.declared.edit.Edit.{Edit}
 use Rattle.osn_register.specs.declared.edit.Edit.TheVariants.{AddLand, AddChange, AlterChange}
 use Rattle.osn_register.specs.declared.edit.Edit.TheVariants.{DropChange, AddException}
 use Rattle.osn_register.specs.declared.edit.Edit.TheVariants.{DropException}
 use Rattle.osn_register.specs.declared.limits.Limits.{Limits}
-use Rattle.osn_register.specs.Plain.{LandModel, refusal, effect}
+use Rattle.osn_register.specs.Plain.{EntryModel, refusal, effect}
 
 -- the code of the territory that an edit is of
 abbrev pub code_of : Edit → List ℕ
@@ -27,7 +27,7 @@ source_given (AddException code year day source) = source
 source_given (DropException code year) = None
 
 -- each edit is lawful at its place, from these territories on
-abbrev pub AreLawful : Profile → Limits → List LandModel → List Edit → Type 0
-AreLawful p limits lands [] = Unit {0}
-AreLawful p limits lands (e ∷ es) =
-    (refusal p limits lands e ≡ None) × AreLawful p limits (effect lands e) es
+abbrev pub AreLawful : Rules → Limits → List EntryModel → List Edit → Type 0
+AreLawful p limits territories [] = Unit {0}
+AreLawful p limits territories (e ∷ es) =
+    (refusal p limits territories e ≡ None) × AreLawful p limits (effect territories e) es

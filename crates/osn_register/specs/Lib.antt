@@ -6,7 +6,7 @@ pub mod BorrowedQuery
 pub mod Sources
 pub mod Plain
 pub mod Lawful
-pub mod SameLand
+pub mod SameEntry
 pub mod Named
 pub mod ByName
 pub mod Remarks

@@ -5,14 +5,14 @@ use Rattle.std.specs.Prelude.{nat_lt, if◌then◌else◌, ℤ, pos, int_le, uns
 use Rattle.std.specs.Prelude.{◌++◌, length, fold, find, Option, Some, None, is_some, is_none}
 use Rattle.std.specs.Prelude.{option_map}
 use Rattle.std.specs.Str.{bytes_eq}
-use Rattle.osn_days.specs.Profile.{Profile}
+use Rattle.osn_days.specs.Rules.{Rules}
 use Rattle.osn_days.specs.Line.{IsDay, IsYear}
-use Rattle.osn_lands.specs.declared.regime.Regime.{Regime}
-use Rattle.osn_lands.specs.Style.{lacks_julian}
-use Rattle.osn_lands.specs.Territory.{TerritoryModel, opened, periods_of, CoversLine}
-use Rattle.osn_lands.specs.Changes.{starts_on, with_change, with_altered, without_change}
-use Rattle.osn_lands.specs.Exceptions.{exception_of, with_exception, without_exception}
-use Rattle.osn_lands.specs.Exceptions.{HasAscendingYears}
+use Rattle.osn_territory.specs.declared.regime.Regime.{Regime}
+use Rattle.osn_territory.specs.Style.{lacks_julian}
+use Rattle.osn_territory.specs.Territory.{TerritoryModel, opened, periods_of, CoversLine}
+use Rattle.osn_territory.specs.Changes.{starts_on, with_change, with_altered, without_change}
+use Rattle.osn_territory.specs.Exceptions.{exception_of, with_exception, without_exception}
+use Rattle.osn_territory.specs.Exceptions.{HasAscendingYears}
 use Rattle.osn_register.specs.declared.limits.Limits.{Limits}
 use Rattle.osn_register.specs.declared.edit.Edit.{Edit}
 use Rattle.osn_register.specs.declared.edit.Edit.TheVariants.{AddLand, AddChange, AlterChange}
@@ -34,7 +34,7 @@ use Rattle.osn_register.specs.Sources.{SourcesModel, HasSources, opening_sources
 use Rattle.osn_register.specs.Sources.{with_period_source, with_easter_source}
 
 -- a territory with its code, its name and its sources
-pub record LandModel : Type 0 where
+pub record EntryModel : Type 0 where
   pub code : List ℕ
   pub name : List ℕ
   pub territory : TerritoryModel
@@ -43,49 +43,50 @@ pub record LandModel : Type 0 where
 -- the territories under limits
 pub record RegisterModel : Type 0 where
   pub limits : Limits
-  pub lands : List LandModel
+  pub territories : List EntryModel
 
 -- the territory of a code
-abbrev pub land_of : List ℕ → List LandModel → Option LandModel
-land_of code lands = find (λ l. bytes_eq code l.code) lands
+abbrev pub entry_of : List ℕ → List EntryModel → Option EntryModel
+entry_of code territories = find (λ l. bytes_eq code l.code) territories
 
-abbrev pub territory_of : List ℕ → List LandModel → Option TerritoryModel
-territory_of code lands = option_map (λ l. l.territory) (land_of code lands)
+abbrev pub territory_of : List ℕ → List EntryModel → Option TerritoryModel
+territory_of code territories = option_map (λ l. l.territory) (entry_of code territories)
 
 -- the sources of the territory of a code
-abbrev pub sources_of : List ℕ → List LandModel → Option SourcesModel
-sources_of code lands = option_map (λ l. l.sources) (land_of code lands)
+abbrev pub sources_of : List ℕ → List EntryModel → Option SourcesModel
+sources_of code territories = option_map (λ l. l.sources) (entry_of code territories)
 
 abbrev pub is_between : ℤ → ℤ → ℤ → Bool
 is_between low high n = int_le low n && int_le n high
 
 -- the regime has a style that does not go with its calendar or its rule, if the rules test that
-abbrev pub is_style_refused : Profile → Regime → Bool
+abbrev pub is_style_refused : Rules → Regime → Bool
 is_style_refused p regime = p.tests_style && lacks_julian regime
 
-abbrev pub add_land_refusal : Profile → Limits → List LandModel → List ℕ → List ℕ → Regime
+abbrev pub add_land_refusal : Rules → Limits → List EntryModel → List ℕ → List ℕ → Regime
     → Option Refusal
-add_land_refusal p limits lands code name regime = first_refusal (
+add_land_refusal p limits territories code name regime = first_refusal (
     (not (is_code code), BadCode)
     ∷ (not (is_name name), BadName)
-    ∷ (is_some (land_of code lands), LandExists)
+    ∷ (is_some (entry_of code territories), LandExists)
     ∷ (is_style_refused p regime, StyleNeedsJulian)
-    ∷ (nat_le limits.lands (length lands), TooManyLands)
+    ∷ (nat_le limits.lands (length territories), TooManyLands)
     ∷ [])
 
 -- why an edit or a query of a territory is refused for its code
-abbrev pub code_refusal : List LandModel → List ℕ → Option Refusal
-code_refusal lands code =
-    first_refusal ((not (is_code code), BadCode) ∷ (is_none (land_of code lands), UnknownLand) ∷ [])
+abbrev pub code_refusal : List EntryModel → List ℕ → Option Refusal
+code_refusal territories code =
+    first_refusal ((not (is_code code), BadCode)
+    ∷ (is_none (entry_of code territories), UnknownLand) ∷ [])
 
-abbrev pub is_off_line : Profile → ℤ → Bool
+abbrev pub is_off_line : Rules → ℤ → Bool
 is_off_line p day = not (is_between (pos 1) (pos p.high) day)
 
 -- the year has no figures, no Easter and no exception
-abbrev pub is_off_years : Profile → ℤ → Bool
+abbrev pub is_off_years : Rules → ℤ → Bool
 is_off_years p year = not (is_between (pos 1) (pos p.last_year) year)
 
-abbrev pub add_change_refusal : Profile → Limits → ℤ → Regime → TerritoryModel → Option Refusal
+abbrev pub add_change_refusal : Rules → Limits → ℤ → Regime → TerritoryModel → Option Refusal
 add_change_refusal p limits day regime t = first_refusal (
     (is_off_line p day, DayOffLine)
     ∷ (unsigned_abs day == 1, OpeningPeriod)
@@ -94,21 +95,21 @@ add_change_refusal p limits day regime t = first_refusal (
     ∷ (nat_lt limits.changes (length t.starts), TooManyChanges)
     ∷ [])
 
-abbrev pub alter_change_refusal : Profile → ℤ → Regime → TerritoryModel → Option Refusal
+abbrev pub alter_change_refusal : Rules → ℤ → Regime → TerritoryModel → Option Refusal
 alter_change_refusal p day regime t = first_refusal (
     (is_off_line p day, DayOffLine)
     ∷ (not (starts_on t (unsigned_abs day)), NoSuchChange)
     ∷ (is_style_refused p regime, StyleNeedsJulian)
     ∷ [])
 
-abbrev pub drop_change_refusal : Profile → ℤ → TerritoryModel → Option Refusal
+abbrev pub drop_change_refusal : Rules → ℤ → TerritoryModel → Option Refusal
 drop_change_refusal p day t = first_refusal (
     (is_off_line p day, DayOffLine)
     ∷ (unsigned_abs day == 1, OpeningPeriod)
     ∷ (not (starts_on t (unsigned_abs day)), NoSuchChange)
     ∷ [])
 
-abbrev pub add_exception_refusal : Profile → Limits → ℤ → ℤ → TerritoryModel → Option Refusal
+abbrev pub add_exception_refusal : Rules → Limits → ℤ → ℤ → TerritoryModel → Option Refusal
 add_exception_refusal p limits year day t = first_refusal (
     (is_off_line p day, DayOffLine)
     ∷ (is_off_years p year, YearOffRange)
@@ -116,7 +117,7 @@ add_exception_refusal p limits year day t = first_refusal (
     ∷ (nat_le limits.exceptions (length t.exceptions), TooManyExceptions)
     ∷ [])
 
-abbrev pub drop_exception_refusal : Profile → ℤ → TerritoryModel → Option Refusal
+abbrev pub drop_exception_refusal : Rules → ℤ → TerritoryModel → Option Refusal
 drop_exception_refusal p year t = first_refusal (
     (is_off_years p year, YearOffRange)
     ∷ (is_none (exception_of t (unsigned_abs year)), NoSuchException)
@@ -127,23 +128,25 @@ inside refused None = None
 inside refused (Some t) = refused t
 
 -- for its code, and else by what the territory of the code holds
-abbrev pub refusal_in : List LandModel → List ℕ → (TerritoryModel → Option Refusal) → Option Refusal
-refusal_in lands code refused =
-    or_else (code_refusal lands code) (inside refused (territory_of code lands))
+abbrev pub refusal_in : List EntryModel → List ℕ → (TerritoryModel → Option Refusal) →
+    Option Refusal
+refusal_in territories code refused =
+    or_else (code_refusal territories code) (inside refused (territory_of code territories))
 
 -- why an edit is refused, if it is
-abbrev pub refusal : Profile → Limits → List LandModel → Edit → Option Refusal
-refusal p limits lands (AddLand code name regime source) =
-    add_land_refusal p limits lands code name regime
-refusal p limits lands (AddChange code day regime source) =
-    refusal_in lands code (add_change_refusal p limits day regime)
-refusal p limits lands (AlterChange code day regime source) =
-    refusal_in lands code (alter_change_refusal p day regime)
-refusal p limits lands (DropChange code day) = refusal_in lands code (drop_change_refusal p day)
-refusal p limits lands (AddException code year day source) =
-    refusal_in lands code (add_exception_refusal p limits year day)
-refusal p limits lands (DropException code year) =
-    refusal_in lands code (drop_exception_refusal p year)
+abbrev pub refusal : Rules → Limits → List EntryModel → Edit → Option Refusal
+refusal p limits territories (AddLand code name regime source) =
+    add_land_refusal p limits territories code name regime
+refusal p limits territories (AddChange code day regime source) =
+    refusal_in territories code (add_change_refusal p limits day regime)
+refusal p limits territories (AlterChange code day regime source) =
+    refusal_in territories code (alter_change_refusal p day regime)
+refusal p limits territories (DropChange code day) =
+    refusal_in territories code (drop_change_refusal p day)
+refusal p limits territories (AddException code year day source) =
+    refusal_in territories code (add_exception_refusal p limits year day)
+refusal p limits territories (DropException code year) =
+    refusal_in territories code (drop_exception_refusal p year)
 
 -- only what adds a territory, a change, an exception or a source takes memory
 abbrev pub takes_memory : Edit → Bool
@@ -156,7 +159,7 @@ takes_memory (DropException code year) = false
 
 -- the territories, with a change of the one that has the code, and of its sources
 abbrev pub with_territory : List ℕ → (TerritoryModel → TerritoryModel)
-    → (SourcesModel → SourcesModel) → List LandModel → List LandModel
+    → (SourcesModel → SourcesModel) → List EntryModel → List EntryModel
 with_territory code change cite [] = []
 with_territory code change cite (l ∷ ls) =
     if bytes_eq code l.code
@@ -164,9 +167,9 @@ with_territory code change cite (l ∷ ls) =
     else l ∷ with_territory code change cite ls
 
 -- the territories, with one more
-abbrev pub with_land : List LandModel → List ℕ → List ℕ → TerritoryModel → SourcesModel
-    → List LandModel
-with_land lands code name territory sources = lands ++ record {
+abbrev pub with_entry : List EntryModel → List ℕ → List ℕ → TerritoryModel → SourcesModel
+    → List EntryModel
+with_entry territories code name territory sources = territories ++ record {
   code = code;
   name = name;
   territory = territory;
@@ -175,68 +178,71 @@ with_land lands code name territory sources = lands ++ record {
 
 -- The territories after a lawful edit. What is added or altered has the source that the edit gives,
 -- or none, and what is dropped has none
-abbrev pub effect : List LandModel → Edit → List LandModel
-effect lands (AddLand code name regime source) =
-    with_land lands code name (opened regime) (opening_sources source)
-effect lands (AddChange code day regime source) =
+abbrev pub effect : List EntryModel → Edit → List EntryModel
+effect territories (AddLand code name regime source) =
+    with_entry territories code name (opened regime) (opening_sources source)
+effect territories (AddChange code day regime source) =
     with_territory code (λ t. with_change t (unsigned_abs day) regime)
-    (with_period_source (unsigned_abs day) source) lands
-effect lands (AlterChange code day regime source) =
+    (with_period_source (unsigned_abs day) source) territories
+effect territories (AlterChange code day regime source) =
     with_territory code (λ t. with_altered t (unsigned_abs day) regime)
-    (with_period_source (unsigned_abs day) source) lands
-effect lands (DropChange code day) =
+    (with_period_source (unsigned_abs day) source) territories
+effect territories (DropChange code day) =
     with_territory code (λ t. without_change t (unsigned_abs day))
-    (with_period_source (unsigned_abs day) None) lands
-effect lands (AddException code year day source) =
+    (with_period_source (unsigned_abs day) None) territories
+effect territories (AddException code year day source) =
     with_territory code (λ t. with_exception t (unsigned_abs year) (unsigned_abs day))
-    (with_easter_source (unsigned_abs year) source) lands
-effect lands (DropException code year) =
+    (with_easter_source (unsigned_abs year) source) territories
+effect territories (DropException code year) =
     with_territory code (λ t. without_exception t (unsigned_abs year))
-    (with_easter_source (unsigned_abs year) None) lands
+    (with_easter_source (unsigned_abs year) None) territories
 
-abbrev pub unless_refused : Option Refusal → List LandModel → List LandModel → List LandModel
+abbrev pub unless_refused : Option Refusal → List EntryModel → List EntryModel → List EntryModel
 unless_refused None new old = new
 unless_refused (Some f) new old = old
 
 -- the territories after an edit. A refused one has no effect
-abbrev pub applied : Profile → Limits → List LandModel → Edit → List LandModel
-applied p limits lands e = unless_refused (refusal p limits lands e) (effect lands e) lands
+abbrev pub applied : Rules → Limits → List EntryModel → Edit → List EntryModel
+applied p limits territories e =
+    unless_refused (refusal p limits territories e) (effect territories e) territories
 
 -- the territories after edits in turn
-abbrev pub applied_all : Profile → Limits → List LandModel → List Edit → List LandModel
-applied_all p limits lands es = fold (applied p limits) lands es
+abbrev pub applied_all : Rules → Limits → List EntryModel → List Edit → List EntryModel
+applied_all p limits territories es = fold (applied p limits) territories es
 
 -- the register of edits in turn, from the empty one
-abbrev pub folded : Profile → Limits → List Edit → RegisterModel
-folded p limits es = record { limits = limits; lands = applied_all p limits [] es }
+abbrev pub folded : Rules → Limits → List Edit → RegisterModel
+folded p limits es = record { limits = limits; territories = applied_all p limits [] es }
 
 -- whether applying an edit takes memory: a lawful one that adds
-abbrev pub apply_takes_memory : Profile → Limits → List LandModel → Edit → Bool
-apply_takes_memory p limits lands e = is_none (refusal p limits lands e) && takes_memory e
+abbrev pub apply_takes_memory : Rules → Limits → List EntryModel → Edit → Bool
+apply_takes_memory p limits territories e = is_none (refusal p limits territories e)
+    && takes_memory e
 
 -- whether applying edits in turn takes memory
-abbrev pub fold_takes_memory : Profile → Limits → List LandModel → List Edit → Bool
-fold_takes_memory p limits lands [] = false
-fold_takes_memory p limits lands (e ∷ es) =
-    apply_takes_memory p limits lands e || fold_takes_memory p limits (applied p limits lands e) es
+abbrev pub fold_takes_memory : Rules → Limits → List EntryModel → List Edit → Bool
+fold_takes_memory p limits territories [] = false
+fold_takes_memory p limits territories (e ∷ es) =
+    apply_takes_memory p limits territories e
+    || fold_takes_memory p limits (applied p limits territories e) es
 
 -- no two territories have one code
-abbrev pub AreDistinct : List LandModel → Type 0
+abbrev pub AreDistinct : List EntryModel → Type 0
 AreDistinct [] = Unit {0}
-AreDistinct (l ∷ ls) = (land_of l.code ls ≡ None) × AreDistinct ls
+AreDistinct (l ∷ ls) = (entry_of l.code ls ≡ None) × AreDistinct ls
 
 -- every regime goes with its style, if the rules test that
-abbrev pub AreStyled : Profile → List (ℕ × Regime) → Type 0
+abbrev pub AreStyled : Rules → List (ℕ × Regime) → Type 0
 AreStyled p [] = Unit {0}
 AreStyled p (s ∷ ss) = (is_style_refused p s.1 ≡ false) × AreStyled p ss
 
 -- every listed day is one of the line, of a year that has an Easter
-abbrev pub AreListed : Profile → List (ℕ × ℕ) → Type 0
+abbrev pub AreListed : Rules → List (ℕ × ℕ) → Type 0
 AreListed p [] = Unit {0}
 AreListed p (e ∷ es) = IsYear p e.0 × IsDay p e.1 × AreListed p es
 
 -- what holds of every territory of a register
-pub record IsSoundTerritory (p : Profile) (limits : Limits) (t : TerritoryModel) : Type 0 where
+pub record IsSoundTerritory (p : Rules) (limits : Limits) (t : TerritoryModel) : Type 0 where
   -- it has one period more than changes
   pub changes : length t.starts ≤ limits.changes + 1
   pub exceptions : length t.exceptions ≤ limits.exceptions
@@ -245,26 +251,26 @@ pub record IsSoundTerritory (p : Profile) (limits : Limits) (t : TerritoryModel)
   pub styles : AreStyled p t.starts
   pub listed : AreListed p t.exceptions
 
-abbrev pub AreSound : Profile → Limits → List LandModel → Type 0
+abbrev pub AreSound : Rules → Limits → List EntryModel → Type 0
 AreSound p limits [] = Unit {0}
 AreSound p limits (l ∷ ls) = IsSoundTerritory p limits l.territory × AreSound p limits ls
 
 -- every territory has a code and a name that it may have
-abbrev pub AreNamed : List LandModel → Type 0
+abbrev pub AreNamed : List EntryModel → Type 0
 AreNamed [] = Unit {0}
 AreNamed (l ∷ ls) = (is_code l.code ≡ true) × (is_name l.name ≡ true) × AreNamed ls
 
 -- every source is one that may be given
-abbrev pub HaveSources : List LandModel → Type 0
+abbrev pub HaveSources : List EntryModel → Type 0
 HaveSources [] = Unit {0}
 HaveSources (l ∷ ls) = HasSources l.sources × HaveSources ls
 
 -- codes are distinct, and codes, names and sources of their forms. The territories, their changes
 -- and their exceptions are within their limits. The periods of each territory cover the line, and
 -- its years with an exception ascend
-pub record IsWellFormed (p : Profile) (r : RegisterModel) : Type 0 where
-  pub distinct : AreDistinct r.lands
-  pub named : AreNamed r.lands
-  pub within : length r.lands ≤ r.limits.lands
-  pub territories : AreSound p r.limits r.lands
-  pub sources : HaveSources r.lands
+pub record IsWellFormed (p : Rules) (r : RegisterModel) : Type 0 where
+  pub distinct : AreDistinct r.territories
+  pub named : AreNamed r.territories
+  pub within : length r.territories ≤ r.limits.lands
+  pub territories : AreSound p r.limits r.territories
+  pub sources : HaveSources r.territories

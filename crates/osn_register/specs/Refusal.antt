@@ -70,8 +70,8 @@ or_else None second = second
 or_else (Some f) second = Some f
 
 -- the call is a test: it passes if nothing refuses, and otherwise returns the refusal
-abbrev pub IsTestOf : {T : Type 0} → Option Refusal → Result T Refusal → Type 0
-IsTestOf refused result = MatchResult result (λ _. refused ≡ None) (λ f. refused ≡ Some f)
+abbrev pub IsCheckOf : {T : Type 0} → Option Refusal → Result T Refusal → Type 0
+IsCheckOf refused result = MatchResult result (λ _. refused ≡ None) (λ f. refused ≡ Some f)
 
 -- the refusal, or NoMemory if nothing refuses
 abbrev pub IsRefusalOrNoMemory : Option Refusal → Refusal → Type 0

@@ -3,10 +3,10 @@
 use Rattle.std.specs.Prelude.{ℕ, Bool, false, ◌||◌, if◌then◌else◌, List, [], ◌∷◌}
 use Rattle.std.specs.Prelude.{Option, Some, None, is_some, option_map, Result, Ok, Err}
 use Rattle.std.specs.List.{list_any}
-use Rattle.osn_days.specs.Profile.{Profile}
+use Rattle.osn_days.specs.Rules.{Rules}
 use Rattle.osn_days.specs.declared.weekday.Weekday.{Weekday}
-use Rattle.osn_lands.specs.declared.runs.Run.{Run}
-use Rattle.osn_lands.specs.Territory.{TerritoryModel}
+use Rattle.osn_territory.specs.declared.runs.Run.{Run}
+use Rattle.osn_territory.specs.Territory.{TerritoryModel}
 use Rattle.osn_written.specs.declared.any_date.AnyDate.{AnyDate}
 use Rattle.osn_written.specs.declared.any_date.Extent.{Extent}
 use Rattle.osn_written.specs.declared.finding.NoDay.{NoDay}
@@ -51,17 +51,17 @@ missing_in_set (Ok runs) = None
 missing_in_set (Err absent) = missing_day absent.extent absent.reason
 
 -- one of the days that a date means is of the weekday that it names, and of the one that is given
-abbrev pub is_on_weekday : Profile → TerritoryModel → Option Weekday → WrittenDate → Bool
+abbrev pub is_on_weekday : Rules → TerritoryModel → Option Weekday → WrittenDate → Bool
 is_on_weekday p t given w = list_any (has_weekday w given) (meaning p t w given)
 
 -- the same if a weekday is named or given, and the date is that of one day
-abbrev pub if_weekday : Profile → TerritoryModel → AnyDate → Option Weekday → Option Bool
+abbrev pub if_weekday : Rules → TerritoryModel → AnyDate → Option Weekday → Option Bool
 if_weekday p t w given =
     if is_some w.weekday || is_some given then option_map (is_on_weekday p t given) (one_day w)
     else None
 
 -- what is remarked of a date in a territory, which is read by the reckoning of another one
-abbrev pub remarks_of : Profile → TerritoryModel → TerritoryModel → AnyDate → DateRemarks
+abbrev pub remarks_of : Rules → TerritoryModel → TerritoryModel → AnyDate → DateRemarks
 remarks_of p t by w = record {
   read_as = words_of w ∷ [];
   reckoning = w.reckoning;

@@ -5,7 +5,7 @@ use crate::source::Source;
 use crate::text::Text;
 use osn_computus::{Epact, Letters};
 use osn_days::{Day, Year};
-use osn_lands::{Label, Period, Regime};
+use osn_territory::{Label, Period, Regime};
 use osn_written::{DateFault, Kind, Listing, NoDay};
 
 /// A day as a territory names it: its label and its dual text, under the regime in force on it.

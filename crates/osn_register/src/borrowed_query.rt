@@ -1,6 +1,6 @@
 //! A query whose texts are borrowed.
 ghost use Rattle.std.specs.Prelude.{◌≡◌, true, IfOk, OnErr};
-ghost use Rattle.osn_register.specs.Query.{names_land};
+ghost use Rattle.osn_register.specs.Query.{names_territory};
 ghost use Rattle.osn_register.specs.BorrowedQuery.{as_query};
 
 use crate::query::Query;
@@ -32,7 +32,7 @@ impl<'a> BorrowedQuery<'a> {
     /// If memory runs out. A query that names no territory needs none.
     pub fn to_query(self, alloc: Global) -> Result<Query, AllocError>
         ensures value { IfOk result (λ q. q ≡ as_query self.entry) }
-        ensures memory { OnErr result (names_land (as_query self.entry) ≡ true) }
+        ensures memory { OnErr result (names_territory (as_query self.entry) ≡ true) }
     {
         Ok(match self {
             BorrowedQuery::Read(code, year, month, day) => Query::Read {

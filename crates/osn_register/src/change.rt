@@ -1,6 +1,6 @@
 //! Lawful changes of a territory and of its sources.
 ghost use Rattle.std.specs.Prelude.{◌≡◌, ◌||◌, true, None, OnOk, OnErr, is_some};
-ghost use Rattle.osn_days.specs.Profile.{newest_rules};
+ghost use Rattle.osn_days.specs.Rules.{newest_rules};
 ghost use Rattle.osn_register.specs.declared.limits.Limits.{Limits};
 ghost use Rattle.osn_register.specs.InsideChange.{change_refusal, territory_after};
 ghost use Rattle.osn_register.specs.Inside.{sources_in};
@@ -10,7 +10,7 @@ ghost use Rattle.osn_register.specs.Sources.{IsGiven, with_source};
 use crate::source::Source;
 use crate::sources::{Sources, put, remove};
 use osn_days::{Day, Year};
-use osn_lands::{Regime, Territory};
+use osn_territory::{Regime, Territory};
 use std::alloc::AllocError;
 
 /// What a lawful edit does in one territory.

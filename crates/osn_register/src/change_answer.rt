@@ -2,8 +2,8 @@
 ghost use Rattle.std.specs.Prelude.{◌≡◌, ◌<◌, ◌-◌, ◌++◌, Some, IfOk, OnOk};
 ghost use Rattle.std.specs.List.{flat_map};
 ghost use Rattle.std.specs.Option.{option_to_list};
-ghost use Rattle.osn_days.specs.Profile.{newest_rules};
-ghost use Rattle.osn_lands.specs.Territory.{periods_of};
+ghost use Rattle.osn_days.specs.Rules.{newest_rules};
+ghost use Rattle.osn_territory.specs.Territory.{periods_of};
 ghost use Rattle.osn_register.specs.Answer as spec;
 ghost use Rattle.osn_register.specs.Inside.{sources_in};
 
@@ -11,7 +11,7 @@ use crate::answer::{Answer, FoundChange};
 use crate::sources::{Sources, source_of};
 use crate::territory_answer::{found_on, owned};
 use osn_days::{Day, date_of, day_of};
-use osn_lands::{Period, Territory};
+use osn_territory::{Period, Territory};
 use osn_written::Listing;
 use std::alloc::{AllocError, Global};
 

@@ -4,7 +4,7 @@ ghost use Rattle.osn_register.specs.Lawful.{code_of, source_given};
 
 use crate::source::Source;
 use crate::text::Text;
-use osn_lands::Regime;
+use osn_territory::Regime;
 use std::alloc::AllocError;
 
 /// A change of the register. An edit with a wrong member is refused when it is checked. A source

@@ -1,8 +1,8 @@
 //! Why an edit of a territory is refused by what the territory holds.
 ghost use Rattle.std.specs.Prelude.{◌≡◌, nat_lt, nat_le, length, [], ◌∷◌};
-ghost use Rattle.osn_days.specs.Profile.{newest_rules};
+ghost use Rattle.osn_days.specs.Rules.{newest_rules};
 ghost use Rattle.osn_register.specs.declared.refusal.Refusal.TheVariants.{StyleNeedsJulian};
-ghost use Rattle.osn_register.specs.Refusal.{IsTestOf, first_refusal};
+ghost use Rattle.osn_register.specs.Refusal.{IsCheckOf, first_refusal};
 ghost use Rattle.osn_register.specs.Plain.{add_change_refusal, alter_change_refusal};
 ghost use Rattle.osn_register.specs.Plain.{drop_change_refusal, add_exception_refusal};
 ghost use Rattle.osn_register.specs.Plain.{drop_exception_refusal, is_style_refused};
@@ -11,7 +11,7 @@ use crate::limits::Limits;
 use crate::numbers::{day_on_line, year_in_range};
 use crate::refusal::Refusal;
 use osn_days::Day;
-use osn_lands::{Regime, Territory};
+use osn_territory::{Regime, Territory};
 
 fn has_all_changes(limits: Limits, territory: &Territory) -> bool
     ensures { result ≡ nat_lt limits.changes (length territory.now.starts) }
@@ -27,7 +27,7 @@ fn has_all_exceptions(limits: Limits, territory: &Territory) -> bool
 
 /// Checks whether the style of a regime goes with its calendar and its rule.
 pub(crate) fn check_style(regime: Regime) -> Result<(), Refusal>
-    ensures { IsTestOf
+    ensures { IsCheckOf
         (first_refusal ((is_style_refused newest_rules regime, StyleNeedsJulian) ∷ [])) result }
 {
     if regime.lacks_julian() {
@@ -42,7 +42,7 @@ pub(crate) fn check_add_change(
     day: i64,
     regime: Regime,
 ) -> Result<(), Refusal>
-    ensures { IsTestOf (add_change_refusal newest_rules limits day regime territory.now) result }
+    ensures { IsCheckOf (add_change_refusal newest_rules limits day regime territory.now) result }
 {
     let day = day_on_line(day)?;
     if day == Day::FIRST {
@@ -63,7 +63,7 @@ pub(crate) fn check_alter_change(
     day: i64,
     regime: Regime,
 ) -> Result<(), Refusal>
-    ensures { IsTestOf (alter_change_refusal newest_rules day regime territory.now) result }
+    ensures { IsCheckOf (alter_change_refusal newest_rules day regime territory.now) result }
 {
     let day = day_on_line(day)?;
     if !territory.starts_on(day) {
@@ -73,7 +73,7 @@ pub(crate) fn check_alter_change(
 }
 
 pub(crate) fn check_drop_change(territory: &Territory, day: i64) -> Result<(), Refusal>
-    ensures { IsTestOf (drop_change_refusal newest_rules day territory.now) result }
+    ensures { IsCheckOf (drop_change_refusal newest_rules day territory.now) result }
 {
     let day = day_on_line(day)?;
     if day == Day::FIRST {
@@ -91,7 +91,7 @@ pub(crate) fn check_add_exception(
     year: i64,
     day: i64,
 ) -> Result<(), Refusal>
-    ensures { IsTestOf (add_exception_refusal newest_rules limits year day territory.now) result }
+    ensures { IsCheckOf (add_exception_refusal newest_rules limits year day territory.now) result }
 {
     let _day = day_on_line(day)?;
     let year = year_in_range(year)?;
@@ -105,7 +105,7 @@ pub(crate) fn check_add_exception(
 }
 
 pub(crate) fn check_drop_exception(territory: &Territory, year: i64) -> Result<(), Refusal>
-    ensures { IsTestOf (drop_exception_refusal newest_rules year territory.now) result }
+    ensures { IsCheckOf (drop_exception_refusal newest_rules year territory.now) result }
 {
     let year = year_in_range(year)?;
     if territory.exception(year).is_none() {

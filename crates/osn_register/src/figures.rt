@@ -1,6 +1,6 @@
 //! The figures of a year, which are the same in every territory.
 ghost use Rattle.std.specs.Prelude.{◌≡◌, None};
-ghost use Rattle.osn_days.specs.Profile.{newest_rules};
+ghost use Rattle.osn_days.specs.Rules.{newest_rules};
 ghost use Rattle.osn_register.specs.Answer.{figures_of, refusal_in};
 
 use crate::answer::Answer;

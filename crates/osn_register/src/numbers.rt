@@ -1,14 +1,14 @@
 //! The days, years and labels of numbers that a request gives, if they are in their ranges.
 ghost use Rattle.std.specs.Prelude.{◌≡◌, true, false, IfOk, MatchResult, unsigned_abs};
-ghost use Rattle.osn_days.specs.Profile.{newest_rules};
-ghost use Rattle.osn_register.specs.Refusal.{IsTestOf};
+ghost use Rattle.osn_days.specs.Rules.{newest_rules};
+ghost use Rattle.osn_register.specs.Refusal.{IsCheckOf};
 ghost use Rattle.osn_register.specs.declared.refusal.Refusal.TheVariants.{DayOffLine, YearOffRange};
 ghost use Rattle.osn_register.specs.Plain.{is_off_line, is_off_years};
 ghost use Rattle.osn_register.specs.Answer.{date_refusal, label_from};
 
 use crate::refusal::Refusal;
 use osn_days::{Day, Year};
-use osn_lands::Label;
+use osn_territory::Label;
 
 /// The last year that a label may have.
 const LAST_LABEL_YEAR: i64 = 10_000;
@@ -33,7 +33,7 @@ pub(crate) fn year_in_range(number: i64) -> Result<Year, Refusal>
 
 /// Returns the label of a date that is asked for, if it may be one.
 pub(crate) fn asked_label(year: i64, month: i64, day: i64) -> Result<Label, Refusal>
-    ensures test { IsTestOf (date_refusal newest_rules year month day) result }
+    ensures test { IsCheckOf (date_refusal newest_rules year month day) result }
     ensures value { IfOk result (λ l. l ≡ label_from year month day) }
 {
     if year < 0 || year > LAST_LABEL_YEAR {

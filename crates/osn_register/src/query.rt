@@ -1,6 +1,6 @@
 //! The queries of a register.
 ghost use Rattle.std.specs.Prelude.{◌≡◌, true, IfOk, OnErr};
-ghost use Rattle.osn_register.specs.Query.{names_land};
+ghost use Rattle.osn_register.specs.Query.{names_territory};
 ghost use Rattle.osn_register.specs.BorrowedQuery.{as_query};
 
 use crate::borrowed_query::BorrowedQuery;
@@ -67,7 +67,7 @@ impl Query {
     /// If memory runs out. A query that names no territory needs none.
     pub fn copy(&self) -> Result<Query, AllocError>
         ensures value { IfOk result (λ q. q ≡ self.now) }
-        ensures memory { OnErr result (names_land self.now ≡ true) }
+        ensures memory { OnErr result (names_territory self.now ≡ true) }
     {
         match self {
             Query::YearFigures { year } => Ok(Query::YearFigures { year: *year }),

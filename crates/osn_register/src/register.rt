@@ -2,16 +2,16 @@
 ghost use Rattle.std.specs.Prelude.{◌≡◌, ◌++◌, [], ◌∷◌, true, Some, None, IfOk, IfErr, OnOk, OnErr};
 ghost use Rattle.std.specs.Prelude.{◌<◌, ◌||◌, length, is_some, option_copied, option_map};
 ghost use Rattle.std.specs.Prelude.{string_bytes};
-ghost use Rattle.osn_days.specs.Profile.{newest_rules};
-ghost use Rattle.osn_lands.specs.Territory.{opened};
-ghost use Rattle.osn_lands.specs.Changes.{regime_fault};
+ghost use Rattle.osn_days.specs.Rules.{newest_rules};
+ghost use Rattle.osn_territory.specs.Territory.{opened};
+ghost use Rattle.osn_territory.specs.Changes.{regime_fault};
 ghost use Rattle.osn_register.specs.Code as form;
 ghost use Rattle.osn_register.specs.Plain.{refusal, add_land_refusal, code_refusal, refusal_in};
-ghost use Rattle.osn_register.specs.Plain.{with_land, with_territory, effect, applied, folded};
+ghost use Rattle.osn_register.specs.Plain.{with_entry, with_territory, effect, applied, folded};
 ghost use Rattle.osn_register.specs.Plain.{takes_memory};
-ghost use Rattle.osn_register.specs.Plain.{apply_takes_memory, land_of, territory_of, sources_of};
+ghost use Rattle.osn_register.specs.Plain.{apply_takes_memory, entry_of, territory_of, sources_of};
 ghost use Rattle.osn_register.specs.Plain.{IsSoundTerritory, IsWellFormed};
-ghost use Rattle.osn_register.specs.Refusal.{IsTestOf, IsRefusalOrNoMemory};
+ghost use Rattle.osn_register.specs.Refusal.{IsCheckOf, IsRefusalOrNoMemory};
 ghost use Rattle.osn_register.specs.InsideChange.{change_refusal, territory_after};
 ghost use Rattle.osn_register.specs.InsideChange.{change_takes_memory, sources_after};
 ghost use Rattle.osn_register.specs.Inside.{sources_in};
@@ -19,9 +19,9 @@ ghost use Rattle.osn_register.specs.Lawful.{source_given};
 ghost use Rattle.osn_register.specs.Sources.{HasSources, IsGiven, opening_sources};
 
 mod copy;
-mod lands;
 mod queries;
 mod sources;
+mod territories;
 
 use crate::change::TerritoryEdit;
 use crate::code::{is_code, is_name};
@@ -37,7 +37,7 @@ use crate::sources::Sources;
 use crate::text::Text;
 use indexmap::IndexMap;
 use osn_days::{Day, Year};
-use osn_lands::{Regime, Territory};
+use osn_territory::{Regime, Territory};
 use std::alloc::{AllocError, Global};
 use std::marker::Model;
 
@@ -87,11 +87,11 @@ impl NamedTerritory {
 pub struct Register {
     alloc: Global,
     limits: Limits,
-    lands: IndexMap<String, NamedTerritory>,
+    territories: IndexMap<String, NamedTerritory>,
 }
 
 impl Model for Register {
-    ghost use Rattle.osn_days.specs.Profile.{newest_rules};
+    ghost use Rattle.osn_days.specs.Rules.{newest_rules};
     ghost use Rattle.osn_register.specs.Plain.{RegisterModel, IsWellFormed};
 
     ghost Value = { RegisterModel };
@@ -111,7 +111,7 @@ impl Register {
         Register {
             alloc,
             limits,
-            lands: IndexMap::new(alloc),
+            territories: IndexMap::new(alloc),
         }
     }
 
@@ -123,27 +123,27 @@ impl Register {
         self.limits
     }
 
-    fn has_land(&self, code: &str) -> bool
-        ensures { result ≡ is_some (land_of code.now self.now.lands) }
+    fn has_territory(&self, code: &str) -> bool
+        ensures { result ≡ is_some (entry_of code.now self.now.territories) }
     {
-        self.lands.contains_key(code)
+        self.territories.contains_key(code)
     }
 
     fn known_territory(&self, code: &str) -> Result<&Territory, Refusal>
-        ensures test { IsTestOf (code_refusal self.now.lands code.now) result }
-        ensures value { IfOk result (λ t. territory_of code.now self.now.lands ≡ Some t.now) }
+        ensures test { IsCheckOf (code_refusal self.now.territories code.now) result }
+        ensures value { IfOk result (λ t. territory_of code.now self.now.territories ≡ Some t.now) }
     {
-        let (_, territory) = self.land(code)?;
+        let (_, territory) = self.territory(code)?;
         Ok(territory)
     }
 
     /// Returns the territory of a code, with its sources.
-    fn known_land(&self, code: &str) -> Result<(&Territory, &Sources), Refusal>
-        ensures test { IsTestOf (code_refusal self.now.lands code.now) result }
+    fn known_entry(&self, code: &str) -> Result<(&Territory, &Sources), Refusal>
+        ensures test { IsCheckOf (code_refusal self.now.territories code.now) result }
         ensures territory { IfOk result (λ l.
-            territory_of code.now self.now.lands ≡ Some l.0.now) }
+            territory_of code.now self.now.territories ≡ Some l.0.now) }
         ensures sources { IfOk result (λ l.
-            sources_of code.now self.now.lands ≡ Some (sources_in l.1.now)) }
+            sources_of code.now self.now.territories ≡ Some (sources_in l.1.now)) }
     {
         let territory = self.known_territory(code)?;
         match self.sources(code) {
@@ -155,9 +155,9 @@ impl Register {
     /// Returns the sources of the territory of a code, if some territory has it.
     fn sources(&self, code: &str) -> Option<&Sources>
         ensures { option_map (λ s. sources_in s.now) result
-            ≡ sources_of code.now self.now.lands }
+            ≡ sources_of code.now self.now.territories }
     {
-        match self.lands.get(code) {
+        match self.territories.get(code) {
             Some(entry) => Some(&entry.sources),
             None => None,
         }
@@ -171,7 +171,8 @@ impl Register {
     ///
     /// The first refusal that applies.
     pub fn check(&self, edit: &Edit) -> Result<(), Refusal>
-        ensures { IsTestOf (refusal newest_rules self.now.limits self.now.lands edit.now) result }
+        ensures { IsCheckOf (refusal newest_rules self.now.limits self.now.territories edit.now)
+            result }
     {
         match edit {
             Edit::AddLand {
@@ -214,9 +215,9 @@ impl Register {
     }
 
     fn check_add_land(&self, code: &str, name: &str, regime: Regime) -> Result<(), Refusal>
-        ensures { IsTestOf
-            (add_land_refusal newest_rules self.now.limits self.now.lands code.now name.now regime)
-            result }
+        ensures { IsCheckOf
+            (add_land_refusal newest_rules self.now.limits self.now.territories code.now name.now
+            regime) result }
     {
         if !is_code(code) {
             return Err(Refusal::BadCode);
@@ -224,11 +225,11 @@ impl Register {
         if !is_name(name) {
             return Err(Refusal::BadName);
         }
-        if self.has_land(code) {
+        if self.has_territory(code) {
             return Err(Refusal::LandExists);
         }
         check_style(regime)?;
-        if self.lands.len() >= self.limits.lands as usize {
+        if self.territories.len() >= self.limits.lands as usize {
             return Err(Refusal::TooManyLands);
         }
         Ok(())
@@ -242,11 +243,12 @@ impl Register {
     /// needs none, nor one that alters and gives no source. On an error nothing has changed.
     pub fn apply(&mut self, edit: &Edit) -> Result<(), Refusal>
         ensures lawful { OnOk result
-            (refusal newest_rules self.old.limits self.old.lands edit.now ≡ None) }
+            (refusal newest_rules self.old.limits self.old.territories edit.now ≡ None) }
         ensures ok { OnOk result
-            (self.new ≡ record self.old { lands = effect self.old.lands edit.now }) }
+            (self.new ≡ record self.old { territories = effect self.old.territories edit.now }) }
         ensures refused { IfErr result
-            (IsRefusalOrNoMemory (refusal newest_rules self.old.limits self.old.lands edit.now)) }
+            (IsRefusalOrNoMemory (refusal newest_rules self.old.limits self.old.territories
+            edit.now)) }
         ensures err { OnErr result (self.new ≡ self.old) }
         ensures memory { IfErr result (λ f. f ≡ Refusal.NoMemory → takes_memory edit.now ≡ true) }
     {
@@ -261,11 +263,11 @@ impl Register {
     /// If memory runs out. A refused edit needs none. On an error nothing has changed.
     pub fn apply_if_lawful(&mut self, edit: &Edit) -> Result<(), AllocError>
         ensures ok { OnOk result (self.new ≡ record self.old {
-          lands = applied newest_rules self.old.limits self.old.lands edit.now;
+          territories = applied newest_rules self.old.limits self.old.territories edit.now;
         }) }
         ensures err { OnErr result (self.new ≡ self.old) }
         ensures memory { OnErr result
-            (apply_takes_memory newest_rules self.old.limits self.old.lands edit.now ≡ true) }
+            (apply_takes_memory newest_rules self.old.limits self.old.territories edit.now ≡ true) }
     {
         match self.check(edit) {
             Ok(()) => self.admit(edit),
@@ -280,9 +282,9 @@ impl Register {
     /// If memory runs out. An edit that drops needs none, nor one that alters and gives no source.
     /// On an error nothing has changed.
     pub fn admit(&mut self, edit: &Edit) -> Result<(), AllocError>
-        requires { refusal newest_rules self.old.limits self.old.lands edit.now ≡ None }
+        requires { refusal newest_rules self.old.limits self.old.territories edit.now ≡ None }
         ensures ok { OnOk result
-            (self.new ≡ record self.old { lands = effect self.old.lands edit.now }) }
+            (self.new ≡ record self.old { territories = effect self.old.territories edit.now }) }
         ensures source { OnOk result (IsGiven (source_given edit.now)) }
         ensures err { OnErr result (self.new ≡ self.old) }
         ensures memory { OnErr result (takes_memory edit.now ≡ true) }
@@ -343,17 +345,17 @@ impl Register {
         change: TerritoryEdit,
         source: &Option<Source>,
     ) -> Result<(), AllocError>
-        requires { refusal_in self.old.lands code.now
+        requires { refusal_in self.old.territories code.now
             (change_refusal newest_rules self.old.limits change) ≡ None }
         ensures ok { OnOk result (self.new ≡ record self.old {
-          lands = with_territory code.now (territory_after change)
-              (sources_after change source.now) self.old.lands;
+          territories = with_territory code.now (territory_after change)
+              (sources_after change source.now) self.old.territories;
         }) }
         ensures source { OnOk result (IsGiven source.now) }
         ensures err { OnErr result (self.new ≡ self.old) }
         ensures memory { OnErr result (change_takes_memory change || is_some source.now ≡ true) }
     {
-        let entry = self.lands.get_mut(code).unwrap();
+        let entry = self.territories.get_mut(code).unwrap();
         change.make(&mut entry.territory, &mut entry.sources, source)
     }
 
@@ -364,13 +366,13 @@ impl Register {
         regime: Regime,
         source: &Option<Source>,
     ) -> Result<(), AllocError>
-        requires absent { land_of code.now self.old.lands ≡ None }
+        requires absent { entry_of code.now self.old.territories ≡ None }
         requires code { form.is_code code.now ≡ true }
         requires name { form.is_name name.now ≡ true }
         requires regime { regime_fault regime ≡ None }
-        requires room { length self.old.lands < self.old.limits.lands }
+        requires room { length self.old.territories < self.old.limits.lands }
         ensures ok { OnOk result (self.new ≡ record self.old {
-          lands = with_land self.old.lands code.now name.now (opened regime)
+          territories = with_entry self.old.territories code.now name.now (opened regime)
               (opening_sources source.now);
         }) }
         ensures source { OnOk result (IsGiven source.now) }
@@ -381,19 +383,19 @@ impl Register {
     }
 
     fn insert(&mut self, code: String, entry: NamedTerritory) -> Result<(), AllocError>
-        requires absent { land_of (string_bytes code) self.old.lands ≡ None }
+        requires absent { entry_of (string_bytes code) self.old.territories ≡ None }
         requires code { form.is_code (string_bytes code) ≡ true }
         requires name { form.is_name entry.name ≡ true }
-        requires room { length self.old.lands < self.old.limits.lands }
+        requires room { length self.old.territories < self.old.limits.lands }
         requires territory { IsSoundTerritory newest_rules self.old.limits entry.territory }
         requires sources { HasSources (sources_in entry.sources) }
         ensures ok { OnOk result (self.new ≡ record self.old {
-          lands = with_land self.old.lands (string_bytes code) entry.name entry.territory
-              (sources_in entry.sources);
+          territories = with_entry self.old.territories (string_bytes code) entry.name
+              entry.territory (sources_in entry.sources);
         }) }
         ensures err { OnErr result (self.new ≡ self.old) }
     {
-        self.lands.insert(code, entry)?;
+        self.territories.insert(code, entry)?;
         Ok(())
     }
 }

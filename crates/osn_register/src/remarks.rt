@@ -1,6 +1,6 @@
 //! What is remarked of a date as it is written, and the days near it if it means none.
 ghost use Rattle.std.specs.Prelude.{◌≡◌, IfOk, [], map};
-ghost use Rattle.osn_days.specs.Profile.{newest_rules};
+ghost use Rattle.osn_days.specs.Rules.{newest_rules};
 ghost use Rattle.osn_register.specs.Answer as answer;
 ghost use Rattle.osn_register.specs.Remarks as spec;
 ghost use Rattle.osn_written.specs.DateInWords.{words_of};
@@ -11,7 +11,7 @@ use crate::territory_answer::found_days;
 use crate::text::Text;
 use crate::written_answer::found_runs;
 use osn_days::Weekday;
-use osn_lands::Territory;
+use osn_territory::Territory;
 use osn_written::{
     AnyDate, DateInWords, Listing, Missing, Reckoning, changes_over, days_like,
     is_extent_not_counted_double, year_without,

@@ -1,8 +1,8 @@
 //! Answers about one territory.
 ghost use Rattle.std.specs.Prelude.{◌≡◌, true, Some, None, IfOk, OnErr, All, map, option_map};
-ghost use Rattle.osn_days.specs.Profile.{newest_rules};
-ghost use Rattle.osn_lands.specs.Territory.{regime_at, periods_of};
-ghost use Rattle.osn_lands.specs.Label.{local_label};
+ghost use Rattle.osn_days.specs.Rules.{newest_rules};
+ghost use Rattle.osn_territory.specs.Territory.{regime_at, periods_of};
+ghost use Rattle.osn_territory.specs.Label.{local_label};
 ghost use Rattle.osn_register.specs.Answer as spec;
 ghost use Rattle.osn_register.specs.Inside.{sources_in};
 
@@ -11,7 +11,7 @@ use crate::source::Source;
 use crate::sources::{Sources, source_of};
 use crate::text::Text;
 use osn_days::{Day, Year};
-use osn_lands::{Label, Period, Regime, Territory, dual_text, label_of};
+use osn_territory::{Label, Period, Regime, Territory, dual_text, label_of};
 use osn_written::Listing;
 use std::alloc::{AllocError, Global};
 

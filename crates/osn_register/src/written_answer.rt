@@ -1,6 +1,6 @@
 //! The answer about a date as it is written.
 ghost use Rattle.std.specs.Prelude.{◌≡◌, Some, IfOk, map};
-ghost use Rattle.osn_days.specs.Profile.{newest_rules};
+ghost use Rattle.osn_days.specs.Rules.{newest_rules};
 ghost use Rattle.osn_register.specs.Answer as spec;
 ghost use Rattle.osn_register.specs.Remarks as remark;
 ghost use Rattle.osn_written.specs.Finding as finding;
@@ -10,7 +10,7 @@ use crate::answer::{Answer, FoundRun, Reason, WrittenAnswer};
 use crate::remarks::{near, no_near_days, no_remarks, remarks_of, remarks_of_set};
 use crate::territory_answer::found_on;
 use osn_days::Weekday;
-use osn_lands::{Run, Territory};
+use osn_territory::{Run, Territory};
 use osn_written::{
     AbsentMember, AnyDate, DateFault, DateReading, Extent, Kind, Listing, Missing, NoDay,
     WrittenDate, by_reckoning, days_meant, find_runs, find_set, has_weekday, is_by_other_calendar,
@@ -50,9 +50,9 @@ fn runs_and_reason(
     territory: &Territory,
     found: Result<Vec<Run>, NoDay>,
 ) -> Result<(Vec<FoundRun>, Option<Reason>), AllocError>
-    ensures runs { IfOk result (λ told. told.0.items
+    ensures runs { IfOk result (λ pair. pair.0.items
         ≡ map (spec.found_run newest_rules territory.now) (remark.runs_in (finding.list_of found))) }
-    ensures reason { IfOk result (λ told. told.1 ≡ remark.reason_in (finding.list_of found)) }
+    ensures reason { IfOk result (λ pair. pair.1 ≡ remark.reason_in (finding.list_of found)) }
 {
     match found {
         Ok(runs) => Ok((found_runs(alloc, territory, runs.as_slice())?, None)),
@@ -155,9 +155,9 @@ fn set_runs_and_reason(
     territory: &Territory,
     found: Result<Vec<Run>, AbsentMember>,
 ) -> Result<(Vec<FoundRun>, Option<Reason>), AllocError>
-    ensures runs { IfOk result (λ told. told.0.items
+    ensures runs { IfOk result (λ pair. pair.0.items
         ≡ map (spec.found_run newest_rules territory.now) (remark.set_runs_in (set_list_of found))) }
-    ensures reason { IfOk result (λ told. told.1 ≡ remark.set_reason_in (set_list_of found)) }
+    ensures reason { IfOk result (λ pair. pair.1 ≡ remark.set_reason_in (set_list_of found)) }
 {
     match found {
         Ok(runs) => Ok((found_runs(alloc, territory, runs.as_slice())?, None)),

@@ -95,7 +95,7 @@ fn due(who: u32, closed: (u32, usize)) -> u64 {
 
 /// Checks that a gate that is closed to one item, or to none, is given all items before that, and
 /// that the others still work through all of theirs.
-fn is_told<R: Threads + Wait + Abort>(
+fn is_called<R: Threads + Wait + Abort>(
     rt: &R,
     alloc: Global,
     closed: (u32, usize),
@@ -115,15 +115,15 @@ fn is_told<R: Threads + Wait + Abort>(
 }
 
 #[test]
-fn a_gate_is_told_of_every_item(rt: HostRuntime) {
-    is_told(&rt, rt.alloc(), (u32::MAX, 0), None);
+fn a_gate_is_called_for_every_item(rt: HostRuntime) {
+    is_called(&rt, rt.alloc(), (u32::MAX, 0), None);
 }
 
 #[test]
 fn a_gate_is_closed_to_each_item_in_turn(rt: HostRuntime) {
     for who in 0..=READERS {
         for index in 0..ITEMS {
-            is_told(&rt, rt.alloc(), (who, index), Some(DeskFault::GateClosed));
+            is_called(&rt, rt.alloc(), (who, index), Some(DeskFault::GateClosed));
         }
     }
 }

@@ -30,7 +30,7 @@ const TWO: &str = r#"{"answer":{"lands":[{"code":"RM","name":"Rome"},{"code":"GB
 "#;
 
 /// Checks the line of the reply to the reader about the territories.
-fn tells(rt: &impl Abort, alloc: Global, reader: &mut Reader, wanted: &str)
+fn expect_reply(rt: &impl Abort, alloc: Global, reader: &mut Reader, wanted: &str)
     ensures { reader.new.origin ≡ reader.old.origin }
 {
     let reply = reader.ask(&Query::Lands).expect(rt, "memory");
@@ -79,11 +79,11 @@ fn in_turn<R: Wait + Abort>(
 ) -> Result<(), Fail>
     requires { reader.old.origin ≡ editor.old.origin }
 {
-    tells(rt, alloc, reader, NONE);
+    expect_reply(rt, alloc, reader, NONE);
     let note = published(rt, alloc, editor, ROME)?;
     same(rt, note.edition(), 1);
     reader.learn(note);
-    tells(rt, alloc, reader, ONE);
+    expect_reply(rt, alloc, reader, ONE);
     let fault = editor.publish(rt).err();
     same(rt, fault, Some(PublishFault::NothingPending));
     Ok(())
@@ -123,9 +123,9 @@ fn notes<R: Wait + Abort>(
     let again = editor.note();
     let second = published(rt, alloc, editor, BRITAIN)?;
     two.learn(second);
-    tells(rt, alloc, two, TWO);
+    expect_reply(rt, alloc, two, TWO);
     two.learn(first);
-    tells(rt, alloc, two, TWO);
+    expect_reply(rt, alloc, two, TWO);
     one.learn(again);
     let edition = one.ask(&Query::Lands)?.edition;
     assert!(rt; edition == 1 || edition == 2);

@@ -13,8 +13,8 @@ use Rattle.osn_days.specs.Line.{weekday, julian_day}
 use Rattle.osn_days.specs.Weekday.{weekday_name, weekday_numbered}
 use Rattle.osn_days.specs.DateText.{date_text, text_of_date}
 use Rattle.osn_days.specs.CalendarWords.{calendar_word}
-use Rattle.osn_lands.specs.declared.regime.Regime.{Regime}
-use Rattle.osn_lands.specs.StyleWords.{style_word}
+use Rattle.osn_territory.specs.declared.regime.Regime.{Regime}
+use Rattle.osn_territory.specs.StyleWords.{style_word}
 use Rattle.osn_written.specs.declared.any_date.Reckoning.{Reckoning}
 use Rattle.osn_written.specs.declared.any_date.Reckoning.TheVariants.{OldStyle, NewStyle}
 use Rattle.osn_written.specs.declared.kind.Kind.{Kind}
@@ -73,8 +73,8 @@ period_data p = object (
     no_members))))))
 
 -- a territory
-abbrev pub land_data : Land → Data
-land_data l = object (
+abbrev pub territory_data : Land → Data
+territory_data l = object (
     member (codes "code") (string l.code)
     (member (codes "name") (string l.name)
     no_members))
@@ -121,8 +121,9 @@ figures_data year golden indiction gregorian julian = object (
     (member (codes "year") (whole year)
     no_members)))))
 
-abbrev pub lands_data : List Land → Data
-lands_data lands = object (member (codes "lands") (list_data (map land_data lands)) no_members)
+abbrev pub territories_data : List Land → Data
+territories_data territories =
+    object (member (codes "lands") (list_data (map territory_data territories)) no_members)
 
 abbrev pub periods_data : List PeriodAndSource → Data
 periods_data periods =
@@ -235,7 +236,8 @@ replied_data reader edition
     answered_data reader edition (figures_data year golden indiction
     (reckoning_data gregorian_easter (string (epact_text gregorian_epact)) gregorian_letters)
     (reckoning_data julian_easter (whole julian_epact) julian_letters))
-replied_data reader edition (answers.Lands lands) = answered_data reader edition (lands_data lands)
+replied_data reader edition (answers.Lands territories) =
+    answered_data reader edition (territories_data territories)
 replied_data reader edition (answers.Periods periods) =
     answered_data reader edition (periods_data periods)
 replied_data reader edition (answers.Exceptions exceptions) =

@@ -1,2 +1,2 @@
 pub mod FileLemmas
-pub mod TellLemmas
+pub mod ReportLemmas

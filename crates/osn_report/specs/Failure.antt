@@ -4,7 +4,7 @@ use Rattle.osn_files.specs.declared.fault.FileFault.{FileFault}
 use Rattle.osn_files.specs.declared.fault.FileFault.TheVariants as file_faults
 use Rattle.osn_files.specs.declared.fault.Role.{Role}
 use Rattle.osn_files.specs.declared.fault.Role.TheVariants.{Questions, Transcript}
-use Rattle.osn_folder.specs.Folder.{IsUnopened}
+use Rattle.osn_folder.specs.Folder.{IsOpenFailure}
 use Rattle.osn_folder.specs.declared.fault.OpenFailed.{OpenFailed}
 use Rattle.osn_lines.specs.Streams.{Input}
 use Rattle.osn_report.specs.Folders.{Folders, ReadsOne, ReadsTwo}
@@ -31,7 +31,8 @@ path_of_two fault first second unread = first
 -- the file of this path, the first of these that has none, could not be opened
 abbrev pub IsNotRead : List (List ℕ) → Folders → List ℕ → CommandFault → Type 0
 IsNotRead paths d path fault =
-    (cause : OpenFailed) × (fault ≡ ReadFault cause) × IsUnopened paths path cause d.before d.after
+    (cause : OpenFailed) × (fault ≡ ReadFault cause)
+    × IsOpenFailure paths path cause d.before d.after
 
 -- a command of one file ended early: it could not be opened; or it was, and this is why
 abbrev pub FailsOnOne : List ℕ → (Bool → Type 0) → Folders → (Input → CommandFault → Type 0)

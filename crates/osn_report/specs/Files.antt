@@ -4,7 +4,7 @@ use Rattle.osn_lines.specs.Faults.{IsReadFault}
 use Rattle.osn_lines.specs.Lines.{lines}
 use Rattle.osn_lines.specs.Streams.{Input}
 use Rattle.osn_files.specs.Faults.{MatchFileFault}
-use Rattle.osn_files.specs.Files.{SparesRead}
+use Rattle.osn_files.specs.Files.{AcceptsRead}
 use Rattle.osn_files.specs.declared.fault.FileFault.{FileFault}
 use Rattle.osn_files.specs.declared.fault.LineFault.{LineFault}
 use Rattle.osn_files.specs.declared.fault.Role.{Role}
@@ -20,7 +20,7 @@ Makes rule bytes s = IfSome bytes (λ input. rule (lines input) ≡ Ok s)
 abbrev pub IsFileFault : {S : Type 0} → Role → (List (List ℕ) → Result S (ℕ × LineFault)) → Input
     → FileFault → Type 0
 IsFileFault role rule file fault =
-    MatchFileFault fault (SparesRead rule file.bytes file.rest 65536)
-    (SparesRead rule file.bytes file.rest 0 × IsReadFault file.unread file.bytes)
+    MatchFileFault fault (AcceptsRead rule file.bytes file.rest 65536)
+    (AcceptsRead rule file.bytes file.rest 0 × IsReadFault file.unread file.bytes)
     (λ named line why.
     (named ≡ role) × IfSome file.bytes (λ input. rule (lines input) ≡ Err (line, why)))

@@ -1,6 +1,6 @@
 -- The object that a command begins with, and why it has no object to begin with.
 use Rattle.std.specs.Prelude.{◌≡◌, ℕ, List, Option, Some, None}
-use Rattle.osn_days.specs.Profile.{newest_rules}
+use Rattle.osn_days.specs.Rules.{newest_rules}
 use Rattle.osn_register.specs.declared.limits.Limits.{Limits}
 use Rattle.osn_core.specs.Sequential.{ObjectState, opened}
 use Rattle.osn_lines.specs.Streams.{Input}

@@ -10,5 +10,5 @@ pub mod Journal
 pub mod Folders
 pub mod Failure
 pub mod ProgressSource
-pub mod Unopened
-pub mod Explained
+pub mod OpenFailure
+pub mod Explanation

@@ -3,7 +3,7 @@ use Rattle.std.specs.Prelude.{ℕ, List, ◌++◌, codes}
 use Rattle.std.specs.Fmt.{decimal}
 use Rattle.osn_days.specs.CalendarWords.{calendar_word}
 use Rattle.osn_days.specs.Weekday.{weekday_name}
-use Rattle.osn_shown.specs.Shown.{shown}
+use Rattle.osn_shown.specs.Escaped.{escaped}
 use Rattle.osn_written.specs.declared.written_date.DateFault.{DateFault}
 use Rattle.osn_written.specs.declared.written_date.DateFault.TheVariants as faults
 use Rattle.osn_written.specs.WrittenDate.{month_day_words}
@@ -110,4 +110,4 @@ misuse_text Shell = codes "a shell is bash, zsh or fish"
 -- the line on standard error, which begins with the word as it was typed
 abbrev pub misuse_line : Misuse → List ℕ → List ℕ
 misuse_line misuse typed =
-    codes "oldstyle: " ++ (shown typed ++ (codes ": " ++ (misuse_text misuse ++ codes "\n")))
+    codes "oldstyle: " ++ (escaped typed ++ (codes ": " ++ (misuse_text misuse ++ codes "\n")))

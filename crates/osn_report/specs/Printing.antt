@@ -3,7 +3,7 @@ use Rattle.std.specs.Prelude.{◌≡◌, ◌⊎◌, ℕ, List, None, take}
 use Rattle.std.specs.Io.KnownBytes.{Appends}
 use Rattle.osn_lines.specs.Faults.{WriteFails}
 use Rattle.osn_lines.specs.Streams.{Output}
-use Rattle.osn_report.specs.Messages.{Ends, EndsBy, Tells, TellsAt, TellsNothing}
+use Rattle.osn_report.specs.Messages.{Ends, EndsBy, Reports, ReportsAt, ReportsNothing}
 use Rattle.osn_report.specs.declared.fault.CommandFault.{CommandFault}
 use Rattle.osn_report.specs.declared.fault.CommandFault.TheVariants.{WriteFault, NoMemory}
 use Rattle.osn_report.specs.declared.status.Status.{Status}
@@ -16,7 +16,7 @@ FailsToPrint text o =
 
 -- the status says that the output failed, and nothing was written to standard error
 abbrev pub EndsUnwritten : Output → Status → Type 0
-EndsUnwritten e status = (status ≡ Unwritten) × TellsNothing e
+EndsUnwritten e status = (status ≡ Unwritten) × ReportsNothing e
 
 -- the text was written; or the output failed, a prefix was written, and only the status says so
 abbrev pub Prints : List ℕ → Output → Output → Status → Type 0
@@ -41,8 +41,8 @@ PrintsOrReports text o e status =
 
 -- nothing was written, and it was reported why
 abbrev pub PrintsNone : CommandFault → Output → Output → Status → Type 0
-PrintsNone fault o e status = (o.new ≡ o.old) × Tells e fault status
+PrintsNone fault o e status = (o.new ≡ o.old) × Reports e fault status
 
 -- nothing was written, and it was reported why, by the path of the file
 abbrev pub PrintsNoneAt : List ℕ → CommandFault → Output → Output → Status → Type 0
-PrintsNoneAt path fault o e status = (o.new ≡ o.old) × TellsAt path e fault status
+PrintsNoneAt path fault o e status = (o.new ≡ o.old) × ReportsAt path e fault status

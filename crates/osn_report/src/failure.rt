@@ -1,12 +1,12 @@
 //! Why a command ended early, and at which file.
 ghost use Rattle.std.specs.Prelude.{◌≡◌};
 ghost use Rattle.osn_report.specs.Failure as spec;
-ghost use Rattle.osn_folder.specs.declared.fault.Unopened.{Unopened};
+ghost use Rattle.osn_folder.specs.declared.fault.OpenFailure.{OpenFailure};
 ghost use Rattle.osn_report.specs.declared.fault.CommandFault.{CommandFault};
 
 use crate::fault::CommandFault;
 use osn_files::{FileFault, Role};
-use osn_folder::Unopened;
+use osn_folder::OpenFailure;
 
 /// Why a command ended early, and at which file. Nothing was written then.
 #[derive(Debug, Drop)]
@@ -17,11 +17,11 @@ pub struct Failure<'a> {
     pub fault: CommandFault,
 }
 
-impl<'a> From<Unopened<'a>> for Failure<'a> {
+impl<'a> From<OpenFailure<'a>> for Failure<'a> {
     ghost from_gives = { λ why given. (given.path.now ≡ why.path.now)
         × (given.fault ≡ CommandFault.ReadFault why.cause) };
 
-    fn from(why: Unopened<'a>) -> Failure<'a> {
+    fn from(why: OpenFailure<'a>) -> Failure<'a> {
         Failure {
             path: why.path,
             fault: CommandFault::ReadFault(why.cause),

@@ -4,7 +4,7 @@ ghost use Rattle.osn_lines.specs.Streams.{output_of};
 ghost use Rattle.osn_report.specs.Fault.{bad_line, hinted_line, older_line, refused_line};
 ghost use Rattle.osn_report.specs.Fault.{refusal_end};
 ghost use Rattle.osn_report.specs.Fault.{role_name};
-ghost use Rattle.osn_report.specs.Messages.{WritesLine, EndsBy, Tells, TellsIfMade};
+ghost use Rattle.osn_report.specs.Messages.{WritesLine, EndsBy, Reports, ReportsIfMade};
 ghost use Rattle.osn_report.specs.declared.fault.CommandFault.{CommandFault};
 
 use crate::fault::CommandFault;
@@ -52,7 +52,7 @@ pub fn write_line<E: Sink>(errors: &mut E, line: &str)
 }
 
 /// Writes a line that takes no memory, and returns this status.
-pub(crate) fn tell<E: Sink>(errors: &mut E, status: Status, line: &str) -> Status
+pub(crate) fn report_text<E: Sink>(errors: &mut E, status: Status, line: &str) -> Status
     ensures status { result ≡ status }
     ensures line { WritesLine
         (output_of E.contents E.has_failed E.holds_back errors.old errors.new) line.now }
@@ -62,35 +62,35 @@ pub(crate) fn tell<E: Sink>(errors: &mut E, status: Status, line: &str) -> Statu
 }
 
 /// Reports on standard error that memory ran out. Returns the status.
-pub fn tell_no_memory<E: Sink>(errors: &mut E) -> Status
+pub fn report_no_memory<E: Sink>(errors: &mut E) -> Status
     ensures { EndsBy (output_of E.contents E.has_failed E.holds_back errors.old errors.new)
         CommandFault.NoMemory result }
 {
-    tell(errors, Status::NoMemory, NO_MEMORY)
+    report_text(errors, Status::NoMemory, NO_MEMORY)
 }
 
 /// Reports on standard error that a write failed. Returns the status.
-pub(crate) fn tell_write_fault<E: Sink>(errors: &mut E) -> Status
+pub(crate) fn report_write_fault<E: Sink>(errors: &mut E) -> Status
     ensures { EndsBy (output_of E.contents E.has_failed E.holds_back errors.old errors.new)
         CommandFault.WriteFault result }
 {
-    tell(errors, Status::WriteFault, WRITE_FAULT)
+    report_text(errors, Status::WriteFault, WRITE_FAULT)
 }
 
 /// Writes a line, and returns this status; or reports that there was no memory for the line.
-pub fn tell_line<E: Sink>(
+pub fn report_line<E: Sink>(
     errors: &mut E,
     status: Status,
     line: Result<String, AllocError>,
 ) -> Status
     // Whatever text it is, if it is one.
-    ensures { (wanted : List ℕ) → IfOk line (λ text. string_bytes text ≡ wanted) → TellsIfMade
+    ensures { (wanted : List ℕ) → IfOk line (λ text. string_bytes text ≡ wanted) → ReportsIfMade
         (output_of E.contents E.has_failed E.holds_back errors.old errors.new)
         status wanted result }
 {
     match line {
-        Ok(line) => tell(errors, status, line.as_str()),
-        Err(_) => tell_no_memory(errors),
+        Ok(line) => report_text(errors, status, line.as_str()),
+        Err(_) => report_no_memory(errors),
     }
 }
 
@@ -158,14 +158,14 @@ fn hinted_line(alloc: Global, refusal: Refusal) -> Result<String, AllocError>
 }
 
 fn report_file<E: Sink>(alloc: Global, errors: &mut E, fault: FileFault) -> Status
-    ensures { Tells (output_of E.contents E.has_failed E.holds_back errors.old errors.new)
+    ensures { Reports (output_of E.contents E.has_failed E.holds_back errors.old errors.new)
         (CommandFault.File fault) result }
 {
     match fault {
-        FileFault::NoMemory => tell_no_memory(errors),
-        FileFault::ReadFault => tell(errors, Status::ReadFault, READ_FAULT),
+        FileFault::NoMemory => report_no_memory(errors),
+        FileFault::ReadFault => report_text(errors, Status::ReadFault, READ_FAULT),
         FileFault::BadLine { role, line, fault } => {
-            tell_line(errors, Status::Refused, bad_line(alloc, role, line, fault))
+            report_line(errors, Status::Refused, bad_line(alloc, role, line, fault))
         }
     }
 }
@@ -175,34 +175,34 @@ fn report_service<E: Sink>(errors: &mut E, fault: ServeFault) -> Status
         (CommandFault.Service fault) result }
 {
     match fault {
-        ServeFault::NoMemory => tell(errors, Status::NoMemory, NO_MEMORY),
-        ServeFault::ReadFault => tell(errors, Status::ReadFault, READ_FAULT),
-        ServeFault::WriteFault => tell(errors, Status::WriteFault, WRITE_FAULT),
+        ServeFault::NoMemory => report_text(errors, Status::NoMemory, NO_MEMORY),
+        ServeFault::ReadFault => report_text(errors, Status::ReadFault, READ_FAULT),
+        ServeFault::WriteFault => report_text(errors, Status::WriteFault, WRITE_FAULT),
     }
 }
 
 fn report_refusal<E: Sink>(alloc: Global, errors: &mut E, refusal: Refusal) -> Status
-    ensures { Tells (output_of E.contents E.has_failed E.holds_back errors.old errors.new)
+    ensures { Reports (output_of E.contents E.has_failed E.holds_back errors.old errors.new)
         (CommandFault.Refused refusal) result }
 {
     match refusal {
-        Refusal::NoMemory => tell_no_memory(errors),
+        Refusal::NoMemory => report_no_memory(errors),
         _ => {
             let line = hinted_line(alloc, refusal);
-            tell_line(errors, Status::Refused, line)
+            report_line(errors, Status::Refused, line)
         }
     }
 }
 
 fn report_desk<E: Sink>(alloc: Global, errors: &mut E, fault: DeskFault) -> Status
-    ensures { Tells (output_of E.contents E.has_failed E.holds_back errors.old errors.new)
+    ensures { Reports (output_of E.contents E.has_failed E.holds_back errors.old errors.new)
         (CommandFault.Desk fault) result }
 {
     match fault {
-        DeskFault::NoMemory => tell_no_memory(errors),
+        DeskFault::NoMemory => report_no_memory(errors),
         _ => {
             let line = refused(alloc, fault.number(), fault.name());
-            tell_line(errors, Status::Refused, line)
+            report_line(errors, Status::Refused, line)
         }
     }
 }
@@ -212,8 +212,8 @@ fn report_keep<E: Sink>(errors: &mut E, fault: KeepFault) -> Status
         (CommandFault.Keep fault) result }
 {
     match fault {
-        KeepFault::Held => tell(errors, Status::ReadFault, KEPT_ELSEWHERE),
-        KeepFault::NotOpened(_) => tell(errors, Status::ReadFault, READ_FAULT),
+        KeepFault::Held => report_text(errors, Status::ReadFault, KEPT_ELSEWHERE),
+        KeepFault::NotOpened(_) => report_text(errors, Status::ReadFault, READ_FAULT),
     }
 }
 
@@ -222,8 +222,8 @@ fn report_kept_file<E: Sink>(errors: &mut E, fault: KeptFileFault) -> Status
         (CommandFault.KeptFile fault) result }
 {
     match fault {
-        KeptFileFault::ChangeFailed(_) => tell(errors, Status::WriteFault, WRITE_FAULT),
-        KeptFileFault::Replaced => tell(errors, Status::WriteFault, KEPT_REPLACED),
+        KeptFileFault::ChangeFailed(_) => report_text(errors, Status::WriteFault, WRITE_FAULT),
+        KeptFileFault::Replaced => report_text(errors, Status::WriteFault, KEPT_REPLACED),
     }
 }
 
@@ -232,16 +232,16 @@ fn report_followed_file<E: Sink>(errors: &mut E, fault: FollowFault) -> Status
         (CommandFault.FollowedFile fault) result }
 {
     match fault {
-        FollowFault::NoMemory => tell_no_memory(errors),
-        FollowFault::NotRead(_) => tell(errors, Status::ReadFault, READ_FAULT),
-        FollowFault::Shorter => tell(errors, Status::Refused, FOLLOWED_SHORTER),
-        FollowFault::Replaced => tell(errors, Status::Refused, FOLLOWED_REPLACED),
+        FollowFault::NoMemory => report_no_memory(errors),
+        FollowFault::NotRead(_) => report_text(errors, Status::ReadFault, READ_FAULT),
+        FollowFault::Shorter => report_text(errors, Status::Refused, FOLLOWED_SHORTER),
+        FollowFault::Replaced => report_text(errors, Status::Refused, FOLLOWED_REPLACED),
     }
 }
 
 /// Reports on standard error in a line why a command ended early. Returns the status.
 pub fn report<E: Sink>(alloc: Global, errors: &mut E, fault: CommandFault) -> Status
-    ensures { Tells (output_of E.contents E.has_failed E.holds_back errors.old errors.new)
+    ensures { Reports (output_of E.contents E.has_failed E.holds_back errors.old errors.new)
         fault result }
 {
     match fault {
@@ -249,22 +249,30 @@ pub fn report<E: Sink>(alloc: Global, errors: &mut E, fault: CommandFault) -> St
         CommandFault::Service(fault) => report_service(errors, fault),
         CommandFault::Refused(refusal) => report_refusal(alloc, errors, refusal),
         CommandFault::Desk(fault) => report_desk(alloc, errors, fault),
-        CommandFault::KeptWithOther => tell(errors, Status::Misused, KEPT_WITH_OTHER),
-        CommandFault::UpgradeWithoutKeep => tell(errors, Status::Misused, UPGRADE_WITHOUT_KEEP),
+        CommandFault::KeptWithOther => report_text(errors, Status::Misused, KEPT_WITH_OTHER),
+        CommandFault::UpgradeWithoutKeep => report_text(
+            errors,
+            Status::Misused,
+            UPGRADE_WITHOUT_KEEP,
+        ),
         CommandFault::Keep(fault) => report_keep(errors, fault),
         CommandFault::KeptFile(fault) => report_kept_file(errors, fault),
-        CommandFault::FollowedWithOther => tell(errors, Status::Misused, FOLLOWED_WITH_OTHER),
+        CommandFault::FollowedWithOther => report_text(
+            errors,
+            Status::Misused,
+            FOLLOWED_WITH_OTHER,
+        ),
         CommandFault::FollowedFile(fault) => report_followed_file(errors, fault),
         CommandFault::OlderVersion(version) => {
-            tell_line(errors, Status::Refused, older_version(alloc, version))
+            report_line(errors, Status::Refused, older_version(alloc, version))
         }
         CommandFault::RefusedLine(line) => {
-            tell_line(errors, Status::Refused, refused_at(alloc, line))
+            report_line(errors, Status::Refused, refused_at(alloc, line))
         }
-        CommandFault::NotOpened(_) => tell(errors, Status::ReadFault, READ_FAULT),
-        CommandFault::ReadFault(_) => tell(errors, Status::ReadFault, READ_FAULT),
-        CommandFault::WriteFault => tell_write_fault(errors),
-        CommandFault::NotSaved(_) => tell_write_fault(errors),
-        CommandFault::NoMemory => tell_no_memory(errors),
+        CommandFault::NotOpened(_) => report_text(errors, Status::ReadFault, READ_FAULT),
+        CommandFault::ReadFault(_) => report_text(errors, Status::ReadFault, READ_FAULT),
+        CommandFault::WriteFault => report_write_fault(errors),
+        CommandFault::NotSaved(_) => report_write_fault(errors),
+        CommandFault::NoMemory => report_no_memory(errors),
     }
 }

@@ -2,13 +2,13 @@
 ghost use Rattle.std.specs.Prelude.{◌≡◌, Some, IfOk, string_bytes};
 ghost use Rattle.osn_lines.specs.Streams.{output_of};
 ghost use Rattle.osn_report.specs.Misuse as spec;
-ghost use Rattle.osn_report.specs.Messages.{TellsMisuse};
+ghost use Rattle.osn_report.specs.Messages.{ReportsMisuse};
 
-use crate::fault_report::tell_line;
+use crate::fault_report::report_line;
 use crate::status::Status;
 use osn_days::{Calendar, Keyword, Weekday};
 use osn_lines::Sink;
-use osn_shown::Shown;
+use osn_shown::Escaped;
 use osn_written::DateFault;
 use std::alloc::{AllocError, Global};
 use std::fmt;
@@ -211,15 +211,15 @@ with a comma between",
 pub fn misuse_line(alloc: Global, misuse: Misuse, typed: &str) -> Result<String, AllocError>
     ensures { IfOk result (λ line. string_bytes line ≡ spec.misuse_line misuse typed.now) }
 {
-    format!(in alloc; "oldstyle: {}: {misuse}\n", Shown(typed))
+    format!(in alloc; "oldstyle: {}: {misuse}\n", Escaped(typed))
 }
 
 /// Reports on standard error what the place of an argument asks for, with the argument as it was
 /// typed. Returns the status.
-pub fn tell_misuse<E: Sink>(alloc: Global, errors: &mut E, misuse: Misuse, typed: &str) -> Status
-    ensures { TellsMisuse
+pub fn report_misuse<E: Sink>(alloc: Global, errors: &mut E, misuse: Misuse, typed: &str) -> Status
+    ensures { ReportsMisuse
         (output_of E.contents E.has_failed E.holds_back errors.old errors.new) misuse typed.now
         result }
 {
-    tell_line(errors, Status::Misused, misuse_line(alloc, misuse, typed))
+    report_line(errors, Status::Misused, misuse_line(alloc, misuse, typed))
 }

@@ -4,7 +4,7 @@ ghost use Rattle.std.specs.IoError.{error_kind};
 ghost use Rattle.osn_lines.specs.Streams.{output_of};
 ghost use Rattle.osn_report.specs.Output as spec;
 
-use crate::fault_report::tell;
+use crate::fault_report::report_text;
 use crate::status::Status;
 use osn_lines::{Sink, WriteFailed};
 use std::io;
@@ -106,12 +106,12 @@ fn end_unwritten<E: Sink>(errors: &mut E, cause: WriteCause) -> Status
 {
     match cause {
         WriteCause::Closed => Status::Done,
-        WriteCause::NoSpace => tell(
+        WriteCause::NoSpace => report_text(
             errors,
             Status::WriteFault,
             "oldstyle: standard output: no space left on the device\n",
         ),
-        WriteCause::Other => tell(
+        WriteCause::Other => report_text(
             errors,
             Status::WriteFault,
             "oldstyle: standard output: write fault\n",
@@ -125,12 +125,12 @@ fn note_cause<E: Sink>(errors: &mut E, cause: Option<WriteCause>) -> Status
         (output_of E.contents E.has_failed E.holds_back errors.old errors.new) result }
 {
     match cause {
-        Some(WriteCause::Closed) => tell(
+        Some(WriteCause::Closed) => report_text(
             errors,
             Status::WriteFault,
             "note: standard output: nobody reads it any more\n",
         ),
-        Some(WriteCause::NoSpace) => tell(
+        Some(WriteCause::NoSpace) => report_text(
             errors,
             Status::WriteFault,
             "note: standard output: no space left on the device\n",

@@ -3,7 +3,7 @@ ghost use Rattle.std.specs.Prelude.{◌≡◌, ℕ, List, IfOk, string_bytes};
 ghost use Rattle.osn_lines.specs.Streams.{output_of};
 ghost use Rattle.osn_report.specs.Printing.{Prints, PrintsIfMade, PrintsOrReports};
 
-use crate::fault_report::{tell_no_memory, tell_write_fault};
+use crate::fault_report::{report_no_memory, report_write_fault};
 use crate::status::Status;
 use osn_lines::{Sink, write_all};
 use std::alloc::AllocError;
@@ -36,7 +36,7 @@ pub fn print<W: Sink, E: Sink>(
 {
     match made {
         Ok(text) => print_text(text.as_str(), output, errors),
-        Err(_) => tell_no_memory(errors),
+        Err(_) => report_no_memory(errors),
     }
 }
 
@@ -53,10 +53,10 @@ pub fn print_or_report<W: Sink, E: Sink>(
         (output_of E.contents E.has_failed E.holds_back errors.old errors.new) result }
 {
     let Ok(text) = made else {
-        return tell_no_memory(errors);
+        return report_no_memory(errors);
     };
     match write_all(output, text.as_bytes()) {
         Ok(()) => Status::Done,
-        Err(_) => tell_write_fault(errors),
+        Err(_) => report_write_fault(errors),
     }
 }

@@ -3,7 +3,7 @@ use Rattle.std.proofs.Common.{◌≡◌, ℕ, ℤ, true, false, Result, Ok, Err,
 use Rattle.serde_json.specs.Data.{Data}
 use Rattle.osn_register.specs.declared.query.Query.{Query}
 use Rattle.osn_register.specs.declared.query.Query.TheVariants as queries
-use Rattle.osn_register.specs.Query.{names_land}
+use Rattle.osn_register.specs.Query.{names_territory}
 use Rattle.osn_format.specs.declared.member.Member.TheVariants as members
 use Rattle.osn_format.specs.declared.wire_fault.WireFault.{WireFault}
 use Rattle.osn_request.specs.declared.request.op.QueryOp.{QueryOp}
@@ -13,7 +13,7 @@ use Rattle.osn_request.specs.QueryRequest.{query_of, year_figures_of, reader_in,
 
 -- the query, if there is one, names no territory
 abbrev NamesNone : Result (ℕ × Query) WireFault → Type 0
-NamesNone (Ok asked) = names_land asked.1 ≡ false
+NamesNone (Ok asked) = names_territory asked.1 ≡ false
 NamesNone (Err f) = Unit {0}
 
 abbrev by_number : Query → Result ℕ WireFault → Result (ℕ × Query) WireFault
@@ -25,9 +25,9 @@ figures (Err f) number = tt
 figures (Ok y) (Err f) = tt
 figures (Ok y) (Ok n) = refl
 
-lands : (number : Result ℕ WireFault) → NamesNone (by_number queries.Lands number)
-lands (Err f) = tt
-lands (Ok n) = refl
+territories : (number : Result ℕ WireFault) → NamesNone (by_number queries.Lands number)
+territories (Err f) = tt
+territories (Ok n) = refl
 
 after_reader : (reader : Result ℤ WireFault) (next : ℤ → Result (ℕ × Query) WireFault)
     → ((r : ℤ) → NamesNone (next r)) → NamesNone (reader >>= next)
@@ -39,13 +39,13 @@ unfolding query_of year_figures_of
 figures_asked readers d = after_reader (whole_at members.Reader d) _
     (λ r. figures (whole_at members.Year d) (reader_in readers r))
 
-lands_asked : (readers : ℕ) (d : Data) → NamesNone (query_of readers ops.Lands d)
+territories_query : (readers : ℕ) (d : Data) → NamesNone (query_of readers ops.Lands d)
 unfolding query_of
-lands_asked readers d = after_reader (whole_at members.Reader d) _
-    (λ r. lands (reader_in readers r))
+territories_query readers d = after_reader (whole_at members.Reader d) _
+    (λ r. territories (reader_in readers r))
 
 pub query_by_code : (readers : ℕ) (op : QueryOp) (d : Data) (asked : ℕ × Query)
-    → query_of readers op d ≡ Ok asked → names_land asked.1 ≡ true → has_code op ≡ true
+    → query_of readers op d ≡ Ok asked → names_territory asked.1 ≡ true → has_code op ≡ true
 query_by_code readers ops.Read d asked is names = refl
 query_by_code readers ops.DayIn d asked is names = refl
 query_by_code readers ops.Easter d asked is names = refl
@@ -56,4 +56,4 @@ query_by_code readers ops.Written d asked is names = refl
 query_by_code readers ops.YearFigures d asked is names =
     sym (subst NamesNone is (figures_asked readers d)) ∙ names
 query_by_code readers ops.Lands d asked is names =
-    sym (subst NamesNone is (lands_asked readers d)) ∙ names
+    sym (subst NamesNone is (territories_query readers d)) ∙ names

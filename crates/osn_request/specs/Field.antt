@@ -4,13 +4,13 @@ use Rattle.std.specs.Prelude.{ℕ, ℤ, Bool, true, false, List, Option, Some, N
 use Rattle.std.specs.Prelude.{option_and_then, Result, Ok, Err, ◌&&◌, if◌then◌else◌}
 use Rattle.serde_json.specs.Data.{Data}
 use Rattle.serde_json.specs.Find.{get, as_str, as_number, as_i64}
-use Rattle.osn_days.specs.Profile.{Profile}
+use Rattle.osn_days.specs.Rules.{Rules}
 use Rattle.osn_days.specs.CalendarWords.{calendar_named}
 use Rattle.osn_days.specs.declared.weekday.Weekday.{Weekday}
 use Rattle.osn_computus.specs.RuleWords.{rule_named}
-use Rattle.osn_lands.specs.declared.regime.Regime.{Regime}
-use Rattle.osn_lands.specs.declared.style.Style.{Style}
-use Rattle.osn_lands.specs.StyleWords.{style_named}
+use Rattle.osn_territory.specs.declared.regime.Regime.{Regime}
+use Rattle.osn_territory.specs.declared.style.Style.{Style}
+use Rattle.osn_territory.specs.StyleWords.{style_named}
 use Rattle.osn_register.specs.Sources.{is_source}
 use Rattle.osn_written.specs.WrittenDate.{weekday_named}
 use Rattle.osn_format.specs.declared.member.Member.{Member}
@@ -56,11 +56,11 @@ abbrev pub weekday_at : Data → Result (Option Weekday) WireFault
 weekday_at d = weekday_if (is_some (get (member_name members.Weekday) d)) d
 
 -- the member that is a style's word, if the rules have it
-abbrev pub style_at : Profile → Data → Result Style WireFault
+abbrev pub style_at : Rules → Data → Result Style WireFault
 style_at p d = word_at members.Style (style_named p) d
 
 -- a regime by its three members
-unfoldable pub regime_of : Profile → Data → Result Regime WireFault
+unfoldable pub regime_of : Rules → Data → Result Regime WireFault
 regime_of p d = do
   calendar ← word_at members.Calendar calendar_named d
   style ← style_at p d

@@ -2,7 +2,7 @@
 use Rattle.std.proofs.Common.{◌≡◌, ◌==◌, ◌≤◌, ℕ, zero, suc, Bool, true, false}
 use Rattle.std.proofs.Common.{List, [], ◌∷◌, length, cond, take, Option, Some, Result, Ok, Err}
 use Rattle.std.proofs.Common.{IfErr, refl, sym, ap, subst, inl, inr, arith, length-take}
-use Rattle.osn_days.specs.Profile.{newest_rules}
+use Rattle.osn_days.specs.Rules.{newest_rules}
 use Rattle.osn_register.specs.declared.limits.Limits.{Limits}
 use Rattle.osn_core.specs.Sequential.{ObjectState}
 use Rattle.osn_lines.specs.Bytes.{rest_of}
@@ -20,15 +20,15 @@ use Rattle.osn_format.specs.declared.version.Version.{Version}
 use Rattle.osn_files.specs.Journal.{load}
 use Rattle.osn_files.specs.Loaded.{IsOfVersion}
 use Rattle.osn_lines.specs.Ended.{ended_length, with_byte}
-use Rattle.osn_files.specs.WholePart.{IsWholePart, by_last, last_line_of}
-use Rattle.osn_files.specs.WholePart.{whole_bytes, whole_length}
+use Rattle.osn_files.specs.CountedPrefix.{IsCountedPrefix, by_last, last_line_of}
+use Rattle.osn_files.specs.CountedPrefix.{whole_bytes, whole_length}
 use Rattle.osn_files.specs.declared.fault.FileFault.{FileFault}
 use Rattle.osn_files.specs.declared.fault.FileFault.TheVariants as file_faults
 use Rattle.osn_files.specs.declared.fault.LineFault.{LineFault}
 use Rattle.osn_files.specs.declared.fault.Role.TheVariants.{Journal}
 use Rattle.osn_files.specs.declared.last_line.LastLine.{LastLine}
 use Rattle.osn_files.specs.declared.last_line.LastLine.TheVariants.{Ended, LacksFeed, Unfinished}
-use Rattle.osn_files.specs.declared.whole_lines.WholePart.{WholePart}
+use Rattle.osn_files.specs.declared.whole_lines.CountedPrefix.{CountedPrefix}
 use Rattle.osn_journal.specs.KeptJournal.{FileState}
 use Rattle.osn_report.proofs.FileLemmas.{file_fault}
 use Rattle.osn_report.specs.Fault.{by_read}
@@ -98,10 +98,10 @@ none_held limits held failed file_faults.ReadFault (inr h) = inr h
 none_held limits held failed file_faults.NoMemory h = h
 
 -- the fault itself says so
-pub unread_told : (limits : Limits) (held : List ℕ) (failed : Bool) (why : FileFault)
+pub reports_unread : (limits : Limits) (held : List ℕ) (failed : Bool) (why : FileFault)
     (fault : CommandFault) → fault ≡ File why → IsUnread limits held failed why
     → HoldsNoObject limits held failed fault
-unread_told limits held failed why fault is h = inl (why, is, h)
+reports_unread limits held failed why fault is h = inl (why, is, h)
 
 -- the file was not read
 pub not_read : (limits : Limits) (held : List ℕ) (before failed : Bool)
@@ -123,8 +123,8 @@ not_measured limits read held failed P file_faults.ReadFault is (inr h) =
 not_measured limits read held failed P (file_faults.BadLine role line why) is h = absurd h
 
 -- the bytes of the lines that count, of the bytes that were read
-pub whole_read : (part : WholePart) (read held : List ℕ) → read ≡ held
-    → IsWholePart part read → take part.bytes read ≡ whole_bytes held
+pub whole_read : (part : CountedPrefix) (read held : List ℕ) → read ≡ held
+    → IsCountedPrefix part read → take part.bytes read ≡ whole_bytes held
 whole_read part read held is whole =
     subst (λ l. take part.bytes read ≡ whole_bytes l) is
     (ap (λ (n : ℕ). take n read) whole.bytes)
@@ -147,7 +147,7 @@ by_last_within Ended ended all h = h
 by_last_within LacksFeed ended all h = omega arith
 by_last_within Unfinished ended all h = h
 
-pub whole_within : (part : WholePart) (read : List ℕ) → IsWholePart part read
+pub whole_within : (part : CountedPrefix) (read : List ℕ) → IsCountedPrefix part read
     → part.bytes ≤ length read
 whole_within part read whole =
     subst (λ (n : ℕ). n ≤ length read) (sym whole.bytes)
@@ -155,7 +155,7 @@ whole_within part read whole =
 
 -- a file contains what the bytes do that were read of it
 pub held_as_read : (limits : Limits) (given : Option (List ℕ)) (held bytes : List ℕ)
-    (part : WholePart) (version : Version) (s : ObjectState) → given ≡ Some held
+    (part : CountedPrefix) (version : Version) (s : ObjectState) → given ≡ Some held
     → AreReadOf given bytes → IsHeldIn limits bytes part version s
     → IsHeldIn limits held part version s
 held_as_read limits given held bytes part version s known read h =

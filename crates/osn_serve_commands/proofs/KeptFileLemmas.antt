@@ -6,12 +6,12 @@ use Rattle.std.proofs.Common.{take_all, if◌then◌else◌, []}
 use Rattle.std.proofs.lemmas.List.{take-append-drop}
 use Rattle.std.specs.Io.KnownBytes.{Appends}
 use Rattle.osn_files.specs.LastLine.{last_line, is_unfinished}
-use Rattle.osn_files.specs.WholePart.{IsWholePart, by_last, last_line_of, ended_count}
+use Rattle.osn_files.specs.CountedPrefix.{IsCountedPrefix, by_last, last_line_of, ended_count}
 use Rattle.osn_lines.specs.Ended.{ended_length, unended_bytes}
-use Rattle.osn_files.specs.WholePart.{whole_bytes, whole_length}
-use Rattle.osn_files.specs.WholePart.{whole_count}
+use Rattle.osn_files.specs.CountedPrefix.{whole_bytes, whole_length}
+use Rattle.osn_files.specs.CountedPrefix.{whole_count}
 use Rattle.osn_files.specs.declared.last_line.LastLine.TheVariants.{Ended, LacksFeed, Unfinished}
-use Rattle.osn_files.specs.declared.whole_lines.WholePart.{WholePart}
+use Rattle.osn_files.specs.declared.whole_lines.CountedPrefix.{CountedPrefix}
 use Rattle.osn_serve_commands.specs.Keep.{kept_text, missing_head}
 use Rattle.osn_serve_commands.specs.Keep.{missing_text, if_unfinished, unfinished_line}
 
@@ -39,8 +39,8 @@ lacking_counts held is =
     ∙ ap (λ s. take (by_last s (ended_length held) (length held)) held) (sym is)
 
 -- a file whose last line is ended, or counts and lacks its line feed, is left
-pub all_left : (part : WholePart) (held : List ℕ)
-    → (part.last ≡ Ended) ⊎ (part.last ≡ LacksFeed) → IsWholePart part held
+pub all_left : (part : CountedPrefix) (held : List ℕ)
+    → (part.last ≡ Ended) ⊎ (part.last ≡ LacksFeed) → IsCountedPrefix part held
     → (None ≡ unfinished_line held) × (Some held ≡ Some (whole_bytes held))
 all_left part held (inl is) whole =
     let last = sym whole.last ∙ is in (
@@ -54,9 +54,9 @@ all_left part held (inr is) whole =
     )
 
 -- a file whose last line was not finished
-pub unfinished_cut : (part : WholePart) (held : List ℕ) (new old : Option (List ℕ))
+pub unfinished_cut : (part : CountedPrefix) (held : List ℕ) (new old : Option (List ℕ))
     → part.last ≡ Unfinished → new ≡ option_map (take part.bytes) old → old ≡ Some held
-    → IsWholePart part held
+    → IsCountedPrefix part held
     → (Some (part.lines + 1) ≡ unfinished_line held) × (new ≡ Some (whole_bytes held))
 unfinished_cut part held new old is cut known whole = (
   ap (λ n. Some (n + 1)) whole.lines
@@ -66,8 +66,8 @@ unfinished_cut part held new old is cut known whole = (
 )
 
 -- the head that is missing, if no byte counts
-pub head_missing : (part : WholePart) (held text : List ℕ) → part.bytes ≡ 0
-    → text ≡ missing_head [] → IsWholePart part held → text ≡ missing_head (whole_bytes held)
+pub head_missing : (part : CountedPrefix) (held text : List ℕ) → part.bytes ≡ 0
+    → text ≡ missing_head [] → IsCountedPrefix part held → text ≡ missing_head (whole_bytes held)
 head_missing part held text none is whole =
     is ∙ ap (λ (n : ℕ). missing_head (take n held)) (sym none ∙ whole.bytes)
 
@@ -78,8 +78,8 @@ head_there [] n is some = absurd (some is)
 head_there (b ∷ bs) zero is some = absurd (some refl)
 head_there (b ∷ bs) (suc n) is some = ap (λ (k : ℕ). missing_head (take k (b ∷ bs))) is
 
-pub head_not_missing : (part : WholePart) (held text : List ℕ) → (part.bytes ≡ 0 → ⊥)
-    → text ≡ [] → IsWholePart part held → text ≡ missing_head (whole_bytes held)
+pub head_not_missing : (part : CountedPrefix) (held text : List ℕ) → (part.bytes ≡ 0 → ⊥)
+    → text ≡ [] → IsCountedPrefix part held → text ≡ missing_head (whole_bytes held)
 head_not_missing part held text some is whole = is ∙ head_there held part.bytes whole.bytes some
 
 -- what a file contains after more was appended

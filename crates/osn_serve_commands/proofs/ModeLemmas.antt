@@ -29,12 +29,12 @@ module _ (limits : Limits) (asked : Result ModeModel CommandFault) (service : Se
       subst (λ m. RunsMode limits m service CanFail d i o e status) (sym by) h
 
 -- a file that could not be opened is one of those that the mode opens
-pub unopened_as : {T F : Type 0} (result : Result T F) (path : F → List ℕ)
+pub open_failed_as : {T F : Type 0} (result : Result T F) (path : F → List ℕ)
     (fault : F → CommandFault) (asked : Result ModeModel CommandFault) (mode found : Mode)
     (d : Folders) (P Q : Type 0) → asked ≡ Ok (mode_model mode) → mode ≡ found
     → IfErr result (λ failure. IsNotRead (opened_by (Ok (mode_model found))) d (path failure)
     (fault failure) × P × Q)
     → IfErr result (λ failure. IsNotRead (opened_by asked) d (path failure) (fault failure) × P × Q)
-unopened_as result path fault asked mode found d P Q by is h =
+open_failed_as result path fault asked mode found d P Q by is h =
     subst (λ m. IfErr result (λ failure. IsNotRead (opened_by m) d (path failure) (fault failure)
     × P × Q)) (sym (by ∙ ap (λ m. Ok (mode_model m)) is)) h

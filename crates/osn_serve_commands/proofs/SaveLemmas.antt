@@ -9,13 +9,13 @@ use Rattle.osn_core.specs.Sequential.{ObjectState}
 use Rattle.osn_register.specs.declared.limits.Limits.{Limits}
 use Rattle.osn_files.specs.JournalText.{journal_text}
 use Rattle.osn_folder.specs.Crash.{LeavesAllSafe}
-use Rattle.osn_folder.specs.Folder.{Known, Changes, IsFileIf, IsOneOf, IsUnopened, first_missed}
+use Rattle.osn_folder.specs.Folder.{Known, Changes, IsFileIf, IsOneOf, IsOpenFailure, first_missed}
 use Rattle.osn_folder.specs.declared.fault.OpenFailed.{OpenFailed}
 use Rattle.osn_report.specs.Failure.{IsNotRead}
 use Rattle.osn_folder.specs.Folder.{IsFileOf, MayFail, Opens, path_if}
 use Rattle.osn_lines.specs.Streams.{Input, Output, output_of}
 use Rattle.osn_lines.specs.Whole.{WhyNotRead}
-use Rattle.osn_lines.specs.declared.fault.Interrupted.{Interrupted}
+use Rattle.osn_lines.specs.declared.fault.EndedEarly.{EndedEarly}
 use Rattle.osn_lines.specs.declared.whole.ReadAllFault.{ReadAllFault}
 use Rattle.osn_lines.specs.declared.whole.ReadAllFault.TheVariants as read_faults
 use Rattle.osn_service.specs.declared.fault.ServiceFault.{ServiceFault}
@@ -25,7 +25,7 @@ use Rattle.osn_service.specs.declared.service.Served.{Served}
 use Rattle.osn_report.specs.Fault.{by_read}
 use Rattle.osn_report.specs.Folders.{Folders}
 use Rattle.osn_report.specs.Printing.{PrintsNoneAt}
-use Rattle.osn_report.specs.Messages.{Ends, EndsBy, Tells, TellsAt, TellsNothing}
+use Rattle.osn_report.specs.Messages.{Ends, EndsBy, Reports, ReportsAt, ReportsNothing}
 use Rattle.osn_report.specs.declared.fault.CommandFault.{CommandFault}
 use Rattle.osn_report.specs.declared.fault.CommandFault.TheVariants.{File, NoMemory, RefusedLine}
 use Rattle.osn_report.specs.declared.fault.CommandFault.TheVariants.{ReadFault, Service}
@@ -39,20 +39,20 @@ use Rattle.osn_serve_commands.specs.Serve.{EndsServed, LeavesJournal, Serves, in
 -- how the service ended, in other words of what came of that
 module _ {F : Type 0} (e f : Output) (was is : Status) (Done Did Rest Rested : Type 0)
     (Lost : F → Type 0) (done : Done → Did) (rest : Rest → Rested)
-    (told : Rest → (fault : CommandFault) → Tells e fault was → Tells f fault is) where
+    (message : Rest → (fault : CommandFault) → Reports e fault was → Reports f fault is) where
   by_served : (refused : Bool) (n : ℕ)
       → EndsServed {F = F} (Ok (record { lines = n; refused = refused })) e was Done Rest Lost
       → EndsServed {F = F} (Ok (record { lines = n; refused = refused })) f is Did Rested Lost
   by_served false n h = done h
-  by_served true n h = (rest h.0, told h.0 (RefusedLine n) h.1)
+  by_served true n h = (rest h.0, message h.0 (RefusedLine n) h.1)
 
   by_cause : (n : ℕ) (cause : ServiceFault F)
       → EndsServed {F = F} (Err (record { lines = n; cause = cause })) e was Done Rest Lost
       → EndsServed {F = F} (Err (record { lines = n; cause = cause })) f is Did Rested Lost
-  by_cause n (Serve why) h = (rest h.0, told h.0 (Service why) h.1)
+  by_cause n (Serve why) h = (rest h.0, message h.0 (Service why) h.1)
   by_cause n (NotKept why) h = h
 
-  pub ended_so : (result : Result Served (Interrupted (ServiceFault F)))
+  pub ended_so : (result : Result Served (EndedEarly (ServiceFault F)))
       → EndsServed result e was Done Rest Lost → EndsServed result f is Did Rested Lost
   ended_so (Ok served) h = by_served served.refused served.lines h
   ended_so (Err end) h = by_cause end.lines end.cause h
@@ -61,12 +61,12 @@ module _ {F : Type 0} (e f : Output) (was is : Status) (Done Did Rest Rested : T
 
 -- if nothing more was written, it ended as before
 as_before : {E : Type 0} (contents : E → Option (List ℕ)) (has_failed holds_back : E → Bool)
-    (old mid new : E) (was is : Status) (Told : Output → Status → Type 0) → is ≡ was → new ≡ mid
-    → Told (output_of contents has_failed holds_back old mid) was
-    → Told (output_of contents has_failed holds_back old new) is
-as_before contents has_failed holds_back old mid new was is Told e same h =
-    subst (λ s. Told (output_of contents has_failed holds_back old new) s) (sym e)
-    (subst (λ x. Told (output_of contents has_failed holds_back old x) was) (sym same) h)
+    (old mid new : E) (was is : Status) (Printed : Output → Status → Type 0) → is ≡ was → new ≡ mid
+    → Printed (output_of contents has_failed holds_back old mid) was
+    → Printed (output_of contents has_failed holds_back old new) is
+as_before contents has_failed holds_back old mid new was is Printed e same h =
+    subst (λ s. Printed (output_of contents has_failed holds_back old new) s) (sym e)
+    (subst (λ x. Printed (output_of contents has_failed holds_back old x) was) (sym same) h)
 
 -- no journal in one form, no journal in another
 none_left : {A B : Type 0} (f : A → B) (journal : Option A) → option_map f journal ≡ None
@@ -99,31 +99,31 @@ module _ {E D J P : Type 0} (contents : E → Option (List ℕ)) (has_failed hol
   SavesBoth save journal = IfSome save (λ path. IfSome journal (SavesOne path))
 
   -- output before that is empty does not count
-  told_in_all : (Told : Output → Type 0) → TellsNothing before
-      → Told (output_of contents has_failed holds_back mid new) → Told in_all
-  told_in_all Told same told =
-      subst (λ c. Told (record {
+  reports_in_all : (Printed : Output → Type 0) → ReportsNothing before
+      → Printed (output_of contents has_failed holds_back mid new) → Printed in_all
+  reports_in_all Printed same message =
+      subst (λ c. Printed (record {
         old = c;
         new = contents new;
         unwritten_before = has_failed old;
         unwritten = has_failed new;
         holds_back = holds_back new;
       })) same.0
-      (subst (λ b. Told (record {
+      (subst (λ b. Printed (record {
         old = contents mid;
         new = contents new;
         unwritten_before = b;
         unwritten = has_failed new;
         holds_back = holds_back new;
-      })) same.1 told)
+      })) same.1 message)
 
   -- a journal that is left was saved
   one_saved : (t : ObjectState) (path : P) (text : J)
       → bytes text ≡ journal_text t → Ends before None was → SavesOne path text
       → EndsSaving (Some (now path)) loaded beside t (known opened) (known after) in_all is
   one_saved t path text same h saved =
-      inr (told_in_all (λ e. FinishesSave beside loaded (now path) (journal_text t) (known opened)
-      (known after) e is) h.1
+      inr (reports_in_all (λ e. FinishesSave beside loaded (now path) (journal_text t)
+      (known opened) (known after) e is) h.1
       (subst (λ l. FinishesSave beside loaded (now path) l (known opened) (known after)
       (output_of contents has_failed holds_back mid new) is) same saved))
 
@@ -184,10 +184,10 @@ module _ {E D J P : Type 0} (contents : E → Option (List ℕ)) (has_failed hol
             (subst (λ b. LeavesJournal b lines.object (option_map bytes journal) before was) by
             left) unsaved saved)
             (λ none. ap known (unsaved (none_left bytes journal none)).2)
-            (λ none fault told.
+            (λ none fault message.
             let same = unsaved (none_left bytes journal none) in
             as_before contents has_failed holds_back old mid new was is
-            (λ e status. Tells e fault status) same.0 same.1 told)
+            (λ e status. Reports e fault status) same.0 same.1 message)
             lines.result lines.ended;
       })
 
@@ -204,26 +204,26 @@ one_of at (first ∷ paths) path is = by (is_some (at first)) is (one_of at path
 
 missed_first : (save : Option (List ℕ)) (paths : List (List ℕ)) (path : List ℕ)
     (cause : OpenFailed) (old locked new : Option Known) → LocksIf save old locked
-    → IsUnopened paths path cause locked new → IsUnopened paths path cause old new
+    → IsOpenFailure paths path cause locked new → IsOpenFailure paths path cause old new
 missed_first None paths path cause old locked new same h =
-    subst (λ k. IsUnopened paths path cause k new) same h
+    subst (λ k. IsOpenFailure paths path cause k new) same h
 missed_first (Some save) paths path cause None None new lock h = h
 missed_first (Some save) paths path cause None (Some m) new lock h =
     ((h.0.0, tt), one_of m.at paths path h.1, tt)
 missed_first (Some save) paths path cause (Some k) None new lock h = absurd lock
 missed_first (Some save) paths path cause (Some k) (Some m) new lock h =
-    subst (λ n. IsUnopened paths path cause (Some n) new) lock.0 h
+    subst (λ n. IsOpenFailure paths path cause (Some n) new) lock.0 h
 
 pub not_opened : (save : Option (List ℕ)) (paths : List (List ℕ)) (path named : List ℕ)
     (fault : CommandFault) (cause : OpenFailed) (old locked new : Option Known)
     → LocksIf save old locked → (path ≡ named) × (fault ≡ ReadFault cause)
-    → IsUnopened paths named cause locked new
+    → IsOpenFailure paths named cause locked new
     → IsNotRead paths (record { before = old; after = new }) path fault
 not_opened save paths path named fault cause old locked new lock is h = (
   cause,
   is.1,
   missed_first save paths path cause old locked new lock
-      (subst (λ p. IsUnopened paths p cause locked new) (sym is.0) h),
+      (subst (λ p. IsOpenFailure paths p cause locked new) (sym is.0) h),
 )
 
 -- ---- over the files of a folder
@@ -260,14 +260,14 @@ replaces_journal (Some journal) None path h = absurd (cc)
 replaces_journal (Some journal) (Some save) path h = ap Some (of_journal journal save path h)
 
 -- the journal that is replaced could not be opened once it was locked
-pub replaced_unopened : (journal save lock : Option (List ℕ)) (replaced path named : List ℕ)
+pub replaced_open_failure : (journal save lock : Option (List ℕ)) (replaced path named : List ℕ)
     (fault : CommandFault) (cause : OpenFailed) (old locked new : Option Known)
     → replaced_path journal save ≡ Some replaced → LocksIf lock old locked
     → (path ≡ named) × (fault ≡ ReadFault cause)
-    → IsUnopened (replaced ∷ []) named cause locked new
+    → IsOpenFailure (replaced ∷ []) named cause locked new
     → IsNotRead (path_if journal) (record { before = old; after = new }) path fault
-replaced_unopened journal save lock replaced path named fault cause old locked new by held is h =
-    subst (λ j. IsNotRead (path_if j) (record { before = old; after = new }) path fault)
+replaced_open_failure journal save lock replaced path named fault cause old locked new by held is
+    h = subst (λ j. IsNotRead (path_if j) (record { before = old; after = new }) path fault)
     (sym (replaces_journal journal save replaced by))
     (not_opened lock (replaced ∷ []) path named fault cause old locked new held is h)
 
@@ -311,9 +311,9 @@ module _ (limits : Limits) (journal save : Option (List ℕ)) (rules : ServeRule
   -- it was run, and the file that it began with is replaced
   module _ (path : List ℕ) (locked : Option (List ℕ)) (at : path ≡ unwrap_or journal [])
       (named : locked ≡ save) where
-    told_at : (fault : CommandFault) → TellsAt path e fault status
-        → TellsAt (unwrap_or journal []) e fault status
-    told_at fault h = subst (λ p. TellsAt p e fault status) at h
+    reports_at : (fault : CommandFault) → ReportsAt path e fault status
+        → ReportsAt (unwrap_or journal []) e fault status
+    reports_at fault h = subst (λ p. ReportsAt p e fault status) at h
 
     served_at : (begun : Input) (held : List ℕ)
         → EndsServing limits path locked rules (Some begun) (Some held) false opened d.after i o e
@@ -340,7 +340,7 @@ module _ (limits : Limits) (journal save : Option (List ℕ)) (rules : ServeRule
           fails = fails;
           opens = rw journal_is opens;
           crash = crash;
-          ended = rw is (inl (none.0, none.1, none.2, (none.3.0, told_at none.0 none.3.1)));
+          ended = rw is (inl (none.0, none.1, none.2, (none.3.0, reports_at none.0 none.3.1)));
         }
     replacing_ran replaced file is given_file fails sound opens crash
         (inr (held, begun, whole, h)) =

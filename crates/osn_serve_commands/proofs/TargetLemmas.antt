@@ -1,7 +1,7 @@
 -- What was found at the path of a save is what its contract says.
 use Rattle.std.proofs.Common.{◌≡◌, ℕ, Bool, List, [], Option, Some, None}
 use Rattle.std.proofs.Common.{Err, refl, subst, unwrap_or, inr}
-use Rattle.osn_days.specs.Profile.{newest_rules}
+use Rattle.osn_days.specs.Rules.{newest_rules}
 use Rattle.osn_files.specs.Faults.{MatchFileFault}
 use Rattle.osn_files.specs.Journal.{load}
 use Rattle.osn_files.specs.declared.fault.FileFault.{FileFault}
@@ -17,7 +17,7 @@ use Rattle.osn_report.specs.declared.status.Status.{Status}
 use Rattle.osn_serve_commands.specs.InFolder.{EndsServing, FindsNoTarget, FindsTarget}
 use Rattle.osn_serve_commands.specs.InFolder.{RefusesTarget, SavesOverFound, bytes_of}
 use Rattle.osn_serve_commands.specs.InFolder.{is_left_beside}
-use Rattle.osn_serve_commands.specs.SaveTarget.{HoldsNoTarget, TellsTarget, by_load}
+use Rattle.osn_serve_commands.specs.SaveTarget.{HoldsNoTarget, ReportsTarget, by_load}
 use Rattle.osn_serve_commands.specs.declared.target.SaveTarget.{SaveTarget}
 use Rattle.osn_serve_commands.specs.declared.target.TargetFault.{TargetFault}
 use Rattle.osn_serve_commands.specs.declared.target.TargetFault.TheVariants.{NoJournal, NotOpened}
@@ -55,9 +55,9 @@ not_loaded limits held given Spared Failed file_faults.NoMemory NoJournal is sam
 pub target_refused : (limits : Limits) (save : Option (List ℕ)) (opened after : Option Known)
     (o e : Output) (status : Status) (path : List ℕ) (fault : TargetFault)
     → path ≡ unwrap_or save [] → FindsNoTarget limits save opened after fault → o.new ≡ o.old
-    → TellsTarget path e fault status → RefusesTarget limits save opened after o e status
-target_refused limits save opened after o e status path fault at found same told =
-    (fault, found, same, subst (λ p. TellsTarget p e fault status) at told)
+    → ReportsTarget path e fault status → RefusesTarget limits save opened after o e status
+target_refused limits save opened after o e status path fault at found same message =
+    (fault, found, same, subst (λ p. ReportsTarget p e fault status) at message)
 
 -- the service was run, and its journal saved over what was found
 pub saved_over : (limits : Limits) (named given : List ℕ) (save locked : Option (List ℕ))

@@ -6,19 +6,19 @@ use Rattle.osn_register.specs.declared.limits.Limits.{Limits}
 use Rattle.osn_folder.specs.Folder.{Known, Changes, IsKeptAt, Keeps, Leaves}
 use Rattle.osn_lines.specs.Streams.{Input, Output}
 use Rattle.osn_report.specs.Folders.{Folders}
-use Rattle.osn_report.specs.Messages.{TellsAt}
+use Rattle.osn_report.specs.Messages.{ReportsAt}
 use Rattle.osn_report.specs.declared.fault.CommandFault.{CommandFault}
 use Rattle.osn_report.specs.declared.status.Status.{Status}
-use Rattle.osn_serve_commands.specs.Keep.{TellsCut, TellsText, cut_text, unfinished_line}
+use Rattle.osn_serve_commands.specs.Keep.{ReportsCut, ReportsText, cut_text, unfinished_line}
 use Rattle.osn_serve_commands.specs.KeepInside.{IsUnreadKept}
 use Rattle.osn_serve_commands.specs.Upgrade.{CannotSaveAnew, CannotUpgrade, IsLookedAt, SavesAnew}
 use Rattle.osn_serve_commands.specs.Upgrade.{SavesIfOlder, Upgrades}
 use Rattle.osn_serve_commands.specs.UpgradeInside.{IsNewest, IsOlder}
 
 -- what was written about a line is what its text says
-pub cut_told : (e : Output) (line : Option ℕ) → TellsText e (cut_text line) → TellsCut e line
-cut_told e None h = h
-cut_told e (Some line) h = h
+pub reports_cut : (e : Output) (line : Option ℕ) → ReportsText e (cut_text line) → ReportsCut e line
+reports_cut e None h = h
+reports_cut e (Some line) h = h
 
 -- ---- cases
 
@@ -72,9 +72,9 @@ module _ (limits : Limits) (path : List ℕ) (CanFail : Bool → Type 0) (d : Fo
   module _ (bytes text : List ℕ) (cut : Option (List ℕ))
       (is : IsOlder limits given.bytes bytes text cut) where
     -- it was rewritten
-    pub upgrade_saved : SavesAnew path bytes text looked d.after → TellsText e cut
+    pub upgrade_saved : SavesAnew path bytes text looked d.after → ReportsText e cut
         → Upgrades limits path CanFail d e
-    upgrade_saved saved told = record {
+    upgrade_saved saved message = record {
       looked = looked;
       given = given;
       looks = looks;
@@ -85,7 +85,7 @@ module _ (limits : Limits) (path : List ℕ) (CanFail : Bool → Type 0) (d : Fo
       saves =
           subst (λ b. SavesIfOlder b path bytes is.object looked d.after e) (sym is.older) (
             subst (λ t. SavesAnew path bytes t looked d.after) is.anew saved,
-            cut_told e (unfinished_line bytes) (subst (TellsText e) is.told told),
+            reports_cut e (unfinished_line bytes) (subst (ReportsText e) is.message message),
           );
     }
 
@@ -111,6 +111,6 @@ module _ (limits : Limits) (path : List ℕ) (CanFail : Bool → Type 0) (d : Fo
   -- it makes no object, or memory ran out
   pub upgrade_unread : (fault : CommandFault) (status : Status)
       → IsUnreadKept limits given.bytes given.unread fault → d.after ≡ looked
-      → TellsAt path e fault status → CannotUpgrade limits path CanFail d e status
+      → ReportsAt path e fault status → CannotUpgrade limits path CanFail d e status
   upgrade_unread fault status unread same h =
       inr (looked, given, looks, inl (fault, same, unread, h))

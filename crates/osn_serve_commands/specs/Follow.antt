@@ -2,7 +2,7 @@
 use Rattle.std.specs.Prelude.{ℕ, List, None, Option, Result, Ok, Err}
 use Rattle.osn_register.specs.declared.limits.Limits.{Limits}
 use Rattle.osn_lines.specs.Streams.{Output}
-use Rattle.osn_lines.specs.declared.fault.Interrupted.{Interrupted}
+use Rattle.osn_lines.specs.declared.fault.EndedEarly.{EndedEarly}
 use Rattle.osn_invocation.specs.Invocation.{ServiceModel}
 use Rattle.osn_service.specs.Faults.{MatchServed}
 use Rattle.osn_service.specs.declared.service.Served.{Served}
@@ -11,7 +11,7 @@ use Rattle.osn_follower.specs.Follows.{Follows}
 use Rattle.osn_follower.specs.Outcomes.{following}
 use Rattle.osn_follower.specs.declared.fault.FollowerFault.{FollowerFault}
 use Rattle.osn_follower.specs.declared.fault.FollowerFault.TheVariants as follower
-use Rattle.osn_report.specs.Messages.{Ends, Tells, TellsAt}
+use Rattle.osn_report.specs.Messages.{Ends, Reports, ReportsAt}
 use Rattle.osn_report.specs.declared.fault.CommandFault.{CommandFault}
 use Rattle.osn_report.specs.declared.fault.CommandFault.TheVariants.{File, FollowedFile, Service}
 use Rattle.osn_report.specs.declared.fault.CommandFault.TheVariants.{RefusedLine}
@@ -24,18 +24,18 @@ fault_of (follower.Journal why) = File why
 fault_of (follower.File why) = FollowedFile why
 
 -- what was reported on standard error if following the file of this path ended so
-abbrev pub TellsFollowed : List ℕ → Result Served (Interrupted FollowerFault) → Output → Status
+abbrev pub ReportsFollowed : List ℕ → Result Served (EndedEarly FollowerFault) → Output → Status
     → Type 0
-TellsFollowed path (Ok served) e status =
-    MatchServed served.refused (λ n. Ends e None status) (λ n. Tells e (RefusedLine n) status)
+ReportsFollowed path (Ok served) e status =
+    MatchServed served.refused (λ n. Ends e None status) (λ n. Reports e (RefusedLine n) status)
     served.lines
-TellsFollowed path (Err end) e status = TellsAt path e (fault_of end.cause) status
+ReportsFollowed path (Err end) e status = ReportsAt path e (fault_of end.cause) status
 
 -- The journal was followed, and each line of the input answered from it, or it ended early, which
 -- was reported on standard error.
 pub record EndsFollowed (limits : Limits) (path : List ℕ) (service : ServiceModel)
     (before after : Option (List Arrival)) (o e : Output) (status : Status) : Type 0 where
-  pub result : Result Served (Interrupted FollowerFault)
+  pub result : Result Served (EndedEarly FollowerFault)
   pub follows : Follows (following service.readers service.stop_at_refusal) limits before after o
       result
-  pub tells : TellsFollowed path result e status
+  pub reports : ReportsFollowed path result e status

@@ -8,7 +8,7 @@ use Rattle.osn_core.specs.Sequential.{ObjectState}
 use Rattle.osn_register.specs.declared.limits.Limits.{Limits}
 use Rattle.osn_lines.specs.Faults.{IsReadFault}
 use Rattle.osn_lines.specs.Streams.{Input, Output}
-use Rattle.osn_lines.specs.declared.fault.Interrupted.{Interrupted}
+use Rattle.osn_lines.specs.declared.fault.EndedEarly.{EndedEarly}
 use Rattle.osn_files.specs.JournalText.{journal_text}
 use Rattle.osn_files.specs.declared.fault.FileFault.{FileFault}
 use Rattle.osn_files.specs.declared.fault.FileFault.TheVariants.{ReadFault}
@@ -34,7 +34,7 @@ use Rattle.osn_serve_commands.specs.Follow.{EndsFollowed}
 use Rattle.osn_serve_commands.specs.Keep.{EndsKept, first_output, later_output}
 use Rattle.osn_serve_commands.specs.Mode.{ModeModel, loading, keeping, upgrading, following}
 use Rattle.osn_serve_commands.specs.Mode.{mode_by}
-use Rattle.osn_serve_commands.specs.SaveTarget.{IsTarget, IsNoTarget, TellsTarget}
+use Rattle.osn_serve_commands.specs.SaveTarget.{IsTarget, IsNoTarget, ReportsTarget}
 use Rattle.osn_serve_commands.specs.Saving.{LocksIf, CannotLockIf, FinishesSave}
 use Rattle.osn_serve_commands.specs.declared.target.SaveTarget.{SaveTarget}
 use Rattle.osn_serve_commands.specs.declared.target.SaveTarget.TheVariants.{NoFile, Empty}
@@ -81,7 +81,7 @@ pub record ServesAndSaves (limits : Limits) (save : Option (List ℕ)) (rules : 
     (opened after : Option Known) (i : Input) (o e : Output) (status : Status) : Type 0 where
   pub first : ObjectState
   pub last : ObjectState
-  pub result : Result Served (Interrupted (ServiceFault Infallible))
+  pub result : Result Served (EndedEarly (ServiceFault Infallible))
   pub begins : Begins limits begun first
   pub serves : ServesStore rules first last i o result
   pub ended : EndsServed result e status (EndsSaving save loaded beside last opened after e status)
@@ -130,7 +130,7 @@ abbrev pub RefusesTarget : Limits → Option (List ℕ) → Option Known → Opt
     → Status → Type 0
 RefusesTarget limits save before after o e status =
     (fault : TargetFault) × FindsNoTarget limits save before after fault × (o.new ≡ o.old)
-    × TellsTarget (unwrap_or save []) e fault status
+    × ReportsTarget (unwrap_or save []) e fault status
 
 -- the service was run, and its journal saved over what was found at its path; or that was refused
 abbrev pub SavesOverFound : Limits → List ℕ → Option (List ℕ) → ServeRules → Option Input

@@ -3,13 +3,13 @@
 use Rattle.std.specs.Prelude.{◌≡◌, ◌+◌, ◌⊎◌, ⊤, ℕ, Bool, true, false, List, [], ◌∷◌, ◌++◌}
 use Rattle.std.specs.Prelude.{take, Option, Some, None, Result, Ok, Err, codes}
 use Rattle.std.specs.Fmt.{decimal}
-use Rattle.osn_days.specs.Profile.{newest_rules}
+use Rattle.osn_days.specs.Rules.{newest_rules}
 use Rattle.osn_register.specs.declared.limits.Limits.{Limits}
 use Rattle.osn_core.specs.Sequential.{ObjectState, opened}
 use Rattle.osn_lines.specs.Faults.{IsReadFault}
 use Rattle.osn_lines.specs.Lines.{lines}
 use Rattle.osn_lines.specs.Streams.{Input, Output}
-use Rattle.osn_lines.specs.declared.fault.Interrupted.{Interrupted}
+use Rattle.osn_lines.specs.declared.fault.EndedEarly.{EndedEarly}
 use Rattle.osn_format.specs.Version.{has_sources, plain_version}
 use Rattle.osn_format.specs.declared.version.Version.{Version}
 use Rattle.osn_format.specs.declared.version.Version.TheVariants.{First, Second, Fourth}
@@ -18,7 +18,7 @@ use Rattle.osn_files.specs.Journal.{load}
 use Rattle.osn_files.specs.JournalText.{line_text}
 use Rattle.osn_files.specs.Loaded.{IsOfVersion}
 use Rattle.osn_files.specs.Version.{head_data}
-use Rattle.osn_files.specs.WholePart.{last_line_of, whole_bytes, whole_count}
+use Rattle.osn_files.specs.CountedPrefix.{last_line_of, whole_bytes, whole_count}
 use Rattle.osn_files.specs.declared.fault.FileFault.{FileFault}
 use Rattle.osn_files.specs.declared.fault.LineFault.{LineFault}
 use Rattle.osn_files.specs.declared.fault.Role.TheVariants.{Journal}
@@ -30,7 +30,7 @@ use Rattle.osn_service.specs.declared.fault.ServiceFault.{ServiceFault}
 use Rattle.osn_service.specs.declared.rules.ServeRules.{ServeRules}
 use Rattle.osn_service.specs.declared.service.Served.{Served}
 use Rattle.osn_journal.specs.KeptJournal.{FileState, KeepsFile}
-use Rattle.osn_report.specs.Messages.{WritesLine, Ends, TellsAt}
+use Rattle.osn_report.specs.Messages.{WritesLine, Ends, ReportsAt}
 pub use Rattle.osn_report.specs.Messages.{first_output, later_output}
 use Rattle.osn_report.specs.declared.fault.CommandFault.{CommandFault}
 use Rattle.osn_report.specs.declared.fault.CommandFault.TheVariants.{File, KeptFile, OlderVersion}
@@ -105,9 +105,9 @@ cut_line line = codes "oldstyle: journal line "
     ++ (decimal line ++ codes " was not finished, and is cut off\n")
 
 -- which line was cut off was reported, if one was
-abbrev pub TellsCut : Output → Option ℕ → Type 0
-TellsCut e None = e.new ≡ e.old
-TellsCut e (Some line) = WritesLine e (cut_line line)
+abbrev pub ReportsCut : Output → Option ℕ → Type 0
+ReportsCut e None = e.new ≡ e.old
+ReportsCut e (Some line) = WritesLine e (cut_line line)
 
 -- the text of that, if one was
 abbrev pub cut_text : Option ℕ → Option (List ℕ)
@@ -115,9 +115,9 @@ cut_text None = None
 cut_text (Some line) = Some (cut_line line)
 
 -- a text was written, if there is one
-abbrev pub TellsText : Output → Option (List ℕ) → Type 0
-TellsText e None = e.new ≡ e.old
-TellsText e (Some text) = WritesLine e text
+abbrev pub ReportsText : Output → Option (List ℕ) → Type 0
+ReportsText e None = e.new ≡ e.old
+ReportsText e (Some text) = WritesLine e text
 
 -- ---- why the service did not begin
 
@@ -141,8 +141,8 @@ HoldsOlder limits held fault =
 
 -- the file could not be changed, or is another one now, as it reports; or there was no memory
 abbrev pub IsChangeFault : CommandFault → Option KeptFileFault → Type 0
-IsChangeFault fault told =
-    ((why : KeptFileFault) × (told ≡ Some why) × (fault ≡ KeptFile why)) ⊎ (fault ≡ NoMemory)
+IsChangeFault fault message =
+    ((why : KeptFileFault) × (message ≡ Some why) × (fault ≡ KeptFile why)) ⊎ (fault ≡ NoMemory)
 
 -- the file is as it was; or its last line was cut off, if it was not finished. Then a prefix of the
 -- missing text may follow the lines that count
@@ -189,11 +189,11 @@ for_version version rules = record rules { takes_sources = has_sources version }
 pub record KeepsLines (path : List ℕ) (rules : ServeRules) (s : ObjectState)
     (ready file : FileState) (i : Input) (o e : Output) (status : Status) : Type 0 where
   pub object : ObjectState
-  pub result : Result Served (Interrupted (ServiceFault KeptFileFault))
+  pub result : Result Served (EndedEarly (ServiceFault KeptFileFault))
   pub serves : ServesStore rules s object i o result
   pub keeps : KeepsFile rules s object i.bytes ready file result
   pub ended : EndsServed result e status (Ends e None status) ⊤
-      (λ why. TellsAt path e (KeptFile why) status)
+      (λ why. ReportsAt path e (KeptFile why) status)
 
 -- How a run of the service that keeps the file of this path ended. The file was `old` and is `file`
 -- then, and a source gave it.
@@ -204,10 +204,10 @@ pub record EndsKept (limits : Limits) (path : List ℕ) (rules : ServeRules) (ol
   pub between : Option (List ℕ)
   pub failed : Bool
   pub held_back : Bool
-  pub tells : TellsCut (first_output e between failed held_back) cut
+  pub reports : ReportsCut (first_output e between failed held_back) cut
   -- the service did not begin, and nothing was written; or it began
   pub ended : ((fault : CommandFault) × (o.new ≡ o.old)
-      × TellsAt path (later_output e between failed) fault status
+      × ReportsAt path (later_output e between failed) fault status
       × IfHeld old given.bytes
       (λ held. DoesNotBegin limits held given.unread cut file fault))
       ⊎ ((version : Version) × (s : ObjectState) × (ready : FileState)

@@ -3,8 +3,8 @@ use Rattle.std.specs.Prelude.{◌≡◌, ℕ, Bool, List, ◌++◌, take, Option
 use Rattle.osn_register.specs.declared.limits.Limits.{Limits}
 use Rattle.osn_core.specs.Sequential.{ObjectState}
 use Rattle.osn_format.specs.declared.version.Version.{Version}
-use Rattle.osn_files.specs.WholePart.{IsWholePart, whole_bytes}
-use Rattle.osn_files.specs.declared.whole_lines.WholePart.{WholePart}
+use Rattle.osn_files.specs.CountedPrefix.{IsCountedPrefix, whole_bytes}
+use Rattle.osn_files.specs.declared.whole_lines.CountedPrefix.{CountedPrefix}
 use Rattle.osn_report.specs.declared.fault.CommandFault.{CommandFault}
 use Rattle.osn_serve_commands.specs.Keep.{kept_text, missing_text, unfinished_line}
 use Rattle.osn_serve_commands.specs.Keep.{HoldsObject, HoldsNoObject, IsLeft}
@@ -14,9 +14,9 @@ abbrev pub AreReadOf : Option (List ℕ) → List ℕ → Type 0
 AreReadOf given bytes = IfSome given (λ held. bytes ≡ held)
 
 -- this part of the bytes counts, and makes this object, in a journal of this version
-abbrev pub IsHeldIn : Limits → List ℕ → WholePart → Version → ObjectState → Type 0
+abbrev pub IsHeldIn : Limits → List ℕ → CountedPrefix → Version → ObjectState → Type 0
 IsHeldIn limits bytes part version s =
-    IsWholePart part bytes × HoldsObject limits bytes version s
+    IsCountedPrefix part bytes × HoldsObject limits bytes version s
 
 -- the file makes no object, and a read of it failed or not
 abbrev pub IsUnreadKept : Limits → Option (List ℕ) → Bool → CommandFault → Type 0
@@ -24,32 +24,33 @@ IsUnreadKept limits given failed fault =
     IfSome given (λ held. HoldsNoObject limits held failed fault)
 
 -- the last line was cut off, if it was not finished
-abbrev pub IsCut : WholePart → Option ℕ → Option (List ℕ) → Option (List ℕ) → Type 0
+abbrev pub IsCut : CountedPrefix → Option ℕ → Option (List ℕ) → Option (List ℕ) → Type 0
 IsCut part cut old new =
-    (held : List ℕ) → old ≡ Some held → IsWholePart part held
+    (held : List ℕ) → old ≡ Some held → IsCountedPrefix part held
     → (cut ≡ unfinished_line held) × (new ≡ Some (whole_bytes held))
 
 -- the missing text was appended, and all is on the disk
-abbrev pub IsCompleted : WholePart → Option (List ℕ) → Option (List ℕ) → Option (List ℕ) → Type 0
+abbrev pub IsCompleted : CountedPrefix → Option (List ℕ) → Option (List ℕ) → Option (List ℕ) →
+    Type 0
 IsCompleted part old new synced =
-    (held : List ℕ) → old ≡ Some (whole_bytes held) → IsWholePart part held
+    (held : List ℕ) → old ≡ Some (whole_bytes held) → IsCountedPrefix part held
     → (new ≡ Some (kept_text held)) × (synced ≡ Some (kept_text held))
 
 -- a prefix of the missing text was appended
-abbrev pub IsCompletedInPart : WholePart → Option (List ℕ) → Option (List ℕ) → Type 0
+abbrev pub IsCompletedInPart : CountedPrefix → Option (List ℕ) → Option (List ℕ) → Type 0
 IsCompletedInPart part old new =
-    (held : List ℕ) → old ≡ Some (whole_bytes held) → IsWholePart part held
+    (held : List ℕ) → old ≡ Some (whole_bytes held) → IsCountedPrefix part held
     → (n : ℕ) × (new ≡ Some (whole_bytes held ++ take n (missing_text held)))
 
 -- the file is ready for the service
-abbrev pub IsReady : WholePart → Option ℕ → Option (List ℕ) → Option (List ℕ) → Option (List ℕ)
+abbrev pub IsReady : CountedPrefix → Option ℕ → Option (List ℕ) → Option (List ℕ) → Option (List ℕ)
     → Type 0
 IsReady part cut old new synced =
-    (held : List ℕ) → old ≡ Some held → IsWholePart part held
+    (held : List ℕ) → old ≡ Some held → IsCountedPrefix part held
     → (cut ≡ unfinished_line held) × (new ≡ Some (kept_text held))
     × (synced ≡ Some (kept_text held))
 
 -- it could not be made ready
-abbrev pub IsUnready : WholePart → Option ℕ → Option (List ℕ) → Option (List ℕ) → Type 0
+abbrev pub IsUnready : CountedPrefix → Option ℕ → Option (List ℕ) → Option (List ℕ) → Type 0
 IsUnready part cut old new =
-    (held : List ℕ) → old ≡ Some held → IsWholePart part held → IsLeft held cut new
+    (held : List ℕ) → old ≡ Some held → IsCountedPrefix part held → IsLeft held cut new

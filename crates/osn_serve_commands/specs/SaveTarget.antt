@@ -11,18 +11,18 @@ use Rattle.osn_lines.specs.declared.whole.ReadAllFault.{ReadAllFault}
 use Rattle.osn_lines.specs.declared.whole.ReadAllFault.TheVariants as read_faults
 use Rattle.osn_lines.specs.Lines.{lines}
 use Rattle.osn_lines.specs.Streams.{Output}
-use Rattle.osn_days.specs.Profile.{newest_rules}
+use Rattle.osn_days.specs.Rules.{newest_rules}
 use Rattle.osn_files.specs.Journal.{load}
 use Rattle.osn_files.specs.declared.fault.FileFault.{FileFault}
 use Rattle.osn_files.specs.declared.fault.FileFault.TheVariants as file_faults
 use Rattle.osn_files.specs.declared.fault.LineFault.{LineFault}
 use Rattle.osn_register.specs.declared.limits.Limits.{Limits}
 use Rattle.osn_report.specs.Journal.{MakesObject}
-use Rattle.osn_report.specs.Messages.{EndsBy, TellsAt, TellsIfMade}
+use Rattle.osn_report.specs.Messages.{EndsBy, ReportsAt, ReportsIfMade}
 use Rattle.osn_report.specs.declared.fault.CommandFault.TheVariants as command_faults
 use Rattle.osn_report.specs.declared.status.Status.{Status}
 use Rattle.osn_report.specs.declared.status.Status.TheVariants as statuses
-use Rattle.osn_shown.specs.Shown.{shown}
+use Rattle.osn_shown.specs.Escaped.{escaped}
 use Rattle.std.specs.Prelude.{Some, Err}
 use Rattle.osn_serve_commands.specs.declared.target.SaveTarget.{SaveTarget}
 use Rattle.osn_serve_commands.specs.declared.target.SaveTarget.TheVariants.{NoFile, Empty}
@@ -97,12 +97,13 @@ IsNoTarget limits path before after NoMemory = Changes (Opens (path ∷ [])) bef
 -- what is printed about a file that no journal is saved to
 abbrev pub target_text : List ℕ → List ℕ → List ℕ
 target_text path why = codes "oldstyle: write fault\nhelp: "
-    ++ (shown path ++ (codes " " ++ (why ++ codes ": name another file for --save\n")))
+    ++ (escaped path ++ (codes " " ++ (why ++ codes ": name another file for --save\n")))
 
-abbrev pub TellsTarget : List ℕ → Output → TargetFault → Status → Type 0
-TellsTarget path e NoJournal status = TellsIfMade e statuses.WriteFault
+abbrev pub ReportsTarget : List ℕ → Output → TargetFault → Status → Type 0
+ReportsTarget path e NoJournal status = ReportsIfMade e statuses.WriteFault
     (target_text path (codes "is not a journal, and is left as it is")) status
-TellsTarget path e (NotOpened cause) status = TellsAt path e (command_faults.NotSaved cause) status
-TellsTarget path e NotRead status = TellsIfMade e statuses.WriteFault
+ReportsTarget path e (NotOpened cause) status =
+    ReportsAt path e (command_faults.NotSaved cause) status
+ReportsTarget path e NotRead status = ReportsIfMade e statuses.WriteFault
     (target_text path (codes "can't be read, and is left as it is")) status
-TellsTarget path e NoMemory status = EndsBy e command_faults.NoMemory status
+ReportsTarget path e NoMemory status = EndsBy e command_faults.NoMemory status

@@ -9,10 +9,10 @@ use Rattle.osn_folder.specs.declared.fault.KeepFault.{KeepFault}
 use Rattle.osn_folder.specs.declared.fault.SaveFault.{SaveFault}
 use Rattle.osn_folder.specs.declared.fault.SaveFault.TheVariants as faults
 use Rattle.osn_lines.specs.Streams.{Output}
-use Rattle.osn_report.specs.Messages.{Ends, EndsBy, TellsAt, TellsIfMade, TellsLine}
+use Rattle.osn_report.specs.Messages.{Ends, EndsBy, ReportsAt, ReportsIfMade, ReportsLine}
 use Rattle.osn_report.specs.declared.fault.CommandFault.TheVariants.{NoMemory, NotSaved}
 use Rattle.osn_report.specs.declared.status.Status.{Status}
-use Rattle.osn_shown.specs.Shown.{shown}
+use Rattle.osn_shown.specs.Escaped.{escaped}
 use Rattle.osn_report.specs.declared.status.Status.TheVariants as statuses
 
 -- the file of this path was locked, if there is one
@@ -29,28 +29,28 @@ CannotLockIf (Some path) fault before after = Changes (CannotLock path fault) be
 abbrev pub changed_line : List ℕ → List ℕ
 changed_line unfinished =
     codes "oldstyle: the file has changed meanwhile and is left as it is: the journal is in "
-    ++ (shown unfinished ++ codes "\n")
+    ++ (escaped unfinished ++ codes "\n")
 
 -- the line on a journal that is in its file, but maybe not on the disk
 abbrev pub not_synced_line : List ℕ
 not_synced_line = codes "oldstyle: the journal is saved, but may not be on the disk yet\n"
 
 -- it was reported why it isn't sure that the journal is saved in the file of this path
-abbrev pub TellsUnsaved : List ℕ → Output → SaveFault → Status → Type 0
-TellsUnsaved path e faults.NoMemory status = EndsBy e NoMemory status
-TellsUnsaved path e (faults.WriteFault cause) status = TellsAt path e (NotSaved cause) status
-TellsUnsaved path e faults.NotSynced status =
-    TellsLine e statuses.WriteFault not_synced_line status
-TellsUnsaved path e (faults.Changed unfinished) status =
-    TellsIfMade e statuses.WriteFault (changed_line (string_bytes unfinished)) status
+abbrev pub ReportsUnsaved : List ℕ → Output → SaveFault → Status → Type 0
+ReportsUnsaved path e faults.NoMemory status = EndsBy e NoMemory status
+ReportsUnsaved path e (faults.WriteFault cause) status = ReportsAt path e (NotSaved cause) status
+ReportsUnsaved path e faults.NotSynced status =
+    ReportsLine e statuses.WriteFault not_synced_line status
+ReportsUnsaved path e (faults.Changed unfinished) status =
+    ReportsIfMade e statuses.WriteFault (changed_line (string_bytes unfinished)) status
 
 -- ---- how a journal was saved
 
 -- the line on a journal that was at a path, and on the path that it is at now
 abbrev pub beside_line : List ℕ → List ℕ → List ℕ
 beside_line path backup = codes "note: "
-    ++ (shown path
-    ++ (codes " held another journal, which is now " ++ (shown backup ++ codes "\n")))
+    ++ (escaped path
+    ++ (codes " held another journal, which is now " ++ (escaped backup ++ codes "\n")))
 
 -- a journal was saved at a path, and what was loaded was unchanged, if that is given; or in place
 -- of another journal, which is beside it now, and its path was reported
@@ -60,7 +60,7 @@ SavesAs false loaded path text before after e status =
     Ends e None status × SavesSafely path loaded text before after
 SavesAs true loaded path text before after e status =
     (backup : List ℕ) × Changes (SavesBeside path backup text) before after
-    × TellsIfMade e statuses.Done (beside_line path backup) status
+    × ReportsIfMade e statuses.Done (beside_line path backup) status
 
 -- it isn't sure that it is saved, by this fault
 abbrev pub CannotSaveAs : Bool → Option (List ℕ) → List ℕ → List ℕ → SaveFault → Option Known
@@ -76,4 +76,4 @@ abbrev pub FinishesSave : Bool → Option (List ℕ) → List ℕ → List ℕ �
 FinishesSave beside loaded path text before after e status =
     SavesAs beside loaded path text before after e status
     ⊎ ((fault : SaveFault) × CannotSaveAs beside loaded path text fault before after
-    × TellsUnsaved path e fault status)
+    × ReportsUnsaved path e fault status)

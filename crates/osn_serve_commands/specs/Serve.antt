@@ -6,7 +6,7 @@ use Rattle.std.specs.declared.convert.Infallible.{Infallible}
 use Rattle.osn_core.specs.Sequential.{ObjectState}
 use Rattle.osn_register.specs.declared.limits.Limits.{Limits}
 use Rattle.osn_lines.specs.Streams.{Input, Output}
-use Rattle.osn_lines.specs.declared.fault.Interrupted.{Interrupted}
+use Rattle.osn_lines.specs.declared.fault.EndedEarly.{EndedEarly}
 use Rattle.osn_files.specs.JournalText.{journal_text}
 use Rattle.osn_files.specs.declared.fault.FileFault.{FileFault}
 use Rattle.osn_service.specs.Faults.{MatchService}
@@ -16,7 +16,7 @@ use Rattle.osn_service.specs.declared.rules.ServeRules.{ServeRules}
 use Rattle.osn_service.specs.declared.service.Served.{Served}
 use Rattle.osn_report.specs.Journal.{Begins, BeginsNot}
 use Rattle.osn_report.specs.Printing.{PrintsNoneAt}
-use Rattle.osn_report.specs.Messages.{Ends, EndsBy, Tells}
+use Rattle.osn_report.specs.Messages.{Ends, EndsBy, Reports}
 use Rattle.osn_report.specs.declared.fault.CommandFault.TheVariants.{File, Service, RefusedLine}
 use Rattle.osn_report.specs.declared.fault.CommandFault.TheVariants.{NoMemory}
 use Rattle.osn_report.specs.declared.status.Status.{Status}
@@ -39,11 +39,11 @@ input_if remaining has_failed (Some old) new = Some (record {
 
 -- how the service ended. All lines were answered, and then this was done; or not all were, which
 -- was reported, and the rest holds. Or the store lost a change for a reason
-abbrev pub EndsServed : {F : Type 0} → Result Served (Interrupted (ServiceFault F)) → Output
+abbrev pub EndsServed : {F : Type 0} → Result Served (EndedEarly (ServiceFault F)) → Output
     → Status → Type 0 → Type 0 → (F → Type 0) → Type 0
 EndsServed result e status Done Rest Lost = MatchService result
-    (λ end. MatchResult end (λ n. Done) (λ ended. Rest × Tells e (Service ended.cause) status))
-    (λ n. Rest × Tells e (RefusedLine n) status)
+    (λ end. MatchResult end (λ n. Done) (λ ended. Rest × Reports e (Service ended.cause) status))
+    (λ n. Rest × Reports e (RefusedLine n) status)
     (λ n why. Lost why)
 
 -- the journal of an object, if it must be saved
@@ -61,7 +61,7 @@ LeavesJournal saves t journal e status =
 pub record ServesLines (rules : ServeRules) (s : ObjectState) (saves : Bool) (i : Input)
     (o e : Output) (journal : Option (List ℕ)) (editions : ℕ) (status : Status) : Type 0 where
   pub object : ObjectState
-  pub result : Result Served (Interrupted (ServiceFault Infallible))
+  pub result : Result Served (EndedEarly (ServiceFault Infallible))
   pub serves : ServesStore rules s object i o result
   -- a journal is left only if all lines were answered, and no line ended the service
   pub ended : EndsServed result e status (LeavesJournal saves object journal e status)

@@ -13,12 +13,12 @@ use Rattle.osn_folder.specs.Folder.{CannotLock}
 use Rattle.osn_folder.specs.declared.fault.KeepFault.{KeepFault}
 use Rattle.osn_folder.specs.declared.fault.SaveFault.{SaveFault}
 use Rattle.osn_report.specs.Folders.{Folders}
-use Rattle.osn_report.specs.Messages.{TellsAt}
+use Rattle.osn_report.specs.Messages.{ReportsAt}
 use Rattle.osn_report.specs.declared.fault.CommandFault.{CommandFault}
 use Rattle.osn_report.specs.declared.fault.CommandFault.TheVariants.{Keep}
 use Rattle.osn_report.specs.declared.status.Status.{Status}
-use Rattle.osn_serve_commands.specs.Keep.{HoldsNoObject, HoldsObject, TellsCut, unfinished_line}
-use Rattle.osn_serve_commands.specs.Saving.{TellsUnsaved}
+use Rattle.osn_serve_commands.specs.Keep.{HoldsNoObject, HoldsObject, ReportsCut, unfinished_line}
+use Rattle.osn_serve_commands.specs.Saving.{ReportsUnsaved}
 
 -- ---- a text that is rewritten
 
@@ -34,10 +34,10 @@ abbrev pub CannotSaveAnew : List ℕ → List ℕ → List ℕ → Option Known 
     → Output → Status → Type 0
 CannotSaveAnew path loaded text before after e status =
     ((fault : KeepFault) × Changes (CannotLock path fault) before after
-    × TellsAt path e (Keep fault) status)
+    × ReportsAt path e (Keep fault) status)
     ⊎ ((locked : Option Known) × Changes (Locks path) before locked
     × (fault : SaveFault) × CannotSaveSafely path (Some loaded) text fault locked after
-    × TellsUnsaved path e fault status)
+    × ReportsUnsaved path e fault status)
 
 -- ---- a journal that will be kept
 
@@ -59,10 +59,10 @@ IsReadAs limits given bytes version s =
 -- version, and it was reported which line was cut off, if the last one was not finished
 abbrev pub SavesIfOlder : Bool → List ℕ → List ℕ → ObjectState → Option Known → Option Known
     → Output → Type 0
-SavesIfOlder true path bytes s before after e = (after ≡ before) × TellsCut e None
+SavesIfOlder true path bytes s before after e = (after ≡ before) × ReportsCut e None
 SavesIfOlder false path bytes s before after e =
     SavesAnew path bytes (journal_text_of newest_version s) before after
-    × TellsCut e (unfinished_line bytes)
+    × ReportsCut e (unfinished_line bytes)
 
 -- The file of this path was looked at, and contains a journal of a version that has sources now.
 pub record Upgrades (limits : Limits) (path : List ℕ) (CanFail : Bool → Type 0) (d : Folders)
@@ -83,7 +83,7 @@ abbrev pub CannotSaveOlder : Limits → List ℕ → Input → Option Known → 
 CannotSaveOlder limits path given before after e status =
     ((fault : CommandFault) × (after ≡ before)
     × IfSome given.bytes (λ held. HoldsNoObject limits held given.unread fault)
-    × TellsAt path e fault status)
+    × ReportsAt path e fault status)
     ⊎ ((bytes : List ℕ) × (version : Version) × (s : ObjectState)
     × IsReadAs limits given bytes version s × (has_sources version ≡ false)
     × CannotSaveAnew path bytes (journal_text_of newest_version s) before after e status)
@@ -93,6 +93,6 @@ CannotSaveOlder limits path given before after e status =
 abbrev pub CannotUpgrade : Limits → List ℕ → (Bool → Type 0) → Folders → Output → Status → Type 0
 CannotUpgrade limits path CanFail d e status =
     ((fault : KeepFault) × Changes (CannotKeep path fault) d.before d.after
-    × TellsAt path e (Keep fault) status)
+    × ReportsAt path e (Keep fault) status)
     ⊎ ((looked : Option Known) × (given : Input) × IsLookedAt path CanFail d.before looked given
     × CannotSaveOlder limits path given looked d.after e status)

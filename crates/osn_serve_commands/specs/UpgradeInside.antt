@@ -26,4 +26,4 @@ pub record IsOlder (limits : Limits) (given : Option (List ℕ)) (bytes text : L
   pub holds : HoldsObject limits bytes version object
   pub older : has_sources version ≡ false
   pub anew : text ≡ journal_text_of newest_version object
-  pub told : cut ≡ cut_text (unfinished_line bytes)
+  pub message : cut ≡ cut_text (unfinished_line bytes)

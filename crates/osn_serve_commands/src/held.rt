@@ -1,13 +1,13 @@
 //! What a file that will be kept contains: the journal of its lines that count.
 ghost use Rattle.std.specs.Prelude.{◌≡◌, ◌^◌, ◌<◌, ℕ, List, Ok, IfOk, IfErr, OnOk, IfSome, true};
 ghost use Rattle.std.specs.Prelude.{false};
-ghost use Rattle.osn_files.specs.WholePart.{whole_bytes};
+ghost use Rattle.osn_files.specs.CountedPrefix.{whole_bytes};
 ghost use Rattle.osn_report.specs.declared.fault.CommandFault.{CommandFault};
 ghost use Rattle.osn_serve_commands.specs.Keep.{IsUnread, SaysVersion, is_kept, object_of};
 ghost use Rattle.osn_serve_commands.specs.KeepInside.{AreReadOf, IsHeldIn, IsUnreadKept};
 
 use osn_core::Object;
-use osn_files::{FileFault, WholePart, load_with_version, whole_part};
+use osn_files::{CountedPrefix, FileFault, counted_prefix, load_with_version};
 use osn_format::Version;
 use osn_lines::{Bytes, Source, read_all};
 use osn_register::Limits;
@@ -16,11 +16,11 @@ use std::alloc::Global;
 
 /// What a file that will be kept contains.
 #[derive(Drop)]
-pub struct HeldJournal {
+pub struct LoadedJournal {
     /// Its bytes.
     pub bytes: Vec<u8>,
     /// How much of them counts.
-    pub part: WholePart,
+    pub part: CountedPrefix,
     /// The version that the lines that count say, or the plain one if no line counts.
     pub version: Version,
     /// The object of these lines, which is an empty one if no line counts.
@@ -43,16 +43,16 @@ fn kept_object(alloc: Global, limits: Limits, lines: &[u8]) -> Result<(Object, V
 }
 
 /// Returns what these bytes of a file contain. They are measured and loaded.
-fn held_journal(alloc: Global, limits: Limits, bytes: Vec<u8>) -> Result<HeldJournal, FileFault>
+fn held_journal(alloc: Global, limits: Limits, bytes: Vec<u8>) -> Result<LoadedJournal, FileFault>
     ensures few { IfOk result (λ held. held.part.lines < 2 ^ 63) }
     ensures bytes { IfOk result (λ held. held.bytes.items ≡ bytes.items) }
     ensures ok { IfOk result
         (λ held. IsHeldIn limits bytes.items held.part held.version held.object) }
     ensures err { IfErr result (IsUnread limits bytes.items false) }
 {
-    let part = whole_part(alloc, &mut Bytes::new(&bytes))?;
+    let part = counted_prefix(alloc, &mut Bytes::new(&bytes))?;
     let (object, version) = kept_object(alloc, limits, &bytes[..part.bytes as usize])?;
-    Ok(HeldJournal {
+    Ok(LoadedJournal {
         bytes,
         part,
         version,
@@ -70,7 +70,7 @@ pub fn read_kept<J: Source>(
     alloc: Global,
     limits: Limits,
     journal: &mut J,
-) -> Result<HeldJournal, CommandFault>
+) -> Result<LoadedJournal, CommandFault>
     ensures few { IfOk result (λ held. held.part.lines < 2 ^ 63) }
     ensures bytes { IfOk result (λ held. AreReadOf (J.remaining journal.old) held.bytes.items) }
     ensures ok { IfOk result

@@ -2,13 +2,13 @@
 //! and each change is in it before its reply is written.
 ghost use Rattle.std.specs.Prelude.{◌≡◌, ◌^◌, ◌<◌, ◌+◌, ℕ, List, Option, IfOk, IfErr, OnOk};
 ghost use Rattle.std.specs.Prelude.{string_bytes, option_map, take};
-ghost use Rattle.osn_files.specs.WholePart.{IsWholePart, whole_bytes};
+ghost use Rattle.osn_files.specs.CountedPrefix.{IsCountedPrefix, whole_bytes};
 ghost use Rattle.osn_journal.specs.KeptJournal.{file_of};
 ghost use Rattle.osn_lines.specs.Streams.{input_of, output_of};
-ghost use Rattle.osn_report.specs.Messages.{Tells, TellsAt, WritesLine};
+ghost use Rattle.osn_report.specs.Messages.{Reports, ReportsAt, WritesLine};
 ghost use Rattle.osn_report.specs.declared.fault.CommandFault.{CommandFault};
 ghost use Rattle.osn_serve_commands.specs.Keep.{cut_line, for_version, missing_head};
-ghost use Rattle.osn_serve_commands.specs.Keep.{missing_text, TellsCut, IsChangeFault};
+ghost use Rattle.osn_serve_commands.specs.Keep.{missing_text, ReportsCut, IsChangeFault};
 ghost use Rattle.osn_serve_commands.specs.Keep.{Begins, DoesNotBegin, EndsKept, IfHeld, KeepsLines};
 ghost use Rattle.osn_serve_commands.specs.KeepInside.{IsCut, IsCompleted, IsCompletedInPart};
 ghost use Rattle.osn_serve_commands.specs.KeepInside.{IsReady, IsUnready};
@@ -16,7 +16,7 @@ ghost use Rattle.osn_service.specs.Faults.{MatchServiceFault};
 
 use crate::held::{check_kept, read_kept};
 use osn_core::Object;
-use osn_files::{LastLine, WholePart, head_line};
+use osn_files::{CountedPrefix, LastLine, head_line};
 use osn_folder::{KeptFile, KeptFileFault};
 use osn_format::Version;
 use osn_journal::serve_kept;
@@ -40,14 +40,14 @@ pub(crate) fn cut_text(alloc: Global, line: u64) -> Result<String, AllocError>
 /// error.
 pub fn cut_unfinished<K: KeptFile, E: Sink>(
     alloc: Global,
-    part: WholePart,
+    part: CountedPrefix,
     keeper: &mut K,
     errors: &mut E,
 ) -> Result<(), CommandFault>
     requires { part.lines < 2 ^ 63 }
     ensures sound { OnOk result (K.fault keeper.new ≡ K.fault keeper.old) }
     ensures ok { OnOk result ((cut : Option ℕ)
-        × TellsCut (output_of E.contents E.has_failed E.holds_back errors.old errors.new) cut
+        × ReportsCut (output_of E.contents E.has_failed E.holds_back errors.old errors.new) cut
         × IsCut part cut (K.contents keeper.old) (K.contents keeper.new)) }
     ensures err { IfErr result (λ fault. IsChangeFault fault (K.fault keeper.new)
         × (E.contents errors.new ≡ E.contents errors.old)
@@ -56,17 +56,17 @@ pub fn cut_unfinished<K: KeptFile, E: Sink>(
     match part.last {
         LastLine::Ended | LastLine::LacksFeed => Ok(()),
         LastLine::Unfinished => {
-            let told = cut_text(alloc, part.lines + 1)?;
+            let message = cut_text(alloc, part.lines + 1)?;
             keeper.cut(part.bytes)?;
-            write_line(errors, told.as_str());
+            write_line(errors, message.as_str());
             Ok(())
         }
     }
 }
 
 /// Returns the head of a journal if no line counts, or else nothing.
-fn missing_head(alloc: Global, part: WholePart) -> Result<Vec<u8>, AllocError>
-    ensures { IfOk result (λ head. (held : List ℕ) → IsWholePart part held
+fn missing_head(alloc: Global, part: CountedPrefix) -> Result<Vec<u8>, AllocError>
+    ensures { IfOk result (λ head. (held : List ℕ) → IsCountedPrefix part held
         → head.items ≡ missing_head (whole_bytes held)) }
 {
     if part.bytes == 0 {
@@ -77,8 +77,8 @@ fn missing_head(alloc: Global, part: WholePart) -> Result<Vec<u8>, AllocError>
 
 /// Returns what is missing after the lines of a kept file that count: the line feed of the last
 /// one, or the head if no line counts.
-pub fn missing_text(alloc: Global, part: WholePart) -> Result<Vec<u8>, AllocError>
-    ensures { IfOk result (λ text. (held : List ℕ) → IsWholePart part held
+pub fn missing_text(alloc: Global, part: CountedPrefix) -> Result<Vec<u8>, AllocError>
+    ensures { IfOk result (λ text. (held : List ℕ) → IsCountedPrefix part held
         → text.items ≡ missing_text held) }
 {
     match part.last {
@@ -91,7 +91,7 @@ pub fn missing_text(alloc: Global, part: WholePart) -> Result<Vec<u8>, AllocErro
 /// is on the disk.
 fn append_missing<K: KeptFile>(
     alloc: Global,
-    part: WholePart,
+    part: CountedPrefix,
     keeper: &mut K,
 ) -> Result<(), CommandFault>
     ensures sound { OnOk result (K.fault keeper.new ≡ K.fault keeper.old) }
@@ -110,18 +110,18 @@ fn append_missing<K: KeptFile>(
 /// line feed, and a head, and all of it is on the disk.
 fn make_ready<K: KeptFile, E: Sink>(
     alloc: Global,
-    part: WholePart,
+    part: CountedPrefix,
     keeper: &mut K,
     errors: &mut E,
 ) -> Result<(), CommandFault>
     requires { part.lines < 2 ^ 63 }
     ensures sound { OnOk result (K.fault keeper.new ≡ K.fault keeper.old) }
     ensures ok { OnOk result ((cut : Option ℕ)
-        × TellsCut (output_of E.contents E.has_failed E.holds_back errors.old errors.new) cut
+        × ReportsCut (output_of E.contents E.has_failed E.holds_back errors.old errors.new) cut
         × IsReady part cut (K.contents keeper.old) (K.contents keeper.new) (K.synced keeper.new)) }
     ensures err { IfErr result (λ fault. IsChangeFault fault (K.fault keeper.new)
         × (cut : Option ℕ)
-        × TellsCut (output_of E.contents E.has_failed E.holds_back errors.old errors.new) cut
+        × ReportsCut (output_of E.contents E.has_failed E.holds_back errors.old errors.new) cut
         × IsUnready part cut (K.contents keeper.old) (K.contents keeper.new)) }
 {
     cut_unfinished(alloc, part, keeper, errors)?;
@@ -138,12 +138,12 @@ fn begin<K: KeptFile, J: Source, E: Sink>(
     errors: &mut E,
 ) -> Result<(Object, Version), CommandFault>
     ensures ok { IfOk result (λ begun. (cut : Option ℕ)
-        × TellsCut (output_of E.contents E.has_failed E.holds_back errors.old errors.new) cut
+        × ReportsCut (output_of E.contents E.has_failed E.holds_back errors.old errors.new) cut
         × IfHeld (file_of K.contents K.synced K.fault keeper.old) (J.remaining journal.old)
         (λ held. Begins limits held (K.fault keeper.old) cut begun.1 begun.0
         (file_of K.contents K.synced K.fault keeper.new))) }
     ensures err { IfErr result (λ fault. (cut : Option ℕ)
-        × TellsCut (output_of E.contents E.has_failed E.holds_back errors.old errors.new) cut
+        × ReportsCut (output_of E.contents E.has_failed E.holds_back errors.old errors.new) cut
         × IfHeld (file_of K.contents K.synced K.fault keeper.old) (J.remaining journal.old)
         (λ held. DoesNotBegin limits held (J.has_failed journal.new) cut
         (file_of K.contents K.synced K.fault keeper.new) fault)) }
@@ -162,9 +162,9 @@ fn report_end<E: Sink>(
     cause: ServiceFault<KeptFileFault>,
 ) -> Status
     ensures { MatchServiceFault cause
-        (λ fault. Tells (output_of E.contents E.has_failed E.holds_back errors.old errors.new)
+        (λ fault. Reports (output_of E.contents E.has_failed E.holds_back errors.old errors.new)
         (CommandFault.Service fault) result)
-        (λ why. TellsAt path.now
+        (λ why. ReportsAt path.now
         (output_of E.contents E.has_failed E.holds_back errors.old errors.new)
         (CommandFault.KeptFile why) result) }
 {

@@ -17,9 +17,9 @@ mod target;
 mod upgrade;
 
 pub use follow::follow_command;
-pub use held::{HeldJournal, check_kept, read_kept};
+pub use held::{LoadedJournal, check_kept, read_kept};
 pub use in_folder::serve_in_folder;
 pub use keep::{cut_unfinished, keep_command, missing_text};
 pub use serve::{ServeResult, initial_object, serve_command};
-pub use target::{SaveTarget, TargetFault, save_target, tell_target};
-pub use upgrade::{cut_text_of, save_anew, tell_cut, upgrade_file};
+pub use target::{SaveTarget, TargetFault, report_target, save_target};
+pub use upgrade::{cut_text_of, report_cut, save_anew, upgrade_file};

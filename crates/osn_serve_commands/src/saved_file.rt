@@ -3,13 +3,13 @@ ghost use Rattle.std.specs.Prelude.{◌≡◌, None, option_map};
 ghost use Rattle.std.specs.Prelude.{IfErr, IfOk, IfSome, string_bytes};
 ghost use Rattle.osn_lines.specs.Streams.{output_of};
 ghost use Rattle.osn_serve_commands.specs.Saving.{CannotLockIf, FinishesSave, LocksIf};
-ghost use Rattle.osn_serve_commands.specs.Saving.{TellsUnsaved, beside_line, changed_line};
+ghost use Rattle.osn_serve_commands.specs.Saving.{ReportsUnsaved, beside_line, changed_line};
 
 use crate::serve::ServeResult;
 use osn_folder::{Folder, KeepFault, SaveFault, save_beside, save_file};
 use osn_lines::Sink;
-use osn_report::{CommandFault, Status, report_at, tell_line, tell_no_memory, write_line};
-use osn_shown::Shown;
+use osn_report::{CommandFault, Status, report_at, report_line, report_no_memory, write_line};
+use osn_shown::Escaped;
 use std::alloc::{AllocError, Global};
 
 /// A file that a journal will be saved to, and its lock.
@@ -47,7 +47,7 @@ fn changed(alloc: Global, unfinished: &str) -> Result<String, AllocError>
 {
     format!(in alloc;
         "oldstyle: the file has changed meanwhile and is left as it is: the journal is in {}\n",
-        Shown(unfinished)
+        Escaped(unfinished)
     )
 }
 
@@ -57,8 +57,8 @@ fn beside_line(alloc: Global, path: &str, backup: &str) -> Result<String, AllocE
 {
     format!(in alloc;
         "note: {} held another journal, which is now {}\n",
-        Shown(path),
-        Shown(backup)
+        Escaped(path),
+        Escaped(backup)
     )
 }
 
@@ -70,11 +70,11 @@ pub(crate) fn report_unsaved<E: Sink>(
     path: &str,
     fault: SaveFault,
 ) -> Status
-    ensures { TellsUnsaved path.now
+    ensures { ReportsUnsaved path.now
         (output_of E.contents E.has_failed E.holds_back errors.old errors.new) fault result }
 {
     match fault {
-        SaveFault::NoMemory => tell_no_memory(errors),
+        SaveFault::NoMemory => report_no_memory(errors),
         SaveFault::WriteFault(cause) => {
             report_at(alloc, errors, path, CommandFault::NotSaved(cause))
         }
@@ -87,7 +87,7 @@ pub(crate) fn report_unsaved<E: Sink>(
         }
         SaveFault::Changed(unfinished) => {
             let line = changed(alloc, unfinished.as_str());
-            tell_line(errors, Status::WriteFault, line)
+            report_line(errors, Status::WriteFault, line)
         }
     }
 }
@@ -112,7 +112,7 @@ fn save_journal<D: Folder, E: Sink>(
         return match save_beside(folder, alloc, file.lock, file.path, text) {
             Ok(backup) => {
                 let line = beside_line(alloc, file.path, backup.as_str());
-                tell_line(errors, Status::Done, line)
+                report_line(errors, Status::Done, line)
             }
             Err(fault) => report_unsaved(alloc, errors, file.path, fault),
         };

@@ -11,7 +11,7 @@ ghost use Rattle.osn_serve_commands.specs.Serve.{input_if};
 
 use crate::saved_file::{LockedFile, finish, lock_if};
 use crate::serve::serve_command;
-use crate::target::{bytes_of, is_left_beside, target_if, tell_target};
+use crate::target::{bytes_of, is_left_beside, report_target, target_if};
 use osn_folder::{Folder, open_if, open_named};
 use osn_lines::{Bytes, Sink, Source, read_all, write_all};
 use osn_register::Limits;
@@ -33,7 +33,12 @@ fn unsaved_line(alloc: Global, editions: usize) -> Result<String, AllocError> {
 }
 
 /// Shows a terminal, if there is one, how many editions were published and not saved, if any.
-fn tell_unsaved<T: Sink + Drop>(alloc: Global, terminal: Option<T>, saves: bool, editions: usize) {
+fn report_lost_editions<T: Sink + Drop>(
+    alloc: Global,
+    terminal: Option<T>,
+    saves: bool,
+    editions: usize,
+) {
     if saves || editions == 0 {
         return;
     }
@@ -71,7 +76,7 @@ fn serve_opened<D: Folder, J: Source, R: Source, W: Sink, E: Sink, T: Sink + Dro
     let served = serve_command(
         alloc, limits, path, journal, rules, saves, input, output, errors,
     );
-    tell_unsaved(alloc, terminal, saves, served.editions);
+    report_lost_editions(alloc, terminal, saves, served.editions);
     finish(alloc, folder, served, locked, loaded, beside, errors)
 }
 
@@ -197,7 +202,7 @@ pub(crate) fn serve<'a, D: Folder, R: Source, W: Sink, E: Sink, T: Sink + Drop>(
             let mut source = open_if(folder, journal)?;
             let found = match target_if(alloc, limits, folder, save) {
                 Ok(found) => found,
-                Err(fault) => return Ok(tell_target(alloc, errors, path_or_none(save), fault)),
+                Err(fault) => return Ok(report_target(alloc, errors, path_or_none(save), fault)),
             };
             Ok(serve_opened(
                 alloc,

@@ -10,7 +10,7 @@ use osn_core::Object;
 use osn_files::{FileFault, journal_text, load_journal};
 use osn_lines::{Sink, Source};
 use osn_register::Limits;
-use osn_report::{CommandFault, Status, report, report_at, tell_no_memory};
+use osn_report::{CommandFault, Status, report, report_at, report_no_memory};
 use osn_service::{ServeRules, ServiceFault, serve_store};
 use std::alloc::Global;
 use std::convert::Infallible;
@@ -91,7 +91,7 @@ fn leave_journal<E: Sink>(
             journal: Some(text),
             editions,
         },
-        Err(_) => ServeResult::ended(tell_no_memory(errors), editions),
+        Err(_) => ServeResult::ended(report_no_memory(errors), editions),
     }
 }
 

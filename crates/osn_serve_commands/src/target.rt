@@ -10,8 +10,8 @@ use osn_files::{FileFault, load_journal};
 use osn_folder::{ChangeCause, Folder, OpenFailed};
 use osn_lines::{Bytes, ReadAllFault, Sink, read_all};
 use osn_register::Limits;
-use osn_report::{CommandFault, Status, report_at, tell_line, tell_no_memory};
-use osn_shown::Shown;
+use osn_report::{CommandFault, Status, report_at, report_line, report_no_memory};
+use osn_shown::Escaped;
 use std::alloc::{AllocError, Global};
 
 /// What a journal will be saved over.
@@ -141,28 +141,33 @@ fn target_text(alloc: Global, path: &str, why: &str) -> Result<String, AllocErro
 {
     format!(in alloc;
         "oldstyle: write fault\nhelp: {} {why}: name another file for --save\n",
-        Shown(path)
+        Escaped(path)
     )
 }
 
 /// Reports on standard error why no journal is saved to this path. Returns the status.
-pub fn tell_target<E: Sink>(alloc: Global, errors: &mut E, path: &str, fault: TargetFault) -> Status
-    ensures { spec.TellsTarget path.now
+pub fn report_target<E: Sink>(
+    alloc: Global,
+    errors: &mut E,
+    path: &str,
+    fault: TargetFault,
+) -> Status
+    ensures { spec.ReportsTarget path.now
         (output_of E.contents E.has_failed E.holds_back errors.old errors.new) fault result }
 {
     match fault {
         TargetFault::NoJournal => {
             let text = target_text(alloc, path, "is not a journal, and is left as it is");
-            tell_line(errors, Status::WriteFault, text)
+            report_line(errors, Status::WriteFault, text)
         }
         TargetFault::NotOpened(cause) => {
             report_at(alloc, errors, path, CommandFault::NotSaved(cause))
         }
         TargetFault::NotRead => {
             let text = target_text(alloc, path, "can't be read, and is left as it is");
-            tell_line(errors, Status::WriteFault, text)
+            report_line(errors, Status::WriteFault, text)
         }
-        TargetFault::NoMemory => tell_no_memory(errors),
+        TargetFault::NoMemory => report_no_memory(errors),
     }
 }
 

@@ -3,10 +3,10 @@ ghost use Rattle.std.specs.Prelude.{◌≡◌, ◌^◌, ◌<◌, ℕ, List, None
 ghost use Rattle.std.specs.Prelude.{option_map, string_bytes};
 ghost use Rattle.std.specs.Option.{MatchOption};
 ghost use Rattle.osn_folder.specs.Folder.{MayFail};
-ghost use Rattle.osn_files.specs.WholePart.{IsWholePart};
+ghost use Rattle.osn_files.specs.CountedPrefix.{IsCountedPrefix};
 ghost use Rattle.osn_lines.specs.Streams.{output_of};
 ghost use Rattle.osn_report.specs.Folders.{folders_of};
-ghost use Rattle.osn_serve_commands.specs.Keep.{TellsText, cut_text, unfinished_line};
+ghost use Rattle.osn_serve_commands.specs.Keep.{ReportsText, cut_text, unfinished_line};
 ghost use Rattle.osn_serve_commands.specs.KeepInside.{IsUnreadKept};
 ghost use Rattle.osn_serve_commands.specs.Upgrade.{CannotSaveAnew, CannotUpgrade, SavesAnew};
 ghost use Rattle.osn_serve_commands.specs.Upgrade.{Upgrades};
@@ -15,7 +15,7 @@ ghost use Rattle.osn_serve_commands.specs.UpgradeInside.{IsNewest, IsOlder};
 use crate::held::read_kept;
 use crate::keep::cut_text;
 use crate::saved_file::report_unsaved;
-use osn_files::{LastLine, WholePart, journal_text_of};
+use osn_files::{CountedPrefix, LastLine, journal_text_of};
 use osn_folder::{Folder, save_file};
 use osn_format::Version;
 use osn_lines::{Sink, Source};
@@ -56,9 +56,9 @@ pub fn save_anew<D: Folder, E: Sink>(
 
 /// Returns the text on the last line of a file of which this part counts, if that line was not
 /// finished.
-pub fn cut_text_of(alloc: Global, part: WholePart) -> Result<Option<String>, AllocError>
+pub fn cut_text_of(alloc: Global, part: CountedPrefix) -> Result<Option<String>, AllocError>
     requires { part.lines < 2 ^ 63 }
-    ensures { IfOk result (λ text. (held : List ℕ) → IsWholePart part held
+    ensures { IfOk result (λ text. (held : List ℕ) → IsCountedPrefix part held
         → option_map string_bytes text ≡ cut_text (unfinished_line held)) }
 {
     match part.last {
@@ -68,8 +68,8 @@ pub fn cut_text_of(alloc: Global, part: WholePart) -> Result<Option<String>, All
 }
 
 /// Writes a text on a line that was cut off to standard error, if there is one.
-pub fn tell_cut<E: Sink>(errors: &mut E, text: &Option<String>)
-    ensures { TellsText (output_of E.contents E.has_failed E.holds_back errors.old errors.new)
+pub fn report_cut<E: Sink>(errors: &mut E, text: &Option<String>)
+    ensures { ReportsText (output_of E.contents E.has_failed E.holds_back errors.old errors.new)
         (option_map string_bytes text.now) }
 {
     if let Some(text) = text {
@@ -128,8 +128,8 @@ fn save_older<D: Folder, E: Sink>(
 ) -> Result<(), Status>
     ensures ok { OnOk result (SavesAnew path.now older.now.bytes.items
         (string_bytes older.now.text) (D.known folder.old) (D.known folder.new)) }
-    ensures tells { OnOk result
-        (TellsText (output_of E.contents E.has_failed E.holds_back errors.old errors.new)
+    ensures reports { OnOk result
+        (ReportsText (output_of E.contents E.has_failed E.holds_back errors.old errors.new)
         (option_map string_bytes older.now.cut)) }
     ensures err { IfErr result (CannotSaveAnew path.now older.now.bytes.items
         (string_bytes older.now.text) (D.known folder.old) (D.known folder.new)
@@ -143,7 +143,7 @@ fn save_older<D: Folder, E: Sink>(
         older.text.as_str(),
         errors,
     )?;
-    tell_cut(errors, &older.cut);
+    report_cut(errors, &older.cut);
     Ok(())
 }
 

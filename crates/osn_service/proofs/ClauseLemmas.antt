@@ -8,7 +8,7 @@ use Rattle.std.specs.Io.KnownBytes.{Appends}
 use Rattle.std.specs.Prelude.{⊤}
 use Rattle.serde_json.specs.Written.{compact_text}
 use Rattle.osn_core.specs.Sequential.{ObjectState}
-use Rattle.osn_lines.specs.declared.fault.Interrupted.{Interrupted}
+use Rattle.osn_lines.specs.declared.fault.EndedEarly.{EndedEarly}
 use Rattle.osn_lines.specs.Faults.{WriteFails}
 use Rattle.osn_lines.specs.Lines.{lines}
 use Rattle.osn_lines.specs.Streams.{Input}
@@ -22,11 +22,11 @@ use Rattle.osn_service.specs.declared.service.End.TheVariants.{AtEnd, AtRefusal,
 use Rattle.osn_service.specs.Faults.{HasLongReply}
 use Rattle.osn_service.specs.Refusals.{NoneRefused}
 use Rattle.osn_service.specs.Served.{line_text, outputs, after_lines, WritesAll, WritesFirst}
-use Rattle.osn_service.specs.Served.{WritesInPart, StandsAfter, StandsAt, StandsNear}
+use Rattle.osn_service.specs.Served.{WritesInPart, StandsAfter, IsAfterLines, IsAfterOrNext}
 use Rattle.osn_service.specs.Serves.{Serves, RefusesNone, ServesToRefusal, ServesStore}
 use Rattle.osn_service.specs.ServiceInside.{InPart, WritesSome}
 use Rattle.osn_service.specs.Session.{line_after, line_outcome}
-use Rattle.osn_service.specs.SessionInside.{Moment}
+use Rattle.osn_service.specs.SessionInside.{SessionState}
 use Rattle.osn_service.specs.TakingInside.{AnswersFirst, AnswersInPart, EndsTaking, HasTaken}
 use Rattle.osn_service.specs.TakingInside.{output_since}
 use Rattle.osn_service.proofs.PartLemmas.{InPart-more}
@@ -46,7 +46,7 @@ some_text rules s line =
 
 -- ---- a write failed
 
-module _ {rules : ServeRules} {begun now : Moment} {n : ℕ} (i : Input)
+module _ {rules : ServeRules} {begun now : SessionState} {n : ℕ} (i : Input)
     (h : AnswersInPart rules begun now i.bytes n) where
   -- all lines are those that were answered and those after them
   whole : (all : List (List ℕ)) → take (length h.lines_taken) all ≡ h.lines_taken →
@@ -105,7 +105,7 @@ module _ {rules : ServeRules} {begun now : Moment} {n : ℕ} (i : Input)
           }) h.first;
       object =
           IfSome-weaker i.bytes (λ bytes. take (length h.lines_taken) (lines bytes) ≡ h.lines_taken)
-          (λ bytes. StandsNear rules begun.object now.object (lines bytes) n)
+          (λ bytes. IsAfterOrNext rules begun.object now.object (lines bytes) n)
           (λ bytes e. ⊎_elim (λ k. inl k) (λ k. inr k.1) (part_of_all (lines bytes) e).reached)
           h.first;
       passed = tt;
@@ -119,7 +119,7 @@ module _ {rules : ServeRules} {begun now : Moment} {n : ℕ} (i : Input)
   )
 
 -- a write failed while lines were taken, or a change was not kept, which is passed on
-module _ {F : Type 0} (rules : ServeRules) (begun now : Moment) (holds_back : Bool)
+module _ {F : Type 0} (rules : ServeRules) (begun now : SessionState) (holds_back : Bool)
     (i : Input) where
   -- by the reason
   passed : (n : ℕ) (cause : ServiceFault F) →
@@ -133,7 +133,7 @@ module _ {F : Type 0} (rules : ServeRules) (begun now : Moment) (holds_back : Bo
   passed n (NotKept why) h = h
 
   -- for either
-  pub Serves-passed : (end : Interrupted (ServiceFault F)) →
+  pub Serves-passed : (end : EndedEarly (ServiceFault F)) →
       HasTaken rules begun now holds_back i (Err end) →
       ServesStore rules begun.object now.object i
       (output_since begun now.written now.failed holds_back) (Err end)
@@ -141,7 +141,7 @@ module _ {F : Type 0} (rules : ServeRules) (begun now : Moment) (holds_back : Bo
 
 -- ---- what waits must be written then
 
-module _ {rules : ServeRules} {begun now : Moment} {n : ℕ} (i : Input)
+module _ {rules : ServeRules} {begun now : SessionState} {n : ℕ} (i : Input)
     (h : AnswersFirst rules begun now i.bytes n) where
   -- they are the first lines by their number
   firsts : IfSome i.bytes (λ bytes. take n (lines bytes) ≡ h.lines_taken)
@@ -159,7 +159,7 @@ module _ {rules : ServeRules} {begun now : Moment} {n : ℕ} (i : Input)
       × RefusesNone rules begun.object i
       (Err (record { lines = n - unwritten; cause = WriteFault }))
   Serves-unwritten new failed unwritten holds_back some reason =
-      let later : Moment = record now { written = new; failed = failed } in
+      let later : SessionState = record now { written = new; failed = failed } in
       Serves-in_part {now = later} i
       (AnswersInPart-from n unwritten h.lines_taken
       (Failing-from {t = later} h.serving (record { some = some; object = refl; reason = reason }))
@@ -186,10 +186,11 @@ module _ {rules : ServeRules} {begun now : Moment} {n : ℕ} (i : Input)
         }) firsts
 
     -- the object is in the state after them
-    first_reached : IfSome i.bytes (λ bytes. StandsAt rules begun.object now.object (lines bytes) n)
+    first_reached : IfSome i.bytes
+        (λ bytes. IsAfterLines rules begun.object now.object (lines bytes) n)
     first_reached =
         IfSome-weaker i.bytes (λ bytes. take n (lines bytes) ≡ h.lines_taken)
-        (λ bytes. StandsAt rules begun.object now.object (lines bytes) n)
+        (λ bytes. IsAfterLines rules begun.object now.object (lines bytes) n)
         (λ bytes e. h.serving.waits.reached ∙ ap (after_lines rules begun.object) (sym e)) firsts
 
     -- all lines were answered
@@ -213,7 +214,7 @@ module _ {rules : ServeRules} {begun now : Moment} {n : ℕ} (i : Input)
                 }) first_written end.0;
             object =
                 IfSome-both i.bytes
-                (λ bytes. StandsAt rules begun.object now.object (lines bytes) n)
+                (λ bytes. IsAfterLines rules begun.object now.object (lines bytes) n)
                 (λ bytes. n ≡ length (lines bytes))
                 (λ bytes. StandsAfter rules begun.object now.object (lines bytes))
                 (λ bytes k count. k ∙ ap (after_lines rules begun.object) (all bytes count))

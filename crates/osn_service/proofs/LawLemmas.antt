@@ -5,7 +5,7 @@ use Rattle.std.proofs.Common.{append_assoc, inl, inr}
 use Rattle.std.specs.List.{All, concat, flat_map}
 use Rattle.std.proofs.lemmas.List.Elements.{All-nil, All-cons, All-head, All-tail}
 use Rattle.std.proofs.lemmas.List.Sums.{fold-append}
-use Rattle.osn_days.specs.Profile.{newest_rules}
+use Rattle.osn_days.specs.Rules.{newest_rules}
 use Rattle.osn_register.specs.declared.refusal.Refusal.{Refusal}
 use Rattle.osn_core.specs.Sequential.{ObjectState, state_unless, stage_refusal, with_pending}
 use Rattle.osn_core.specs.Sequential.{publish_refusal, with_edition}

@@ -12,7 +12,7 @@ use Rattle.osn_service.specs.Refusals.{NoneRefused}
 use Rattle.osn_service.specs.Served.{line_text, after_lines}
 use Rattle.osn_service.specs.ServiceInside.{full, InPart, Adds, Settles}
 use Rattle.osn_service.specs.Session.{line_after, line_outcome}
-use Rattle.osn_service.specs.SessionInside.{Moment, Answered, Settled, Unwritten, TakenBack}
+use Rattle.osn_service.specs.SessionInside.{SessionState, Answered, Settled, Unwritten, TakenBack}
 use Rattle.osn_service.specs.SessionInside.{IsShort, Serving, Failing, Unkept}
 use Rattle.osn_service.proofs.PartLemmas.{PartOf-from}
 use Rattle.osn_service.proofs.WaitLemmas.{length-ends, Waits-nothing, Waits-add}
@@ -63,7 +63,7 @@ IsShort-settled rules s lines a b w w' short settles =
     (λ k. subst (IsShort rules s lines) (sym k.text) (inl (omega arith))) settles
 
 -- nothing is answered yet
-pub Serving-nothing : (rules : ServeRules) (s : Moment) → s.waiting.text.items ≡ [] →
+pub Serving-nothing : (rules : ServeRules) (s : SessionState) → s.waiting.text.items ≡ [] →
     s.waiting.ends.items ≡ [] → Serving rules s [] s
 Serving-nothing rules s text ends = record {
   waits =
@@ -72,7 +72,7 @@ Serving-nothing rules s text ends = record {
   sound = refl;
 }
 
-module _ {rules : ServeRules} {begun s t : Moment} {lines : List (List ℕ)} where
+module _ {rules : ServeRules} {begun s t : SessionState} {lines : List (List ℕ)} where
   -- nothing was written, or all that waited
   pub Serving-settled : Serving rules begun lines s → Settled s t → Serving rules begun lines t
   Serving-settled h k = record {
@@ -142,7 +142,7 @@ module _ {rules : ServeRules} {begun s t : Moment} {lines : List (List ℕ)} whe
   }
 
 -- no more replies wait than lines were answered
-pub Serving-few : (rules : ServeRules) (begun s : Moment) (lines : List (List ℕ)) →
+pub Serving-few : (rules : ServeRules) (begun s : SessionState) (lines : List (List ℕ)) →
     Serving rules begun lines s → length s.waiting.ends.items ≤ length lines
 Serving-few rules begun s lines h =
     let w = h.waits in

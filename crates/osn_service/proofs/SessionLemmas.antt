@@ -12,9 +12,9 @@ use Rattle.osn_service.specs.declared.stop.UnwrittenReplies.{UnwrittenReplies}
 use Rattle.osn_service.specs.Served.{after_lines}
 use Rattle.osn_service.specs.ServiceInside.{full}
 use Rattle.osn_service.specs.Session.{line_outcome, line_after}
-use Rattle.osn_service.specs.SessionInside.{Moment, moment_of, Answered, Settled, Unwritten}
-use Rattle.osn_service.specs.SessionInside.{TakenBack, Answers, Serving, IsSame, HasServed}
-use Rattle.osn_service.specs.SessionInside.{HasStopped}
+use Rattle.osn_service.specs.SessionInside.{SessionState, session_state_of, Answered, Settled}
+use Rattle.osn_service.specs.SessionInside.{Unwritten, TakenBack, Answers, Serving, IsSame}
+use Rattle.osn_service.specs.SessionInside.{HasServed, HasStopped}
 use Rattle.osn_service.specs.Store.{KeepsSince}
 use Rattle.osn_service.proofs.ServeLemmas.{Serving-nothing, Serving-settled, Serving-answered}
 use Rattle.osn_service.proofs.ServeLemmas.{Failing-from, Unkept-from, NoneRefused-more}
@@ -39,8 +39,8 @@ module _ {W S F : Type 0} (contents : W → Option (List ℕ)) (has_failed holds
   Stopped = HasStopped contents has_failed holds_back state lends has_kept has_lost
 
   -- what a session has now
-  abbrev now_of : Session W S → Moment
-  now_of = moment_of contents has_failed state
+  abbrev now_of : Session W S → SessionState
+  now_of = session_state_of contents has_failed state
 
   -- nothing is answered yet
   pub Served-nothing : (s : Session W S) → s.waiting.now.text.items ≡ [] →
@@ -79,7 +79,7 @@ module _ {W S F : Type 0} (contents : W → Option (List ℕ)) (has_failed holds
     }
 
     -- a line, once nothing was written or all that waited
-    module _ (mid : Moment) (line : List ℕ) (room : Settled (now_of s) mid)
+    module _ (mid : SessionState) (line : List ℕ) (room : Settled (now_of s) mid)
         (less : length mid.waiting.text.items < full) where
       -- that was so before the line
       ready : Serving begun.rules (now_of begun) before mid

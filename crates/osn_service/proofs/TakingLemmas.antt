@@ -7,7 +7,7 @@ use Rattle.std.proofs.lemmas.List.{take_all}
 use Rattle.std.proofs.lemmas.Option.{get_or_from_slice_get, slice_get_within}
 use Rattle.std.specs.Io.KnownBytes.{IsAtEnd, Appends}
 use Rattle.osn_core.specs.Sequential.{ObjectState}
-use Rattle.osn_lines.specs.declared.fault.Interrupted.{Interrupted}
+use Rattle.osn_lines.specs.declared.fault.EndedEarly.{EndedEarly}
 use Rattle.osn_lines.specs.declared.fault.TakeFault.{TakeFault}
 use Rattle.osn_lines.specs.declared.fault.TakeFault.TheVariants as take
 use Rattle.osn_lines.specs.Faults as fault
@@ -26,10 +26,11 @@ use Rattle.osn_service.specs.declared.stop.Stop.{Stop}
 use Rattle.osn_service.specs.declared.stop.Stop.TheVariants as stop
 use Rattle.osn_service.specs.Refusals.{NoneRefused, IsFirstRefused}
 use Rattle.osn_service.specs.Served.{line_text, outputs, after_lines, WritesFirst}
-use Rattle.osn_service.specs.Served.{StandsAt}
+use Rattle.osn_service.specs.Served.{IsAfterLines}
 use Rattle.osn_service.specs.ServiceInside.{InPart}
 use Rattle.osn_service.specs.Session.{line_after}
-use Rattle.osn_service.specs.SessionInside.{Moment, moment_of, Failing, IsSame, HasLost, HasRefused}
+use Rattle.osn_service.specs.SessionInside.{SessionState, session_state_of, Failing, IsSame}
+use Rattle.osn_service.specs.SessionInside.{HasLost, HasRefused}
 use Rattle.osn_service.specs.Sources.{KeepsSourceless}
 use Rattle.osn_service.specs.Store.{KeepsSince}
 use Rattle.osn_service.specs.TakingInside.{HasTaken, HasKept, IsWithin, AnswersFirst, AnswersInPart}
@@ -74,7 +75,7 @@ IsNext-from all taken line n first next = record {
 }
 
 -- a write failed, and of the n lines that were taken this many replies are not written whole
-pub AnswersInPart-from : {rules : ServeRules} {begun now : Moment} {input : Option (List ℕ)}
+pub AnswersInPart-from : {rules : ServeRules} {begun now : SessionState} {input : Option (List ℕ)}
     (n unwritten : ℕ) (taken : List (List ℕ)) → Failing rules begun taken now unwritten →
     n ≡ length taken → IfSome input (λ bytes. take n (lines bytes) ≡ taken) →
     AnswersInPart rules begun now input (n - unwritten)
@@ -90,8 +91,8 @@ AnswersInPart-from {rules} {begun} {now} {input} n unwritten taken h count first
     }
 
 -- no more replies wait than lines were taken
-pub HasTaken-few : {F : Type 0} (rules : ServeRules) (begun now : Moment) (holds_back : Bool)
-    (i : Input) (taken : Result LinesTaken (Interrupted (ServiceFault F))) →
+pub HasTaken-few : {F : Type 0} (rules : ServeRules) (begun now : SessionState) (holds_back : Bool)
+    (i : Input) (taken : Result LinesTaken (EndedEarly (ServiceFault F))) →
     HasTaken rules begun now holds_back i taken →
     IfOk taken (λ taken. length now.waiting.ends.items ≤ taken.lines)
 HasTaken-few rules begun now holds_back i (Ok taken) h =
@@ -108,11 +109,11 @@ module _ {W S F : Type 0} (contents : W → Option (List ℕ)) (has_failed holds
   abbrev Stops : Session W S → List (List ℕ) → Option (List ℕ) → Session W S → Stop F → Type 0
   Stops = Stopped contents has_failed holds_back state lends has_kept has_lost
 
-  abbrev Now : Session W S → Moment
-  Now = moment_of contents has_failed state
+  abbrev Now : Session W S → SessionState
+  Now = session_state_of contents has_failed state
 
   -- what one session became by lines, as a result says it
-  pub record Ends (result : Result LinesTaken (Interrupted (ServiceFault F))) : Type 0 where
+  pub record Ends (result : Result LinesTaken (EndedEarly (ServiceFault F))) : Type 0 where
     pub same : IsSame s t
     pub lent : KeepsSince lends s.store.now t.store.now
     pub sources : KeepsSourceless s.rules (state s.store.now) (state t.store.now)
@@ -187,7 +188,7 @@ module _ {W S F : Type 0} (contents : W → Option (List ℕ)) (has_failed holds
               (λ bytes. n < length (lines bytes)) (λ bytes k. k.within) next;
           object =
               IfSome-weaker i.bytes (λ bytes. IsNext (lines bytes) taken h.line n)
-              (λ bytes. StandsAt s.rules object (state t.store.now) (lines bytes) (n + 1))
+              (λ bytes. IsAfterLines s.rules object (state t.store.now) (lines bytes) (n + 1))
               (λ bytes k. h.unkept.reached ∙ ap (after_lines s.rules object) (sym k.more)) next;
           none = spared_first taken n h.spared first;
           passed = h.unkept.passed;

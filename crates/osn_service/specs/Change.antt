@@ -1,6 +1,6 @@
 -- What a change of an object makes of it, by which refusal it is not made, and its outcome.
 use Rattle.std.specs.Prelude.{ℕ, ◌+◌, length, Option}
-use Rattle.osn_days.specs.Profile.{newest_rules}
+use Rattle.osn_days.specs.Rules.{newest_rules}
 use Rattle.osn_register.specs.declared.refusal.Refusal.{Refusal}
 use Rattle.osn_core.specs.Sequential.{ObjectState, stage_refusal, publish_refusal, with_pending}
 use Rattle.osn_core.specs.Sequential.{with_edition, state_unless}

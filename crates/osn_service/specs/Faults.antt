@@ -1,7 +1,7 @@
 -- What holds when answering lines ended, by its end, and why a write fails.
 use Rattle.std.specs.Prelude.{◌≡◌, ◌≤◌, ◌⊎◌, ℕ, Bool, true, false, List, ◌∷◌, ◌++◌, length}
 use Rattle.std.specs.Prelude.{Option, IfSome, Result, Ok, Err}
-use Rattle.osn_lines.specs.declared.fault.Interrupted.{Interrupted}
+use Rattle.osn_lines.specs.declared.fault.EndedEarly.{EndedEarly}
 use Rattle.osn_lines.specs.Lines.{lines}
 use Rattle.osn_core.specs.Sequential.{ObjectState}
 use Rattle.osn_service.specs.Served.{line_text, after_lines}
@@ -19,7 +19,7 @@ MatchFault ReadFault P Q R = Q
 MatchFault WriteFault P Q R = R
 
 -- a fact about the number of lines, if all were answered, and for each cause for which not all were
-abbrev pub MatchEnd : Result ℕ (Interrupted ServeFault) → (ℕ → Type 0) → (ℕ → Type 0) →
+abbrev pub MatchEnd : Result ℕ (EndedEarly ServeFault) → (ℕ → Type 0) → (ℕ → Type 0) →
     (ℕ → Type 0) → (ℕ → Type 0) → Type 0
 MatchEnd (Ok n) All P Q R = All n
 MatchEnd (Err end) All P Q R = MatchFault end.cause (P end.lines) (Q end.lines) (R end.lines)
@@ -36,8 +36,8 @@ abbrev pub MatchServiceFault : {F : Type 0} → ServiceFault F → (ServeFault �
 MatchServiceFault (Serve fault) P Q = P fault
 MatchServiceFault (NotKept why) P Q = Q why
 
-abbrev pub MatchService : {F : Type 0} → Result Served (Interrupted (ServiceFault F))
-    → (Result ℕ (Interrupted ServeFault) → Type 0) → (ℕ → Type 0) → (ℕ → F → Type 0) → Type 0
+abbrev pub MatchService : {F : Type 0} → Result Served (EndedEarly (ServiceFault F))
+    → (Result ℕ (EndedEarly ServeFault) → Type 0) → (ℕ → Type 0) → (ℕ → F → Type 0) → Type 0
 MatchService (Ok served) P Q R = MatchServed served.refused (λ n. P (Ok n)) Q served.lines
 MatchService (Err end) P Q R =
     MatchServiceFault end.cause (λ fault. P (Err (record { lines = end.lines; cause = fault })))

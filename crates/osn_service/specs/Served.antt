@@ -46,10 +46,10 @@ abbrev pub StandsAfter : ServeRules → ObjectState → ObjectState → List (Li
 StandsAfter rules s t lines = t ≡ after_lines rules s lines
 
 -- after the first n lines
-abbrev pub StandsAt : ServeRules → ObjectState → ObjectState → List (List ℕ) → ℕ → Type 0
-StandsAt rules s t lines n = t ≡ after_lines rules s (take n lines)
+abbrev pub IsAfterLines : ServeRules → ObjectState → ObjectState → List (List ℕ) → ℕ → Type 0
+IsAfterLines rules s t lines n = t ≡ after_lines rules s (take n lines)
 
 -- or after one more
-abbrev pub StandsNear : ServeRules → ObjectState → ObjectState → List (List ℕ) → ℕ → Type 0
-StandsNear rules s t lines n =
-    StandsAt rules s t lines n ⊎ StandsAt rules s t lines (n + 1)
+abbrev pub IsAfterOrNext : ServeRules → ObjectState → ObjectState → List (List ℕ) → ℕ → Type 0
+IsAfterOrNext rules s t lines n =
+    IsAfterLines rules s t lines n ⊎ IsAfterLines rules s t lines (n + 1)

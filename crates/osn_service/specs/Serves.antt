@@ -2,7 +2,7 @@
 use Rattle.std.specs.Prelude.{◌≡◌, ◌<◌, ◌+◌, ℕ, true, false, IfSome, Result, ⊤, length, take}
 use Rattle.std.specs.Io.KnownBytes.{IsAtEnd}
 use Rattle.osn_core.specs.Sequential.{ObjectState}
-use Rattle.osn_lines.specs.declared.fault.Interrupted.{Interrupted}
+use Rattle.osn_lines.specs.declared.fault.EndedEarly.{EndedEarly}
 use Rattle.osn_lines.specs.Faults.{IsReadFault}
 use Rattle.osn_lines.specs.Lines.{lines}
 use Rattle.osn_lines.specs.Streams.{Input, Output}
@@ -13,12 +13,12 @@ use Rattle.osn_service.specs.declared.rules.ServeRules.{ServeRules}
 use Rattle.osn_service.specs.declared.service.Served.{Served}
 use Rattle.osn_service.specs.Faults.{MatchEnd, MatchService, IsUnwritten}
 use Rattle.osn_service.specs.Refusals.{NoneRefused, IsFirstRefused}
-use Rattle.osn_service.specs.Served.{WritesAll, WritesFirst, WritesInPart, StandsAfter, StandsAt}
-use Rattle.osn_service.specs.Served.{StandsNear, after_lines}
+use Rattle.osn_service.specs.Served.{WritesAll, WritesFirst, WritesInPart, StandsAfter}
+use Rattle.osn_service.specs.Served.{IsAfterLines, IsAfterOrNext, after_lines}
 
 -- The lines of an input were answered by these rules from the object s, and the object is t then.
 pub record Serves (rules : ServeRules) (s t : ObjectState) (i : Input) (o : Output)
-    (end : Result ℕ (Interrupted ServeFault)) : Type 0 where
+    (end : Result ℕ (EndedEarly ServeFault)) : Type 0 where
   -- Exactly the replies to all lines are written, and their number is returned. If it ended early,
   -- exactly those to the first lines are written. If a write failed, a prefix of all replies is
   -- written, with those to as many lines whole as the number says.
@@ -31,9 +31,9 @@ pub record Serves (rules : ServeRules) (s t : ObjectState) (i : Input) (o : Outp
   -- write failed, in that after those lines or one more.
   pub object : IfSome i.bytes (λ bytes. MatchEnd end
       (λ _. StandsAfter rules s t (lines bytes))
-      (StandsAt rules s t (lines bytes))
-      (StandsAt rules s t (lines bytes))
-      (StandsNear rules s t (lines bytes)))
+      (IsAfterLines rules s t (lines bytes))
+      (IsAfterLines rules s t (lines bytes))
+      (IsAfterOrNext rules s t (lines bytes)))
   -- The bytes that are written are passed on, except after a failed write.
   pub passed : MatchEnd end (λ _. o.holds_back ≡ false) (λ _. o.holds_back ≡ false)
       (λ _. o.holds_back ≡ false) (λ _. ⊤)
@@ -50,7 +50,7 @@ pub record Serves (rules : ServeRules) (s t : ObjectState) (i : Input) (o : Outp
       (λ _. IsUnwritten rules s i.bytes o.unwritten)
 
 -- If the service ends at a refusal, no line that was answered is refused.
-abbrev pub RefusesNone : ServeRules → ObjectState → Input → Result ℕ (Interrupted ServeFault)
+abbrev pub RefusesNone : ServeRules → ObjectState → Input → Result ℕ (EndedEarly ServeFault)
     → Type 0
 RefusesNone rules s i end =
     rules.stop_at_refusal ≡ true
@@ -63,7 +63,7 @@ pub record ServesToRefusal (rules : ServeRules) (s t : ObjectState) (i : Input) 
     : Type 0 where
   pub stops_at_refusal : rules.stop_at_refusal ≡ true
   pub written : IfSome i.bytes (λ bytes. WritesFirst rules s o.old o.new (lines bytes) n)
-  pub object : IfSome i.bytes (λ bytes. StandsAt rules s t (lines bytes) n)
+  pub object : IfSome i.bytes (λ bytes. IsAfterLines rules s t (lines bytes) n)
   pub first : IfSome i.bytes (λ bytes. IsFirstRefused rules s (lines bytes) n)
   pub passed : o.holds_back ≡ false
   pub source : i.unread ≡ i.unread_before
@@ -74,7 +74,7 @@ pub record ServesUnkept (rules : ServeRules) (s t : ObjectState) (i : Input) (o 
     : Type 0 where
   pub written : IfSome i.bytes (λ bytes. WritesFirst rules s o.old o.new (lines bytes) n)
   pub next : IfSome i.bytes (λ bytes. n < length (lines bytes))
-  pub object : IfSome i.bytes (λ bytes. StandsAt rules s t (lines bytes) (n + 1))
+  pub object : IfSome i.bytes (λ bytes. IsAfterLines rules s t (lines bytes) (n + 1))
   pub none : rules.stop_at_refusal ≡ true
       → IfSome i.bytes (λ bytes. NoneRefused rules s (take n (lines bytes)))
   pub passed : o.holds_back ≡ false
@@ -83,7 +83,7 @@ pub record ServesUnkept (rules : ServeRules) (s t : ObjectState) (i : Input) (o 
 
 -- How the lines of an input were answered from a store, by how that ended.
 abbrev pub ServesStore : {F : Type 0} → ServeRules → ObjectState → ObjectState → Input → Output
-    → Result Served (Interrupted (ServiceFault F)) → Type 0
+    → Result Served (EndedEarly (ServiceFault F)) → Type 0
 ServesStore rules s t i o result =
     MatchService result (λ end. Serves rules s t i o end × RefusesNone rules s i end)
     (ServesToRefusal rules s t i o) (λ n why. ServesUnkept rules s t i o n)
@@ -91,7 +91,7 @@ ServesStore rules s t i o result =
 -- What a store has kept when answering lines ended, and if it has not kept all, the state of the
 -- object up to which it has.
 abbrev pub KeepsStore : {S F : Type 0} → (S → S → Type 0) → (S → ObjectState → S → F → Type 0)
-    → ServeRules → ObjectState → S → S → Input → Result Served (Interrupted (ServiceFault F))
+    → ServeRules → ObjectState → S → S → Input → Result Served (EndedEarly (ServiceFault F))
     → Type 0
 KeepsStore {S} has_kept has_lost rules s old new i result =
     MatchService result (λ end. (begun : S) → has_kept begun old → has_kept begun new)

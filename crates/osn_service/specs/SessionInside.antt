@@ -22,16 +22,16 @@ use Rattle.osn_service.specs.Store.{KeepsSince}
 
 -- what a session has at a moment: its object, the bytes that are written, whether a write has
 -- failed, and the replies that wait
-pub record Moment : Type 0 where
+pub record SessionState : Type 0 where
   pub object : ObjectState
   pub written : Option (List ℕ)
   pub failed : Bool
   pub waiting : ReplyBuffer
 
 -- that of a store, a sink and a buffer
-abbrev pub moment : {W S : Type 0} → (W → Option (List ℕ)) → (W → Bool) → (S → ObjectState)
-    → S → W → ReplyBuffer → Moment
-moment contents has_failed state store sink waiting = record {
+abbrev pub session_state : {W S : Type 0} → (W → Option (List ℕ)) → (W → Bool) → (S → ObjectState)
+    → S → W → ReplyBuffer → SessionState
+session_state contents has_failed state store sink waiting = record {
   object = state store;
   written = contents sink;
   failed = has_failed sink;
@@ -41,25 +41,25 @@ moment contents has_failed state store sink waiting = record {
 -- ---- one line
 
 -- a reply was added, and the object is this one then
-pub record Answered (outcome : Outcome) (after : ObjectState) (s t : Moment) : Type 0 where
+pub record Answered (outcome : Outcome) (after : ObjectState) (s t : SessionState) : Type 0 where
   pub adds : Adds s.object t.object (reply_line outcome) s.written t.written s.waiting t.waiting
   pub object : t.object ≡ after
   pub sound : t.failed ≡ s.failed
 
 -- nothing was answered, and nothing was written or all that waited
-pub record Settled (s t : Moment) : Type 0 where
+pub record Settled (s t : SessionState) : Type 0 where
   pub settles : Settles s.written t.written s.waiting t.waiting
   pub object : t.object ≡ s.object
   pub sound : t.failed ≡ s.failed
 
 -- a write of what waited failed, with this many replies not written whole
-pub record Unwritten (s t : Moment) (unwritten : ℕ) : Type 0 where
+pub record Unwritten (s t : SessionState) (unwritten : ℕ) : Type 0 where
   pub some : WritesSome s.written t.written s.waiting unwritten
   pub object : t.object ≡ s.object
   pub reason : WriteFails s.failed t.failed s.waiting.text.items
 
 -- what waited was written, the object is this one then, and its reply was taken back
-pub record TakenBack (after : ObjectState) (s t : Moment) (holds_back : Bool) : Type 0 where
+pub record TakenBack (after : ObjectState) (s t : SessionState) (holds_back : Bool) : Type 0 where
   pub written : Appends s.written t.written s.waiting.text.items
   pub none : t.waiting.text.items ≡ []
   pub object : t.object ≡ after
@@ -75,8 +75,8 @@ KeepsNoMore {S} has_kept has_lost old before new why =
 -- what became of a line with this outcome and after which the object is this one, by whether it was
 -- answered
 abbrev pub Answers : {S F : Type 0} → (S → S → Type 0) → (S → S → Type 0)
-    → (S → ObjectState → S → F → Type 0) → Outcome → ObjectState → Moment → Moment → Bool → S → S
-    → Result Bool (Stop F) → Type 0
+    → (S → ObjectState → S → F → Type 0) → Outcome → ObjectState → SessionState → SessionState →
+    Bool → S → S → Result Bool (Stop F) → Type 0
 Answers lends has_kept has_lost outcome after s t holds_back old new (Ok refused) =
     KeepsSince lends old new × (refused ≡ is_refused outcome) × Answered outcome after s t
     × KeepsSince has_kept old new
@@ -97,16 +97,16 @@ IsShort rules s lines text =
     (length text < full) ⊎ HasReply rules s lines (length text - 65535)
 
 -- lines were answered, and the replies to the last of them wait
-pub record Serving (rules : ServeRules) (begun : Moment) (lines : List (List ℕ)) (now : Moment)
-    : Type 0 where
+pub record Serving (rules : ServeRules) (begun : SessionState) (lines : List (List ℕ))
+    (now : SessionState) : Type 0 where
   pub waits : Waits (line_text rules) (line_after rules) begun.object now.object lines
       begun.written now.written now.waiting
   pub short : IsShort rules begun.object lines now.waiting.text.items
   pub sound : now.failed ≡ begun.failed
 
 -- lines were answered, and a write failed with this many of their replies not written whole
-pub record Failing (rules : ServeRules) (begun : Moment) (lines : List (List ℕ)) (now : Moment)
-    (unwritten : ℕ) : Type 0 where
+pub record Failing (rules : ServeRules) (begun : SessionState) (lines : List (List ℕ))
+    (now : SessionState) (unwritten : ℕ) : Type 0 where
   pub whole : ℕ
   pub count : whole + unwritten ≡ length lines
   pub part : InPart (line_text rules) (line_after rules) begun.object now.object lines
@@ -114,8 +114,8 @@ pub record Failing (rules : ServeRules) (begun : Moment) (lines : List (List ℕ
   pub reason : RepliesFail rules begun.object begun.failed now.failed lines
 
 -- lines were answered and their replies written, and the change of the line after them was not kept
-pub record Unkept (rules : ServeRules) (begun : Moment) (lines : List (List ℕ)) (line : List ℕ)
-    (now : Moment) (holds_back : Bool) : Type 0 where
+pub record Unkept (rules : ServeRules) (begun : SessionState) (lines : List (List ℕ))
+    (line : List ℕ) (now : SessionState) (holds_back : Bool) : Type 0 where
   pub written : Appends begun.written now.written (outputs rules begun.object lines)
   pub none : now.waiting.text.items ≡ []
   pub sound : now.failed ≡ begun.failed
@@ -142,10 +142,10 @@ pub record IsSame {W S : Type 0} (begun now : Session W S) : Type 0 where
   pub sink : now.sink.ghost_name ≡ begun.sink.ghost_name
 
 -- what a session has now
-abbrev pub moment_of : {W S : Type 0} → (W → Option (List ℕ)) → (W → Bool) → (S → ObjectState)
-    → Session W S → Moment
-moment_of contents has_failed state s =
-    moment contents has_failed state s.store.now s.sink.now s.waiting.now
+abbrev pub session_state_of : {W S : Type 0} → (W → Option (List ℕ)) → (W → Bool) →
+    (S → ObjectState) → Session W S → SessionState
+session_state_of contents has_failed state s =
+    session_state contents has_failed state s.store.now s.sink.now s.waiting.now
 
 -- no reply waits, and no reply is held back
 pub record IsReady {W S : Type 0} (holds_back : W → Bool) (now : Session W S) : Type 0 where
@@ -161,8 +161,8 @@ module _ {W S F : Type 0} (contents : W → Option (List ℕ)) (has_failed holds
     where
       pub same : IsSame begun now
       pub lent : KeepsSince lends begun.store.now now.store.now
-      pub serving : Serving begun.rules (moment_of contents has_failed state begun) lines
-          (moment_of contents has_failed state now)
+      pub serving : Serving begun.rules (session_state_of contents has_failed state begun) lines
+          (session_state_of contents has_failed state now)
       pub spared : Spared begun.rules (state begun.store.now) lines
       pub keeps : KeepsSince has_kept begun.store.now now.store.now
 
@@ -171,8 +171,8 @@ module _ {W S F : Type 0} (contents : W → Option (List ℕ)) (has_failed holds
       (unwritten : ℕ) : Type 0 where
     pub same : IsSame begun now
     pub lent : KeepsSince lends begun.store.now now.store.now
-    pub failing : Failing begun.rules (moment_of contents has_failed state begun) lines
-        (moment_of contents has_failed state now) unwritten
+    pub failing : Failing begun.rules (session_state_of contents has_failed state begun) lines
+        (session_state_of contents has_failed state now) unwritten
     pub keeps : KeepsSince has_kept begun.store.now now.store.now
 
   -- it took these lines, and the change of this one was not kept
@@ -182,8 +182,8 @@ module _ {W S F : Type 0} (contents : W → Option (List ℕ)) (has_failed holds
     pub is : at ≡ Some line
     pub same : IsSame begun now
     pub lent : KeepsSince lends begun.store.now now.store.now
-    pub unkept : Unkept begun.rules (moment_of contents has_failed state begun) lines line
-        (moment_of contents has_failed state now) (holds_back now.sink.now)
+    pub unkept : Unkept begun.rules (session_state_of contents has_failed state begun) lines line
+        (session_state_of contents has_failed state now) (holds_back now.sink.now)
     pub spared : Spared begun.rules (state begun.store.now) lines
     pub fails : KeepsNoMore has_kept has_lost begun.store.now
         (after_lines begun.rules (state begun.store.now) lines) now.store.now why
@@ -195,8 +195,8 @@ module _ {W S F : Type 0} (contents : W → Option (List ℕ)) (has_failed holds
     pub is : at ≡ Some line
     pub same : IsSame begun now
     pub lent : KeepsSince lends begun.store.now now.store.now
-    pub serving : Serving begun.rules (moment_of contents has_failed state begun)
-        (lines ++ line ∷ []) (moment_of contents has_failed state now)
+    pub serving : Serving begun.rules (session_state_of contents has_failed state begun)
+        (lines ++ line ∷ []) (session_state_of contents has_failed state now)
     pub refused : Refused begun.rules (state begun.store.now) lines line
     pub keeps : KeepsSince has_kept begun.store.now now.store.now
 

@@ -4,7 +4,7 @@ use Rattle.std.specs.Prelude.{Option, Result, Ok, Err}
 use Rattle.std.specs.Prelude.{length, take, IfSome}
 use Rattle.std.specs.Io.KnownBytes.{IsAtEnd}
 use Rattle.osn_core.specs.Sequential.{ObjectState}
-use Rattle.osn_lines.specs.declared.fault.Interrupted.{Interrupted}
+use Rattle.osn_lines.specs.declared.fault.EndedEarly.{EndedEarly}
 use Rattle.osn_lines.specs.declared.fault.TakeFault.{TakeFault}
 use Rattle.osn_lines.specs.declared.fault.TakeFault.TheVariants as take
 use Rattle.osn_lines.specs.Faults.{IsReadFault}
@@ -27,12 +27,12 @@ use Rattle.osn_service.specs.Serves.{ServesUnkept}
 use Rattle.osn_service.specs.ServiceInside.{InPart}
 use Rattle.osn_service.specs.Served.{line_text}
 use Rattle.osn_service.specs.Session.{line_after}
-use Rattle.osn_service.specs.SessionInside.{Moment, Serving, KeepsNoMore}
+use Rattle.osn_service.specs.SessionInside.{SessionState, Serving, KeepsNoMore}
 use Rattle.osn_service.specs.Store.{KeepsSince}
 
 -- the result of taking lines that ended early, after n lines
 abbrev pub early_end : {F : Type 0} → ℕ → TakeFault (Stop F)
-    → Result LinesTaken (Interrupted (ServiceFault F))
+    → Result LinesTaken (EndedEarly (ServiceFault F))
 early_end n take.NoMemory = Ok (record { lines = n; end = ByFault NoMemory })
 early_end n take.ReadFault = Ok (record { lines = n; end = ByFault ReadFault })
 early_end n (take.Stopped stop.NoMemory) = Ok (record { lines = n; end = ByFault NoMemory })
@@ -52,8 +52,8 @@ IsWithin n (take.Stopped stop.Refused) = ⊤
 
 -- n lines were answered, the first n of the input if that is known, and their replies are written
 -- or wait
-pub record AnswersFirst (rules : ServeRules) (begun now : Moment) (input : Option (List ℕ)) (n : ℕ)
-    : Type 0 where
+pub record AnswersFirst (rules : ServeRules) (begun now : SessionState) (input : Option (List ℕ))
+    (n : ℕ) : Type 0 where
   pub lines_taken : List (List ℕ)
   pub serving : Serving rules begun lines_taken now
   pub count : n ≡ length lines_taken
@@ -61,8 +61,8 @@ pub record AnswersFirst (rules : ServeRules) (begun now : Moment) (input : Optio
 
 -- the first lines of the input were answered, a write failed, and a prefix of their replies with
 -- those to n lines is written
-pub record AnswersInPart (rules : ServeRules) (begun now : Moment) (input : Option (List ℕ)) (n : ℕ)
-    : Type 0 where
+pub record AnswersInPart (rules : ServeRules) (begun now : SessionState) (input : Option (List ℕ))
+    (n : ℕ) : Type 0 where
   pub lines_taken : List (List ℕ)
   pub part : InPart (line_text rules) (line_after rules) begun.object now.object lines_taken
       begun.written now.written n
@@ -91,7 +91,7 @@ EndsTaking rules s i n (ByFault ReadFault) =
 EndsTaking rules s i n (ByFault WriteFault) = ⊥
 
 -- what a sink had at a moment, and has now
-abbrev pub output_since : Moment → Option (List ℕ) → Bool → Bool → Output
+abbrev pub output_since : SessionState → Option (List ℕ) → Bool → Bool → Output
 output_since begun new unwritten holds_back = record {
   old = begun.written;
   new = new;
@@ -102,8 +102,8 @@ output_since begun new unwritten holds_back = record {
 
 -- a session took lines, all of them or as many as it says; or a write failed; or a change was not
 -- kept
-abbrev pub HasTaken : {F : Type 0} → ServeRules → Moment → Moment → Bool → Input
-    → Result LinesTaken (Interrupted (ServiceFault F)) → Type 0
+abbrev pub HasTaken : {F : Type 0} → ServeRules → SessionState → SessionState → Bool → Input
+    → Result LinesTaken (EndedEarly (ServiceFault F)) → Type 0
 HasTaken rules begun now holds_back i (Ok taken) =
     AnswersFirst rules begun now i.bytes taken.lines
     × EndsTaking rules begun.object i taken.lines taken.end
@@ -115,7 +115,7 @@ HasTaken rules begun now holds_back i (Err end) =
 
 -- what a store has kept when taking lines ended
 abbrev pub HasKept : {S F : Type 0} → (S → S → Type 0) → (S → ObjectState → S → F → Type 0)
-    → ServeRules → ObjectState → S → S → Input → Result LinesTaken (Interrupted (ServiceFault F))
+    → ServeRules → ObjectState → S → S → Input → Result LinesTaken (EndedEarly (ServiceFault F))
     → Type 0
 HasKept has_kept has_lost rules s old new i (Ok taken) = KeepsSince has_kept old new
 HasKept has_kept has_lost rules s old new i (Err end) =

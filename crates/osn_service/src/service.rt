@@ -5,7 +5,7 @@ ghost use Rattle.osn_lines.specs.Streams.{Input, input_of, output_of};
 ghost use Rattle.osn_service.specs.Law.{MayEachInputBeCut};
 ghost use Rattle.osn_service.specs.Serves.{KeepsStore, Serves, ServesStore};
 ghost use Rattle.osn_service.specs.Session.{editing};
-ghost use Rattle.osn_service.specs.SessionInside.{IsSame, Moment, moment_of};
+ghost use Rattle.osn_service.specs.SessionInside.{IsSame, SessionState, session_state_of};
 ghost use Rattle.osn_service.specs.Sources.{KeepsSourceless};
 ghost use Rattle.osn_service.specs.Store.{KeepsSince};
 ghost use Rattle.osn_service.specs.TakingInside as spec;
@@ -20,7 +20,7 @@ use crate::stop::{Stop, UnwrittenReplies};
 use crate::store::Store;
 use json::Scratch;
 use osn_core::Object;
-use osn_lines::{Interrupted, Sink, Source, TakeFault, take_lines};
+use osn_lines::{EndedEarly, Sink, Source, TakeFault, take_lines};
 use osn_register::Limits;
 use std::alloc::Global;
 
@@ -55,7 +55,7 @@ pub(crate) struct LinesTaken {
 fn early_end<F>(
     lines: u64,
     cause: TakeFault<Stop<F>>,
-) -> Result<LinesTaken, Interrupted<ServiceFault<F>>>
+) -> Result<LinesTaken, EndedEarly<ServiceFault<F>>>
     requires few { lines < 2 ^ 63 }
     requires within { IsWithin lines cause }
     ensures { result ≡ spec.early_end lines cause }
@@ -73,11 +73,11 @@ fn early_end<F>(
             lines: lines + 1,
             end: End::AtRefusal,
         }),
-        TakeFault::Stopped(Stop::WriteFailed(UnwrittenReplies { unwritten })) => Err(Interrupted {
+        TakeFault::Stopped(Stop::WriteFailed(UnwrittenReplies { unwritten })) => Err(EndedEarly {
             lines: lines - unwritten,
             cause: ServiceFault::Serve(ServeFault::WriteFault),
         }),
-        TakeFault::Stopped(Stop::NotKept(why)) => Err(Interrupted {
+        TakeFault::Stopped(Stop::NotKept(why)) => Err(EndedEarly {
             lines,
             cause: ServiceFault::NotKept(why),
         }),
@@ -88,7 +88,7 @@ fn early_end<F>(
 fn take_all<R: Source, W: Sink, S: Store>(
     session: &mut Session<'_, '_, '_, W, S>,
     source: &mut R,
-) -> Result<LinesTaken, Interrupted<ServiceFault<S::Fault>>>
+) -> Result<LinesTaken, EndedEarly<ServiceFault<S::Fault>>>
     requires text { session.old.waiting.now.text.items ≡ [] }
     requires ends { session.old.waiting.now.ends.items ≡ [] }
     ensures same { IsSame session.old session.new }
@@ -96,8 +96,8 @@ fn take_all<R: Source, W: Sink, S: Store>(
     ensures sources { KeepsSourceless session.old.rules (S.state session.old.store.now)
         (S.state session.new.store.now) }
     ensures takes { HasTaken session.old.rules
-        (moment_of W.contents W.has_failed S.state session.old)
-        (moment_of W.contents W.has_failed S.state session.new)
+        (session_state_of W.contents W.has_failed S.state session.old)
+        (session_state_of W.contents W.has_failed S.state session.new)
         (W.holds_back session.new.sink.now)
         (input_of R.remaining R.has_failed source.old source.new) result }
     ensures keeps { HasKept S.has_kept S.has_lost session.old.rules (S.state session.old.store.now)
@@ -109,7 +109,7 @@ fn take_all<R: Source, W: Sink, S: Store>(
             lines,
             end: End::AtEnd,
         }),
-        Err(Interrupted { lines, cause }) => early_end(lines, cause),
+        Err(EndedEarly { lines, cause }) => early_end(lines, cause),
     }
 }
 
@@ -118,12 +118,12 @@ fn take_all<R: Source, W: Sink, S: Store>(
 fn write_rest<W: Sink, S: Store>(
     sink: &mut W,
     waiting: &mut ReplyBuffer,
-    taken: Result<LinesTaken, Interrupted<ServiceFault<S::Fault>>>,
-) -> Result<Served, Interrupted<ServiceFault<S::Fault>>>
+    taken: Result<LinesTaken, EndedEarly<ServiceFault<S::Fault>>>,
+) -> Result<Served, EndedEarly<ServiceFault<S::Fault>>>
     requires { IfOk taken (λ taken. length waiting.old.ends.items ≤ taken.lines) }
     // Whatever was taken, and by which rules.
-    ensures serves { (rules : ServeRules) (begun : Moment) (object : ObjectState) (i : Input) →
-        HasTaken rules begun (record {
+    ensures serves { (rules : ServeRules) (begun : SessionState) (object : ObjectState) (i : Input)
+        → HasTaken rules begun (record {
           object = object;
           written = W.contents sink.old;
           failed = W.has_failed sink.old;
@@ -137,7 +137,7 @@ fn write_rest<W: Sink, S: Store>(
 {
     let LinesTaken { lines, end } = taken?;
     if let Err(UnwrittenReplies { unwritten }) = waiting.write(sink) {
-        return Err(Interrupted {
+        return Err(EndedEarly {
             lines: lines - unwritten,
             cause: ServiceFault::Serve(ServeFault::WriteFault),
         });
@@ -151,7 +151,7 @@ fn write_rest<W: Sink, S: Store>(
             lines,
             refused: true,
         }),
-        End::ByFault(cause) => Err(Interrupted {
+        End::ByFault(cause) => Err(EndedEarly {
             lines,
             cause: ServiceFault::Serve(cause),
         }),
@@ -162,7 +162,7 @@ fn write_rest<W: Sink, S: Store>(
 fn run<R: Source, W: Sink, S: Store>(
     session: &mut Session<'_, '_, '_, W, S>,
     source: &mut R,
-) -> Result<Served, Interrupted<ServiceFault<S::Fault>>>
+) -> Result<Served, EndedEarly<ServiceFault<S::Fault>>>
     requires text { session.old.waiting.now.text.items ≡ [] }
     requires ends { session.old.waiting.now.ends.items ≡ [] }
     ensures same { IsSame session.old session.new }
@@ -202,7 +202,7 @@ pub fn serve_store<R: Source, W: Sink, S: Store>(
     rules: ServeRules,
     source: &mut R,
     sink: &mut W,
-) -> Result<Served, Interrupted<ServiceFault<S::Fault>>>
+) -> Result<Served, EndedEarly<ServiceFault<S::Fault>>>
     requires { S.lends store.old store.old }
     ensures lent { S.lends store.old store.new }
     ensures sources { KeepsSourceless rules (S.state store.old) (S.state store.new) }
@@ -243,7 +243,7 @@ pub fn serve_from<R: Source, W: Sink>(
     readers: u32,
     source: &mut R,
     sink: &mut W,
-) -> Result<u64, Interrupted<ServeFault>>
+) -> Result<u64, EndedEarly<ServeFault>>
     ensures serves { Serves (editing readers) object.old object.new
         (input_of R.remaining R.has_failed source.old source.new)
         (output_of W.contents W.has_failed W.holds_back sink.old sink.new) result }
@@ -252,8 +252,8 @@ pub fn serve_from<R: Source, W: Sink>(
 {
     match serve_store(alloc, object, ServeRules::editing(readers), source, sink) {
         Ok(served) => Ok(served.lines),
-        Err(Interrupted { lines, cause }) => match cause {
-            ServiceFault::Serve(cause) => Err(Interrupted { lines, cause }),
+        Err(EndedEarly { lines, cause }) => match cause {
+            ServiceFault::Serve(cause) => Err(EndedEarly { lines, cause }),
             ServiceFault::NotKept(never) => match never {},
         },
     }
@@ -271,7 +271,7 @@ pub fn serve<R: Source, W: Sink>(
     readers: u32,
     source: &mut R,
     sink: &mut W,
-) -> Result<u64, Interrupted<ServeFault>>
+) -> Result<u64, EndedEarly<ServeFault>>
     // About an object that is dropped then.
     ensures { (object : ObjectState) × Serves (editing readers) (opened limits) object
         (input_of R.remaining R.has_failed source.old source.new)

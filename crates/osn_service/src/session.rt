@@ -4,7 +4,7 @@
 //! wait only the first has changed it.
 ghost use Rattle.std.specs.Prelude.{◌≡◌, ◌<◌, ℕ, List, Ok, Err, length, IfErr, IfOk, MatchResult};
 ghost use Rattle.std.specs.Prelude.{OnOk, OnErr};
-ghost use Rattle.osn_days.specs.Profile.{newest_rules};
+ghost use Rattle.osn_days.specs.Rules.{newest_rules};
 ghost use Rattle.osn_core.specs.Sequential.{reply_at};
 ghost use Rattle.osn_lines.specs.Faults.{WriteFails};
 ghost use Rattle.osn_lines.specs.Lines.{IsLine};
@@ -18,7 +18,7 @@ ghost use Rattle.osn_service.specs.Change.{change_outcome, change_after};
 ghost use Rattle.osn_service.specs.RequestInside.{IsReadOf, WantsMemory};
 ghost use Rattle.osn_service.specs.ServiceInside.{full, Pushes, Settles, WritesSome};
 ghost use Rattle.osn_service.specs.Session as spec;
-ghost use Rattle.osn_service.specs.SessionInside.{Answers, moment};
+ghost use Rattle.osn_service.specs.SessionInside.{Answers, session_state};
 
 use crate::reply_buffer::ReplyBuffer;
 use crate::rules::ServeRules;
@@ -33,7 +33,11 @@ use osn_request::{LineObject, LineQuery, LineRequest, RequestError, line_request
 use std::alloc::{AllocError, Global};
 
 /// Adds the reply to a line that changes nothing, and returns whether it was refused.
-fn tell(alloc: Global, waiting: &mut ReplyBuffer, outcome: Outcome) -> Result<bool, AllocError>
+fn push_outcome(
+    alloc: Global,
+    waiting: &mut ReplyBuffer,
+    outcome: Outcome,
+) -> Result<bool, AllocError>
     ensures refused { IfOk result (λ refused. refused ≡ is_refused outcome) }
     ensures ok { OnOk result (Pushes waiting.old waiting.new (reply_line outcome)) }
     ensures err { OnErr result (waiting.new.text.items ≡ waiting.old.text.items) }
@@ -55,13 +59,13 @@ fn change<W: Sink, S: Store>(
 ) -> Result<bool, Stop<S::Fault>>
     ensures { Answers S.lends S.has_kept S.has_lost (change_outcome (S.state store.old) change)
         (change_after (S.state store.old) change)
-        (moment W.contents W.has_failed S.state store.old sink.old waiting.old)
-        (moment W.contents W.has_failed S.state store.new sink.new waiting.new)
+        (session_state W.contents W.has_failed S.state store.old sink.old waiting.old)
+        (session_state W.contents W.has_failed S.state store.new sink.new waiting.new)
         (W.holds_back sink.new) store.old store.new result }
 {
     let number = match store.check(&change) {
         Ok(number) => number,
-        Err(refusal) => return Ok(tell(alloc, waiting, Outcome::Refused(refusal))?),
+        Err(refusal) => return Ok(push_outcome(alloc, waiting, Outcome::Refused(refusal))?),
     };
     waiting.write(sink)?;
     waiting.push(alloc, change.outcome(number))?;
@@ -101,7 +105,7 @@ fn ask<S: Store>(
     ensures err_ends { OnErr result (waiting.new.ends.items ≡ waiting.old.ends.items) }
 {
     let reply = reply_to(alloc, store, query)?;
-    tell(alloc, waiting, Outcome::Replied { reader, reply })
+    push_outcome(alloc, waiting, Outcome::Replied { reader, reply })
 }
 
 /// Returns what a line asks for, if the rules let it in.
@@ -155,15 +159,15 @@ fn answer_read<W: Sink, S: Store>(
     ensures { (whole : List ℕ) → IsReadOf whole read.now → Answers S.lends S.has_kept S.has_lost
         (spec.line_outcome rules (S.state store.old) whole)
         (spec.line_after rules (S.state store.old) whole)
-        (moment W.contents W.has_failed S.state store.old sink.old waiting.old)
-        (moment W.contents W.has_failed S.state store.new sink.new waiting.new)
+        (session_state W.contents W.has_failed S.state store.old sink.old waiting.old)
+        (session_state W.contents W.has_failed S.state store.new sink.new waiting.new)
         (W.holds_back sink.new) store.old store.new result }
 {
     match request_in(alloc, rules, read) {
         Ok(LineRequest::Stage(edit)) => change(alloc, store, sink, waiting, Change::Stage(edit)),
         Ok(LineRequest::Publish) => change(alloc, store, sink, waiting, Change::Publish),
         Ok(LineRequest::Ask { reader, query }) => Ok(ask(alloc, store, reader, query, waiting)?),
-        Err(RequestError::Fault(fault)) => Ok(tell(alloc, waiting, Outcome::Fault(fault))?),
+        Err(RequestError::Fault(fault)) => Ok(push_outcome(alloc, waiting, Outcome::Fault(fault))?),
         Err(RequestError::NoMemory) => Err(Stop::NoMemory),
     }
 }
@@ -182,8 +186,8 @@ fn answer<W: Sink, S: Store>(
     ensures { (whole : List ℕ) → IsLine line.entry whole → Answers S.lends S.has_kept S.has_lost
         (spec.line_outcome rules (S.state store.old) whole)
         (spec.line_after rules (S.state store.old) whole)
-        (moment W.contents W.has_failed S.state store.old sink.old waiting.old)
-        (moment W.contents W.has_failed S.state store.new sink.new waiting.new)
+        (session_state W.contents W.has_failed S.state store.old sink.old waiting.old)
+        (session_state W.contents W.has_failed S.state store.new sink.new waiting.new)
         (W.holds_back sink.new) store.old store.new result }
 {
     let read = object_of(alloc, scratch, line);

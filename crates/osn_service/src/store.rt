@@ -1,7 +1,7 @@
 //! What a service answers from, and changes.
 ghost use Rattle.std.specs.Prelude.{◌≡◌, ⊤, None, IfOk, IfErr, OnErr, OnOk, true};
-ghost use Rattle.osn_days.specs.Profile.{newest_rules};
-ghost use Rattle.osn_register.specs.Refusal.{IsTestOf};
+ghost use Rattle.osn_days.specs.Rules.{newest_rules};
+ghost use Rattle.osn_register.specs.Refusal.{IsCheckOf};
 ghost use Rattle.osn_register.specs.Answer.{takes_memory};
 ghost use Rattle.osn_register.specs.BorrowedQuery.{as_query};
 ghost use Rattle.osn_core.specs.Sequential.{ObjectState, reply_at};
@@ -81,7 +81,7 @@ pub trait Store {
     ///
     /// The first refusal that applies.
     fn check(&self, change: &Change) -> Result<u32, Refusal>
-        ensures test { IsTestOf (change_refusal (state self.now) change.now) result }
+        ensures test { IsCheckOf (change_refusal (state self.now) change.now) result }
         ensures number { IfOk result (λ n. n ≡ number_after (state self.now) change.now) };
 
     /// Makes a change that `check` has let in, and keeps it.

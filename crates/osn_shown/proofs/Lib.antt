@@ -1,1 +1,1 @@
-pub mod ShownLemmas
+pub mod EscapedLemmas

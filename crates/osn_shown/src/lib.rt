@@ -1,6 +1,6 @@
 //! Texts of users, as messages print them, so that they can't control a terminal.
 #![tactic(auto)]
 
-mod shown;
+mod escaped;
 
-pub use shown::{Shown, ShownLines};
+pub use escaped::{Escaped, EscapedLines};

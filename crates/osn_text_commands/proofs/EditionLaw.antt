@@ -3,7 +3,7 @@ use Rattle.std.proofs.Common.{◌≡◌, ◌∙◌, ℕ, true, false, List, [], 
 use Rattle.std.proofs.Common.{refl, sym, ap, subst, append-nil, append_assoc, if◌then◌else◌}
 use Rattle.std.specs.List.{All}
 use Rattle.std.proofs.lemmas.List.Elements.{All-cons, All-head, All-nil, All-tail}
-use Rattle.osn_days.specs.Profile.{newest_rules}
+use Rattle.osn_days.specs.Rules.{newest_rules}
 use Rattle.osn_core.specs.Sequential.{HasLawfulSource, ObjectState}
 use Rattle.osn_core.specs.Sequential.{stage_refusal, with_edition, with_pending}
 use Rattle.osn_format.specs.Version.{newest_version, plain_version}

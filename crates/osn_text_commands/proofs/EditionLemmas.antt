@@ -4,10 +4,10 @@ use Rattle.std.proofs.Common.{Option, Some, None}
 use Rattle.std.proofs.Common.{ap, append_assoc, inl, inr, arith, length-take, subst, sym}
 use Rattle.std.specs.List.{All}
 use Rattle.std.proofs.lemmas.List.Elements.{All-cons}
-use Rattle.osn_days.specs.Profile.{newest_rules}
+use Rattle.osn_days.specs.Rules.{newest_rules}
 use Rattle.osn_core.specs.Sequential.{HasLawfulSource, ObjectState, stage_refusal, with_pending}
-use Rattle.osn_files.specs.WholePart.{IsWholePart, whole_bytes, whole_length}
-use Rattle.osn_files.specs.declared.whole_lines.WholePart.{WholePart}
+use Rattle.osn_files.specs.CountedPrefix.{IsCountedPrefix, whole_bytes, whole_length}
+use Rattle.osn_files.specs.declared.whole_lines.CountedPrefix.{CountedPrefix}
 use Rattle.osn_register.specs.Refusal.{or_else}
 use Rattle.osn_register.specs.declared.edit.Edit.{Edit}
 use Rattle.osn_serve_commands.proofs.KeepLemmas.{whole_within}
@@ -15,14 +15,14 @@ use Rattle.osn_text_commands.specs.Edition.{appended_text, edition_refusal}
 use Rattle.osn_text_commands.specs.PublishInside.{IsCutBack}
 
 -- the lines that count have as many bytes as the part says
-pub whole_size : (part : WholePart) (held : List ℕ) → IsWholePart part held
+pub whole_size : (part : CountedPrefix) (held : List ℕ) → IsCountedPrefix part held
     → length (whole_bytes held) ≡ part.bytes
 whole_size part held whole =
     omega (arith, length-take (whole_length held) held, whole.bytes, whole_within part held whole)
 
 -- a file that was cut back, by the edits of the lines
-pub cut_back : (Stays : Type 0) (part : WholePart) (held lines : List ℕ) (edits : List Edit)
-    (old new : Option (List ℕ)) → lines ≡ appended_text held edits → IsWholePart part held
+pub cut_back : (Stays : Type 0) (part : CountedPrefix) (held lines : List ℕ) (edits : List Edit)
+    (old new : Option (List ℕ)) → lines ≡ appended_text held edits → IsCountedPrefix part held
     → old ≡ Some (whole_bytes held) → IsCutBack Stays part.bytes lines old new
     → (new ≡ Some (whole_bytes held))
     ⊎ (Stays × (n : ℕ) × (new ≡ Some (whole_bytes held ++ take n (appended_text held edits))))

@@ -2,7 +2,7 @@
 use Rattle.std.proofs.Common.{◌≡◌, ◌⊎◌, ◌==◌, ◌∙◌, ℕ, zero, suc, Bool, true, false, cond}
 use Rattle.std.proofs.Common.{List, [], ◌∷◌, ◌++◌, length, take, drop, Ok, refl, sym, ap, subst}
 use Rattle.std.proofs.Common.{inl, inr, arith, append-nil, eqb-true, take_all}
-use Rattle.osn_days.specs.Profile.{newest_rules}
+use Rattle.osn_days.specs.Rules.{newest_rules}
 use Rattle.osn_register.specs.declared.limits.Limits.{Limits}
 use Rattle.std.proofs.lemmas.List.Elements.{All-nil}
 use Rattle.osn_core.specs.Sequential.{HasLawfulSource, IsSound, ObjectState, opened}
@@ -14,7 +14,7 @@ use Rattle.osn_files.specs.JournalText.{line_text}
 use Rattle.osn_files.specs.LastLine.{last_line}
 use Rattle.osn_files.specs.Loaded.{HasEdit, IsJournalOf, IsOfVersion}
 use Rattle.osn_files.specs.Version.{head_data}
-use Rattle.osn_files.specs.WholePart.{by_last, ended_count, last_line_of, whole_bytes}
+use Rattle.osn_files.specs.CountedPrefix.{by_last, ended_count, last_line_of, whole_bytes}
 use Rattle.osn_files.specs.declared.last_line.LastLine.{LastLine}
 use Rattle.osn_files.specs.declared.last_line.LastLine.TheVariants.{Ended, LacksFeed, Unfinished}
 use Rattle.osn_lines.specs.Ended.{ended_length, unended_bytes, with_byte}

@@ -7,13 +7,13 @@ use Rattle.osn_lines.specs.Streams.{Output}
 use Rattle.osn_register.specs.declared.edit.Edit.{Edit}
 use Rattle.osn_register.specs.declared.refusal.Refusal.{Refusal}
 use Rattle.osn_register.specs.declared.refusal.Refusal.TheVariants as refusals
-use Rattle.osn_report.specs.Messages.{EndsBy, TellsIfMade}
+use Rattle.osn_report.specs.Messages.{EndsBy, ReportsIfMade}
 use Rattle.osn_report.specs.declared.fault.CommandFault.TheVariants as faults
 use Rattle.osn_report.specs.declared.status.Status.{Status}
 use Rattle.osn_report.specs.declared.status.Status.TheVariants as statuses
 use Rattle.osn_serve_commands.specs.Keep.{is_kept}
 use Rattle.osn_text_commands.specs.Edition.{IsNoMemoryOr, edition_refusal, needs_sources}
-use Rattle.osn_text_commands.specs.Note.{IsNoteOf, TellsNote, TellsRefused, edits_or}
+use Rattle.osn_text_commands.specs.Note.{IsNoteOf, ReportsNote, ReportsRefused, edits_or}
 use Rattle.osn_text_commands.specs.Note.{note_line, refusal_or, version_note}
 use Rattle.osn_text_commands.specs.PlanWords.{refused_edits_line}
 use Rattle.osn_text_commands.specs.declared.note.Note.{Note}
@@ -63,30 +63,30 @@ module _ (s : ObjectState) (found : Note) where
 -- ---- its line
 
 -- that memory ran out was
-memory_told : (line : Option (List ℕ)) (e : Output) (status : Status)
-    → EndsBy e faults.NoMemory status → TellsNote line e status
-memory_told None e status h = inr h
-memory_told (Some line) e status h = inr h
+reports_memory : (line : Option (List ℕ)) (e : Output) (status : Status)
+    → EndsBy e faults.NoMemory status → ReportsNote line e status
+reports_memory None e status h = inr h
+reports_memory (Some line) e status h = inr h
 
 -- that a publish refuses edits was, or that memory ran out
-pub refused_told : (path : List ℕ) (refusal : Refusal) (wanted : Note) (e : Output)
-    (status : Status) → IsNoteOf wanted (notes.Refused refusal) → TellsRefused refusal e status
-    → TellsNote (note_line path wanted) e status
-refused_told path refusals.NoMemory wanted e status found h =
-    memory_told (note_line path wanted) e status h
-refused_told path refusal wanted e status (inl found) h =
-    subst (λ n. TellsNote (note_line path n) e status) found (other refusal h)
+pub reports_refused : (path : List ℕ) (refusal : Refusal) (wanted : Note) (e : Output)
+    (status : Status) → IsNoteOf wanted (notes.Refused refusal) → ReportsRefused refusal e status
+    → ReportsNote (note_line path wanted) e status
+reports_refused path refusals.NoMemory wanted e status found h =
+    reports_memory (note_line path wanted) e status h
+reports_refused path refusal wanted e status (inl found) h =
+    subst (λ n. ReportsNote (note_line path n) e status) found (other refusal h)
   where
-    other : (f : Refusal) → TellsRefused f e status
-        → TellsNote (Some (refused_edits_line f)) e status
+    other : (f : Refusal) → ReportsRefused f e status
+        → ReportsNote (Some (refused_edits_line f)) e status
     other refusals.NoMemory h = inr h
     other f h = h
-refused_told path refusal wanted e status (inr none) h = absurd (cc)
+reports_refused path refusal wanted e status (inr none) h = absurd (cc)
 
 -- a refusal other than NoMemory was
-pub other_told : (refusal : Refusal) (e : Output) (status : Status)
+pub reports_other : (refusal : Refusal) (e : Output) (status : Status)
     → (refusal ≡ refusals.NoMemory → ⊥)
-    → TellsIfMade e statuses.Done (refused_edits_line refusal) status
-    → TellsRefused refusal e status
-other_told refusals.NoMemory e status other h = absurd (other refl)
-other_told refusal e status other h = h
+    → ReportsIfMade e statuses.Done (refused_edits_line refusal) status
+    → ReportsRefused refusal e status
+reports_other refusals.NoMemory e status other h = absurd (other refl)
+reports_other refusal e status other h = h

@@ -6,23 +6,23 @@ use Rattle.osn_core.specs.Sequential.{ObjectState}
 use Rattle.osn_folder.specs.Folder.{Known}
 use Rattle.osn_plan.specs.Plan.{IsPlan}
 use Rattle.osn_lines.specs.Streams.{Output}
-use Rattle.osn_register.specs.Plain.{LandModel}
+use Rattle.osn_register.specs.Plain.{EntryModel}
 use Rattle.osn_register.specs.declared.edit.Edit.{Edit}
 use Rattle.osn_register.specs.declared.limits.Limits.{Limits}
-use Rattle.osn_report.specs.Messages.{TellsNothing}
+use Rattle.osn_report.specs.Messages.{ReportsNothing}
 use Rattle.osn_report.specs.declared.status.Status.{Status}
 use Rattle.osn_report.specs.declared.status.Status.TheVariants as statuses
 use Rattle.osn_serve_commands.specs.Serve.{input_if}
-use Rattle.osn_text_commands.specs.InFolder.{IsOpened, TellsHindranceAfter}
+use Rattle.osn_text_commands.specs.InFolder.{IsOpened, ReportsHindranceAfter}
 use Rattle.osn_text_commands.specs.Text.{published}
 
-pub same_plan : (s : ObjectState) (limits : Limits) (lands wanted : List LandModel)
-    (made edits : List Edit) → limits ≡ s.limits → lands ≡ published s → made ≡ edits
-    → IsPlan limits wanted lands made → IsPlan s.limits wanted (published s) edits
-same_plan s limits lands wanted made edits is same all h =
+pub same_plan : (s : ObjectState) (limits : Limits) (territories wanted : List EntryModel)
+    (made edits : List Edit) → limits ≡ s.limits → territories ≡ published s → made ≡ edits
+    → IsPlan limits wanted territories made → IsPlan s.limits wanted (published s) edits
+same_plan s limits territories wanted made edits is same all h =
     subst (λ es. IsPlan s.limits wanted (published s) es) all
     (subst (λ ls. IsPlan s.limits wanted ls made) same
-    (subst (λ l. IsPlan l wanted lands made) is h))
+    (subst (λ l. IsPlan l wanted territories made) is h))
 
 module _ {S : Type 0} (remaining : S → Option (List ℕ)) (has_failed : S → Bool)
     (old new : Option S) where
@@ -50,13 +50,13 @@ module _ {S : Type 0} (remaining : S → Option (List ℕ)) (has_failed : S → 
 -- ---- what is written
 
 -- after a plan that was not printed nothing more is
-pub hindrance_untold : (printed : Status) (path : List ℕ) (there : Bool) (known : Option Known)
-    (e : Output) → (printed ≡ statuses.Done → ⊥) → TellsNothing e
-    → TellsHindranceAfter printed path there known known e printed
-hindrance_untold statuses.Done path there known e other nothing = absurd (other refl)
-hindrance_untold statuses.Refused path there known e other nothing = (refl, refl, nothing)
-hindrance_untold statuses.Misused path there known e other nothing = (refl, refl, nothing)
-hindrance_untold statuses.ReadFault path there known e other nothing = (refl, refl, nothing)
-hindrance_untold statuses.WriteFault path there known e other nothing = (refl, refl, nothing)
-hindrance_untold statuses.Unwritten path there known e other nothing = (refl, refl, nothing)
-hindrance_untold statuses.NoMemory path there known e other nothing = (refl, refl, nothing)
+pub reports_no_hindrance : (printed : Status) (path : List ℕ) (there : Bool) (known : Option Known)
+    (e : Output) → (printed ≡ statuses.Done → ⊥) → ReportsNothing e
+    → ReportsHindranceAfter printed path there known known e printed
+reports_no_hindrance statuses.Done path there known e other nothing = absurd (other refl)
+reports_no_hindrance statuses.Refused path there known e other nothing = (refl, refl, nothing)
+reports_no_hindrance statuses.Misused path there known e other nothing = (refl, refl, nothing)
+reports_no_hindrance statuses.ReadFault path there known e other nothing = (refl, refl, nothing)
+reports_no_hindrance statuses.WriteFault path there known e other nothing = (refl, refl, nothing)
+reports_no_hindrance statuses.Unwritten path there known e other nothing = (refl, refl, nothing)
+reports_no_hindrance statuses.NoMemory path there known e other nothing = (refl, refl, nothing)

@@ -9,7 +9,7 @@ use Rattle.osn_journal.specs.KeptJournal.{FileState}
 use Rattle.osn_lines.specs.Streams.{Output}
 use Rattle.osn_plan.specs.Fault.{IsFault}
 use Rattle.osn_plan.specs.declared.fault.PlanFault.{PlanFault}
-use Rattle.osn_register.specs.Plain.{LandModel, RegisterModel}
+use Rattle.osn_register.specs.Plain.{EntryModel, RegisterModel}
 use Rattle.osn_register.specs.declared.edit.Edit.{Edit}
 use Rattle.osn_register.specs.declared.limits.Limits.{Limits}
 use Rattle.osn_register.specs.declared.refusal.Refusal.{Refusal}
@@ -88,19 +88,19 @@ module _ (Stays : Type 0) (asked : RequestModel) (version : Version) (s : Object
   planned pending none had h = nothing_pending pending none (rw had h)
 
   -- or it is
-  pub later_told : (pending : List Edit) (edition : ℕ) → (length pending == 0) ≡ true
+  pub reports_later : (pending : List Edit) (edition : ℕ) → (length pending == 0) ≡ true
       → later_than asked.edition (length s.batches) ≡ Some edition
       → RefusesBy (later_lines asked.text asked.journal edition (length s.batches)) old file o e
       status
       → PublishesUnlessPending Stays version s pending asked wanted old file given o e status
-  later_told pending edition none late h = nothing_pending pending none (rw late h)
+  reports_later pending edition none late h = nothing_pending pending none (rw late h)
 
   -- some edits are
-  pub pending_told : (pending : List Edit) → (length pending == 0) ≡ false
+  pub reports_pending : (pending : List Edit) → (length pending == 0) ≡ false
       → RefusesBy (pending_line (length pending)) old file o e status
       → PublishesUnlessPending Stays version s pending asked wanted old file given o e status
-  pending_told [] some h = absurd (cc)
-  pending_told (edit ∷ edits) some h = h
+  reports_pending [] some h = absurd (cc)
+  reports_pending (edit ∷ edits) some h = h
 
 -- there are no pending edits, if their number is 0
 pub none_pending : (pending : List Edit) → (length pending == 0) ≡ true → pending ≡ []
@@ -109,9 +109,9 @@ none_pending (edit ∷ edits) none =
     absurd (omega (arith, eqb-true (length (edit ∷ edits)) 0 none))
 
 -- there is no plan from the register of an object, and so none from what it has published
-pub same_fault : (s : ObjectState) (limits : Limits) (lands wanted : List LandModel)
-    (fault : PlanFault) → limits ≡ s.limits → lands ≡ published s
-    → IsFault limits wanted lands fault → IsFault s.limits wanted (published s) fault
-same_fault s limits lands wanted fault is same h =
+pub same_fault : (s : ObjectState) (limits : Limits) (territories wanted : List EntryModel)
+    (fault : PlanFault) → limits ≡ s.limits → territories ≡ published s
+    → IsFault limits wanted territories fault → IsFault s.limits wanted (published s) fault
+same_fault s limits territories wanted fault is same h =
     subst (λ ls. IsFault s.limits wanted ls fault) same
-    (subst (λ l. IsFault l wanted lands fault) is h)
+    (subst (λ l. IsFault l wanted territories fault) is h)

@@ -8,13 +8,13 @@ use Rattle.osn_folder.specs.declared.fault.OpenFailed.{OpenFailed}
 use Rattle.osn_lines.specs.Streams.{Input, Output}
 use Rattle.osn_register.specs.declared.limits.Limits.{Limits}
 use Rattle.osn_report.specs.Folders.{Folders, ReadsOne}
-use Rattle.osn_report.specs.Messages.{TellsIfMade, TellsNothing}
-use Rattle.osn_report.specs.Unopened.{unopened_line}
+use Rattle.osn_report.specs.Messages.{ReportsIfMade, ReportsNothing}
+use Rattle.osn_report.specs.OpenFailure.{open_failure_line}
 use Rattle.osn_report.specs.declared.status.Status.{Status}
 use Rattle.osn_report.specs.declared.status.Status.TheVariants as statuses
 use Rattle.osn_serve_commands.specs.InFolder.{CanFailIf}
 use Rattle.osn_serve_commands.specs.Keep.{first_output, later_output}
-use Rattle.osn_text_commands.specs.Keeping.{TellsHindrance}
+use Rattle.osn_text_commands.specs.Keeping.{ReportsHindrance}
 use Rattle.osn_text_commands.specs.Plan.{PrintsPlan}
 use Rattle.osn_text_commands.specs.Text.{PrintsText}
 
@@ -37,7 +37,8 @@ RunsText limits journal edition code CanFail d o e status = MatchResult (edition
 abbrev pub MissesText : List ℕ → Folders → Output → Output → Status → Type 0
 MissesText path d o e status =
     CannotOpen (path ∷ []) d.before d.after × (o.new ≡ o.old)
-    × (cause : OpenFailed) × TellsIfMade e statuses.ReadFault (unopened_line path cause) status
+    × (cause : OpenFailed)
+    × ReportsIfMade e statuses.ReadFault (open_failure_line path cause) status
 
 -- the plan for a journal of this path, which is there or not, was printed, if the text could be
 -- opened
@@ -50,12 +51,12 @@ PrintsPlanBy limits path journal text_path CanFail d o e status =
 
 -- after a plan that was printed it was reported why the journal could not be kept, if that was
 -- found
-abbrev pub TellsHindranceAfter : Status → List ℕ → Bool → Option Known → Option Known → Output
+abbrev pub ReportsHindranceAfter : Status → List ℕ → Bool → Option Known → Option Known → Output
     → Status → Type 0
-TellsHindranceAfter statuses.Done path is_there before after e status =
-    TellsHindrance path is_there before after e status
-TellsHindranceAfter printed path is_there before after e status =
-    (status ≡ printed) × (after ≡ before) × TellsNothing e
+ReportsHindranceAfter statuses.Done path is_there before after e status =
+    ReportsHindrance path is_there before after e status
+ReportsHindranceAfter printed path is_there before after e status =
+    (status ≡ printed) × (after ≡ before) × ReportsNothing e
 
 -- The journal was opened, if it is there, and then the text, and the plan was printed. Then it was
 -- reported why the journal could not be kept, if that was found.
@@ -73,5 +74,5 @@ pub record PlansInFolder (limits : Limits) (path text_path : List ℕ) (CanFail 
   pub prints : PrintsPlanBy limits path journal text_path CanFail
       (record { before = opened; after = planned }) o (first_output e between failed held_back)
       printed
-  pub tells : TellsHindranceAfter printed path (is_some journal) planned d.after
+  pub reports : ReportsHindranceAfter printed path (is_some journal) planned d.after
       (later_output e between failed) status

@@ -9,8 +9,8 @@ use Rattle.osn_folder.specs.declared.fault.KeepFault.{KeepFault}
 use Rattle.osn_folder.specs.declared.fault.KeepFault.TheVariants as faults
 use Rattle.osn_lines.specs.Streams.{Output}
 use Rattle.osn_report.specs.declared.status.Status.{Status}
-use Rattle.osn_shown.specs.Shown.{shown}
-use Rattle.osn_text_commands.specs.Note.{TellsNote}
+use Rattle.osn_shown.specs.Escaped.{escaped}
+use Rattle.osn_text_commands.specs.Note.{ReportsNote}
 use Rattle.osn_text_commands.specs.declared.keeping.KeepCause.{KeepCause}
 use Rattle.osn_text_commands.specs.declared.keeping.KeepCause.TheVariants as causes
 
@@ -97,12 +97,12 @@ cause_words causes.NotMade =
 
 unfoldable pub no_folder_line : List ℕ → List ℕ → List ℕ
 no_folder_line path folder = codes "oldstyle: "
-    ++ (shown path
-    ++ (codes ": there is no folder " ++ (shown folder ++ codes ": make it first\n")))
+    ++ (escaped path
+    ++ (codes ": there is no folder " ++ (escaped folder ++ codes ": make it first\n")))
 
 abbrev pub cause_line : List ℕ → KeepCause → List ℕ
 cause_line path cause =
-    codes "oldstyle: " ++ (shown path ++ (codes ": " ++ (cause_words cause ++ codes "\n")))
+    codes "oldstyle: " ++ (escaped path ++ (codes ": " ++ (cause_words cause ++ codes "\n")))
 
 abbrev pub folder_line : List ℕ → Option (List ℕ) → List ℕ
 folder_line path None = cause_line path causes.NoFolder
@@ -114,7 +114,7 @@ unkept_line path causes.NoFolder = folder_line path (folder_of path)
 unkept_line path cause = cause_line path cause
 
 -- it was found why the file would not be kept, and reported
-abbrev pub TellsHindrance : List ℕ → Bool → Option Known → Option Known → Output → Status → Type 0
-TellsHindrance path is_there before after e status =
+abbrev pub ReportsHindrance : List ℕ → Bool → Option Known → Option Known → Output → Status → Type 0
+ReportsHindrance path is_there before after e status =
     (cause : Option KeepCause) × FindsHindrance path is_there before after cause
-    × TellsNote (option_map (unkept_line path) cause) e status
+    × ReportsNote (option_map (unkept_line path) cause) e status

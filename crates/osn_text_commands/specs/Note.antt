@@ -7,7 +7,7 @@ use Rattle.osn_lines.specs.Streams.{Output}
 use Rattle.osn_register.specs.declared.edit.Edit.{Edit}
 use Rattle.osn_register.specs.declared.refusal.Refusal.{Refusal}
 use Rattle.osn_register.specs.declared.refusal.Refusal.TheVariants as refusals
-use Rattle.osn_report.specs.Messages.{Ends, EndsBy, TellsIfMade}
+use Rattle.osn_report.specs.Messages.{Ends, EndsBy, ReportsIfMade}
 use Rattle.osn_report.specs.declared.fault.CommandFault.TheVariants as faults
 use Rattle.osn_report.specs.declared.status.Status.{Status}
 use Rattle.osn_report.specs.declared.status.Status.TheVariants as statuses
@@ -67,12 +67,12 @@ note_line path (notes.Anew version) = Some (anew_line version)
 note_line path (notes.NotKept version) = Some (not_kept_line path version)
 
 -- the line was written, if there is one; or it was reported that memory ran out
-abbrev pub TellsNote : Option (List ℕ) → Output → Status → Type 0
-TellsNote None e status = Ends e None status ⊎ EndsBy e faults.NoMemory status
-TellsNote (Some line) e status = TellsIfMade e statuses.Done line status
+abbrev pub ReportsNote : Option (List ℕ) → Output → Status → Type 0
+ReportsNote None e status = Ends e None status ⊎ EndsBy e faults.NoMemory status
+ReportsNote (Some line) e status = ReportsIfMade e statuses.Done line status
 
 -- it was reported that a publish refuses edits, or that memory ran out
-abbrev pub TellsRefused : Refusal → Output → Status → Type 0
-TellsRefused refusals.NoMemory e status = EndsBy e faults.NoMemory status
-TellsRefused refusal e status =
-    TellsIfMade e statuses.Done (refused_edits_line refusal) status
+abbrev pub ReportsRefused : Refusal → Output → Status → Type 0
+ReportsRefused refusals.NoMemory e status = EndsBy e faults.NoMemory status
+ReportsRefused refusal e status =
+    ReportsIfMade e statuses.Done (refused_edits_line refusal) status

@@ -1,7 +1,7 @@
 -- What the command `plan` prints, and what it writes to standard error.
 use Rattle.std.specs.Prelude.{◌≡◌, ◌⊎◌, ◌+◌, ◌++◌, ⊤, ℕ, Bool, List, length}
 use Rattle.std.specs.Prelude.{Option, Some, None, IfSome, is_some}
-use Rattle.osn_days.specs.Profile.{newest_rules}
+use Rattle.osn_days.specs.Rules.{newest_rules}
 use Rattle.osn_core.specs.Sequential.{ObjectState}
 use Rattle.osn_files.specs.Loaded.{IsOfVersion}
 use Rattle.osn_files.specs.declared.fault.FileFault.{FileFault}
@@ -13,7 +13,7 @@ use Rattle.osn_register.specs.declared.edit.Edit.{Edit}
 use Rattle.osn_register.specs.declared.limits.Limits.{Limits}
 use Rattle.osn_report.specs.Journal.{Begins, BeginsNot}
 use Rattle.osn_report.specs.Printing.{PrintsIfMade, PrintsNoneAt}
-use Rattle.osn_report.specs.Messages.{TellsIfMade, TellsNothing}
+use Rattle.osn_report.specs.Messages.{ReportsIfMade, ReportsNothing}
 use Rattle.osn_report.specs.declared.fault.CommandFault.TheVariants.{File}
 use Rattle.osn_report.specs.declared.status.Status.{Status}
 use Rattle.osn_report.specs.declared.status.Status.TheVariants as statuses
@@ -22,26 +22,26 @@ use Rattle.osn_plan.specs.Fault.{IsFault}
 use Rattle.osn_plan.specs.Plan.{IsPlan}
 use Rattle.osn_plan.specs.declared.fault.PlanFault.{PlanFault}
 use Rattle.osn_plan_page.specs.PlanPage.{plan_page}
-use Rattle.osn_text_commands.specs.Note.{TellsNote, note_line, note_of}
-use Rattle.osn_text_commands.specs.PlanFault.{TellsPlanFault}
+use Rattle.osn_text_commands.specs.Note.{ReportsNote, note_line, note_of}
+use Rattle.osn_text_commands.specs.PlanFault.{ReportsPlanFault}
 use Rattle.osn_text_commands.specs.PlanWords.{plan_end}
 use Rattle.osn_text_commands.specs.Since.{behind, behind_lines, later_lines, later_than}
 use Rattle.osn_text_commands.specs.Text.{published}
-use Rattle.osn_text_commands.specs.TextFile.{Says, IsTextFileFault, TellsTextFile}
+use Rattle.osn_text_commands.specs.TextFile.{Says, IsTextFileFault, ReportsTextFile}
 use Rattle.osn_text_commands.specs.declared.text_file.TextFileFault.{TextFileFault}
 
 -- the lines of a plan, which would be the next edition of an object
 abbrev pub plan_text : ObjectState → RegisterModel → List Edit → List ℕ
 plan_text s wanted edits =
-    plan_page newest_rules (published s) wanted.lands edits
+    plan_page newest_rules (published s) wanted.territories edits
     ++ plan_end (length edits) (length s.batches + 1)
 
 -- ---- what is written beside a plan
 
 -- a line was written if all was printed, or else nothing more
-abbrev pub TellsNoteAfter : Status → Option (List ℕ) → Output → Status → Type 0
-TellsNoteAfter statuses.Done line e status = TellsNote line e status
-TellsNoteAfter printed line e status = (status ≡ printed) × TellsNothing e
+abbrev pub ReportsNoteAfter : Status → Option (List ℕ) → Output → Status → Type 0
+ReportsNoteAfter statuses.Done line e status = ReportsNote line e status
+ReportsNoteAfter printed line e status = (status ≡ printed) × ReportsNothing e
 
 -- A text was printed, and then a line written to standard error, if there is one.
 pub record PrintsNoted (text : List ℕ) (note : Option (List ℕ)) (o e : Output) (status : Status)
@@ -51,7 +51,7 @@ pub record PrintsNoted (text : List ℕ) (note : Option (List ℕ)) (o e : Outpu
   pub held_back : Bool
   pub printed : Status
   pub prints : PrintsIfMade text o (first_output e between failed held_back) printed
-  pub notes : TellsNoteAfter printed note (later_output e between failed) status
+  pub notes : ReportsNoteAfter printed note (later_output e between failed) status
 
 -- that a text is behind an edition, or else another line
 abbrev pub behind_or : List ℕ → List ℕ → ObjectState → Option ℕ → Option (List ℕ)
@@ -74,8 +74,8 @@ edits_line journal text is_there version s edition edits =
 -- of the text
 abbrev pub RefusesPlan : ObjectState → List ℕ → RegisterModel → Output → Output → Status → Type 0
 RefusesPlan s path wanted o e status =
-    (fault : PlanFault) × IsFault s.limits wanted.lands (published s) fault × (o.new ≡ o.old)
-    × TellsPlanFault path e fault status
+    (fault : PlanFault) × IsFault s.limits wanted.territories (published s) fault × (o.new ≡ o.old)
+    × ReportsPlanFault path e fault status
 
 -- the plan from what an object has published to the register that is wanted was printed, and then
 -- lines on its edits were written, if there are some; or there is no plan
@@ -83,14 +83,14 @@ abbrev pub PrintsPlanTo : ObjectState → List ℕ → RegisterModel → (List E
     → Output → Output → Status → Type 0
 PrintsPlanTo s path wanted note o e status =
     RefusesPlan s path wanted o e status
-    ⊎ ((edits : List Edit) × IsPlan s.limits wanted.lands (published s) edits
+    ⊎ ((edits : List Edit) × IsPlan s.limits wanted.territories (published s) edits
     × PrintsNoted (plan_text s wanted edits) (note edits) o e status)
 
 -- the file of this path says no register, which was reported
 abbrev pub RefusesText : Limits → List ℕ → Input → Output → Output → Status → Type 0
 RefusesText limits path text o e status =
     (fault : TextFileFault) × IsTextFileFault limits text fault × (o.new ≡ o.old)
-    × TellsTextFile path e fault status
+    × ReportsTextFile path e fault status
 
 -- that, unless the text is of an edition that the journal lacks, which was reported
 abbrev pub PrintsUnlessLater : Option ℕ → ObjectState → List ℕ → List ℕ → RegisterModel
@@ -99,7 +99,7 @@ PrintsUnlessLater None s journal path wanted note o e status =
     PrintsPlanTo s path wanted note o e status
 PrintsUnlessLater (Some edition) s journal path wanted note o e status =
     (o.new ≡ o.old)
-    × TellsIfMade e statuses.Refused (later_lines path journal edition (length s.batches)) status
+    × ReportsIfMade e statuses.Refused (later_lines path journal edition (length s.batches)) status
 
 -- the same for what the text of this path says, which may be nothing, by the edition that it says
 abbrev pub PrintsPlanOf : Limits → ObjectState → List ℕ → List ℕ → Input

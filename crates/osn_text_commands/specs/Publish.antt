@@ -4,13 +4,13 @@ use Rattle.std.specs.Prelude.{take, codes, Option, Some, None, IfSome}
 use Rattle.std.specs.Io.KnownBytes.{Appends}
 use Rattle.std.specs.List.{All}
 use Rattle.std.specs.Option.{MatchOption}
-use Rattle.osn_days.specs.Profile.{newest_rules}
+use Rattle.osn_days.specs.Rules.{newest_rules}
 use Rattle.osn_core.specs.Sequential.{HasLawfulSource, ObjectState}
 use Rattle.osn_folder.specs.declared.fault.KeptFileFault.{KeptFileFault}
 use Rattle.osn_journal.specs.KeptJournal.{FileState}
 use Rattle.osn_lines.specs.Streams.{Input, Output}
 use Rattle.osn_files.specs.JournalText.{journal_text}
-use Rattle.osn_files.specs.WholePart.{whole_bytes}
+use Rattle.osn_files.specs.CountedPrefix.{whole_bytes}
 use Rattle.osn_format.specs.declared.version.Version.{Version}
 use Rattle.osn_plan.specs.Plan.{IsPlan}
 use Rattle.osn_plan_page.specs.PlanPage.{plan_page}
@@ -20,13 +20,13 @@ use Rattle.osn_register.specs.declared.limits.Limits.{Limits}
 use Rattle.osn_register.specs.declared.refusal.Refusal.{Refusal}
 use Rattle.osn_register.specs.declared.refusal.Refusal.TheVariants as refusals
 use Rattle.osn_report.specs.Printing.{FailsToPrint, PrintsIfMade, PrintsNone, PrintsNoneAt}
-use Rattle.osn_report.specs.Messages.{Ends, TellsIfMade, TellsLine}
+use Rattle.osn_report.specs.Messages.{Ends, ReportsIfMade, ReportsLine}
 use Rattle.osn_report.specs.declared.fault.CommandFault.{CommandFault}
 use Rattle.osn_report.specs.declared.fault.CommandFault.TheVariants.{Refused}
 use Rattle.osn_report.specs.declared.status.Status.{Status}
 use Rattle.osn_report.specs.declared.status.Status.TheVariants as statuses
 use Rattle.osn_serve_commands.specs.Keep.{HoldsObject, HoldsNoObject, IfHeld, IsChangeFault}
-use Rattle.osn_serve_commands.specs.Keep.{TellsCut, ready_file, first_output, later_output}
+use Rattle.osn_serve_commands.specs.Keep.{ReportsCut, ready_file, first_output, later_output}
 use Rattle.osn_serve_commands.specs.Keep.{cut_text, is_kept, unfinished_line}
 use Rattle.osn_text_commands.specs.Edition.{IsNoMemoryOr, appended_text, edition_refusal}
 use Rattle.osn_text_commands.specs.Edition.{edition_text, needs_sources, with_batch}
@@ -43,7 +43,7 @@ use Rattle.osn_text_commands.specs.Text.{published}
 abbrev pub begun_text : List ℕ → ObjectState → RegisterModel → List Edit → List ℕ
 begun_text path s wanted edits =
     new_journal_line path (length s.batches)
-    ++ plan_page newest_rules (published s) wanted.lands edits
+    ++ plan_page newest_rules (published s) wanted.territories edits
 
 -- these, and the line on the edition that was made
 abbrev pub published_text : List ℕ → ObjectState → RegisterModel → List Edit → List ℕ
@@ -53,7 +53,7 @@ published_text path s wanted edits =
 -- the lines of a plan without edits, and the line that there is nothing to change
 abbrev pub standing_text : ObjectState → RegisterModel → List ℕ
 standing_text s wanted =
-    plan_page newest_rules (published s) wanted.lands [] ++ standing_line (length s.batches)
+    plan_page newest_rules (published s) wanted.territories [] ++ standing_line (length s.batches)
 
 -- the line on an edition whose report could not be printed
 abbrev pub unprinted_line : List ℕ
@@ -65,7 +65,7 @@ unprinted_line =
 abbrev pub PrintsReport : List ℕ → Output → Output → Status → Type 0
 PrintsReport text o e status =
     (Ends e None status × Appends o.old o.new text)
-    ⊎ (TellsLine e statuses.Done unprinted_line status × FailsToPrint text o)
+    ⊎ (ReportsLine e statuses.Done unprinted_line status × FailsToPrint text o)
 
 -- ---- what the file contains
 
@@ -99,7 +99,7 @@ pub record WritesEdition (CanStay : Type 0) (path : List ℕ) (old file : FileSt
   pub between : Option (List ℕ)
   pub failed : Bool
   pub held_back : Bool
-  pub tells : TellsCut (first_output e between failed held_back) cut
+  pub reports : ReportsCut (first_output e between failed held_back) cut
   pub ended : (PrintsReport text o (later_output e between failed) status
       × IfHeld old given (λ held. HoldsEdition held edits old.fault cut file))
       ⊎ ((fault : CommandFault) × PrintsNoneAt path fault o (later_output e between failed) status
@@ -114,7 +114,7 @@ Refuses fault old file o e status = (file ≡ old) × PrintsNone fault o e statu
 -- the same by this line, which takes memory
 abbrev pub RefusesBy : List ℕ → FileState → FileState → Output → Output → Status → Type 0
 RefusesBy line old file o e status =
-    (file ≡ old) × (o.new ≡ o.old) × TellsIfMade e statuses.Refused line status
+    (file ≡ old) × (o.new ≡ o.old) × ReportsIfMade e statuses.Refused line status
 
 -- edits were appended as an edition, unless there are none, or one is refused, or memory ran out.
 -- Each source that one gives may be given
@@ -167,7 +167,7 @@ abbrev pub PublishesPlan : Type 0 → Version → ObjectState → RequestModel �
     → FileState → FileState → Option (List ℕ) → Output → Output → Status → Type 0
 PublishesPlan CanStay version s asked wanted old file given o e status =
     ((file ≡ old) × RefusesPlan s asked.text wanted o e status)
-    ⊎ ((edits : List Edit) × IsPlan s.limits wanted.lands (published s) edits
+    ⊎ ((edits : List Edit) × IsPlan s.limits wanted.territories (published s) edits
     × PublishesUnlessBehind (hindered asked s.batches edits) CanStay asked version s wanted old
     file given edits o e status)
 
@@ -206,7 +206,7 @@ EndsPublish CanStay limits asked wanted old file given o e status =
 -- A source gave these bytes, of a journal with nothing pending whose version has no sources, and
 -- edits of a plan need them. The rewritten journal has them as its next edition. And there are the
 -- text that is printed then, and the one on a last line that was not finished.
-pub record IsOlderEdition (limits : Limits) (asked : RequestModel) (wanted : RegisterModel)
+pub record IsRewriteNeeded (limits : Limits) (asked : RequestModel) (wanted : RegisterModel)
     (given : Option (List ℕ)) (bytes journal text : List ℕ) (cut : Option (List ℕ)) : Type 0 where
   pub read : IfSome given (λ held. bytes ≡ held)
   pub version : Version
@@ -215,11 +215,11 @@ pub record IsOlderEdition (limits : Limits) (asked : RequestModel) (wanted : Reg
   pub pending : object.pending ≡ []
   pub edits : List Edit
   pub had : later_than asked.edition (length object.batches) ≡ None
-  pub plans : IsPlan object.limits wanted.lands (published object) edits
+  pub plans : IsPlan object.limits wanted.territories (published object) edits
   pub free : hindered asked object.batches edits ≡ None
   pub needs : needs_sources version edits ≡ true
   pub lawful : edition_refusal object edits ≡ None
   pub sources : All HasLawfulSource edits
   pub anew : journal ≡ journal_text (with_batch object edits)
   pub printed : text ≡ published_text asked.journal object wanted edits
-  pub told : cut ≡ cut_text (unfinished_line bytes)
+  pub message : cut ≡ cut_text (unfinished_line bytes)

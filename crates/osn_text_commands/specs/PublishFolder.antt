@@ -7,14 +7,14 @@ use Rattle.osn_lines.specs.Streams.{Input, Output}
 use Rattle.osn_register.specs.Plain.{RegisterModel}
 use Rattle.osn_register.specs.declared.limits.Limits.{Limits}
 use Rattle.osn_report.specs.Folders.{Folders, IsReadOf}
-use Rattle.osn_report.specs.Messages.{TellsIfMade}
+use Rattle.osn_report.specs.Messages.{ReportsIfMade}
 use Rattle.osn_report.specs.declared.status.Status.{Status}
 use Rattle.osn_report.specs.declared.status.Status.TheVariants as statuses
-use Rattle.osn_serve_commands.specs.Keep.{TellsText, first_output, later_output}
+use Rattle.osn_serve_commands.specs.Keep.{ReportsText, first_output, later_output}
 use Rattle.osn_serve_commands.specs.Upgrade.{CannotSaveAnew, SavesAnew}
 use Rattle.osn_text_commands.specs.Keeping.{CannotKeepBy, unkept_line}
 use Rattle.osn_text_commands.specs.Plan.{RefusesText}
-use Rattle.osn_text_commands.specs.Publish.{EndsPublish, IsOlderEdition, PrintsReport}
+use Rattle.osn_text_commands.specs.Publish.{EndsPublish, IsRewriteNeeded, PrintsReport}
 use Rattle.osn_text_commands.specs.Since.{RequestModel}
 use Rattle.osn_text_commands.specs.declared.keeping.KeepCause.{KeepCause}
 use Rattle.osn_text_commands.specs.TextFile.{Says}
@@ -23,12 +23,12 @@ use Rattle.osn_text_commands.specs.TextFile.{Says}
 
 -- a text on a last line that was not finished was written to standard error first, if there is one,
 -- and then the text of the edition printed
-pub record TellsAndPrints (cut : Option (List ℕ)) (text : List ℕ) (o e : Output) (status : Status)
+pub record ReportsAndPrints (cut : Option (List ℕ)) (text : List ℕ) (o e : Output) (status : Status)
     : Type 0 where
   pub between : Option (List ℕ)
   pub failed : Bool
   pub held_back : Bool
-  pub tells : TellsText (first_output e between failed held_back) cut
+  pub reports : ReportsText (first_output e between failed held_back) cut
   pub prints : PrintsReport text o (later_output e between failed) status
 
 -- a journal was saved in the file of this path, which held these bytes, whole, and then the text of
@@ -37,7 +37,7 @@ abbrev pub SavesEdition : List ℕ → List ℕ → List ℕ → List ℕ → Op
     → Output → Status → Type 0
 SavesEdition path loaded journal text cut d o e status =
     ((o.new ≡ o.old) × CannotSaveAnew path loaded journal d.before d.after e status)
-    ⊎ (SavesAnew path loaded journal d.before d.after × TellsAndPrints cut text o e status)
+    ⊎ (SavesAnew path loaded journal d.before d.after × ReportsAndPrints cut text o e status)
 
 -- ---- a journal that is there
 
@@ -50,7 +50,7 @@ PublishesKept limits asked wanted CanStay begun given d o e status =
     ((file : FileState) × EndsPublish CanStay limits asked wanted begun file given o e status
     × Changes (Leaves asked.journal file.contents) d.before d.after)
     ⊎ ((bytes : List ℕ) × (journal : List ℕ) × (text : List ℕ) × (cut : Option (List ℕ))
-    × IsOlderEdition limits asked wanted given.bytes bytes journal text cut
+    × IsRewriteNeeded limits asked wanted given.bytes bytes journal text cut
     × (released : Option Known) × Changes (Leaves asked.journal begun.contents) d.before released
     × SavesEdition asked.journal bytes journal text cut
     (record { before = released; after = d.after }) o e status)
@@ -61,7 +61,7 @@ abbrev pub KeepsAndPublishes : Limits → RequestModel → RegisterModel → (Bo
     → Folders → Output → Output → Status → Type 0
 KeepsAndPublishes limits asked wanted CanFail CanStay d o e status =
     ((cause : KeepCause) × CannotKeepBy asked.journal d.before d.after cause × (o.new ≡ o.old)
-    × TellsIfMade e statuses.ReadFault (unkept_line asked.journal cause) status)
+    × ReportsIfMade e statuses.ReadFault (unkept_line asked.journal cause) status)
     ⊎ ((held : Option Known) × Changes (Keeps asked.journal) d.before held
     × (begun : FileState) × IsKeptAt d.before asked.journal begun.contents × (begun.fault ≡ None)
     × (given : Input) × (given.bytes ≡ begun.contents) × CanFail given.unread

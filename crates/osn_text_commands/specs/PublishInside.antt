@@ -4,8 +4,8 @@ use Rattle.std.specs.Prelude.{Option, Some, None, IfSome}
 use Rattle.std.specs.List.{All}
 use Rattle.osn_core.specs.Sequential.{HasLawfulSource, ObjectState}
 use Rattle.osn_files.specs.JournalText.{journal_text}
-use Rattle.osn_files.specs.WholePart.{IsWholePart}
-use Rattle.osn_files.specs.declared.whole_lines.WholePart.{WholePart}
+use Rattle.osn_files.specs.CountedPrefix.{IsCountedPrefix}
+use Rattle.osn_files.specs.declared.whole_lines.CountedPrefix.{CountedPrefix}
 use Rattle.osn_format.specs.declared.version.Version.{Version}
 use Rattle.osn_journal.specs.KeptJournal.{FileState}
 use Rattle.osn_plan.specs.Plan.{IsPlan}
@@ -24,13 +24,13 @@ abbrev pub CanStay : {K : Type 0} → (K → Bool) → Type 0
 CanStay {K} may_fail = (file : K) × (may_fail file ≡ true)
 
 -- this part counts of what a source gave, if that is known
-abbrev pub IsPartOf : WholePart → Option (List ℕ) → Type 0
-IsPartOf part given = IfSome given (IsWholePart part)
+abbrev pub IsPartOf : CountedPrefix → Option (List ℕ) → Type 0
+IsPartOf part given = IfSome given (IsCountedPrefix part)
 
 -- lines are those of edits, to be appended to a file of which this part counts
-abbrev pub AreLinesOf : WholePart → List Edit → List ℕ → Type 0
+abbrev pub AreLinesOf : CountedPrefix → List Edit → List ℕ → Type 0
 AreLinesOf part edits lines =
-    (held : List ℕ) → IsWholePart part held → lines ≡ appended_text held edits
+    (held : List ℕ) → IsCountedPrefix part held → lines ≡ appended_text held edits
 
 -- a file of this many bytes is as it was; or, if cutting it back may fail, a prefix of the lines is
 -- after them
@@ -40,25 +40,25 @@ IsCutBack Stays size lines old new =
     → (new ≡ Some held) ⊎ (Stays × (n : ℕ) × (new ≡ Some (held ++ take n lines)))
 
 -- the lines of edits are in the file of which this part counts, or are not
-abbrev pub IsWritten : WholePart → List Edit → Option ℕ → FileState → FileState → Type 0
+abbrev pub IsWritten : CountedPrefix → List Edit → Option ℕ → FileState → FileState → Type 0
 IsWritten part edits cut old new =
-    (held : List ℕ) → old.contents ≡ Some held → IsWholePart part held
+    (held : List ℕ) → old.contents ≡ Some held → IsCountedPrefix part held
     → HoldsEdition held edits old.fault cut new
 
-abbrev pub IsUnwritten : Type 0 → WholePart → List Edit → CommandFault → Option ℕ → FileState
+abbrev pub IsUnwritten : Type 0 → CountedPrefix → List Edit → CommandFault → Option ℕ → FileState
     → FileState → Type 0
 IsUnwritten Stays part edits fault cut old new =
-    (held : List ℕ) → old.contents ≡ Some held → IsWholePart part held
+    (held : List ℕ) → old.contents ≡ Some held → IsCountedPrefix part held
     → LosesEdition Stays held edits fault cut new
 
 -- the text on the last line of what this part counts of, if that was not finished
-abbrev pub IsCutOf : WholePart → Option (List ℕ) → Type 0
+abbrev pub IsCutOf : CountedPrefix → Option (List ℕ) → Type 0
 IsCutOf part cut =
-    (held : List ℕ) → IsWholePart part held → cut ≡ cut_text (unfinished_line held)
+    (held : List ℕ) → IsCountedPrefix part held → cut ≡ cut_text (unfinished_line held)
 
 -- The journal of a path that held these bytes is rewritten with these edits as its next edition.
-pub record IsOlderOf (path held : List ℕ) (part : WholePart) (version : Version) (s : ObjectState)
-    (wanted : RegisterModel) (edits : List Edit) (bytes journal text : List ℕ)
+pub record IsOlderOf (path held : List ℕ) (part : CountedPrefix) (version : Version)
+    (s : ObjectState) (wanted : RegisterModel) (edits : List Edit) (bytes journal text : List ℕ)
     (cut : Option (List ℕ)) : Type 0 where
   pub same : bytes ≡ held
   pub needs : needs_sources version edits ≡ true
@@ -66,16 +66,16 @@ pub record IsOlderOf (path held : List ℕ) (part : WholePart) (version : Versio
   pub sources : All HasLawfulSource edits
   pub anew : journal ≡ journal_text (with_batch s edits)
   pub printed : text ≡ published_text path s wanted edits
-  pub told : IsCutOf part cut
+  pub message : IsCutOf part cut
 
 -- The same of a journal with nothing pending that has the edition of the text, with the edits of a
 -- plan that no later edition hinders.
-pub record IsOlderPlan (asked : RequestModel) (held : List ℕ) (part : WholePart)
+pub record IsOlderPlan (asked : RequestModel) (held : List ℕ) (part : CountedPrefix)
     (version : Version) (s : ObjectState) (wanted : RegisterModel) (bytes journal text : List ℕ)
     (cut : Option (List ℕ)) : Type 0 where
   pub pending : s.pending ≡ []
   pub had : later_than asked.edition (length s.batches) ≡ None
   pub edits : List Edit
-  pub plans : IsPlan s.limits wanted.lands (published s) edits
+  pub plans : IsPlan s.limits wanted.territories (published s) edits
   pub free : hindered asked s.batches edits ≡ None
   pub older : IsOlderOf asked.journal held part version s wanted edits bytes journal text cut

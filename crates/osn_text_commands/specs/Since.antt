@@ -6,15 +6,15 @@ use Rattle.std.specs.Fmt.{decimal}
 use Rattle.std.specs.List.{list_any}
 use Rattle.std.specs.Ordering.{int_eq}
 use Rattle.std.specs.Str.{bytes_eq}
-use Rattle.osn_days.specs.Profile.{newest_rules}
+use Rattle.osn_days.specs.Rules.{newest_rules}
 use Rattle.osn_plan_page.specs.PlanPage.{plan_page}
 use Rattle.osn_register.specs.Lawful.{code_of}
-use Rattle.osn_register.specs.Plain.{LandModel}
+use Rattle.osn_register.specs.Plain.{EntryModel}
 use Rattle.osn_register.specs.declared.edit.Edit.{Edit}
 use Rattle.osn_register.specs.declared.edit.Edit.TheVariants.{AddLand, AddChange, AlterChange}
 use Rattle.osn_register.specs.declared.edit.Edit.TheVariants.{DropChange, AddException}
 use Rattle.osn_register.specs.declared.edit.Edit.TheVariants.{DropException}
-use Rattle.osn_shown.specs.Shown.{shown}
+use Rattle.osn_shown.specs.Escaped.{escaped}
 use Rattle.osn_text_commands.specs.declared.since.Item.{Item}
 use Rattle.osn_text_commands.specs.declared.since.Item.TheVariants.{Period, Easter}
 use Rattle.osn_text_commands.specs.declared.since.PublishRequest.{PublishRequest}
@@ -84,44 +84,44 @@ hindered asked batches edits =
 -- the lines on a text of an edition that the journal lacks, which has this many
 unfoldable pub later_lines : List ℕ → List ℕ → ℕ → ℕ → List ℕ
 later_lines text journal edition editions = codes "oldstyle: "
-    ++ (shown text
+    ++ (escaped text
     ++ (codes ": edition: "
     ++ (decimal edition
     ++ (codes " is later than the newest edition of "
-    ++ (shown journal
+    ++ (escaped journal
     ++ (codes ", which is "
     ++ (decimal editions
     ++ codes "\nhelp: write the edition that the text was made from, or leave the line out\n")))))))
 
 -- what an edition changed, in the words of a plan
-abbrev pub edition_lines : List LandModel → ℕ → List Edit → List ℕ
-edition_lines lands number edits = codes "edition "
-    ++ (decimal number ++ (codes ":\n" ++ plan_page newest_rules [] lands edits))
+abbrev pub edition_lines : List EntryModel → ℕ → List Edit → List ℕ
+edition_lines territories number edits = codes "edition "
+    ++ (decimal number ++ (codes ":\n" ++ plan_page newest_rules [] territories edits))
 
 -- the same of the editions after that of a number
-abbrev pub editions_lines : List LandModel → ℕ → List (List Edit) → List ℕ
-editions_lines lands number [] = []
-editions_lines lands number (batch ∷ batches) =
-    edition_lines lands (number + 1) batch ++ editions_lines lands (number + 1) batches
+abbrev pub editions_lines : List EntryModel → ℕ → List (List Edit) → List ℕ
+editions_lines territories number [] = []
+editions_lines territories number (batch ∷ batches) =
+    edition_lines territories (number + 1) batch ++ editions_lines territories (number + 1) batches
 
 unfoldable pub behind_begin : List ℕ → List ℕ → ℕ → List ℕ
 behind_begin text journal edition = codes "oldstyle: "
-    ++ (shown text
+    ++ (escaped text
     ++ (codes ": the text is of edition "
     ++ (decimal edition
     ++ (codes ", and would undo or change again what came since in "
-    ++ (shown journal ++ codes ":\n")))))
+    ++ (escaped journal ++ codes ":\n")))))
 
 unfoldable pub behind_end : List ℕ → ℕ → List ℕ
 behind_end journal editions = codes "help: print the text again by oldstyle text "
-    ++ (shown journal
+    ++ (escaped journal
     ++ (codes "; or write edition = "
     ++ (decimal editions
     ++ codes " in it, if it has these edits; or publish it anyway by --onto-newest\n")))
 
 -- the lines on a text of an edition, and what later ones of the journal changed
-abbrev pub behind_lines : List ℕ → List ℕ → ℕ → List LandModel → List (List Edit) → List ℕ
-behind_lines text journal edition lands batches =
+abbrev pub behind_lines : List ℕ → List ℕ → ℕ → List EntryModel → List (List Edit) → List ℕ
+behind_lines text journal edition territories batches =
     behind_begin text journal edition
-    ++ (editions_lines lands edition (drop edition batches)
+    ++ (editions_lines territories edition (drop edition batches)
     ++ behind_end journal (length batches))

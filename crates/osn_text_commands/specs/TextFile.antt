@@ -8,12 +8,12 @@ use Rattle.osn_lines.specs.declared.whole.ReadAllFault.{ReadAllFault}
 use Rattle.osn_lines.specs.declared.whole.ReadAllFault.TheVariants as read_faults
 use Rattle.osn_register.specs.declared.limits.Limits.{Limits}
 use Rattle.osn_register.specs.Plain.{RegisterModel}
-use Rattle.osn_report.specs.Messages.{EndsBy, TellsIfMade}
-use Rattle.osn_report.specs.Unopened.{unopened_line}
+use Rattle.osn_report.specs.Messages.{EndsBy, ReportsIfMade}
+use Rattle.osn_report.specs.OpenFailure.{open_failure_line}
 use Rattle.osn_report.specs.declared.fault.CommandFault.TheVariants as command_faults
 use Rattle.osn_report.specs.declared.status.Status.{Status}
 use Rattle.osn_report.specs.declared.status.Status.TheVariants as statuses
-use Rattle.osn_shown.specs.Shown.{shown}
+use Rattle.osn_shown.specs.Escaped.{escaped}
 use Rattle.osn_text_reader.specs.Text.{IsFaultOf, said_by}
 use Rattle.osn_text_reader.specs.Words.{text_fault_text}
 use Rattle.osn_text_reader.specs.declared.fault.TextFault.{TextFault}
@@ -29,7 +29,7 @@ by_read read_faults.ReadFault = faults.ReadFault
 -- these bytes say this register under these limits, and of which edition it was made, if they do
 abbrev pub BytesSay : Limits → List ℕ → Option ℕ → RegisterModel → Type 0
 BytesSay limits bytes edition r =
-    (r.limits ≡ limits) × IsUtf8 bytes × (said_by limits bytes ≡ Some (Ok (edition, r.lands)))
+    (r.limits ≡ limits) × IsUtf8 bytes × (said_by limits bytes ≡ Some (Ok (edition, r.territories)))
 
 -- they say no register, by this fault
 abbrev pub BytesSayNone : Limits → List ℕ → TextFileFault → Type 0
@@ -53,21 +53,21 @@ IsTextFileFault limits text fault =
 
 -- the line on a text of this path
 abbrev pub text_line : List ℕ → List ℕ → List ℕ
-text_line path said = codes "oldstyle: " ++ (shown path ++ (codes ": " ++ (said ++ codes "\n")))
+text_line path said = codes "oldstyle: " ++ (escaped path ++ (codes ": " ++ (said ++ codes "\n")))
 
 -- it was reported what a text says wrongly, or that memory ran out
-abbrev pub TellsText : List ℕ → Output → TextFault → Status → Type 0
-TellsText path e (text_faults.Toml why) status = TellsIfMade e statuses.Refused
+abbrev pub ReportsText : List ℕ → Output → TextFault → Status → Type 0
+ReportsText path e (text_faults.Toml why) status = ReportsIfMade e statuses.Refused
     (text_line path (text_fault_text (text_faults.Toml why))) status
-TellsText path e (text_faults.Key why) status = TellsIfMade e statuses.Refused
+ReportsText path e (text_faults.Key why) status = ReportsIfMade e statuses.Refused
     (text_line path (text_fault_text (text_faults.Key why))) status
-TellsText path e text_faults.NoMemory status = EndsBy e command_faults.NoMemory status
+ReportsText path e text_faults.NoMemory status = EndsBy e command_faults.NoMemory status
 
 -- it was reported why the file of this path says no register
-abbrev pub TellsTextFile : List ℕ → Output → TextFileFault → Status → Type 0
-TellsTextFile path e faults.NoMemory status = EndsBy e command_faults.NoMemory status
-TellsTextFile path e faults.ReadFault status =
-    TellsIfMade e statuses.ReadFault (unopened_line path Other) status
-TellsTextFile path e faults.NotUtf8 status = TellsIfMade e statuses.Refused
+abbrev pub ReportsTextFile : List ℕ → Output → TextFileFault → Status → Type 0
+ReportsTextFile path e faults.NoMemory status = EndsBy e command_faults.NoMemory status
+ReportsTextFile path e faults.ReadFault status =
+    ReportsIfMade e statuses.ReadFault (open_failure_line path Other) status
+ReportsTextFile path e faults.NotUtf8 status = ReportsIfMade e statuses.Refused
     (text_line path (codes "it is not UTF-8: save it as UTF-8")) status
-TellsTextFile path e (faults.Text why) status = TellsText path e why status
+ReportsTextFile path e (faults.Text why) status = ReportsText path e why status

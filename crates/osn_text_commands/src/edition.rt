@@ -8,7 +8,7 @@ ghost use Rattle.osn_files.specs.JournalText.{journal_text};
 ghost use Rattle.osn_journal.specs.KeptJournal.{file_of};
 ghost use Rattle.osn_lines.specs.Streams.{output_of};
 ghost use Rattle.osn_register.specs.declared.edit.Edit.{Edit};
-ghost use Rattle.osn_serve_commands.specs.Keep.{TellsCut};
+ghost use Rattle.osn_serve_commands.specs.Keep.{ReportsCut};
 ghost use Rattle.osn_text_commands.specs.Edition.{IsNoMemoryOr, edition_refusal, with_batch};
 ghost use Rattle.osn_text_commands.specs.Publish as spec;
 ghost use Rattle.osn_text_commands.specs.Publish.{published_text};
@@ -16,7 +16,7 @@ ghost use Rattle.osn_text_commands.specs.PublishInside as inside;
 
 use crate::plan_words::{push_new_journal, push_published};
 use osn_core::Object;
-use osn_files::{WholePart, journal_text, with_edits, with_publish};
+use osn_files::{CountedPrefix, journal_text, with_edits, with_publish};
 use osn_folder::{KeptFile, KeptFileFault};
 use osn_journal::append_synced;
 use osn_lines::Sink;
@@ -52,7 +52,7 @@ pub(crate) fn make_edition(object: &mut Object, edits: Vec<Edit>) -> Result<u32,
 
 /// Returns what a file of which this part counts gets: what is missing there, then the lines of
 /// edits and that of their publish.
-fn edition_lines(alloc: Global, part: WholePart, edits: &[Edit]) -> Result<Vec<u8>, AllocError>
+fn edition_lines(alloc: Global, part: CountedPrefix, edits: &[Edit]) -> Result<Vec<u8>, AllocError>
     ensures { IfOk result (λ lines. inside.AreLinesOf part edits.now lines.items) }
 {
     let missing = missing_text(alloc, part)?;
@@ -96,7 +96,7 @@ pub(crate) struct Edition {
 pub(crate) fn edition_of(
     alloc: Global,
     path: &str,
-    part: WholePart,
+    part: CountedPrefix,
     object: &mut Object,
     wanted: &Register,
     edits: Vec<Edit>,
@@ -188,19 +188,19 @@ fn append_whole<K: KeptFile>(keeper: &mut K, size: u64, lines: &[u8]) -> Result<
 /// If the file failed; it is cut back then. If memory ran out; nothing has changed then.
 pub(crate) fn write_edition<K: KeptFile, E: Sink>(
     alloc: Global,
-    part: WholePart,
+    part: CountedPrefix,
     keeper: &mut K,
     lines: &[u8],
     errors: &mut E,
 ) -> Result<(), CommandFault>
     requires { part.lines < 2 ^ 63 }
     ensures ok { OnOk result ((cut : Option ℕ)
-        × TellsCut (output_of E.contents E.has_failed E.holds_back errors.old errors.new) cut
+        × ReportsCut (output_of E.contents E.has_failed E.holds_back errors.old errors.new) cut
         × ((edits : List Edit) → inside.AreLinesOf part edits lines.now
         → inside.IsWritten part edits cut (file_of K.contents K.synced K.fault keeper.old)
         (file_of K.contents K.synced K.fault keeper.new))) }
     ensures err { IfErr result (λ fault. (cut : Option ℕ)
-        × TellsCut (output_of E.contents E.has_failed E.holds_back errors.old errors.new) cut
+        × ReportsCut (output_of E.contents E.has_failed E.holds_back errors.old errors.new) cut
         × ((edits : List Edit) → inside.AreLinesOf part edits lines.now
         → inside.IsUnwritten (inside.CanStay K.cut_back_may_fail) part edits fault cut
         (file_of K.contents K.synced K.fault keeper.old)

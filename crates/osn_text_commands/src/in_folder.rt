@@ -8,7 +8,7 @@ ghost use Rattle.osn_serve_commands.specs.Serve.{input_if};
 ghost use Rattle.osn_text_commands.specs.InFolder as spec;
 ghost use Rattle.osn_text_commands.specs.Text.{PrintsText};
 
-use crate::keeping::tell_hindrance;
+use crate::keeping::report_hindrance;
 use crate::plan::plan_command;
 use crate::text::text_command;
 use osn_editions::edition_of_word;
@@ -16,7 +16,7 @@ use osn_folder::{Folder, OpenFailed, open_file};
 use osn_lines::Sink;
 use osn_page_commands::tell_edition_word;
 use osn_register::Limits;
-use osn_report::{Status, tell_unopened};
+use osn_report::{Status, report_open_failure};
 use std::alloc::Global;
 
 /// Opens the journal of a path, and prints its edition of a number, or the newest one.
@@ -121,7 +121,7 @@ fn plan_by<D: Folder, W: Sink, E: Sink>(
         Ok(mut file) => plan_command(
             alloc, limits, path, journal, text, &mut file, output, errors,
         ),
-        Err(cause) => tell_unopened(alloc, errors, text, cause),
+        Err(cause) => report_open_failure(alloc, errors, text, cause),
     }
 }
 
@@ -155,7 +155,7 @@ pub fn plan_in_folder<D: Folder, W: Sink, E: Sink>(
     match plan_by(
         alloc, limits, folder, journal, &mut file, text, output, errors,
     ) {
-        Status::Done => Ok(tell_hindrance(alloc, folder, journal, is_there, errors)),
+        Status::Done => Ok(report_hindrance(alloc, folder, journal, is_there, errors)),
         failed => Ok(failed),
     }
 }

@@ -6,8 +6,8 @@ ghost use Rattle.osn_text_commands.specs.Keeping as spec;
 
 use osn_folder::{Folder, KeepFault, OpenFailed};
 use osn_lines::Sink;
-use osn_report::{Status, tell_line};
-use osn_shown::Shown;
+use osn_report::{Status, report_line};
+use osn_shown::Escaped;
 use std::alloc::{AllocError, Global};
 use std::path::Path;
 
@@ -144,8 +144,8 @@ fn no_folder_line(alloc: Global, path: &str, folder: &str) -> Result<String, All
     ensures { IfOk result (λ line. string_bytes line
         ≡ spec.no_folder_line path.now folder.now) }
 {
-    let path = Shown(path);
-    let folder = Shown(folder);
+    let path = Escaped(path);
+    let folder = Escaped(folder);
     format!(in alloc; "oldstyle: {path}: there is no folder {folder}: make it first\n")
 }
 
@@ -157,25 +157,25 @@ pub(crate) fn unkept_line(alloc: Global, path: &str, cause: KeepCause) -> Result
         (KeepCause::NoFolder, Some(folder)) => no_folder_line(alloc, path, folder),
         _ => {
             let words = cause_words(cause);
-            format!(in alloc; "oldstyle: {}: {words}\n", Shown(path))
+            format!(in alloc; "oldstyle: {}: {words}\n", Escaped(path))
         }
     }
 }
 
 /// Reports on standard error why the file of a journal would not be kept, as far as that is found
 /// out without making one. It is there or not. Returns the status.
-pub(crate) fn tell_hindrance<D: Folder, E: Sink>(
+pub(crate) fn report_hindrance<D: Folder, E: Sink>(
     alloc: Global,
     folder: &mut D,
     path: &str,
     is_there: bool,
     errors: &mut E,
 ) -> Status
-    ensures { spec.TellsHindrance path.now is_there (D.known folder.old) (D.known folder.new)
+    ensures { spec.ReportsHindrance path.now is_there (D.known folder.old) (D.known folder.new)
         (output_of E.contents E.has_failed E.holds_back errors.old errors.new) result }
 {
     match hindrance(folder, path, is_there) {
-        Some(cause) => tell_line(errors, Status::Done, unkept_line(alloc, path, cause)),
+        Some(cause) => report_line(errors, Status::Done, unkept_line(alloc, path, cause)),
         None => Status::Done,
     }
 }

@@ -13,12 +13,12 @@ use crate::keeping::{cause_of, unkept_line};
 use crate::publish::publish_command;
 use crate::publish_edits::print_report;
 use crate::since::PublishRequest;
-use crate::text_file::{read_said, tell_text_file};
+use crate::text_file::{read_said, report_text_file};
 use osn_folder::{Folder, OpenFailed, open_file};
 use osn_lines::Sink;
 use osn_register::{Limits, Register};
-use osn_report::{Status, tell_line};
-use osn_serve_commands::{save_anew, tell_cut};
+use osn_report::{Status, report_line};
+use osn_serve_commands::{report_cut, save_anew};
 use std::alloc::Global;
 
 /// Saves the whole journal of an edition in the file of a path, which must still contain these
@@ -42,7 +42,7 @@ fn save_edition<D: Folder, W: Sink, E: Sink>(
     let journal = edition.journal.as_str();
     match save_anew(alloc, folder, path, loaded, journal, errors) {
         Ok(()) => {
-            tell_cut(errors, cut);
+            report_cut(errors, cut);
             print_report(edition.text.as_str(), output, errors)
         }
         Err(status) => status,
@@ -71,7 +71,7 @@ fn keep_and_publish<D: Folder, W: Sink, E: Sink>(
         Ok(found) => found,
         Err(fault) => {
             let cause = cause_of(folder, path, fault);
-            return tell_line(errors, Status::ReadFault, unkept_line(alloc, path, cause));
+            return report_line(errors, Status::ReadFault, unkept_line(alloc, path, cause));
         }
     };
     let published = publish_command(
@@ -145,6 +145,6 @@ pub fn publish_in_folder<D: Folder, W: Sink, E: Sink>(
             let wanted = &said.register;
             Ok(keep_and_publish(alloc, limits, folder, asked, wanted, output, errors))
         }
-        Err(fault) => Ok(tell_text_file(alloc, errors, text, &fault)),
+        Err(fault) => Ok(report_text_file(alloc, errors, text, &fault)),
     }
 }

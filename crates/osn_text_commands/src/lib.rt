@@ -24,6 +24,6 @@ pub use in_folder::{plan_in_folder, text_in_folder};
 pub use kept_journal::publish_in_folder;
 pub use plan::plan_command;
 pub use publish::publish_command;
-pub use publish_edits::OlderEdition;
+pub use publish_edits::NeedsRewrite;
 pub use since::PublishRequest;
 pub use text::text_command;

@@ -11,7 +11,7 @@ use osn_core::Object;
 use osn_format::Version;
 use osn_lines::Sink;
 use osn_register::{Edit, Refusal};
-use osn_report::{Status, tell_line, tell_no_memory};
+use osn_report::{Status, report_line, report_no_memory};
 use osn_serve_commands::check_kept;
 use std::alloc::Global;
 
@@ -89,31 +89,31 @@ pub(crate) fn note_of(
 
 /// Reports on standard error that a publish refuses edits, or that memory ran out. Returns the
 /// status.
-fn tell_refused<E: Sink>(alloc: Global, errors: &mut E, refusal: Refusal) -> Status
-    ensures { spec.TellsRefused refusal
+fn report_refused<E: Sink>(alloc: Global, errors: &mut E, refusal: Refusal) -> Status
+    ensures { spec.ReportsRefused refusal
         (output_of E.contents E.has_failed E.holds_back errors.old errors.new) result }
 {
     match refusal {
-        Refusal::NoMemory => tell_no_memory(errors),
-        _ => tell_line(errors, Status::Done, refused_edits_line(alloc, refusal)),
+        Refusal::NoMemory => report_no_memory(errors),
+        _ => report_line(errors, Status::Done, refused_edits_line(alloc, refusal)),
     }
 }
 
 /// Writes a note on the journal of this path to standard error. Returns the status.
-pub(crate) fn tell_note<E: Sink>(alloc: Global, errors: &mut E, path: &str, note: Note) -> Status
+pub(crate) fn report_note<E: Sink>(alloc: Global, errors: &mut E, path: &str, note: Note) -> Status
     // Whatever note was to be found.
     ensures { (wanted : Note) → spec.IsNoteOf wanted note
-        → spec.TellsNote (spec.note_line path.now wanted)
+        → spec.ReportsNote (spec.note_line path.now wanted)
         (output_of E.contents E.has_failed E.holds_back errors.old errors.new) result }
 {
     match note {
         Note::Nothing => Status::Done,
-        Note::Pending(edits) => tell_line(errors, Status::Done, pending_line(alloc, edits)),
-        Note::New => tell_line(errors, Status::Done, new_line(alloc, path)),
-        Note::Refused(refusal) => tell_refused(alloc, errors, refusal),
-        Note::Anew(version) => tell_line(errors, Status::Done, anew_line(alloc, version)),
+        Note::Pending(edits) => report_line(errors, Status::Done, pending_line(alloc, edits)),
+        Note::New => report_line(errors, Status::Done, new_line(alloc, path)),
+        Note::Refused(refusal) => report_refused(alloc, errors, refusal),
+        Note::Anew(version) => report_line(errors, Status::Done, anew_line(alloc, version)),
         Note::NotKept(version) => {
-            tell_line(errors, Status::Done, not_kept_line(alloc, path, version))
+            report_line(errors, Status::Done, not_kept_line(alloc, path, version))
         }
     }
 }

@@ -3,15 +3,15 @@ ghost use Rattle.std.specs.Prelude.{◌≡◌, length, IfErr, IfOk, string_bytes
 ghost use Rattle.osn_lines.specs.Streams.{input_of, output_of};
 ghost use Rattle.osn_report.specs.Journal.{Begins, BeginsNot};
 ghost use Rattle.osn_serve_commands.specs.Serve.{input_if};
-ghost use Rattle.osn_text_commands.specs.Note.{TellsNote};
+ghost use Rattle.osn_text_commands.specs.Note.{ReportsNote};
 ghost use Rattle.osn_text_commands.specs.Plan as spec;
 ghost use Rattle.osn_text_commands.specs.Since.{later_than};
 
-use crate::note::{note_of, tell_note};
-use crate::plan_fault::tell_plan;
+use crate::note::{note_of, report_note};
+use crate::plan_fault::report_plan_fault;
 use crate::plan_words::push_plan_end;
 use crate::since::{PublishRequest, behind, behind_lines, later_lines, later_than};
-use crate::text_file::{read_said, tell_text_file};
+use crate::text_file::{read_said, report_text_file};
 use osn_core::Object;
 use osn_files::{FileFault, load_with_version};
 use osn_format::Version;
@@ -19,7 +19,7 @@ use osn_lines::{Sink, Source};
 use osn_plan::plan;
 use osn_plan_page::plan_page;
 use osn_register::{Edit, Limits, Register};
-use osn_report::{CommandFault, Status, print, report_at, tell_line};
+use osn_report::{CommandFault, Status, print, report_at, report_line};
 use std::alloc::{AllocError, Global};
 
 /// Returns the lines of a plan, which would be the next edition of the object.
@@ -39,7 +39,7 @@ fn plan_text(
 
 /// Reports on standard error that the text of a plan is behind an edition, or else writes a note on
 /// its edits for the journal of this version. Returns the status.
-fn tell_edits<E: Sink>(
+fn report_edits<E: Sink>(
     alloc: Global,
     asked: PublishRequest<'_>,
     is_there: bool,
@@ -48,18 +48,18 @@ fn tell_edits<E: Sink>(
     edits: Vec<Edit>,
     errors: &mut E,
 ) -> Status
-    ensures { TellsNote (spec.edits_line asked.entry.journal.now asked.entry.text.now is_there
+    ensures { ReportsNote (spec.edits_line asked.entry.journal.now asked.entry.text.now is_there
         version object.old asked.entry.edition edits.items)
         (output_of E.contents E.has_failed E.holds_back errors.old errors.new) result }
 {
     match behind(asked.edition, object.batches(), &edits) {
         Some(edition) => {
             let lines = behind_lines(alloc, asked, edition, object);
-            tell_line(errors, Status::Done, lines)
+            report_line(errors, Status::Done, lines)
         }
         None => {
             let note = note_of(is_there, version, object, edits);
-            tell_note(alloc, errors, asked.journal, note)
+            report_note(alloc, errors, asked.journal, note)
         }
     }
 }
@@ -83,7 +83,7 @@ fn print_edits<W: Sink, E: Sink>(
         (output_of E.contents E.has_failed E.holds_back errors.old errors.new) result }
 {
     match print(plan_text(alloc, object, wanted, &edits), output, errors) {
-        Status::Done => tell_edits(alloc, asked, is_there, version, object, edits, errors),
+        Status::Done => report_edits(alloc, asked, is_there, version, object, edits, errors),
         failed => failed,
     }
 }
@@ -111,13 +111,13 @@ fn print_plan<W: Sink, E: Sink>(
     let editions = object.batches().len();
     if let Some(edition) = later_than(asked.edition, editions) {
         let lines = later_lines(alloc, asked.text, asked.journal, edition, editions);
-        return tell_line(errors, Status::Refused, lines);
+        return report_line(errors, Status::Refused, lines);
     }
     match plan(alloc, object.register(), wanted) {
         Ok(edits) => print_edits(
             alloc, asked, is_there, version, object, wanted, edits, output, errors,
         ),
-        Err(fault) => tell_plan(alloc, errors, asked.text, &fault),
+        Err(fault) => report_plan_fault(alloc, errors, asked.text, &fault),
     }
 }
 
@@ -153,7 +153,7 @@ fn plan_text_file<T: Source, W: Sink, E: Sink>(
                 alloc, asked, is_there, version, object, wanted, output, errors,
             )
         }
-        Err(fault) => tell_text_file(alloc, errors, text_path, &fault),
+        Err(fault) => report_text_file(alloc, errors, text_path, &fault),
     }
 }
 

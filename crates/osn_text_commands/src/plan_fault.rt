@@ -6,8 +6,8 @@ ghost use Rattle.osn_text_commands.specs.PlanFault as spec;
 use osn_lines::Sink;
 use osn_plan::PlanFault;
 use osn_register::Refusal;
-use osn_report::{Status, limit_hint, tell_line, tell_no_memory};
-use osn_shown::Shown;
+use osn_report::{Status, limit_hint, report_line, report_no_memory};
+use osn_shown::Escaped;
 use std::alloc::{AllocError, Global};
 
 /// Returns what to do about a name that a text changes.
@@ -15,8 +15,8 @@ use std::alloc::{AllocError, Global};
 fn renamed_help(alloc: Global, name: &str, wanted: &str) -> Result<String, AllocError>
     ensures { IfOk result (λ help. string_bytes help ≡ spec.renamed_help name.now wanted.now) }
 {
-    let name = Shown(name);
-    let wanted = Shown(wanted);
+    let name = Escaped(name);
+    let wanted = Escaped(wanted);
     format!(in alloc; "\nhelp: write {name} again, or give {wanted} a code of its own\n")
 }
 
@@ -34,10 +34,10 @@ fn renamed_line(
     let help = renamed_help(alloc, name, wanted)?;
     format!(in alloc;
         "oldstyle: {}: {}: a name can't be changed: it is {}, and the text has {}{help}",
-        Shown(path),
-        Shown(code),
-        Shown(name),
-        Shown(wanted)
+        Escaped(path),
+        Escaped(code),
+        Escaped(name),
+        Escaped(wanted)
     )
 }
 
@@ -55,31 +55,31 @@ fn refused_line(
     let number = refusal.number();
     let name = refusal.name();
     let hint = limit_hint(refusal);
-    let path = Shown(path);
-    let code = Shown(code);
+    let path = Escaped(path);
+    let code = Escaped(code);
     format!(in alloc; "oldstyle: {path}: {code}: {number} {name}{hint}\n")
 }
 
 /// Reports on standard error why there is no plan to what the text of this path says. Returns the
 /// status.
-pub(crate) fn tell_plan<E: Sink>(
+pub(crate) fn report_plan_fault<E: Sink>(
     alloc: Global,
     errors: &mut E,
     path: &str,
     fault: &PlanFault,
 ) -> Status
-    ensures { spec.TellsPlanFault path.now
+    ensures { spec.ReportsPlanFault path.now
         (output_of E.contents E.has_failed E.holds_back errors.old errors.new) fault.now result }
 {
     match fault {
         PlanFault::Renamed { code, name, wanted } => {
             let line = renamed_line(alloc, path, code.as_str(), name.as_str(), wanted.as_str());
-            tell_line(errors, Status::Refused, line)
+            report_line(errors, Status::Refused, line)
         }
         PlanFault::Refused { code, refusal } => {
             let line = refused_line(alloc, path, code.as_str(), *refusal);
-            tell_line(errors, Status::Refused, line)
+            report_line(errors, Status::Refused, line)
         }
-        PlanFault::NoMemory => tell_no_memory(errors),
+        PlanFault::NoMemory => report_no_memory(errors),
     }
 }

@@ -5,7 +5,7 @@ ghost use Rattle.osn_text_commands.specs.PlanWords as spec;
 use osn_format::Version;
 use osn_register::Refusal;
 use osn_report::limit_hint;
-use osn_shown::Shown;
+use osn_shown::Escaped;
 use std::alloc::{AllocError, Global};
 use std::fmt::Write;
 
@@ -32,7 +32,7 @@ pub(crate) fn push_new_journal(
         (string_bytes out.new ≡ string_bytes out.old ++ spec.new_journal_line path.now editions) }
 {
     match editions {
-        0 => writeln!(out, "note: {} is a new journal", Shown(path)),
+        0 => writeln!(out, "note: {} is a new journal", Escaped(path)),
         _ => Ok(()),
     }
 }
@@ -89,7 +89,7 @@ pub(crate) fn pending_line(alloc: Global, pending: usize) -> Result<String, Allo
 pub(crate) fn new_line(alloc: Global, path: &str) -> Result<String, AllocError>
     ensures { IfOk result (λ line. string_bytes line ≡ spec.new_line path.now) }
 {
-    format!(in alloc; "note: {} is a new journal\n", Shown(path))
+    format!(in alloc; "note: {} is a new journal\n", Escaped(path))
 }
 
 /// Returns the line on edits that a publish refuses.
@@ -122,7 +122,7 @@ pub(crate) fn not_kept_line(
     ensures { IfOk result (λ line. string_bytes line ≡ spec.not_kept_line path.now version) }
 {
     let number = version.number();
-    let path = Shown(path);
+    let path = Escaped(path);
     format!(in alloc;
         "oldstyle: publish refuses a journal of version {number}: serve --keep with --upgrade \
 saves it as version 4\nhelp: run oldstyle serve --keep {path} --upgrade < /dev/null, \

@@ -8,16 +8,16 @@ ghost use Rattle.osn_text_commands.specs.Publish as spec;
 ghost use Rattle.osn_text_commands.specs.PublishInside as inside;
 ghost use Rattle.osn_text_commands.specs.Since.{hindered, request_of};
 
-use crate::plan_fault::tell_plan;
+use crate::plan_fault::report_plan_fault;
 use crate::plan_words::pending_line;
-use crate::publish_edits::{OlderEdition, publish_edits};
+use crate::publish_edits::{NeedsRewrite, publish_edits};
 use crate::since::{PublishRequest, behind_lines, hindered, later_lines, later_than};
 use osn_folder::KeptFile;
 use osn_lines::{Sink, Source};
 use osn_plan::plan;
 use osn_register::{Edit, Limits, Register};
-use osn_report::{Status, report_at, tell_line};
-use osn_serve_commands::{HeldJournal, read_kept};
+use osn_report::{Status, report_at, report_line};
+use osn_serve_commands::{LoadedJournal, read_kept};
 use std::alloc::Global;
 
 /// Publishes the edits of a plan, unless they change again what editions after that of the text
@@ -29,13 +29,13 @@ use std::alloc::Global;
 fn publish_unless_behind<K: KeptFile, W: Sink, E: Sink>(
     alloc: Global,
     keeper: &mut K,
-    held: HeldJournal,
+    held: LoadedJournal,
     asked: PublishRequest<'_>,
     wanted: &Register,
     edits: Vec<Edit>,
     output: &mut W,
     errors: &mut E,
-) -> Result<Status, OlderEdition>
+) -> Result<Status, NeedsRewrite>
     requires few { held.part.lines < 2 ^ 63 }
     requires pending { held.object.pending ≡ [] }
     // Whatever a source gave of which the part counts.
@@ -60,7 +60,7 @@ fn publish_unless_behind<K: KeptFile, W: Sink, E: Sink>(
     match hindered(asked, held.object.batches(), &edits) {
         Some(edition) => {
             let lines = behind_lines(alloc, asked, edition, &held.object);
-            Ok(tell_line(errors, Status::Refused, lines))
+            Ok(report_line(errors, Status::Refused, lines))
         }
         None => publish_edits(
             alloc,
@@ -84,12 +84,12 @@ fn publish_unless_behind<K: KeptFile, W: Sink, E: Sink>(
 fn publish_held<K: KeptFile, W: Sink, E: Sink>(
     alloc: Global,
     keeper: &mut K,
-    held: HeldJournal,
+    held: LoadedJournal,
     asked: PublishRequest<'_>,
     wanted: &Register,
     output: &mut W,
     errors: &mut E,
-) -> Result<Status, OlderEdition>
+) -> Result<Status, NeedsRewrite>
     requires { held.part.lines < 2 ^ 63 }
     // Whatever a source gave of which the part counts.
     ensures ok { IfOk result (λ status. (given : Option (List ℕ))
@@ -109,18 +109,18 @@ fn publish_held<K: KeptFile, W: Sink, E: Sink>(
 {
     if !held.object.pending().is_empty() {
         let line = pending_line(alloc, held.object.pending().len());
-        return Ok(tell_line(errors, Status::Refused, line));
+        return Ok(report_line(errors, Status::Refused, line));
     }
     let editions = held.object.batches().len();
     if let Some(edition) = later_than(asked.edition, editions) {
         let lines = later_lines(alloc, asked.text, asked.journal, edition, editions);
-        return Ok(tell_line(errors, Status::Refused, lines));
+        return Ok(report_line(errors, Status::Refused, lines));
     }
     match plan(alloc, held.object.register(), wanted) {
         Ok(edits) => {
             publish_unless_behind(alloc, keeper, held, asked, wanted, edits, output, errors)
         }
-        Err(fault) => Ok(tell_plan(alloc, errors, asked.text, &fault)),
+        Err(fault) => Ok(report_plan_fault(alloc, errors, asked.text, &fault)),
     }
 }
 
@@ -151,7 +151,7 @@ pub fn publish_command<K: KeptFile, J: Source, W: Sink, E: Sink>(
     wanted: &Register,
     output: &mut W,
     errors: &mut E,
-) -> Result<Status, OlderEdition>
+) -> Result<Status, NeedsRewrite>
     ensures ended { IfOk result (spec.EndsPublish (inside.CanStay K.cut_back_may_fail) limits
         (request_of asked.entry) wanted.now
         (file_of K.contents K.synced K.fault keeper.old)
@@ -159,7 +159,7 @@ pub fn publish_command<K: KeptFile, J: Source, W: Sink, E: Sink>(
         (input_of J.remaining J.has_failed journal.old journal.new)
         (output_of W.contents W.has_failed W.holds_back output.old output.new)
         (output_of E.contents E.has_failed E.holds_back errors.old errors.new)) }
-    ensures older { IfErr result (λ older. spec.IsOlderEdition limits (request_of asked.entry)
+    ensures older { IfErr result (λ older. spec.IsRewriteNeeded limits (request_of asked.entry)
         wanted.now (J.remaining journal.old) older.bytes.items (string_bytes older.edition.journal)
         (string_bytes older.edition.text) (option_map string_bytes older.cut)) }
     ensures quiet { OnErr result ((keeper.new ≡ keeper.old) × (output.new ≡ output.old)

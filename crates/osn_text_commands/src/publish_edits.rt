@@ -16,14 +16,14 @@ ghost use Rattle.osn_text_commands.specs.PublishInside as inside;
 use crate::edition::{Edition, WholeEdition, edition_of, whole_edition_of, write_edition};
 use crate::plan_words::{not_kept_line, push_standing};
 use osn_core::Object;
-use osn_files::{WholePart, give_source};
+use osn_files::{CountedPrefix, give_source};
 use osn_folder::KeptFile;
 use osn_format::Version;
 use osn_lines::{Sink, write_all};
 use osn_plan_page::plan_page;
 use osn_register::{Edit, Refusal, Register};
-use osn_report::{CommandFault, Status, print, report, report_at, tell_line, write_line};
-use osn_serve_commands::{HeldJournal, check_kept, cut_text_of};
+use osn_report::{CommandFault, Status, print, report, report_at, report_line, write_line};
+use osn_serve_commands::{LoadedJournal, check_kept, cut_text_of};
 use std::alloc::{AllocError, Global};
 
 /// Returns the lines of a plan without edits, and the line that there is nothing to change.
@@ -63,7 +63,7 @@ pub(crate) fn print_report<W: Sink, E: Sink>(text: &str, output: &mut W, errors:
 fn publish_edition<K: KeptFile, W: Sink, E: Sink>(
     alloc: Global,
     path: &str,
-    part: WholePart,
+    part: CountedPrefix,
     keeper: &mut K,
     edition: &Edition,
     output: &mut W,
@@ -90,7 +90,7 @@ fn publish_edition<K: KeptFile, W: Sink, E: Sink>(
 fn append_edits<K: KeptFile, W: Sink, E: Sink>(
     alloc: Global,
     path: &str,
-    part: WholePart,
+    part: CountedPrefix,
     keeper: &mut K,
     object: &mut Object,
     wanted: &Register,
@@ -118,7 +118,7 @@ fn append_edits<K: KeptFile, W: Sink, E: Sink>(
 
 /// A journal of a version that has no sources, and an edition that needs them.
 #[derive(Drop)]
-pub struct OlderEdition {
+pub struct NeedsRewrite {
     /// What the file of the journal contains.
     pub bytes: Vec<u8>,
     /// The edition, and the rewritten journal.
@@ -143,10 +143,10 @@ pub(crate) fn needs_sources(version: Version, edits: &[Edit]) -> bool
 fn older_edition(
     alloc: Global,
     path: &str,
-    held: HeldJournal,
+    held: LoadedJournal,
     wanted: &Register,
     edits: Vec<Edit>,
-) -> Result<OlderEdition, Refusal>
+) -> Result<NeedsRewrite, Refusal>
     requires few { held.part.lines < 2 ^ 63 }
     requires pending { held.object.pending ≡ [] }
     ensures bytes { IfOk result (λ older. older.bytes.items ≡ held.bytes.items) }
@@ -160,7 +160,7 @@ fn older_edition(
         ≡ spec.published_text path.now held.object wanted.now edits.items) }
     ensures refused { IfErr result (IsNoMemoryOr (edition_refusal held.object edits.items)) }
 {
-    let HeldJournal {
+    let LoadedJournal {
         bytes,
         part,
         mut object,
@@ -168,7 +168,7 @@ fn older_edition(
     } = held;
     let cut = cut_text_of(alloc, part)?;
     let edition = whole_edition_of(alloc, path, &mut object, wanted, edits)?;
-    Ok(OlderEdition {
+    Ok(NeedsRewrite {
         bytes,
         edition,
         cut,
@@ -184,12 +184,12 @@ pub(crate) fn publish_edits<K: KeptFile, W: Sink, E: Sink>(
     alloc: Global,
     path: &str,
     keeper: &mut K,
-    held: HeldJournal,
+    held: LoadedJournal,
     wanted: &Register,
     edits: Vec<Edit>,
     output: &mut W,
     errors: &mut E,
-) -> Result<Status, OlderEdition>
+) -> Result<Status, NeedsRewrite>
     requires few { held.part.lines < 2 ^ 63 }
     requires pending { held.object.pending ≡ [] }
     // Whatever a source gave of which the part counts.
@@ -214,7 +214,7 @@ pub(crate) fn publish_edits<K: KeptFile, W: Sink, E: Sink>(
             Err(refusal) => Ok(report(alloc, errors, CommandFault::Refused(refusal))),
         };
     }
-    let HeldJournal {
+    let LoadedJournal {
         part,
         version,
         mut object,
@@ -234,7 +234,7 @@ pub(crate) fn publish_edits<K: KeptFile, W: Sink, E: Sink>(
         )),
         Err(_) => {
             let lines = not_kept_line(alloc, path, version);
-            Ok(tell_line(errors, Status::Refused, lines))
+            Ok(report_line(errors, Status::Refused, lines))
         }
     }
 }

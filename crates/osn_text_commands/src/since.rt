@@ -8,7 +8,7 @@ ghost use Rattle.osn_text_commands.specs.Text.{published};
 use osn_core::{Batch, Object};
 use osn_plan_page::plan_page;
 use osn_register::{Edit, Register};
-use osn_shown::Shown;
+use osn_shown::Escaped;
 use std::alloc::{AllocError, Global};
 use std::fmt::Write;
 
@@ -140,8 +140,8 @@ pub(crate) fn later_lines(
     ensures { IfOk result (λ lines. string_bytes lines
         ≡ spec.later_lines text.now journal.now edition editions) }
 {
-    let text = Shown(text);
-    let journal = Shown(journal);
+    let text = Escaped(text);
+    let journal = Escaped(journal);
     format!(in alloc;
         "oldstyle: {text}: edition: {edition} is later than the newest edition of {journal}, \
 which is {editions}\nhelp: write the edition that the text was made from, or leave the line out\n"
@@ -157,7 +157,7 @@ fn push_edition(
     edits: &[Edit],
 ) -> Result<(), AllocError>
     ensures { OnOk result (string_bytes out.new ≡ string_bytes out.old
-        ++ spec.edition_lines register.now.lands number edits.now) }
+        ++ spec.edition_lines register.now.territories number edits.now) }
 {
     let none = Register::new(alloc, register.limits());
     let page = plan_page(alloc, &none, register, edits)?;
@@ -173,7 +173,7 @@ fn push_editions(
     batches: &[Batch],
 ) -> Result<(), AllocError>
     ensures { OnOk result (string_bytes out.new ≡ string_bytes out.old
-        ++ spec.editions_lines register.now.lands edition (drop edition batches.now)) }
+        ++ spec.editions_lines register.now.territories edition (drop edition batches.now)) }
 {
     for place in edition..batches.len() {
         push_edition(alloc, out, register, place + 1, batches[place].edits())?;
@@ -187,8 +187,8 @@ fn push_begin(out: &mut String, asked: PublishRequest<'_>, edition: u64) -> Resu
     ensures { OnOk result (string_bytes out.new ≡ string_bytes out.old
         ++ spec.behind_begin asked.entry.text.now asked.entry.journal.now edition) }
 {
-    let text = Shown(asked.text);
-    let journal = Shown(asked.journal);
+    let text = Escaped(asked.text);
+    let journal = Escaped(asked.journal);
     writeln!(
         out,
         "oldstyle: {text}: the text is of edition {edition}, and would undo or change again \
@@ -202,7 +202,7 @@ fn push_end(out: &mut String, journal: &str, editions: usize) -> Result<(), Allo
     ensures { OnOk result (string_bytes out.new ≡ string_bytes out.old
         ++ spec.behind_end journal.now editions) }
 {
-    let journal = Shown(journal);
+    let journal = Escaped(journal);
     writeln!(
         out,
         "help: print the text again by oldstyle text {journal}; or write edition = {editions} in \

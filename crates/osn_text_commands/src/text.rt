@@ -9,14 +9,14 @@ use osn_core::Object;
 use osn_editions::{Edition, edition_of};
 use osn_files::load_journal;
 use osn_lines::{Sink, Source};
-use osn_page_commands::{land_refusal_line, tell_edition_fault};
+use osn_page_commands::{tell_edition_fault, territory_refusal_line};
 use osn_register::{Limits, Register};
-use osn_report::{CommandFault, Status, print, report_at, tell_line};
+use osn_report::{CommandFault, Status, print, report_at, report_line};
 use osn_text_writer::{write_territory, write_text};
 use std::alloc::Global;
 
 /// Prints the text of the territory of a code, which is made of this edition.
-fn print_land<W: Sink, E: Sink>(
+fn print_territory<W: Sink, E: Sink>(
     alloc: Global,
     edition: usize,
     register: &Register,
@@ -25,25 +25,25 @@ fn print_land<W: Sink, E: Sink>(
     output: &mut W,
     errors: &mut E,
 ) -> Status
-    ensures { spec.PrintsLand edition register.now.lands path.now code.now
+    ensures { spec.PrintsTerritory edition register.now.territories path.now code.now
         (output_of W.contents W.has_failed W.holds_back output.old output.new)
         (output_of E.contents E.has_failed E.holds_back errors.old errors.new) result }
 {
-    match register.land(code) {
+    match register.territory(code) {
         Ok(_) => print(
             write_territory(alloc, edition, register, code),
             output,
             errors,
         ),
         Err(refusal) => {
-            let line = land_refusal_line(alloc, path, code, refusal);
-            tell_line(errors, Status::Refused, line)
+            let line = territory_refusal_line(alloc, path, code, refusal);
+            report_line(errors, Status::Refused, line)
         }
     }
 }
 
 /// Prints the text of an edition: of all territories, or of the one of a code.
-fn print_lands<W: Sink, E: Sink>(
+fn print_territories<W: Sink, E: Sink>(
     alloc: Global,
     edition: &Edition,
     path: &str,
@@ -51,7 +51,7 @@ fn print_lands<W: Sink, E: Sink>(
     output: &mut W,
     errors: &mut E,
 ) -> Status
-    ensures { spec.PrintsLands (edition_model edition.now) path.now
+    ensures { spec.PrintsTerritories (edition_model edition.now) path.now
         (option_map (λ code. code.now) code.entry)
         (output_of W.contents W.has_failed W.holds_back output.old output.new)
         (output_of E.contents E.has_failed E.holds_back errors.old errors.new) result }
@@ -60,7 +60,7 @@ fn print_lands<W: Sink, E: Sink>(
     let register = edition.register();
     match code {
         None => print(write_text(alloc, number, register), output, errors),
-        Some(code) => print_land(alloc, number, register, path, code, output, errors),
+        Some(code) => print_territory(alloc, number, register, path, code, output, errors),
     }
 }
 
@@ -74,7 +74,7 @@ fn print_numbered<W: Sink, E: Sink>(
     output: &mut W,
     errors: &mut E,
 ) -> Status
-    ensures { OnEdition number object (λ edition. spec.PrintsLands edition path.now
+    ensures { OnEdition number object (λ edition. spec.PrintsTerritories edition path.now
         (option_map (λ code. code.now) code.entry)
         (output_of W.contents W.has_failed W.holds_back output.old output.new)
         (output_of E.contents E.has_failed E.holds_back errors.old errors.new) result)
@@ -82,7 +82,7 @@ fn print_numbered<W: Sink, E: Sink>(
         (output_of E.contents E.has_failed E.holds_back errors.old errors.new) result }
 {
     match edition_of(alloc, object, number) {
-        Ok(edition) => print_lands(alloc, &edition, path, code, output, errors),
+        Ok(edition) => print_territories(alloc, &edition, path, code, output, errors),
         Err(fault) => tell_edition_fault(alloc, errors, fault),
     }
 }

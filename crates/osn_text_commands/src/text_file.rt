@@ -7,8 +7,8 @@ ghost use Rattle.osn_text_reader.specs.Words.{text_fault_text};
 use osn_folder::OpenFailed;
 use osn_lines::{ReadAllFault, Sink, Source, read_all};
 use osn_register::Limits;
-use osn_report::{Status, tell_line, tell_no_memory, tell_unopened};
-use osn_shown::Shown;
+use osn_report::{Status, report_line, report_no_memory, report_open_failure};
+use osn_shown::Escaped;
 use osn_text_reader::{RegisterText, TextFault, parse_text};
 use std::alloc::{AllocError, Global};
 use std::str;
@@ -72,7 +72,7 @@ pub(crate) fn read_said<T: Source>(
 fn text_line(alloc: Global, path: &str, said: &str) -> Result<String, AllocError>
     ensures { IfOk result (λ line. string_bytes line ≡ spec.text_line path.now said.now) }
 {
-    format!(in alloc; "oldstyle: {}: {said}\n", Shown(path))
+    format!(in alloc; "oldstyle: {}: {said}\n", Escaped(path))
 }
 
 /// Returns the line on a fault of the text of this path.
@@ -80,39 +80,44 @@ fn fault_line(alloc: Global, path: &str, fault: &TextFault) -> Result<String, Al
     ensures { IfOk result (λ line.
         string_bytes line ≡ spec.text_line path.now (text_fault_text fault.now)) }
 {
-    format!(in alloc; "oldstyle: {}: {fault}\n", Shown(path))
+    format!(in alloc; "oldstyle: {}: {fault}\n", Escaped(path))
 }
 
 /// Reports on standard error the fault in the text of this path. Returns the status.
-fn tell_text<E: Sink>(alloc: Global, errors: &mut E, path: &str, fault: &TextFault) -> Status
-    ensures { spec.TellsText path.now
+fn report_text_fault<E: Sink>(
+    alloc: Global,
+    errors: &mut E,
+    path: &str,
+    fault: &TextFault,
+) -> Status
+    ensures { spec.ReportsText path.now
         (output_of E.contents E.has_failed E.holds_back errors.old errors.new) fault.now result }
 {
     match fault {
-        TextFault::NoMemory => tell_no_memory(errors),
+        TextFault::NoMemory => report_no_memory(errors),
         TextFault::Toml(_) | TextFault::Key(_) => {
-            tell_line(errors, Status::Refused, fault_line(alloc, path, fault))
+            report_line(errors, Status::Refused, fault_line(alloc, path, fault))
         }
     }
 }
 
 /// Reports on standard error why the file of this path says no register. Returns the status.
-pub(crate) fn tell_text_file<E: Sink>(
+pub(crate) fn report_text_file<E: Sink>(
     alloc: Global,
     errors: &mut E,
     path: &str,
     fault: &TextFileFault,
 ) -> Status
-    ensures { spec.TellsTextFile path.now
+    ensures { spec.ReportsTextFile path.now
         (output_of E.contents E.has_failed E.holds_back errors.old errors.new) fault.now result }
 {
     match fault {
-        TextFileFault::NoMemory => tell_no_memory(errors),
-        TextFileFault::ReadFault => tell_unopened(alloc, errors, path, OpenFailed::Other),
+        TextFileFault::NoMemory => report_no_memory(errors),
+        TextFileFault::ReadFault => report_open_failure(alloc, errors, path, OpenFailed::Other),
         TextFileFault::NotUtf8 => {
             let line = text_line(alloc, path, "it is not UTF-8: save it as UTF-8");
-            tell_line(errors, Status::Refused, line)
+            report_line(errors, Status::Refused, line)
         }
-        TextFileFault::Text(fault) => tell_text(alloc, errors, path, fault),
+        TextFileFault::Text(fault) => report_text_fault(alloc, errors, path, fault),
     }
 }

@@ -5,7 +5,7 @@ use Rattle.toml.specs.Data.{item, Members}
 use Rattle.toml.specs.View.{items_view, view}
 use Rattle.toml.specs.declared.value.Value.{Value}
 use Rattle.toml.proofs.Views.{items_view-drop}
-use Rattle.osn_lands.specs.declared.regime.Regime.{Regime}
+use Rattle.osn_territory.specs.declared.regime.Regime.{Regime}
 use Rattle.osn_register.specs.declared.edit.Edit.TheVariants.{AddChange}
 use Rattle.osn_text_reader.specs.declared.key.Part.TheVariants.{Change}
 use Rattle.osn_text_reader.specs.declared.fault.KeyFault.{KeyFault}

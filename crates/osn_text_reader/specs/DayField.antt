@@ -10,7 +10,7 @@ use Rattle.osn_days.specs.declared.calendar.Calendar.{Calendar}
 use Rattle.osn_days.specs.declared.date.Date.{Date}
 use Rattle.osn_days.specs.CalendarWords.{calendar_named}
 use Rattle.osn_days.specs.Chain.{days_with_date}
-use Rattle.osn_days.specs.Profile.{newest_rules}
+use Rattle.osn_days.specs.Rules.{newest_rules}
 use Rattle.osn_written.specs.WrittenDate.{number_of, parts_at}
 use Rattle.osn_text_reader.specs.declared.key.Key.{Key}
 use Rattle.osn_text_reader.specs.declared.fault.KeyFault.{KeyFault}

@@ -7,9 +7,9 @@ use Rattle.osn_days.specs.declared.calendar.Calendar.{Calendar}
 use Rattle.osn_days.specs.CalendarWords.{calendar_named}
 use Rattle.osn_computus.specs.declared.rule.Rule.{Rule}
 use Rattle.osn_computus.specs.RuleWords.{rule_named}
-use Rattle.osn_lands.specs.StyleWords.{style_written}
-use Rattle.osn_lands.specs.declared.regime.Regime.{Regime}
-use Rattle.osn_lands.specs.declared.style.Style.{Style}
+use Rattle.osn_territory.specs.StyleWords.{style_written}
+use Rattle.osn_territory.specs.declared.regime.Regime.{Regime}
+use Rattle.osn_territory.specs.declared.style.Style.{Style}
 use Rattle.osn_register.specs.Sources.{is_source}
 use Rattle.osn_text_reader.specs.declared.key.Key.{Key}
 use Rattle.osn_text_reader.specs.declared.key.Key.TheVariants as keys

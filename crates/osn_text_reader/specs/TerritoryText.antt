@@ -3,7 +3,7 @@
 use Rattle.std.specs.Prelude.{ℕ, ◌+◌, ℤ, int_lt, Bool, true, if◌then◌else◌, List, [], ◌∷◌}
 use Rattle.std.specs.Prelude.{◌++◌, Option, Some, None, Result, Ok, Err}
 use Rattle.toml.specs.Data.{Data, Items, no_items, item, Members}
-use Rattle.osn_lands.specs.declared.regime.Regime.{Regime}
+use Rattle.osn_territory.specs.declared.regime.Regime.{Regime}
 use Rattle.osn_register.specs.declared.edit.Edit.{Edit}
 use Rattle.osn_register.specs.declared.edit.Edit.TheVariants.{AddLand, AddChange, AddException}
 use Rattle.osn_text_reader.specs.declared.key.Key.TheVariants as keys

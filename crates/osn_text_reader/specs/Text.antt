@@ -6,11 +6,11 @@ use Rattle.std.specs.Prelude.{Result, Ok, Err}
 use Rattle.std.specs.Str.{bytes_eq}
 use Rattle.toml.specs.Data.{Data, Members, no_members, member, as_integer, get_member}
 use Rattle.toml.specs.Parse.{parse_document}
-use Rattle.osn_days.specs.Profile.{newest_rules}
+use Rattle.osn_days.specs.Rules.{newest_rules}
 use Rattle.osn_register.specs.declared.limits.Limits.{Limits}
 use Rattle.osn_register.specs.declared.refusal.Refusal.{Refusal}
 use Rattle.osn_register.specs.Lawful.{code_of}
-use Rattle.osn_register.specs.Plain.{LandModel, refusal, effect}
+use Rattle.osn_register.specs.Plain.{EntryModel, refusal, effect}
 use Rattle.osn_text_reader.specs.declared.fault.KeyFault.{KeyFault}
 use Rattle.osn_text_reader.specs.declared.fault.Reason.TheVariants.{NotEdition, Refused}
 use Rattle.osn_text_reader.specs.declared.fault.TextFault.{TextFault}
@@ -57,37 +57,37 @@ text_edits (member code d ms) = do
   Ok (first ++ rest)
 
 -- the territories after an edit, or its refusal at its place
-abbrev pub lands_after : Placed → List LandModel → Option Refusal
-    → Result (List LandModel) KeyFault
-lands_after e lands None = Ok (effect lands e.1)
-lands_after e lands (Some f) =
+abbrev pub territories_after : Placed → List EntryModel → Option Refusal
+    → Result (List EntryModel) KeyFault
+territories_after e territories None = Ok (effect territories e.1)
+territories_after e territories (Some f) =
     Err (fault_of (record { code = code_of e.1; part = e.0 }) (Refused f))
 
 -- the territories after edits in turn, or the first refusal at its place
-abbrev pub lands_after_all : Limits → List LandModel → List Placed
-    → Result (List LandModel) KeyFault
-lands_after_all limits lands [] = Ok lands
-lands_after_all limits lands (e ∷ es) =
-    lands_after e lands (refusal newest_rules limits lands e.1)
-    >>= λ next. lands_after_all limits next es
+abbrev pub territories_after_all : Limits → List EntryModel → List Placed
+    → Result (List EntryModel) KeyFault
+territories_after_all limits territories [] = Ok territories
+territories_after_all limits territories (e ∷ es) =
+    territories_after e territories (refusal newest_rules limits territories e.1)
+    >>= λ next. territories_after_all limits next es
 
 -- ---- the whole text
 
 -- what a text's table says, or its first fault: that of its edition first, then that of its form,
 -- and then what the register refuses
-unfoldable pub text_says : Limits → Members → Result (Option ℕ × List LandModel) KeyFault
+unfoldable pub text_says : Limits → Members → Result (Option ℕ × List EntryModel) KeyFault
 text_says limits ms = do
   edition ← text_edition ms
   edits ← text_edits ms
-  lands ← lands_after_all limits [] edits
-  Ok (edition, lands)
+  territories ← territories_after_all limits [] edits
+  Ok (edition, territories)
 
 -- the same of a text, if it is TOML
-abbrev pub said_by : Limits → List ℕ → Option (Result (Option ℕ × List LandModel) KeyFault)
+abbrev pub said_by : Limits → List ℕ → Option (Result (Option ℕ × List EntryModel) KeyFault)
 said_by limits text = option_map (text_says limits) (parse_document text)
 
 -- why a text doesn't describe territories, unless memory runs out
-abbrev pub IsFaultOf : Option (Result (Option ℕ × List LandModel) KeyFault) → TextFault → Type 0
+abbrev pub IsFaultOf : Option (Result (Option ℕ × List EntryModel) KeyFault) → TextFault → Type 0
 IsFaultOf said (faults.Toml fault) = said ≡ None
 IsFaultOf said (faults.Key fault) = said ≡ Some (Err fault)
 IsFaultOf said faults.NoMemory = Unit {0}

@@ -5,7 +5,7 @@ use crate::key::{Key, Part};
 use crate::refusal_words::refusal_words;
 use osn_days::{Calendar, Keyword};
 use osn_register::{Refusal, Text};
-use osn_shown::Shown;
+use osn_shown::Escaped;
 use std::alloc::AllocError;
 use std::fmt;
 
@@ -103,7 +103,7 @@ impl<'a> fmt::Display for ValueText<'a> {
                 write!(
                     f,
                     "\"{}\" is not a {}: {allowed}",
-                    Shown(word.as_str()),
+                    Escaped(word.as_str()),
                     self.key.name()
                 )
             }
@@ -136,7 +136,7 @@ impl<'a> fmt::Display for ReasonText<'a> {
                 write!(
                     f,
                     ".{}: unknown key: {}",
-                    Shown(name.as_str()),
+                    Escaped(name.as_str()),
                     self.part.keys_text()
                 )
             }
@@ -167,7 +167,7 @@ impl fmt::Display for KeyFault {
             part,
             reason: &self.reason,
         };
-        write!(f, "{}{part}{reason}", Shown(self.code.as_str()))
+        write!(f, "{}{part}{reason}", Escaped(self.code.as_str()))
     }
 }
 

@@ -9,8 +9,8 @@ use crate::key::{Key, Part};
 use crate::place::Place;
 use osn_computus::Rule;
 use osn_days::{Calendar, Keyword};
-use osn_lands::{Regime, Style};
 use osn_register::{Source, Text};
+use osn_territory::{Regime, Style};
 use toml::{Table, Value};
 
 /// Returns the first key that a table may not have.

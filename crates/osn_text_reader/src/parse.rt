@@ -3,7 +3,7 @@ ghost use Rattle.std.specs.Prelude.{◌≡◌, [], Some, Ok, IfOk, IfErr, MatchR
 ghost use Rattle.std.specs.Prelude.{option_and_then};
 ghost use Rattle.toml.specs.Data.{as_integer, get_member};
 ghost use Rattle.toml.specs.View.{table_view, view};
-ghost use Rattle.osn_days.specs.Profile.{newest_rules};
+ghost use Rattle.osn_days.specs.Rules.{newest_rules};
 ghost use Rattle.osn_register.specs.Plain.{refusal};
 ghost use Rattle.osn_text_reader.specs.Inside.{Fails, Gives, onto};
 ghost use Rattle.osn_text_reader.specs.Text as spec;
@@ -104,12 +104,12 @@ fn edits_of(alloc: Global, table: &Table) -> Result<Vec<Placed>, TextFault>
 /// Applies an edit to the register, or refuses it at its place.
 fn apply(alloc: Global, register: &mut Register, part: Part, edit: &Edit) -> Result<(), TextFault>
     ensures limits { register.new.limits ≡ register.old.limits }
-    ensures lands { MatchResult result
-        (λ _. spec.lands_after (part, edit.now) register.old.lands
-        (refusal newest_rules register.old.limits register.old.lands edit.now)
-        ≡ Ok register.new.lands)
-        (λ e. Fails e (spec.lands_after (part, edit.now) register.old.lands
-        (refusal newest_rules register.old.limits register.old.lands edit.now))) }
+    ensures territories { MatchResult result
+        (λ _. spec.territories_after (part, edit.now) register.old.territories
+        (refusal newest_rules register.old.limits register.old.territories edit.now)
+        ≡ Ok register.new.territories)
+        (λ e. Fails e (spec.territories_after (part, edit.now) register.old.territories
+        (refusal newest_rules register.old.limits register.old.territories edit.now))) }
 {
     match register.check(edit) {
         Ok(()) => Ok(register.admit(edit)?),
@@ -123,9 +123,9 @@ fn apply(alloc: Global, register: &mut Register, part: Part, edit: &Edit) -> Res
 /// Returns the register after edits in turn, from the empty one.
 fn register_of(alloc: Global, limits: Limits, edits: &[Placed]) -> Result<Register, TextFault>
     ensures limits { IfOk result (λ r. r.limits ≡ limits) }
-    ensures lands { MatchResult result
-        (λ r. spec.lands_after_all limits [] edits.now ≡ Ok r.lands)
-        (λ e. Fails e (spec.lands_after_all limits [] edits.now)) }
+    ensures territories { MatchResult result
+        (λ r. spec.territories_after_all limits [] edits.now ≡ Ok r.territories)
+        (λ e. Fails e (spec.territories_after_all limits [] edits.now)) }
 {
     let mut register = Register::new(alloc, limits);
     for (part, edit) in edits {
@@ -140,7 +140,7 @@ fn said_by(alloc: Global, limits: Limits, table: &Table) -> Result<RegisterText,
     ensures limits { IfOk result (λ said. said.register.limits ≡ limits) }
     ensures said { MatchResult result
         (λ said. spec.text_says limits (table_view table.now)
-        ≡ Ok (said.edition, said.register.lands))
+        ≡ Ok (said.edition, said.register.territories))
         (λ e. Fails e (spec.text_says limits (table_view table.now))) }
 {
     let edition = edition_of(alloc, table)?;
@@ -158,7 +158,7 @@ fn said_by(alloc: Global, limits: Limits, table: &Table) -> Result<RegisterText,
 /// order, and if all tables are right for the first refusal of the register.
 pub fn parse_text(alloc: Global, limits: Limits, text: &str) -> Result<RegisterText, TextFault>
     ensures ok { IfOk result (λ said. spec.said_by limits text.now
-        ≡ Some (Ok (said.edition, said.register.lands))) }
+        ≡ Some (Ok (said.edition, said.register.territories))) }
     ensures limits { IfOk result (λ said. said.register.limits ≡ limits) }
     ensures err { IfErr result (spec.IsFaultOf (spec.said_by limits text.now)) }
 {

@@ -10,8 +10,8 @@ use crate::fault::{Reason, TextFault};
 use crate::field::{items_at, note_of, regime_of, source_at, table_of, text_at, whole_at};
 use crate::key::{Key, Part};
 use crate::place::Place;
-use osn_lands::Regime;
 use osn_register::{Edit, Source, Text};
+use osn_territory::Regime;
 use std::alloc::{AllocError, Global};
 use toml::{Table, Value};
 

@@ -25,26 +25,28 @@ use Rattle.std.proofs.lemmas.Map.Text.{is_eq-slice_cmp}
 use Rattle.osn_computus.specs.RuleWords.{rule_word}
 use Rattle.osn_days.specs.declared.calendar.Calendar.{Calendar}
 use Rattle.osn_days.specs.CalendarWords.{calendar_word}
-use Rattle.osn_days.specs.Profile.{newest_rules}
-use Rattle.osn_lands.specs.StyleWords.{style_word}
-use Rattle.osn_register.proofs.LandFacts.{apart_first}
-use Rattle.osn_lands.specs.declared.period.Period.{Period}
-use Rattle.osn_lands.specs.declared.regime.Regime.{Regime}
-use Rattle.osn_lands.specs.Territory.{TerritoryModel, periods_of, regime_at}
+use Rattle.osn_days.specs.Rules.{newest_rules}
+use Rattle.osn_territory.specs.StyleWords.{style_word}
+use Rattle.osn_register.proofs.EntryFacts.{apart_first}
+use Rattle.osn_territory.specs.declared.period.Period.{Period}
+use Rattle.osn_territory.specs.declared.regime.Regime.{Regime}
+use Rattle.osn_territory.specs.Territory.{TerritoryModel, periods_of, regime_at}
 use Rattle.osn_register.specs.declared.limits.Limits.{Limits}
 use Rattle.osn_register.specs.Answer.{period_source, easter_source}
 use Rattle.osn_register.specs.Code.{has_length, is_capital, is_code, is_code_byte}
-use Rattle.osn_register.specs.Plain.{LandModel, land_of, AreDistinct}
+use Rattle.osn_register.specs.Plain.{EntryModel, entry_of, AreDistinct}
 use Rattle.osn_register.specs.Sources.{SourcesModel}
 use Rattle.osn_text_reader.specs.Text.{edition_key}
 use Rattle.osn_text_writer.specs.TerritoryText.{register_text}
 use Rattle.osn_text_writer.proofs.Expressions as lines
 use Rattle.osn_text_writer.proofs.JoinedLines.{IsWritten}
-use Rattle.osn_text_writer.proofs.LandNodes.{land_nodes, land_end, run_land}
-use Rattle.osn_text_writer.proofs.SortedLands.{insert_land, insert_land_by, sorted_lands, AreNew}
-use Rattle.osn_text_writer.proofs.SortedLands.{AreNew-none, AreNew-insert_land, AreReadable}
+use Rattle.osn_text_writer.proofs.TerritoryNodes.{territory_nodes, territory_end, run_territory}
+use Rattle.osn_text_writer.proofs.SortedTerritories.{insert_sorted, insert_sorted_by}
+use Rattle.osn_text_writer.proofs.SortedTerritories.{sorted_territories, AreNew, AreNew-none}
+use Rattle.osn_text_writer.proofs.SortedTerritories.{AreNew-insert_sorted, AreReadable}
 use Rattle.osn_text_writer.proofs.TableNodes.{with_table, run_below}
-use Rattle.osn_text_writer.proofs.WrittenLands.{IsCons, IsWritable, AreWritable, register_written}
+use Rattle.osn_text_writer.proofs.WrittenTerritories.{IsCons, IsWritable, AreWritable}
+use Rattle.osn_text_writer.proofs.WrittenTerritories.{register_written}
 
 -- ---- the text is read line by line
 
@@ -166,7 +168,7 @@ territory_plain name t cited (p ∷ ps) = (
   ),
 )
 
-all_printed : (ls : List LandModel) → AllPrinted (lines.territories newest_rules ls)
+all_printed : (ls : List EntryModel) → AllPrinted (lines.territories newest_rules ls)
 all_printed [] = tt
 all_printed (l ∷ ls) =
     printed_append (lines.territory newest_rules l) (lines.territories newest_rules ls) (
@@ -222,47 +224,48 @@ pub no_edition_key : (code : List ℕ) → is_code code ≡ true → bytes_eq co
 no_edition_key code is =
     sym (is_eq-slice_cmp code edition_key) ∙ ap is_eq (before_edition code is).0
 
-abbrev pub table_of : LandModel → Nodes
-table_of l = land_nodes l.name l.territory (Some l.sources) (periods_of newest_rules l.territory)
+abbrev pub table_of : EntryModel → Nodes
+table_of l = territory_nodes l.name l.territory (Some l.sources)
+    (periods_of newest_rules l.territory)
 
 -- the tables of territories, and the edition after them
-abbrev pub nodes_of : ℕ → List LandModel → Nodes
+abbrev pub nodes_of : ℕ → List EntryModel → Nodes
 nodes_of n [] = node edition_key (value (integer (pos n))) no_nodes
 nodes_of n (l ∷ ls) = node l.code (open_table header (table_of l)) (nodes_of n ls)
 
-abbrev pub members_of : ℕ → List LandModel → Members
+abbrev pub members_of : ℕ → List EntryModel → Members
 members_of n [] = member edition_key (integer (pos n)) no_members
 members_of n (l ∷ ls) = member l.code (table (close (table_of l))) (members_of n ls)
 
-close-nodes_of : (n : ℕ) (ls : List LandModel) → close (nodes_of n ls) ≡ members_of n ls
+close-nodes_of : (n : ℕ) (ls : List EntryModel) → close (nodes_of n ls) ≡ members_of n ls
 close-nodes_of n [] = refl
 close-nodes_of n (l ∷ ls) = ap (member l.code (table (close (table_of l)))) (close-nodes_of n ls)
 
 -- the edition that the members say
-pub edition_found : (n : ℕ) (limits : Limits) (ls : List LandModel) → AreReadable limits ls
+pub edition_found : (n : ℕ) (limits : Limits) (ls : List EntryModel) → AreReadable limits ls
     → get_member edition_key (members_of n ls) ≡ Some (integer (pos n))
 edition_found n limits [] can = refl
 edition_found n limits (l ∷ ls) can =
     rw ((before_edition l.code can.0.code).1) (edition_found n limits ls can.1)
 
-insert_by : (n : ℕ) (o : Ordering) (l m : LandModel) (ms : List LandModel)
-    → with_table l.code (table_of l) (nodes_of n ms) ≡ nodes_of n (insert_land l ms)
+insert_by : (n : ℕ) (o : Ordering) (l m : EntryModel) (ms : List EntryModel)
+    → with_table l.code (table_of l) (nodes_of n ms) ≡ nodes_of n (insert_sorted l ms)
     → match_ordering o (node l.code (open_table header (table_of l)) (nodes_of n (m ∷ ms)))
     (node m.code (open_table header (table_of l)) (nodes_of n ms))
     (node m.code (open_table header (table_of m)) (with_table l.code (table_of l) (nodes_of n ms)))
-    ≡ nodes_of n (insert_land_by o l m ms (insert_land l ms))
+    ≡ nodes_of n (insert_sorted_by o l m ms (insert_sorted l ms))
 insert_by n Less l m ms more = refl
 insert_by n Equal l m ms more = refl
 insert_by n Greater l m ms more = ap (node m.code (open_table header (table_of m))) more
 
-insert-nodes_of : (n : ℕ) (l : LandModel) (ms : List LandModel) → is_code l.code ≡ true
-    → with_table l.code (table_of l) (nodes_of n ms) ≡ nodes_of n (insert_land l ms)
+insert-nodes_of : (n : ℕ) (l : EntryModel) (ms : List EntryModel) → is_code l.code ≡ true
+    → with_table l.code (table_of l) (nodes_of n ms) ≡ nodes_of n (insert_sorted l ms)
 insert-nodes_of n l [] is = rw ((before_edition l.code is).0) refl
 insert-nodes_of n l (m ∷ ms) is =
     insert_by n (slice_cmp nat_cmp l.code m.code) l m ms (insert-nodes_of n l ms is)
 
-no_node : (n : ℕ) (code : List ℕ) (ls : List LandModel) → is_code code ≡ true
-    → land_of code ls ≡ None → get_node code (nodes_of n ls) ≡ None
+no_node : (n : ℕ) (code : List ℕ) (ls : List EntryModel) → is_code code ≡ true
+    → entry_of code ls ≡ None → get_node code (nodes_of n ls) ≡ None
 no_node n code [] is none = rw ((before_edition code is).0) refl
 no_node n code (l ∷ ls) is none =
     let (other, more) = apart_first code l ls none in
@@ -270,7 +273,7 @@ no_node n code (l ∷ ls) is none =
 
 -- ---- what the lines define
 
-abbrev IsRun : ℕ → List LandModel → List Expression → List LandModel → Type 0
+abbrev IsRun : ℕ → List EntryModel → List Expression → List EntryModel → Type 0
 IsRun n done es after =
     (s : List (List ℕ)) → (t : List (List ℕ)) × (run (nodes_of n done, s) es
     ≡ Some (nodes_of n after, t))
@@ -280,37 +283,37 @@ edition_run : (n : ℕ)
 unfolding define along_header along_dots at_key
 edition_run n = refl
 
-header_run : (n : ℕ) (l : LandModel) (done : List LandModel) (s : List (List ℕ))
-    → is_code l.code ≡ true → land_of l.code done ≡ None
+header_run : (n : ℕ) (l : EntryModel) (done : List EntryModel) (s : List (List ℕ))
+    → is_code l.code ≡ true → entry_of l.code done ≡ None
     → define (nodes_of n done, s) (([], l.code), std_table)
     ≡ Some (with_table l.code no_nodes (nodes_of n done), l.code ∷ [])
 unfolding define along_header
 header_run n l done s is none =
     rw (at_key_new l.code std_table (nodes_of n done) (no_node n l.code done is none)) refl
 
-table_run : (l : LandModel) (ps : List Period) → IsCons ps
+table_run : (l : EntryModel) (ps : List Period) → IsCons ps
     → run (no_nodes, []) (lines.after_header l.name l.territory (Some l.sources) ps)
-    ≡ Some (land_nodes l.name l.territory (Some l.sources) ps, land_end l.territory ps)
+    ≡ Some (territory_nodes l.name l.territory (Some l.sources) ps, territory_end l.territory ps)
 table_run l [] some = absurd some
-table_run l (p ∷ ps) some = run_land l.name l.territory (Some l.sources) p ps
+table_run l (p ∷ ps) some = run_territory l.name l.territory (Some l.sources) p ps
 
-territory_run : (n : ℕ) (l : LandModel) (done : List LandModel) → IsWritable l
-    → land_of l.code done ≡ None
-    → IsRun n done (lines.territory newest_rules l) (insert_land l done)
+territory_run : (n : ℕ) (l : EntryModel) (done : List EntryModel) → IsWritable l
+    → entry_of l.code done ≡ None
+    → IsRun n done (lines.territory newest_rules l) (insert_sorted l done)
 territory_run n l done can none s =
     let ps = periods_of newest_rules l.territory in
     let table_lines = lines.after_header l.name l.territory (Some l.sources) ps in
     let after = map (lines.under l.code) table_lines in
     let in_table = run_below l.code table_lines no_nodes (table_of l)
-    (nodes_of n done) [] (land_end l.territory ps) (table_run l ps can.some) in (
-      l.code ∷ land_end l.territory ps,
+    (nodes_of n done) [] (territory_end l.territory ps) (table_run l ps can.some) in (
+      l.code ∷ territory_end l.territory ps,
       ap (option_and_then (λ (d : Document). run d after)) (header_run n l done s can.code none)
           ∙ in_table
-          ∙ ap (λ (made : Nodes). Some (made, l.code ∷ land_end l.territory ps))
+          ∙ ap (λ (made : Nodes). Some (made, l.code ∷ territory_end l.territory ps))
           (insert-nodes_of n l done can.code),
     )
 
-run_then : (n : ℕ) (done mid after : List LandModel) (es fs : List Expression)
+run_then : (n : ℕ) (done mid after : List EntryModel) (es fs : List Expression)
     → IsRun n done es mid → IsRun n mid fs after → IsRun n done (es ++ fs) after
 run_then n done mid after es fs first_part more s =
     let (t, ran) = first_part s in
@@ -320,25 +323,26 @@ run_then n done mid after es fs first_part more s =
           ∙ ap (option_and_then (λ (d : Document). run d fs)) ran ∙ rest,
     )
 
-all_run : (n : ℕ) (ls done : List LandModel) → AreWritable ls → AreNew ls done → AreDistinct ls
-    → IsRun n done (lines.territories newest_rules ls) (sorted_lands done ls)
+all_run : (n : ℕ) (ls done : List EntryModel) → AreWritable ls → AreNew ls done → AreDistinct ls
+    → IsRun n done (lines.territories newest_rules ls) (sorted_territories done ls)
 all_run n [] done can new distinct = λ s. (s, refl)
 all_run n (l ∷ ls) done can new distinct =
-    run_then n done (insert_land l done) (sorted_lands (insert_land l done) ls)
+    run_then n done (insert_sorted l done) (sorted_territories (insert_sorted l done) ls)
     (lines.territory newest_rules l)
     (lines.territories newest_rules ls) (territory_run n l done can.0 new.0)
-    (all_run n ls (insert_land l done) can.1
-    (AreNew-insert_land l ls done new.0 distinct.0 new.1) distinct.1)
+    (all_run n ls (insert_sorted l done) can.1
+    (AreNew-insert_sorted l ls done new.0 distinct.0 new.1) distinct.1)
 
 -- a register's text is read as its territories and its edition
-pub register_parsed : (n : ℕ) (ls : List LandModel) → n < 2 ^ 63 → AreWritable ls
+pub register_parsed : (n : ℕ) (ls : List EntryModel) → n < 2 ^ 63 → AreWritable ls
     → AreDistinct ls
-    → parse_document (register_text newest_rules n ls) ≡ Some (members_of n (sorted_lands [] ls))
+    → parse_document (register_text newest_rules n ls)
+    ≡ Some (members_of n (sorted_territories [] ls))
 register_parsed n ls small can distinct =
     let (path, ran) = all_run n ls [] can (AreNew-none ls) distinct [] in
     parsed (lines.register newest_rules n ls) (register_text newest_rules n ls)
-    (nodes_of n (sorted_lands [] ls), path) (register_written n ls small can)
+    (nodes_of n (sorted_territories [] ls), path) (register_written n ls small can)
     ((refl, omega arith, refl), all_printed ls)
     (ap (option_and_then (λ (d : Document). run d (lines.territories newest_rules ls)))
     (edition_run n) ∙ ran)
-    ∙ ap Some (close-nodes_of n (sorted_lands [] ls))
+    ∙ ap Some (close-nodes_of n (sorted_territories [] ls))

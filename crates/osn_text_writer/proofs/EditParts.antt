@@ -10,48 +10,49 @@ use Rattle.std.specs.Map.{lookup}
 use Rattle.std.specs.Ordering.{nat_cmp}
 use Rattle.std.specs.declared.cmp.Ordering.TheVariants.{Greater}
 use Rattle.osn_days.specs.Line.{IsDay, IsYear}
-use Rattle.osn_days.specs.Profile.{newest_rules}
-use Rattle.osn_lands.specs.declared.period.Period.{Period}
-use Rattle.osn_lands.specs.declared.regime.Regime.{Regime}
-use Rattle.osn_lands.specs.Changes.{with_start, with_change}
-use Rattle.osn_lands.specs.Exceptions.{with_exception}
-use Rattle.osn_lands.specs.Territory.{TerritoryModel}
+use Rattle.osn_days.specs.Rules.{newest_rules}
+use Rattle.osn_territory.specs.declared.period.Period.{Period}
+use Rattle.osn_territory.specs.declared.regime.Regime.{Regime}
+use Rattle.osn_territory.specs.Changes.{with_start, with_change}
+use Rattle.osn_territory.specs.Exceptions.{with_exception}
+use Rattle.osn_territory.specs.Territory.{TerritoryModel}
 use Rattle.osn_register.specs.declared.edit.Edit.TheVariants.{AddChange, AddException}
 use Rattle.osn_register.specs.declared.limits.Limits.{Limits}
 use Rattle.osn_register.specs.Answer.{period_source, easter_source}
-use Rattle.osn_register.specs.Plain.{LandModel, land_of, refusal, effect, with_territory}
+use Rattle.osn_register.specs.Plain.{EntryModel, entry_of, refusal, effect, with_territory}
 use Rattle.osn_register.specs.Plain.{is_off_line, is_off_years, is_style_refused, AreStyled}
 use Rattle.osn_register.specs.Plain.{AreListed}
 use Rattle.osn_register.specs.Code.{is_code}
 use Rattle.osn_register.specs.Sources.{SourcesModel, with_period_source, with_easter_source}
-use Rattle.osn_register.proofs.LandFacts.{apart_first}
+use Rattle.osn_register.proofs.EntryFacts.{apart_first}
 use Rattle.osn_register.proofs.YearFacts.{AscendFrom}
 use Rattle.osn_text_reader.specs.declared.key.Part.TheVariants as parts
 use Rattle.osn_text_reader.specs.TerritoryText.{Placed}
-use Rattle.osn_text_reader.specs.Text.{lands_after_all}
-use Rattle.osn_text_writer.proofs.FoundLands.{self}
+use Rattle.osn_text_reader.specs.Text.{territories_after_all}
+use Rattle.osn_text_writer.proofs.FoundTerritories.{self}
 use Rattle.osn_text_writer.proofs.MadeSources.{all_cited}
 use Rattle.osn_text_writer.proofs.ReadTables.{change_edits, easter_edits, Ascend}
 
 -- ---- the last territory
 
 -- the territories, and one more
-abbrev pub last : List LandModel → List ℕ → List ℕ → TerritoryModel → SourcesModel → List LandModel
+abbrev pub last : List EntryModel → List ℕ → List ℕ → TerritoryModel → SourcesModel →
+    List EntryModel
 last done code name t s =
     done ++ record { code = code; name = name; territory = t; sources = s } ∷ []
 
-land_of-last : (done : List LandModel) (code name : List ℕ) (t : TerritoryModel) (s : SourcesModel)
-    → land_of code done ≡ None
-    → land_of code (last done code name t s)
+entry_of-last : (done : List EntryModel) (code name : List ℕ) (t : TerritoryModel)
+    (s : SourcesModel) → entry_of code done ≡ None
+    → entry_of code (last done code name t s)
     ≡ Some (record { code = code; name = name; territory = t; sources = s })
-land_of-last [] code name t s none = rw (self code)
-land_of-last (l ∷ ls) code name t s none =
+entry_of-last [] code name t s none = rw (self code)
+entry_of-last (l ∷ ls) code name t s none =
     let (other, more) = apart_first code l ls none in
-    rw other (land_of-last ls code name t s more)
+    rw other (entry_of-last ls code name t s more)
 
-with_territory-last : (done : List LandModel) (code name : List ℕ) (t : TerritoryModel)
+with_territory-last : (done : List EntryModel) (code name : List ℕ) (t : TerritoryModel)
     (s : SourcesModel) (f : TerritoryModel → TerritoryModel) (g : SourcesModel → SourcesModel)
-    → land_of code done ≡ None
+    → entry_of code done ≡ None
     → with_territory code f g (last done code name t s) ≡ last done code name (f t) (g s)
 with_territory-last [] code name t s f g none = rw (self code)
 with_territory-last (l ∷ ls) code name t s f g none =
@@ -59,10 +60,11 @@ with_territory-last (l ∷ ls) code name t s f g none =
     rw other (ap (λ rest. l ∷ rest) (with_territory-last ls code name t s f g more))
 
 -- an edit that nothing refuses
-pub one : (limits : Limits) (lands : List LandModel) (e : Placed) (es : List Placed)
-    → refusal newest_rules limits lands e.1 ≡ None
-    → lands_after_all limits lands (e ∷ es) ≡ lands_after_all limits (effect lands e.1) es
-one limits lands e es free = rw free
+pub one : (limits : Limits) (territories : List EntryModel) (e : Placed) (es : List Placed)
+    → refusal newest_rules limits territories e.1 ≡ None
+    → territories_after_all limits territories (e ∷ es)
+    ≡ territories_after_all limits (effect territories e.1) es
+one limits territories e es free = rw free
 
 -- ---- tests
 
@@ -115,8 +117,8 @@ with_starts t ss = record t { starts = ss }
 abbrev cite_starts : Option SourcesModel → List (ℕ × Regime) → SourcesModel → SourcesModel
 cite_starts cited ss s = record s { periods = all_cited (period_source cited) ss s.periods }
 
-module _ (limits : Limits) (done : List LandModel) (code name : List ℕ) (is : is_code code ≡ true)
-    (none : land_of code done ≡ None) where
+module _ (limits : Limits) (done : List EntryModel) (code name : List ℕ) (is : is_code code ≡ true)
+    (none : entry_of code done ≡ None) where
   change_free : (t : TerritoryModel) (s : SourcesModel) (k : ℕ) (p : Period)
       (source : Option (List ℕ)) → 1 ≤ k → k < p.first → Until t.starts k
       → IsDay newest_rules p.first → is_style_refused newest_rules p.regime ≡ false
@@ -124,7 +126,7 @@ module _ (limits : Limits) (done : List LandModel) (code name : List ℕ) (is : 
       → refusal newest_rules limits (last done code name t s) (AddChange code
       (pos p.first) p.regime source) ≡ None
   change_free t s k p source low less until on style room =
-      let there = land_of-last done code name t s none in
+      let there = entry_of-last done code name t s none in
       let count : nat_lt limits.changes (length t.starts) ≡ false = grind (arith, nat_tests) in
       rw (
         is,
@@ -151,11 +153,11 @@ module _ (limits : Limits) (done : List LandModel) (code name : List ℕ) (is : 
       (ps : List Period) (es : List Placed) → 1 ≤ k
       → Until t.starts k → Ascend k ps → AreStyled newest_rules (starts_of ps)
       → length t.starts + length ps ≤ limits.changes + 1
-      → lands_after_all limits (last done code name t s) (change_edits code n cited ps ++ es)
-      ≡ lands_after_all limits (last done code name (with_starts t (t.starts ++ starts_of ps))
+      → territories_after_all limits (last done code name t s) (change_edits code n cited ps ++ es)
+      ≡ territories_after_all limits (last done code name (with_starts t (t.starts ++ starts_of ps))
       (cite_starts cited (starts_of ps) s)) es
   changes t s cited k n [] es low until ascend lawful room =
-      ap (λ ss. lands_after_all limits (last done code name (with_starts t ss) s) es)
+      ap (λ ss. territories_after_all limits (last done code name (with_starts t ss) s) es)
       (sym (append-nil t.starts))
   changes t s cited k n (p ∷ ps) es low until ascend lawful room =
       let source = period_source cited p.first in
@@ -168,10 +170,11 @@ module _ (limits : Limits) (done : List LandModel) (code name : List ℕ) (is : 
       omega (arith, count, room) in
       one limits (last done code name t s) e rest
       (change_free t s k p source low ascend.0 until ascend.1 lawful.0 (omega (arith, room)))
-      ∙ ap (λ lands. lands_after_all limits lands rest) (change_made t s k p source ascend.0 until)
+      ∙ ap (λ territories. territories_after_all limits territories rest)
+      (change_made t s k p source ascend.0 until)
       ∙ changes next given cited p.first (n + 1) ps es (omega (arith, ascend.0))
       (Until-push t.starts k p.first p.regime until ascend.0) ascend.2 lawful.1 few
-      ∙ ap (λ ss. lands_after_all limits (last done code name (with_starts t ss)
+      ∙ ap (λ ss. territories_after_all limits (last done code name (with_starts t ss)
       (cite_starts cited (starts_of (p ∷ ps)) s)) es)
       (append_assoc t.starts ((p.first, p.regime) ∷ []) (starts_of ps))
 
@@ -211,15 +214,15 @@ with_exceptions t es = record t { exceptions = es }
 abbrev cite_easters : Option SourcesModel → List (ℕ × ℕ) → SourcesModel → SourcesModel
 cite_easters cited es s = record s { easters = all_cited (easter_source cited) es s.easters }
 
-module _ (limits : Limits) (done : List LandModel) (code name : List ℕ) (is : is_code code ≡ true)
-    (none : land_of code done ≡ None) where
+module _ (limits : Limits) (done : List EntryModel) (code name : List ℕ) (is : is_code code ≡ true)
+    (none : entry_of code done ≡ None) where
   easter_free : (t : TerritoryModel) (s : SourcesModel) (k : ℕ) (e : ℕ × ℕ)
       (source : Option (List ℕ)) → k ≤ e.0 → UntilYear t.exceptions k
       → IsYear newest_rules e.0 → IsDay newest_rules e.1 → length t.exceptions < limits.exceptions
       → refusal newest_rules limits (last done code name t s) (AddException code (pos e.0)
       (pos e.1) source) ≡ None
   easter_free t s k e source less until year on room =
-      let there = land_of-last done code name t s none in
+      let there = entry_of-last done code name t s none in
       let count : nat_le limits.exceptions (length t.exceptions)
       ≡ false = grind (arith, nat_tests) in
       rw (
@@ -246,11 +249,11 @@ module _ (limits : Limits) (done : List LandModel) (code name : List ℕ) (is : 
       (ls : List (ℕ × ℕ)) (es : List Placed)
       → UntilYear t.exceptions k → AscendFrom k ls → AreListed newest_rules ls
       → length t.exceptions + length ls ≤ limits.exceptions
-      → lands_after_all limits (last done code name t s) (easter_edits code n cited ls ++ es)
-      ≡ lands_after_all limits (last done code name (with_exceptions t (t.exceptions ++ ls))
+      → territories_after_all limits (last done code name t s) (easter_edits code n cited ls ++ es)
+      ≡ territories_after_all limits (last done code name (with_exceptions t (t.exceptions ++ ls))
       (cite_easters cited ls s)) es
   easters t s cited k n [] es until ascend listed room =
-      ap (λ xs. lands_after_all limits (last done code name (with_exceptions t xs) s) es)
+      ap (λ xs. territories_after_all limits (last done code name (with_exceptions t xs) s) es)
       (sym (append-nil t.exceptions))
   easters t s cited k n (e ∷ ls) es until ascend listed room =
       let source = easter_source cited e.0 in
@@ -263,9 +266,9 @@ module _ (limits : Limits) (done : List LandModel) (code name : List ℕ) (is : 
       omega (arith, count, room) in
       one limits (last done code name t s) edit rest
       (easter_free t s k e source ascend.0 until listed.0 listed.1 (omega (arith, room)))
-      ∙ ap (λ lands. lands_after_all limits lands rest) (easter_made t s k e source ascend.0 until)
-      ∙ easters next given cited (e.0 + 1) (n + 1) ls es
+      ∙ ap (λ territories. territories_after_all limits territories rest)
+      (easter_made t s k e source ascend.0 until) ∙ easters next given cited (e.0 + 1) (n + 1) ls es
       (UntilYear-push t.exceptions k e.0 e.1 until ascend.0) ascend.1 listed.2 few
-      ∙ ap (λ xs. lands_after_all limits (last done code name (with_exceptions t xs)
+      ∙ ap (λ xs. territories_after_all limits (last done code name (with_exceptions t xs)
       (cite_easters cited (e ∷ ls) s)) es)
       (append_assoc t.exceptions (e ∷ []) ls)

@@ -10,13 +10,13 @@ use Rattle.osn_days.specs.declared.calendar.Calendar.{Calendar}
 use Rattle.osn_days.specs.CalendarWords.{calendar_word}
 use Rattle.osn_days.specs.Chain.{date_of}
 use Rattle.osn_days.specs.DateText.{text_of_date}
-use Rattle.osn_days.specs.Profile.{Profile}
-use Rattle.osn_lands.specs.declared.period.Period.{Period}
-use Rattle.osn_lands.specs.declared.regime.Regime.{Regime}
-use Rattle.osn_lands.specs.StyleWords.{style_word}
-use Rattle.osn_lands.specs.Territory.{TerritoryModel, periods_of, regime_at}
+use Rattle.osn_days.specs.Rules.{Rules}
+use Rattle.osn_territory.specs.declared.period.Period.{Period}
+use Rattle.osn_territory.specs.declared.regime.Regime.{Regime}
+use Rattle.osn_territory.specs.StyleWords.{style_word}
+use Rattle.osn_territory.specs.Territory.{TerritoryModel, periods_of, regime_at}
 use Rattle.osn_register.specs.Answer.{period_source, easter_source}
-use Rattle.osn_register.specs.Plain.{LandModel}
+use Rattle.osn_register.specs.Plain.{EntryModel}
 use Rattle.osn_register.specs.Sources.{SourcesModel}
 
 -- a key and its value, in the table of the last header
@@ -97,13 +97,13 @@ under_as code key array_table = ((code ∷ key.0, key.1), array_table)
 abbrev pub under : List ℕ → Expression → Expression
 under code e = under_as code e.0 e.1
 
-abbrev pub territory : Profile → LandModel → List Expression
+abbrev pub territory : Rules → EntryModel → List Expression
 territory p l =
     (([], l.code), std_table)
     ∷ map (under l.code)
     (after_header l.name l.territory (Some l.sources) (periods_of p l.territory))
 
-abbrev pub territories : Profile → List LandModel → List Expression
+abbrev pub territories : Rules → List EntryModel → List Expression
 territories p [] = []
 territories p (l ∷ ls) = territory p l ++ territories p ls
 
@@ -112,5 +112,5 @@ abbrev pub edition : ℕ → Expression
 edition n = pair (codes "edition") (integer (pos n))
 
 -- and the territories after it
-abbrev pub register : Profile → ℕ → List LandModel → List Expression
+abbrev pub register : Rules → ℕ → List EntryModel → List Expression
 register p n ls = edition n ∷ territories p ls

@@ -9,10 +9,10 @@ use Rattle.std.proofs.lemmas.List.Folds.{find-append}
 use Rattle.std.specs.List.{list_any}
 use Rattle.std.specs.Map.{lookup}
 use Rattle.std.specs.Option.{option_or}
-use Rattle.osn_lands.specs.Territory.{TerritoryModel}
+use Rattle.osn_territory.specs.Territory.{TerritoryModel}
 use Rattle.osn_register.specs.Answer.{period_source, easter_source}
-use Rattle.osn_register.specs.Plain.{LandModel}
-use Rattle.osn_register.specs.SameLand.{IsSameLand, AreSameLand}
+use Rattle.osn_register.specs.Plain.{EntryModel}
+use Rattle.osn_register.specs.SameEntry.{IsSameEntry, AreSameEntry}
 use Rattle.osn_register.specs.Sources.{SourcesModel, IsGiven, AreSources, source_of, with_source}
 use Rattle.osn_register.specs.Sources.{without_source}
 
@@ -138,7 +138,7 @@ made_sources cited t = record {
 }
 
 -- the territory as its edits make it
-abbrev pub remade : LandModel → LandModel
+abbrev pub remade : EntryModel → EntryModel
 remade l = record l { sources = made_sources (Some l.sources) l.territory }
 
 listed_among : (y : ℕ) (es : List (ℕ × ℕ)) → is_some (lookup (λ year. y == year) es) ≡ true
@@ -154,7 +154,7 @@ listed_among y (e ∷ es) there =
           rw turned (listed_among y es (rw other at there))
     ]
 
-pub remade_is_same : (l : LandModel) → IsSameLand (remade l) l
+pub remade_is_same : (l : EntryModel) → IsSameEntry (remade l) l
 remade_is_same l = record {
   name = refl;
   territory = refl;
@@ -164,6 +164,6 @@ remade_is_same l = record {
       l.territory.exceptions [] (listed_among year l.territory.exceptions there);
 }
 
-pub remade_are_same : (o : Option LandModel) → AreSameLand (option_map remade o) o
+pub remade_are_same : (o : Option EntryModel) → AreSameEntry (option_map remade o) o
 remade_are_same None = tt
 remade_are_same (Some l) = remade_is_same l

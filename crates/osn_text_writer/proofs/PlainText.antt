@@ -19,11 +19,11 @@ use Rattle.osn_days.specs.CalendarWords.{calendar_word}
 use Rattle.osn_days.specs.Chain.{date_of}
 use Rattle.osn_days.specs.DateText.{date_digits, date_text, text_of_date}
 use Rattle.osn_days.specs.Line.{IsDay}
-use Rattle.osn_days.specs.Profile.{newest_rules}
+use Rattle.osn_days.specs.Rules.{newest_rules}
 use Rattle.osn_days.proofs.DateDigits.{date_digits-digits}
 use Rattle.osn_days.proofs.LineFacts.{date_of_line}
-use Rattle.osn_lands.specs.declared.style.Style.{Style}
-use Rattle.osn_lands.specs.StyleWords.{style_word}
+use Rattle.osn_territory.specs.declared.style.Style.{Style}
+use Rattle.osn_territory.specs.StyleWords.{style_word}
 use Rattle.osn_register.specs.Code.{is_capital, is_code_byte, has_length, is_code}
 
 -- ---- a byte

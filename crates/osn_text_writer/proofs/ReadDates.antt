@@ -17,7 +17,7 @@ use Rattle.osn_days.specs.declared.calendar.Calendar.TheVariants.{Julian, Gregor
 use Rattle.osn_days.specs.Chain.{date_of}
 use Rattle.osn_days.specs.DateText.{at_least, date_digits, date_text, text_of_date}
 use Rattle.osn_days.specs.Line.{IsDay}
-use Rattle.osn_days.specs.Profile.{newest_rules}
+use Rattle.osn_days.specs.Rules.{newest_rules}
 use Rattle.osn_days.proofs.DateDigits.{two_digits, four_digits}
 use Rattle.osn_days.proofs.LineFacts.{IsLineDate, date_of_line, day_of_date}
 use Rattle.osn_written.specs.WrittenDate.{number_of, parts_at}

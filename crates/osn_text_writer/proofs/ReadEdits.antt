@@ -3,36 +3,36 @@ use Rattle.std.proofs.Common.{◌≡◌, ℕ, suc, ◌+◌, ◌-◌, ◌<◌, �
 use Rattle.std.proofs.Common.{◌++◌, length, Some, None, Ok, refl, sym, ap, ◌∙◌, Option, map, arith}
 use Rattle.std.proofs.Common.{append_assoc, append-nil, length-append, subst}
 use Rattle.std.proofs.lemmas.Bool.Decides.{nat_tests}
-use Rattle.osn_days.specs.Profile.{newest_rules}
-use Rattle.osn_lands.specs.declared.period.Period.{Period}
-use Rattle.osn_lands.specs.declared.regime.Regime.{Regime}
-use Rattle.osn_lands.specs.Territory.{opened, Covers, periods_from, periods_of}
-use Rattle.osn_lands.proofs.CoverFacts.{no_more_than_days}
+use Rattle.osn_days.specs.Rules.{newest_rules}
+use Rattle.osn_territory.specs.declared.period.Period.{Period}
+use Rattle.osn_territory.specs.declared.regime.Regime.{Regime}
+use Rattle.osn_territory.specs.Territory.{opened, Covers, periods_from, periods_of}
+use Rattle.osn_territory.proofs.CoverFacts.{no_more_than_days}
 use Rattle.osn_register.specs.declared.edit.Edit.TheVariants.{AddLand}
 use Rattle.osn_register.specs.declared.limits.Limits.{Limits}
 use Rattle.osn_register.specs.Answer.{period_source}
-use Rattle.osn_register.specs.Plain.{LandModel, land_of, refusal, AreDistinct, is_style_refused}
+use Rattle.osn_register.specs.Plain.{EntryModel, entry_of, refusal, AreDistinct, is_style_refused}
 use Rattle.osn_register.specs.Plain.{AreStyled}
 use Rattle.osn_register.specs.Code.{is_code, is_name}
 use Rattle.osn_register.specs.Sources.{SourcesModel, opening_sources}
-use Rattle.osn_register.proofs.LandFacts.{AreDistinct-within}
+use Rattle.osn_register.proofs.EntryFacts.{AreDistinct-within}
 use Rattle.osn_register.proofs.YearFacts.{ascend_from}
 use Rattle.osn_text_reader.specs.declared.key.Part.TheVariants as parts
 use Rattle.osn_text_reader.specs.TerritoryText.{Placed}
-use Rattle.osn_text_reader.specs.Text.{lands_after_all}
+use Rattle.osn_text_reader.specs.Text.{territories_after_all}
 use Rattle.osn_text_writer.proofs.MadeSources.{all_cited, remade}
-use Rattle.osn_text_writer.proofs.SortedLands.{IsReadable, AreReadable}
-use Rattle.osn_text_writer.proofs.ReadTables.{change_edits, easter_edits, land_edits, Ascend}
+use Rattle.osn_text_writer.proofs.SortedTerritories.{IsReadable, AreReadable}
+use Rattle.osn_text_writer.proofs.ReadTables.{change_edits, easter_edits, entry_edits, Ascend}
 use Rattle.osn_text_writer.proofs.EditParts.{last, one, changes, easters, starts_of, with_starts}
 
 -- ---- a territory
 
-land_free : (limits : Limits) (done : List LandModel) (code name : List ℕ) (r : Regime)
+territory_free : (limits : Limits) (done : List EntryModel) (code name : List ℕ) (r : Regime)
     (source : Option (List ℕ)) → is_code code ≡ true → is_name name ≡ true
-    → land_of code done ≡ None → is_style_refused newest_rules r ≡ false
+    → entry_of code done ≡ None → is_style_refused newest_rules r ≡ false
     → length done < limits.lands
     → refusal newest_rules limits done (AddLand code name r source) ≡ None
-land_free limits done code name r source is named none style room =
+territory_free limits done code name r source is named none style room =
     let count : nat_le limits.lands (length done) ≡ false = grind (arith, nat_tests) in
     rw (is, named, none, style, count)
 
@@ -72,14 +72,15 @@ length-starts_of [] = refl
 length-starts_of (p ∷ ps) = ap suc (length-starts_of ps)
 
 -- the edits of a territory make it
-land_made : (limits : Limits) (done : List LandModel) (l : LandModel) (p : Period)
+territory_made : (limits : Limits) (done : List EntryModel) (l : EntryModel) (p : Period)
     (ps : List Period)
-    (es : List Placed) → IsReadable limits l → land_of l.code done ≡ None
+    (es : List Placed) → IsReadable limits l → entry_of l.code done ≡ None
     → length done < limits.lands
     → p.first ≡ 1 → Ascend p.first ps → starts_of (p ∷ ps) ≡ l.territory.starts
-    → lands_after_all limits done (land_edits l.code l.name l.territory (Some l.sources) p ps ++ es)
-    ≡ lands_after_all limits (done ++ remade l ∷ []) es
-land_made limits done l p ps es can none room first ascend starts =
+    → territories_after_all limits done
+    (entry_edits l.code l.name l.territory (Some l.sources) p ps ++ es)
+    ≡ territories_after_all limits (done ++ remade l ∷ []) es
+territory_made limits done l p ps es can none room first ascend starts =
     let t = l.territory in
     let cited = Some l.sources in
     let lawful : AreStyled newest_rules (starts_of (p ∷ ps)) =
@@ -98,15 +99,15 @@ land_made limits done l p ps es can none room first ascend starts =
     let one_start : (1, p.regime) ∷ starts_of ps
     ≡ t.starts = ap (λ d. (d, p.regime) ∷ starts_of ps) (sym first) ∙ starts in
     one limits done begin ((changed ++ listed) ++ es)
-    (land_free limits done l.code l.name p.regime source can.code can.name none lawful.0 room)
-    ∙ ap (λ d. lands_after_all limits
+    (territory_free limits done l.code l.name p.regime source can.code can.name none lawful.0 room)
+    ∙ ap (λ d. territories_after_all limits
     (last done l.code l.name begun (opening_sources (period_source cited d)))
     ((changed ++ listed) ++ es)) first
-    ∙ ap (lands_after_all limits (last done l.code l.name begun given))
+    ∙ ap (territories_after_all limits (last done l.code l.name begun given))
     (append_assoc changed listed es)
     ∙ changes limits done l.code l.name can.code none begun given cited 1 1 ps (listed ++ es)
     (omega arith) (omega arith, tt) (rw first at ascend) lawful.1 (omega (arith, count, size))
-    ∙ ap (λ ss. lands_after_all limits (last done l.code l.name (with_starts begun ss)
+    ∙ ap (λ ss. territories_after_all limits (last done l.code l.name (with_starts begun ss)
     (starts_cited ss)) (listed ++ es)) one_start
     ∙ easters limits done l.code l.name can.code none
     (with_starts begun t.starts) (starts_cited t.starts) cited 0 1 t.exceptions es tt
@@ -115,37 +116,37 @@ land_made limits done l p ps es can none room first ascend starts =
 -- ---- all territories
 
 -- the edits of some territories
-abbrev pub edits_by : LandModel → List Period → List Placed
+abbrev pub edits_by : EntryModel → List Period → List Placed
 edits_by l [] = []
-edits_by l (p ∷ ps) = land_edits l.code l.name l.territory (Some l.sources) p ps
+edits_by l (p ∷ ps) = entry_edits l.code l.name l.territory (Some l.sources) p ps
 
-abbrev pub edits_of : LandModel → List Placed
+abbrev pub edits_of : EntryModel → List Placed
 edits_of l = edits_by l (periods_of newest_rules l.territory)
 
-abbrev pub all_edits : List LandModel → List Placed
+abbrev pub all_edits : List EntryModel → List Placed
 all_edits [] = []
 all_edits (l ∷ ls) = edits_of l ++ all_edits ls
 
 -- what is known of the periods of a readable territory
-pub period_facts : (limits : Limits) (l : LandModel) → IsReadable limits l
+pub period_facts : (limits : Limits) (l : EntryModel) → IsReadable limits l
     → Begins 1 (periods_of newest_rules l.territory)
 period_facts limits l can =
     begins newest_rules.high 1 l.territory.starts refl (omega arith) (omega arith) can.sound.periods
 
-made_by : (limits : Limits) (done : List LandModel) (l : LandModel) (ps : List Period)
+made_by : (limits : Limits) (done : List EntryModel) (l : EntryModel) (ps : List Period)
     (es : List Placed)
-    → IsReadable limits l → land_of l.code done ≡ None → length done < limits.lands → Begins 1 ps
+    → IsReadable limits l → entry_of l.code done ≡ None → length done < limits.lands → Begins 1 ps
     → starts_of ps ≡ l.territory.starts
-    → lands_after_all limits done (edits_by l ps ++ es)
-    ≡ lands_after_all limits (done ++ remade l ∷ []) es
+    → territories_after_all limits done (edits_by l ps ++ es)
+    ≡ territories_after_all limits (done ++ remade l ∷ []) es
 made_by limits done l [] es can none room begun starts = absurd begun
 made_by limits done l (p ∷ ps) es can none room begun starts =
-    land_made limits done l p ps es can none room begun.0 begun.1 starts
+    territory_made limits done l p ps es can none room begun.0 begun.1 starts
 
 -- the edits of territories make them, after others
-pub all_made : (limits : Limits) (done ls : List LandModel) → AreReadable limits ls
+pub all_made : (limits : Limits) (done ls : List EntryModel) → AreReadable limits ls
     → AreDistinct (done ++ map remade ls) → length (done ++ map remade ls) ≤ limits.lands
-    → lands_after_all limits done (all_edits ls) ≡ Ok (done ++ map remade ls)
+    → territories_after_all limits done (all_edits ls) ≡ Ok (done ++ map remade ls)
 all_made limits done [] can distinct room = ap Ok (sym (append-nil done))
 all_made limits done (l ∷ ls) can distinct room =
     let after = map remade ls in

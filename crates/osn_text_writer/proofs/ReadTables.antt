@@ -14,12 +14,12 @@ use Rattle.osn_days.specs.declared.calendar.Calendar.{Calendar}
 use Rattle.osn_days.specs.declared.calendar.Calendar.TheVariants.{Julian, Gregorian, Swedish}
 use Rattle.osn_days.specs.CalendarWords.{calendar_word, calendar_named}
 use Rattle.osn_days.specs.Line.{IsDay}
-use Rattle.osn_days.specs.Profile.{newest_rules}
-use Rattle.osn_lands.specs.declared.period.Period.{Period}
-use Rattle.osn_lands.specs.declared.regime.Regime.{Regime}
-use Rattle.osn_lands.specs.declared.style.Style.{Style}
-use Rattle.osn_lands.specs.StyleWords.{style_word, style_written}
-use Rattle.osn_lands.specs.Territory.{TerritoryModel, regime_at}
+use Rattle.osn_days.specs.Rules.{newest_rules}
+use Rattle.osn_territory.specs.declared.period.Period.{Period}
+use Rattle.osn_territory.specs.declared.regime.Regime.{Regime}
+use Rattle.osn_territory.specs.declared.style.Style.{Style}
+use Rattle.osn_territory.specs.StyleWords.{style_word, style_written}
+use Rattle.osn_territory.specs.Territory.{TerritoryModel, regime_at}
 use Rattle.osn_register.specs.declared.edit.Edit.TheVariants.{AddLand, AddChange, AddException}
 use Rattle.osn_register.specs.Answer.{period_source, easter_source}
 use Rattle.osn_register.specs.Plain.{AreListed}
@@ -34,14 +34,15 @@ use Rattle.osn_text_reader.specs.TerritoryText.{Placed, is_later, change_of, cha
 use Rattle.osn_text_reader.specs.TerritoryText.{easter_of, easters_from, opening_of}
 use Rattle.osn_text_reader.specs.TerritoryText.{territory_edits}
 use Rattle.osn_text_writer.proofs.Expressions as lines
-use Rattle.osn_text_writer.proofs.LandNodes.{Tables, items_of, land, change_table}
-use Rattle.osn_text_writer.proofs.LandNodes.{easter_table, change_items, easter_items}
-use Rattle.osn_text_writer.proofs.LandNodes.{changes_after, easters_after, land_nodes}
-use Rattle.osn_text_writer.proofs.LandNodes.{items_of-changes, items_of-easters}
+use Rattle.osn_text_writer.proofs.TerritoryNodes.{Tables, items_of, territory, change_table}
+use Rattle.osn_text_writer.proofs.TerritoryNodes.{easter_table, change_items, easter_items}
+use Rattle.osn_text_writer.proofs.TerritoryNodes.{changes_after, easters_after, territory_nodes}
+use Rattle.osn_text_writer.proofs.TerritoryNodes.{items_of-changes, items_of-easters}
 use Rattle.osn_text_writer.proofs.ReadDates.{day_in}
-use Rattle.osn_text_writer.proofs.TableMembers.{land_keys, land_name, land_style, land_rule}
-use Rattle.osn_text_writer.proofs.TableMembers.{land_source, land_note, land_changes, land_easters}
-use Rattle.osn_text_writer.proofs.TableMembers.{list_of, change_keys, change_from, change_calendar}
+use Rattle.osn_text_writer.proofs.TableMembers.{territory_keys, territory_name, territory_style}
+use Rattle.osn_text_writer.proofs.TableMembers.{territory_rule, territory_source, territory_note}
+use Rattle.osn_text_writer.proofs.TableMembers.{territory_changes, territory_easters, list_of}
+use Rattle.osn_text_writer.proofs.TableMembers.{change_keys, change_from, change_calendar}
 use Rattle.osn_text_writer.proofs.TableMembers.{change_style, change_rule, change_source}
 use Rattle.osn_text_writer.proofs.TableMembers.{change_note, easter_keys, easter_year}
 use Rattle.osn_text_writer.proofs.TableMembers.{easter_source_there, easter_note}
@@ -110,7 +111,7 @@ no_note at ms there = ap (note_in at) there
 
 opening : (at : Place) (name : List ℕ) (r : Regime) (o : Option (List ℕ)) (changes easters : Tables)
     → IsGiven o
-    → opening_of at (close (land (string name) (string (calendar_word r.calendar))
+    → opening_of at (close (territory (string name) (string (calendar_word r.calendar))
     (string (style_word r.style)) (string (rule_word r.rule)) o changes easters)) ≡ Ok (name, r, o)
 unfolding opening_of regime_of
 opening at name r o changes easters given =
@@ -118,16 +119,16 @@ opening at name r o changes easters given =
     let c = string (calendar_word r.calendar) in
     let s = string (style_word r.style) in
     let u = string (rule_word r.rule) in
-    let ms = close (land n c s u o changes easters) in
+    let ms = close (territory n c s u o changes easters) in
     let calendar = word_read at keys.Calendar calendar_named None (calendar_word r.calendar)
     r.calendar ms refl (calendar_back r.calendar) in
     let style = word_read at keys.Style style_written None (style_word r.style) r.style ms
-    (land_style n c s u o changes easters) (style_back r.style) in
+    (territory_style n c s u o changes easters) (style_back r.style) in
     let rule = word_read at keys.Rule rule_named None (rule_word r.rule) r.rule ms
-    (land_rule n c s u o changes easters) (rule_back r.rule) in
-    let source = source_read at o ms (land_source n c s u o changes easters) given in
-    let note = no_note at ms (land_note n c s u o changes easters) in
-    rw (land_name n c s u o changes easters, calendar, style, rule, source, note)
+    (territory_rule n c s u o changes easters) (rule_back r.rule) in
+    let source = source_read at o ms (territory_source n c s u o changes easters) given in
+    let note = no_note at ms (territory_note n c s u o changes easters) in
+    rw (territory_name n c s u o changes easters, calendar, style, rule, source, note)
 
 tables_read : (at : Place) (key : Key) (ts : Tables) → items_in at key (list_of ts)
     ≡ Ok (items_of ts)
@@ -279,17 +280,17 @@ easters_read code n t cited (e ∷ es) given listed =
 
 -- ---- a territory
 
-abbrev pub land_edits : List ℕ → List ℕ → TerritoryModel → Option SourcesModel → Period
+abbrev pub entry_edits : List ℕ → List ℕ → TerritoryModel → Option SourcesModel → Period
     → List Period → List Placed
-land_edits code name t cited p ps =
+entry_edits code name t cited p ps =
     (parts.Territory, AddLand code name p.regime (period_source cited p.first))
     ∷ (change_edits code 1 cited ps ++ easter_edits code 1 cited t.exceptions)
 
 pub territory_read : (code name : List ℕ) (t : TerritoryModel) (cited : Option SourcesModel)
     (p : Period) (ps : List Period) → AreGiven (period_source cited)
     → AreGiven (easter_source cited) → Ascend p.first ps → AreListed newest_rules t.exceptions
-    → territory_edits code (table (close (land_nodes name t cited (p ∷ ps))))
-    ≡ Ok (land_edits code name t cited p ps)
+    → territory_edits code (table (close (territory_nodes name t cited (p ∷ ps))))
+    ≡ Ok (entry_edits code name t cited p ps)
 unfolding territory_edits
 territory_read code name t cited p ps given given_easters ascend listed =
     let at : Place = record { code = code; part = parts.Territory } in
@@ -300,12 +301,12 @@ territory_read code name t cited p ps given given_easters ascend listed =
     let o = period_source cited p.first in
     let changes = changes_after None cited p.regime ps in
     let easters = easters_after None t cited t.exceptions in
-    let ms = close (land n c s u o changes easters) in
+    let ms = close (territory n c s u o changes easters) in
     let change_tables : items_at at keys.Changes ms ≡ Ok (items_of changes) =
-    ap (items_in at keys.Changes) (land_changes n c s u o changes easters)
+    ap (items_in at keys.Changes) (territory_changes n c s u o changes easters)
     ∙ tables_read at keys.Changes changes in
     let easter_tables : items_at at keys.Easters ms ≡ Ok (items_of easters) =
-    ap (items_in at keys.Easters) (land_easters n c s u o changes easters)
+    ap (items_in at keys.Easters) (territory_easters n c s u o changes easters)
     ∙ tables_read at keys.Easters easters in
     let changed : changes_from code 1 None p.regime (items_of changes)
     ≡ Ok (change_edits code 1 cited ps) =
@@ -316,7 +317,7 @@ territory_read code name t cited p ps given given_easters ascend listed =
     ap (easters_from code 1) (items_of-easters None t cited t.exceptions)
     ∙ easters_read code 1 t cited t.exceptions given_easters listed in
     rw (
-      land_keys n c s u o changes easters,
+      territory_keys n c s u o changes easters,
       opening at name p.regime o changes easters (given p.first),
       change_tables,
       changed,

@@ -12,8 +12,8 @@ use Rattle.osn_text_reader.specs.declared.key.Part.{Part}
 use Rattle.osn_text_reader.specs.declared.key.Part.TheVariants as parts
 use Rattle.osn_text_reader.specs.Field.{unknown_key, value_at}
 use Rattle.osn_text_reader.specs.Key.{is_key_of}
-use Rattle.osn_text_writer.proofs.LandNodes.{Tables, land, list_at, unless, if_given, change_nodes}
-use Rattle.osn_text_writer.proofs.LandNodes.{easter_nodes}
+use Rattle.osn_text_writer.proofs.TerritoryNodes.{Tables, territory, list_at, unless, if_given}
+use Rattle.osn_text_writer.proofs.TerritoryNodes.{change_nodes, easter_nodes}
 
 -- ---- past a key
 
@@ -106,36 +106,37 @@ module _ (name calendar style rule : Data) (o : Option (List ℕ)) (changes east
       past_list k (codes "changes") changes after_changes no_changes
       ∙ past_list k (codes "easters") easters after_easters no_easters
 
-  pub land_keys
-      : unknown_key parts.Territory (close (land name calendar style rule o changes easters)) ≡ None
-  land_keys =
+  pub territory_keys
+      : unknown_key parts.Territory (close (territory name calendar style rule o changes easters))
+      ≡ None
+  territory_keys =
       known_list parts.Territory (codes "changes") changes after_changes refl
       ∙ known_list parts.Territory (codes "easters") easters after_easters refl
       ∙ known_source parts.Territory o (node (codes "style") (value style) no_nodes) refl
 
-  pub land_name : value_at keys.Name (close (land name calendar style rule o changes easters))
-      ≡ Some name
-  land_name = after_lists (codes "name") refl refl
+  pub territory_name : value_at keys.Name
+      (close (territory name calendar style rule o changes easters)) ≡ Some name
+  territory_name = after_lists (codes "name") refl refl
 
-  pub land_rule : value_at keys.Rule (close (land name calendar style rule o changes easters))
-      ≡ Some rule
-  land_rule = after_lists (codes "rule") refl refl
+  pub territory_rule : value_at keys.Rule
+      (close (territory name calendar style rule o changes easters)) ≡ Some rule
+  territory_rule = after_lists (codes "rule") refl refl
 
-  pub land_style : value_at keys.Style (close (land name calendar style rule o changes easters))
-      ≡ Some style
-  land_style =
+  pub territory_style : value_at keys.Style
+      (close (territory name calendar style rule o changes easters)) ≡ Some style
+  territory_style =
       after_lists (codes "style") refl refl
       ∙ past_source (codes "style") o (node (codes "style") (value style) no_nodes) refl
 
-  pub land_source : value_at keys.Source (close (land name calendar style rule o changes easters))
-      ≡ option_map string o
-  land_source =
+  pub territory_source : value_at keys.Source
+      (close (territory name calendar style rule o changes easters)) ≡ option_map string o
+  territory_source =
       after_lists (codes "source") refl refl
       ∙ own_source o (node (codes "style") (value style) no_nodes) refl
 
-  pub land_note : value_at keys.Note (close (land name calendar style rule o changes easters))
-      ≡ None
-  land_note =
+  pub territory_note : value_at keys.Note
+      (close (territory name calendar style rule o changes easters)) ≡ None
+  territory_note =
       after_lists (codes "note") refl refl
       ∙ past_source (codes "note") o (node (codes "style") (value style) no_nodes) refl
 
@@ -143,15 +144,15 @@ module _ (name calendar style rule : Data) (o : Option (List ℕ)) (changes east
 abbrev pub list_of : Tables → Option Data
 list_of ts = option_map (λ ts. array (push_item ts.0 (table (close ts.1)))) ts
 
-pub land_changes : (name calendar style rule : Data) (o : Option (List ℕ))
+pub territory_changes : (name calendar style rule : Data) (o : Option (List ℕ))
     (changes easters : Tables)
-    → value_at keys.Changes (close (land name calendar style rule o changes easters))
+    → value_at keys.Changes (close (territory name calendar style rule o changes easters))
     ≡ list_of changes
-land_changes name calendar style rule o None easters =
+territory_changes name calendar style rule o None easters =
     past_list (codes "changes") (codes "easters") easters
     (after_easters name calendar style rule o None easters) refl
     ∙ past_source (codes "changes") o (node (codes "style") (value style) no_nodes) refl
-land_changes name calendar style rule o (Some ts) easters = refl
+territory_changes name calendar style rule o (Some ts) easters = refl
 
 easters_there : (name calendar style rule : Data) (o : Option (List ℕ)) (easters : Tables)
     → get_member (codes "easters")
@@ -160,11 +161,11 @@ easters_there name calendar style rule o None =
     past_source (codes "easters") o (node (codes "style") (value style) no_nodes) refl
 easters_there name calendar style rule o (Some ts) = refl
 
-pub land_easters : (name calendar style rule : Data) (o : Option (List ℕ))
+pub territory_easters : (name calendar style rule : Data) (o : Option (List ℕ))
     (changes easters : Tables)
-    → value_at keys.Easters (close (land name calendar style rule o changes easters))
+    → value_at keys.Easters (close (territory name calendar style rule o changes easters))
     ≡ list_of easters
-land_easters name calendar style rule o changes easters =
+territory_easters name calendar style rule o changes easters =
     past_list (codes "easters") (codes "changes") changes
     (after_changes name calendar style rule o None easters) refl
     ∙ easters_there name calendar style rule o easters

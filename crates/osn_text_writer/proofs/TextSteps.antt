@@ -6,16 +6,16 @@ use Rattle.std.proofs.Common.{refl, sym, ap, ◌∙◌, append_assoc, append-nil
 use Rattle.std.proofs.lemmas.Bool.{false≢true}
 use Rattle.std.proofs.lemmas.List.{drop_more, drop_all}
 use Rattle.std.proofs.lemmas.Option.{slice_get_within, get_or_from_slice_get, none-some, same_Some}
-use Rattle.osn_days.specs.Profile.{newest_rules}
-use Rattle.osn_lands.specs.declared.period.Period.{Period}
-use Rattle.osn_lands.specs.declared.regime.Regime.{Regime}
-use Rattle.osn_lands.specs.Territory.{TerritoryModel}
+use Rattle.osn_days.specs.Rules.{newest_rules}
+use Rattle.osn_territory.specs.declared.period.Period.{Period}
+use Rattle.osn_territory.specs.declared.regime.Regime.{Regime}
+use Rattle.osn_territory.specs.Territory.{TerritoryModel}
 use Rattle.osn_register.specs.Named.{listing_of, named_of}
-use Rattle.osn_register.specs.Plain.{LandModel, land_of, sources_of, AreDistinct}
+use Rattle.osn_register.specs.Plain.{EntryModel, entry_of, sources_of, AreDistinct}
 use Rattle.osn_register.specs.Sources.{SourcesModel}
 use Rattle.osn_text_writer.specs.TerritoryText.{change_text, changes_text, territory_text}
-use Rattle.osn_text_writer.specs.TerritoryText.{if_there, land_text, lands_text}
-use Rattle.osn_text_writer.proofs.FoundLands.{code_of, land_of-at}
+use Rattle.osn_text_writer.specs.TerritoryText.{if_there, entry_text, territories_text}
+use Rattle.osn_text_writer.proofs.FoundTerritories.{code_of, entry_of-at}
 
 -- one change more
 pub change_step : (code : List ℕ) (cited : Option SourcesModel) (before : Regime) (ps : List Period)
@@ -41,72 +41,72 @@ changes_end code cited before ps i whole out end left =
     ∙ append-nil out)
 
 -- the code, the name and the territory at a place are those of a territory there
-abbrev IsListed : List LandModel → ℕ → List ℕ × List ℕ × TerritoryModel → Type 0
+abbrev IsListed : List EntryModel → ℕ → List ℕ × List ℕ × TerritoryModel → Type 0
 IsListed ls i listing =
-    (l : LandModel) × (slice_get ls i ≡ Some l) × (listing_of l ≡ listing)
+    (l : EntryModel) × (slice_get ls i ≡ Some l) × (listing_of l ≡ listing)
 
-listed_by : (ls : List LandModel) (i : ℕ) (listing : List ℕ × List ℕ × TerritoryModel)
-    (o : Option LandModel) → slice_get ls i ≡ o → Some listing ≡ option_map listing_of o
+listed_by : (ls : List EntryModel) (i : ℕ) (listing : List ℕ × List ℕ × TerritoryModel)
+    (o : Option EntryModel) → slice_get ls i ≡ o → Some listing ≡ option_map listing_of o
     → IsListed ls i listing
 listed_by ls i listing None at is = absurd (none-some listing (sym is))
 listed_by ls i listing (Some l) at is =
     (l, at, sym (same_Some listing (listing_of l) is))
 
 -- one territory more
-pub land_step : (ls : List LandModel) (i : ℕ) (code name : List ℕ) (t : TerritoryModel)
+pub territory_step : (ls : List EntryModel) (i : ℕ) (code name : List ℕ) (t : TerritoryModel)
     (whole out new : List ℕ) → AreDistinct ls
     → Some (code, name, t) ≡ option_map listing_of (slice_get ls i)
-    → whole ≡ out ++ lands_text newest_rules (drop i ls)
+    → whole ≡ out ++ territories_text newest_rules (drop i ls)
     → new ≡ out ++ (codes "\n" ++ territory_text newest_rules code name t (sources_of code ls))
-    → whole ≡ new ++ lands_text newest_rules (drop (i + 1) ls)
-unfolding lands_text
-land_step ls i code name t whole out new distinct is left made =
+    → whole ≡ new ++ territories_text newest_rules (drop (i + 1) ls)
+unfolding territories_text
+territory_step ls i code name t whole out new distinct is left made =
     let (l, at, same) = listed_by ls i (code, name, t) (slice_get ls i) refl is in
     let blank = codes "\n" in
-    let text = land_text newest_rules l in
-    let rest = lands_text newest_rules (drop (i + 1) ls) in
+    let text = entry_text newest_rules l in
+    let rest = territories_text newest_rules (drop (i + 1) ls) in
     let within : i < length ls = slice_get_within ls i l at in
     let next : drop i ls ≡ l ∷ drop (i + 1) ls =
     drop_more ls i l within ∙ ap (λ m. m ∷ drop (i + 1) ls) (get_or_from_slice_get ls i l l at) in
     let this : text ≡ territory_text newest_rules code name t (sources_of code ls) =
     ap (λ s. territory_text newest_rules l.code l.name l.territory s)
-    (sym (ap (option_map (λ (m : LandModel). m.sources)) (land_of-at ls i l distinct at)))
+    (sym (ap (option_map (λ (m : EntryModel). m.sources)) (entry_of-at ls i l distinct at)))
     ∙ ap (λ (m : List ℕ × List ℕ × TerritoryModel).
     territory_text newest_rules m.0 m.1 m.2 (sources_of m.0 ls)) same in
-    left ∙ ap (λ ms. out ++ lands_text newest_rules ms) next
+    left ∙ ap (λ ms. out ++ territories_text newest_rules ms) next
     ∙ ap (λ t. out ++ t) (sym (append_assoc blank text rest))
     ∙ sym (append_assoc out (blank ++ text) rest)
     ∙ ap (λ t. (out ++ (blank ++ t)) ++ rest) this
     ∙ ap (λ t. t ++ rest) (sym made)
 
-past : (ls : List LandModel) (i : ℕ) → slice_get ls i ≡ None → drop i ls ≡ []
+past : (ls : List EntryModel) (i : ℕ) → slice_get ls i ≡ None → drop i ls ≡ []
 past [] zero none = refl
 past [] (suc i) none = refl
 past (l ∷ ls) zero none = absurd (none-some l (sym none))
 past (l ∷ ls) (suc i) none = past ls i none
 
-no_listing : (o : Option LandModel) → None ≡ option_map listing_of o → o ≡ None
+no_listing : (o : Option EntryModel) → None ≡ option_map listing_of o → o ≡ None
 no_listing None is = refl
 no_listing (Some l) is = absurd (none-some (listing_of l) is)
 
-pub lands_end : (ls : List LandModel) (i : ℕ) (whole out : List ℕ)
+pub territories_end : (ls : List EntryModel) (i : ℕ) (whole out : List ℕ)
     → None ≡ option_map listing_of (slice_get ls i)
-    → whole ≡ out ++ lands_text newest_rules (drop i ls) → out ≡ whole
-unfolding lands_text
-lands_end ls i whole out none left =
+    → whole ≡ out ++ territories_text newest_rules (drop i ls) → out ≡ whole
+unfolding territories_text
+territories_end ls i whole out none left =
     sym (left
-    ∙ ap (λ ms. out ++ lands_text newest_rules ms)
+    ∙ ap (λ ms. out ++ territories_text newest_rules ms)
     (past ls i (no_listing (slice_get ls i) none))
     ∙ append-nil out)
 
 -- ---- the territory of a code
 
-of_code_by : (code name : List ℕ) (t : TerritoryModel) (ls : List LandModel) (o : Option LandModel)
-    → land_of code ls ≡ o
+of_code_by : (code name : List ℕ) (t : TerritoryModel) (ls : List EntryModel)
+    (o : Option EntryModel) → entry_of code ls ≡ o
     → option_map {U = List ℕ × TerritoryModel} (λ l. (l.name, l.territory)) o ≡ Some (name, t)
     → codes "\n" ++ territory_text newest_rules code name t (option_map (λ l. l.sources) o)
-    ≡ lands_text newest_rules (if_there o)
-unfolding lands_text
+    ≡ territories_text newest_rules (if_there o)
+unfolding territories_text
 of_code_by code name t ls None at is = absurd (none-some (name, t) is)
 of_code_by code name t ls (Some l) at is =
     let same = same_Some (l.name, l.territory) (name, t) is in
@@ -114,21 +114,22 @@ of_code_by code name t ls (Some l) at is =
     (code_of ls code l at)
     ∙ ap (λ (m : List ℕ × TerritoryModel).
     codes "\n" ++ territory_text newest_rules l.code m.0 m.1 (Some l.sources)) (sym same)
-    ∙ ap (λ t. codes "\n" ++ t) (sym (append-nil (land_text newest_rules l)))
+    ∙ ap (λ t. codes "\n" ++ t) (sym (append-nil (entry_text newest_rules l)))
 
 -- the text of what is found
-pub text_found : (code name : List ℕ) (t : TerritoryModel) (ls : List LandModel)
+pub text_found : (code name : List ℕ) (t : TerritoryModel) (ls : List EntryModel)
     → named_of code ls ≡ Some (name, t)
     → codes "\n" ++ territory_text newest_rules code name t (sources_of code ls)
-    ≡ lands_text newest_rules (if_there (land_of code ls))
-text_found code name t ls is = of_code_by code name t ls (land_of code ls) refl is
+    ≡ territories_text newest_rules (if_there (entry_of code ls))
+text_found code name t ls is = of_code_by code name t ls (entry_of code ls) refl is
 
-none_by : (o : Option LandModel) → false ≡ is_some o → lands_text newest_rules (if_there o) ≡ []
-unfolding lands_text
+none_by : (o : Option EntryModel) → false ≡ is_some o → territories_text newest_rules (if_there o)
+    ≡ []
+unfolding territories_text
 none_by None is = refl
 none_by (Some l) is = absurd (false≢true is)
 
 -- and of none
-pub text_of_none : (code : List ℕ) (ls : List LandModel) → false ≡ is_some (land_of code ls)
-    → lands_text newest_rules (if_there (land_of code ls)) ≡ []
-text_of_none code ls none = none_by (land_of code ls) none
+pub text_of_none : (code : List ℕ) (ls : List EntryModel) → false ≡ is_some (entry_of code ls)
+    → territories_text newest_rules (if_there (entry_of code ls)) ≡ []
+text_of_none code ls none = none_by (entry_of code ls) none

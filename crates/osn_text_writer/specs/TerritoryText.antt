@@ -10,13 +10,13 @@ use Rattle.osn_days.specs.declared.calendar.Calendar.{Calendar}
 use Rattle.osn_days.specs.CalendarWords.{calendar_word}
 use Rattle.osn_days.specs.Chain.{date_of}
 use Rattle.osn_days.specs.DateText.{text_of_date}
-use Rattle.osn_days.specs.Profile.{Profile}
-use Rattle.osn_lands.specs.declared.period.Period.{Period}
-use Rattle.osn_lands.specs.declared.regime.Regime.{Regime}
-use Rattle.osn_lands.specs.StyleWords.{style_word}
-use Rattle.osn_lands.specs.Territory.{TerritoryModel, periods_of, regime_at}
+use Rattle.osn_days.specs.Rules.{Rules}
+use Rattle.osn_territory.specs.declared.period.Period.{Period}
+use Rattle.osn_territory.specs.declared.regime.Regime.{Regime}
+use Rattle.osn_territory.specs.StyleWords.{style_word}
+use Rattle.osn_territory.specs.Territory.{TerritoryModel, periods_of, regime_at}
 use Rattle.osn_register.specs.Answer.{period_source, easter_source}
-use Rattle.osn_register.specs.Plain.{LandModel, land_of}
+use Rattle.osn_register.specs.Plain.{EntryModel, entry_of}
 use Rattle.osn_register.specs.Sources.{SourcesModel}
 
 -- ---- parts of a line
@@ -107,18 +107,18 @@ easter_text code t sources listed =
     listing_text code t listed ++ source_line (easter_source sources listed.0)
 
 -- a territory with its sources: its periods in order, then its listed Easters by their years
-unfoldable pub territory_text : Profile → List ℕ → List ℕ → TerritoryModel → Option SourcesModel
+unfoldable pub territory_text : Rules → List ℕ → List ℕ → TerritoryModel → Option SourcesModel
     → List ℕ
 territory_text p code name t sources =
     periods_text code name sources (periods_of p t)
     ++ flat_map (easter_text code t sources) t.exceptions
 
-abbrev pub if_there : Option LandModel → List LandModel
+abbrev pub if_there : Option EntryModel → List EntryModel
 if_there None = []
 if_there (Some l) = l ∷ []
 
-abbrev pub land_text : Profile → LandModel → List ℕ
-land_text p l = territory_text p l.code l.name l.territory (Some l.sources)
+abbrev pub entry_text : Rules → EntryModel → List ℕ
+entry_text p l = territory_text p l.code l.name l.territory (Some l.sources)
 
 -- ---- a register
 
@@ -127,14 +127,15 @@ unfoldable pub edition_line : ℕ → List ℕ
 edition_line edition = codes "edition = " ++ (decimal edition ++ codes "\n")
 
 -- territories, each after an empty line
-unfoldable pub lands_text : Profile → List LandModel → List ℕ
-lands_text p [] = []
-lands_text p (l ∷ ls) = codes "\n" ++ (land_text p l ++ lands_text p ls)
+unfoldable pub territories_text : Rules → List EntryModel → List ℕ
+territories_text p [] = []
+territories_text p (l ∷ ls) = codes "\n" ++ (entry_text p l ++ territories_text p ls)
 
 -- the territories of a register, in the order in which they were added
-unfoldable pub register_text : Profile → ℕ → List LandModel → List ℕ
-register_text p edition lands = edition_line edition ++ lands_text p lands
+unfoldable pub register_text : Rules → ℕ → List EntryModel → List ℕ
+register_text p edition territories = edition_line edition ++ territories_text p territories
 
 -- the text of a register's territory of a code alone, without territories if the code is unknown
-abbrev pub text_of_code : Profile → ℕ → List ℕ → List LandModel → List ℕ
-text_of_code p edition code lands = register_text p edition (if_there (land_of code lands))
+abbrev pub text_of_code : Rules → ℕ → List ℕ → List EntryModel → List ℕ
+text_of_code p edition code territories =
+    register_text p edition (if_there (entry_of code territories))

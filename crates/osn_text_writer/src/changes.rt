@@ -7,8 +7,8 @@ use crate::date_table::DateTable;
 use crate::source_line::push_source;
 use crate::word_line::push_changed;
 use osn_days::Keyword;
-use osn_lands::{Period, Regime};
 use osn_register::Register;
+use osn_territory::{Period, Regime};
 use std::alloc::AllocError;
 use std::fmt::Write;
 
@@ -51,7 +51,8 @@ fn push_change(
     period: &Period,
 ) -> Result<(), AllocError>
     ensures { OnOk result (string_bytes out.new ≡ string_bytes out.old
-        ++ spec.change_text code.now (sources_of code.now register.now.lands) before period.now) }
+        ++ spec.change_text code.now (sources_of code.now register.now.territories) before
+        period.now) }
 {
     push_beginning(out, code, period)?;
     push_changed_lines(out, before, period.regime)?;
@@ -67,7 +68,7 @@ pub(crate) fn push_changes(
     periods: &[Period],
 ) -> Result<(), AllocError>
     ensures { OnOk result (string_bytes out.new ≡ string_bytes out.old
-        ++ spec.changes_text code.now (sources_of code.now register.now.lands) opening
+        ++ spec.changes_text code.now (sources_of code.now register.now.territories) opening
         periods.now) }
 {
     let mut before = opening;

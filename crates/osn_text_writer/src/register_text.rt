@@ -1,13 +1,13 @@
 //! The text of a register.
 ghost use Rattle.std.specs.Prelude.{◌≡◌, ◌++◌, codes, IfOk, OnOk, string_bytes};
-ghost use Rattle.osn_days.specs.Profile.{newest_rules};
-ghost use Rattle.osn_register.specs.Plain.{land_of, sources_of};
-ghost use Rattle.osn_text_writer.specs.Says.{SaysLand, SaysRegister};
+ghost use Rattle.osn_days.specs.Rules.{newest_rules};
+ghost use Rattle.osn_register.specs.Plain.{entry_of, sources_of};
+ghost use Rattle.osn_text_writer.specs.Says.{SaysTerritory, SaysRegister};
 ghost use Rattle.osn_text_writer.specs.TerritoryText as spec;
 
 use crate::territory::push_territory;
-use osn_lands::Territory;
 use osn_register::Register;
+use osn_territory::Territory;
 use std::alloc::{AllocError, Global};
 use std::fmt::Write;
 
@@ -25,7 +25,7 @@ fn push_edition(out: &mut String, edition: usize) -> Result<(), AllocError>
 }
 
 /// Appends a territory, after an empty line.
-fn push_land(
+fn push_next_territory(
     out: &mut String,
     register: &Register,
     code: &str,
@@ -34,7 +34,7 @@ fn push_land(
 ) -> Result<(), AllocError>
     ensures { OnOk result (string_bytes out.new ≡ string_bytes out.old ++ (codes "\n"
         ++ spec.territory_text newest_rules code.now name.now territory.now
-        (sources_of code.now register.now.lands))) }
+        (sources_of code.now register.now.territories))) }
 {
     out.push_str("\n")?;
     push_territory(out, register, code, name, territory)
@@ -49,32 +49,33 @@ fn push_land(
 /// Returns `AllocError` if memory runs out.
 pub fn write_text(alloc: Global, edition: usize, register: &Register) -> Result<String, AllocError>
     ensures text { IfOk result (λ s. string_bytes s
-        ≡ spec.register_text newest_rules edition register.now.lands) }
+        ≡ spec.register_text newest_rules edition register.now.territories) }
     // as a law: the text is read as the register's territories with their sources, of the edition
     ensures reads_back { IfOk result (λ s.
-        SaysRegister register.now (string_bytes s) edition register.now.lands) }
+        SaysRegister register.now (string_bytes s) edition register.now.territories) }
 {
     let mut text = String::with_capacity(alloc, ROOM)?;
     push_edition(&mut text, edition)?;
-    'lands: for place in 0..register.limits().lands as usize {
-        let Some((code, name, territory)) = register.land_at(place) else {
+    'each: for place in 0..register.limits().lands as usize {
+        let Some((code, name, territory)) = register.territory_at(place) else {
             break;
         };
-        push_land(&mut text, register, code, name, territory)?;
+        push_next_territory(&mut text, register, code, name, territory)?;
     }
     Ok(text)
 }
 
 /// The room that the text of a territory gets at first: one with two changes takes some 250 bytes.
-const LAND_ROOM: usize = 256;
+const TERRITORY_ROOM: usize = 256;
 
 /// Appends the territory of a code, if a territory has it.
 fn push_of_code(out: &mut String, register: &Register, code: &str) -> Result<(), AllocError>
     ensures { OnOk result (string_bytes out.new ≡ string_bytes out.old
-        ++ spec.lands_text newest_rules (spec.if_there (land_of code.now register.now.lands))) }
+        ++ spec.territories_text newest_rules
+        (spec.if_there (entry_of code.now register.now.territories))) }
 {
-    match register.find_land(code) {
-        Some((name, territory)) => push_land(out, register, code, name, territory),
+    match register.find_territory(code) {
+        Some((name, territory)) => push_next_territory(out, register, code, name, territory),
         None => Ok(()),
     }
 }
@@ -94,12 +95,12 @@ pub fn write_territory(
     code: &str,
 ) -> Result<String, AllocError>
     ensures text { IfOk result (λ s. string_bytes s
-        ≡ spec.text_of_code newest_rules edition code.now register.now.lands) }
+        ≡ spec.text_of_code newest_rules edition code.now register.now.territories) }
     // as a law: the text is read as that territory with its sources, of the edition
     ensures reads_back { IfOk result (λ s.
-        SaysLand register.now (string_bytes s) edition code.now) }
+        SaysTerritory register.now (string_bytes s) edition code.now) }
 {
-    let mut text = String::with_capacity(alloc, LAND_ROOM)?;
+    let mut text = String::with_capacity(alloc, TERRITORY_ROOM)?;
     push_edition(&mut text, edition)?;
     push_of_code(&mut text, register, code)?;
     Ok(text)

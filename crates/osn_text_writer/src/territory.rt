@@ -1,8 +1,8 @@
 //! The text of a territory.
 ghost use Rattle.std.specs.Prelude.{◌≡◌, ◌++◌, OnOk, string_bytes};
 ghost use Rattle.std.specs.List.{flat_map};
-ghost use Rattle.osn_days.specs.Profile.{newest_rules};
-ghost use Rattle.osn_lands.specs.Territory.{periods_of};
+ghost use Rattle.osn_days.specs.Rules.{newest_rules};
+ghost use Rattle.osn_territory.specs.Territory.{periods_of};
 ghost use Rattle.osn_register.specs.Plain.{sources_of};
 ghost use Rattle.osn_text_writer.specs.TerritoryText as spec;
 
@@ -12,8 +12,8 @@ use crate::source_line::push_source;
 use crate::toml_string::TomlString;
 use crate::word_line::push_word;
 use osn_days::{Day, Keyword, Year};
-use osn_lands::{Regime, Territory};
 use osn_register::Register;
+use osn_territory::{Regime, Territory};
 use std::alloc::AllocError;
 use std::fmt::Write;
 
@@ -47,7 +47,7 @@ fn push_periods(
     territory: &Territory,
 ) -> Result<(), AllocError>
     ensures { OnOk result (string_bytes out.new ≡ string_bytes out.old
-        ++ spec.periods_text code.now name.now (sources_of code.now register.now.lands)
+        ++ spec.periods_text code.now name.now (sources_of code.now register.now.territories)
         (periods_of newest_rules territory.now)) }
 {
     let periods = territory.periods();
@@ -92,7 +92,7 @@ fn push_easter(
     day: Day,
 ) -> Result<(), AllocError>
     ensures { OnOk result (string_bytes out.new ≡ string_bytes out.old
-        ++ spec.easter_text code.now territory.now (sources_of code.now register.now.lands)
+        ++ spec.easter_text code.now territory.now (sources_of code.now register.now.territories)
         (year, day)) }
 {
     push_listing(out, code, territory, year, day)?;
@@ -108,7 +108,7 @@ fn push_easters(
 ) -> Result<(), AllocError>
     ensures { OnOk result (string_bytes out.new ≡ string_bytes out.old
         ++ flat_map
-        (spec.easter_text code.now territory.now (sources_of code.now register.now.lands))
+        (spec.easter_text code.now territory.now (sources_of code.now register.now.territories))
         territory.now.exceptions) }
 {
     for (year, day) in territory.exceptions() {
@@ -128,7 +128,7 @@ pub(crate) fn push_territory(
 ) -> Result<(), AllocError>
     ensures { OnOk result (string_bytes out.new ≡ string_bytes out.old
         ++ spec.territory_text newest_rules code.now name.now territory.now
-        (sources_of code.now register.now.lands)) }
+        (sources_of code.now register.now.territories)) }
 {
     push_periods(out, register, code, name, territory)?;
     push_easters(out, register, code, territory)

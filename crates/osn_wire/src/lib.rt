@@ -12,7 +12,7 @@ pub use osn_files::{
 pub use osn_format::{Member, Version, WireFault};
 pub use osn_journal::serve_kept;
 pub use osn_lines::{
-    Interrupted, LONGEST_LINE, Line, LineTaker, Plain, ReadFailed, Sink, Source, TakeFault,
+    EndedEarly, LONGEST_LINE, Line, LineTaker, Plain, ReadFailed, Sink, Source, TakeFault,
     WriteFailed, take_lines, write_all,
 };
 pub use osn_reply::{Outcome, out_text, reply_text, transcript_text};

@@ -2,8 +2,8 @@
 use Rattle.std.proofs.Common.{◌≡◌, ◌<◌, ◌+◌, ◌-◌, ℕ, suc, List, [], ◌∷◌, map, ap, ◌∙◌, arith}
 use Rattle.std.proofs.Common.{length, sym}
 use Rattle.std.specs.List.{range_with_len}
-use Rattle.osn_days.specs.Profile.{Profile}
-use Rattle.osn_lands.specs.Territory.{TerritoryModel}
+use Rattle.osn_days.specs.Rules.{Rules}
+use Rattle.osn_territory.specs.Territory.{TerritoryModel}
 use Rattle.osn_written.specs.declared.written_date.WrittenDate.{WrittenDate}
 use Rattle.osn_written.specs.Nearest as spec
 
@@ -43,7 +43,7 @@ no_years f whole y most last so_far =
     let count : most + 1 - y ≡ 0 = omega (arith, last) in
     sym (so_far ∙ ap (λ n. spec.first_with_days (map f (range_with_len y n))) count)
 
-pub begin_years : (p : Profile) (t : TerritoryModel) (w : WrittenDate) (most : ℕ)
+pub begin_years : (p : Rules) (t : TerritoryModel) (w : WrittenDate) (most : ℕ)
     → spec.nearest_within p t w most ≡ left (spec.days_apart p t w) 1 most
 unfolding spec.nearest_within
 begin_years p t w most =

@@ -8,11 +8,11 @@ use Rattle.std.specs.List.{range_with_len}
 use Rattle.std.specs.List.Sorted.{IsPermutation}
 use Rattle.std.specs.Ordering.{int_eq}
 use Rattle.osn_days.specs.Line.{line}
-use Rattle.osn_days.specs.Profile.{Profile}
+use Rattle.osn_days.specs.Rules.{Rules}
 use Rattle.osn_days.proofs.RangeFacts.{filter_same, filter_both}
-use Rattle.osn_lands.specs.Dated.{dated_on}
-use Rattle.osn_lands.specs.Style.{is_before_25_march}
-use Rattle.osn_lands.specs.Territory.{TerritoryModel, reading}
+use Rattle.osn_territory.specs.Dated.{dated_on}
+use Rattle.osn_territory.specs.Style.{is_before_25_march}
+use Rattle.osn_territory.specs.Territory.{TerritoryModel, reading}
 use Rattle.osn_written.specs.declared.written_date.WrittenDate.{WrittenDate}
 use Rattle.osn_written.specs.Meaning.{counted_double, days_meant, double_meant, is_of_later_year}
 use Rattle.osn_written.specs.Meaning.{label_of, not_counted_double}
@@ -82,7 +82,7 @@ taken_where f j a n false =
 
 -- ---- a date of a double year
 
-double_days : (p : Profile) (t : TerritoryModel) (w : WrittenDate)
+double_days : (p : Rules) (t : TerritoryModel) (w : WrittenDate)
     → IsPermutation (all_double p t (simple_of w)) (double_meant p t w)
 unfolding all_double reading line
 double_days p t w =
@@ -128,12 +128,12 @@ double_days p t w =
 -- ---- either
 
 -- the days of a label
-label_days : (p : Profile) (t : TerritoryModel) (w : WrittenDate)
+label_days : (p : Rules) (t : TerritoryModel) (w : WrittenDate)
     → IsPermutation (all_labelled p t (simple_of w) (pos w.year)) (reading p t (label_of w))
 unfolding all_labelled reading line
 label_days p t w = IsPermutation-refl (reading p t (label_of w))
 
-meant_days : (p : Profile) (t : TerritoryModel) (w : WrittenDate) (is_double : Bool)
+meant_days : (p : Rules) (t : TerritoryModel) (w : WrittenDate) (is_double : Bool)
     → w.is_double ≡ is_double
     → IsPermutation (all_meant p t (simple_of w)) (if is_double then double_meant p t w
     else reading p t (label_of w))
@@ -145,6 +145,6 @@ meant_days p t w false is =
     (meant_single p t (simple_of w) (year_of (simple_of w)) (pos w.year) refl refl is)
     (label_days p t w)
 
-pub same_days : (p : Profile) (t : TerritoryModel) → AreSameDays p t
+pub same_days : (p : Rules) (t : TerritoryModel) → AreSameDays p t
 unfolding AreSameDays days_meant
 same_days p t w = meant_days p t w w.is_double refl

@@ -13,12 +13,12 @@ use Rattle.std.specs.List.{range_with_len, sum_by}
 use Rattle.std.specs.List.Sorted.{IsSorted, IsPermutation, IsNonDecreasingBy}
 use Rattle.std.specs.Ordering.{int_eq, nat_cmp}
 use Rattle.osn_days.specs.Line.{line}
-use Rattle.osn_days.specs.Profile.{Profile}
+use Rattle.osn_days.specs.Rules.{Rules}
 use Rattle.osn_days.proofs.RangeFacts.{filter_same, filter_both}
-use Rattle.osn_written.specs.declared.any_date.SimpleDate.{SimpleDate}
-use Rattle.osn_lands.specs.Dated.{dated_on}
-use Rattle.osn_lands.specs.Style.{is_before_25_march}
-use Rattle.osn_lands.specs.Territory.{TerritoryModel}
+use Rattle.osn_written.specs.declared.any_date.PartialDate.{PartialDate}
+use Rattle.osn_territory.specs.Dated.{dated_on}
+use Rattle.osn_territory.specs.Style.{is_before_25_march}
+use Rattle.osn_territory.specs.Territory.{TerritoryModel}
 use Rattle.osn_written.specs.Runs.{all_labelled, all_double, is_labelled, is_meant_double}
 use Rattle.osn_written.specs.Runs.{year_of, has_month_and_day}
 
@@ -182,7 +182,7 @@ in_order test n found sorted parts moved order =
     ∙ sum_by-IsPermutation w (filter test (range_with_len 1 n)) found parts)
 
 -- the days of a double year, sorted, are those of the search
-pub double_in_order : (p : Profile) (t : TerritoryModel) (date : SimpleDate) (y z : ℤ)
+pub double_in_order : (p : Rules) (t : TerritoryModel) (date : PartialDate) (y z : ℤ)
     (found sorted : List ℕ) → y ≡ pos (year_of date).first → z ≡ pos ((year_of date).first + 1)
     → found ≡ filter (λ d. is_meant_double date (dated_on p t d)) (all_labelled p t date y)
     ++ filter (λ d. is_meant_double date (dated_on p t d)) (all_labelled p t date z)

@@ -11,15 +11,16 @@ use Rattle.std.proofs.lemmas.List.Concat.{flat_map-cons}
 use Rattle.std.specs.List.{range_with_len}
 use Rattle.std.specs.Ordering.{int_eq}
 use Rattle.osn_days.specs.Line.{line}
-use Rattle.osn_days.specs.Profile.{Profile}
+use Rattle.osn_days.specs.Rules.{Rules}
 use Rattle.osn_days.proofs.RangeFacts.{range_join, filter_same, filter_two}
-use Rattle.osn_written.specs.declared.any_date.SimpleDate.{SimpleDate}
-use Rattle.osn_written.specs.declared.any_date.SimpleDate.TheVariants.{Day, Month, Year}
+use Rattle.osn_written.specs.declared.any_date.PartialDate.{PartialDate}
+use Rattle.osn_written.specs.declared.any_date.PartialDate.TheVariants.{Day, Month, Year}
 use Rattle.osn_written.specs.declared.any_date.Year as written
-use Rattle.osn_lands.specs.declared.runs.Run.{Run}
-use Rattle.osn_lands.specs.Dated.{dated_on}
-use Rattle.osn_lands.specs.Runs.{days_in, days_of_run, days_of_year, days_of_month, AreRunsAfter}
-use Rattle.osn_lands.specs.Territory.{TerritoryModel, reading}
+use Rattle.osn_territory.specs.declared.runs.Run.{Run}
+use Rattle.osn_territory.specs.Dated.{dated_on}
+use Rattle.osn_territory.specs.Runs.{days_in, days_of_run, days_of_year, days_of_month}
+use Rattle.osn_territory.specs.Runs.{AreRunsAfter}
+use Rattle.osn_territory.specs.Territory.{TerritoryModel, reading}
 use Rattle.osn_written.specs.Runs.{runs_from, runs_of, all_meant, all_labelled}
 use Rattle.osn_written.specs.Runs.{LieApartAfter, LieApart, HaveDays, run_of_day, year_of}
 use Rattle.osn_written.specs.Runs.{is_in_double_year, has_month_and_day, all_double}
@@ -188,7 +189,7 @@ apart_of test (suc n) a b after =
     (apart_from test n (a + 1) a a b after (omega arith) (omega arith))
     (apart_of test n (a + 1) b (omega (arith, after)))
 
-pub meant_apart : (p : Profile) (t : TerritoryModel) (date : SimpleDate)
+pub meant_apart : (p : Rules) (t : TerritoryModel) (date : PartialDate)
     → LieApart (runs_of (all_meant p t date))
 unfolding all_meant line
 meant_apart p t date = apart_of _ p.high 1 0 (omega arith)
@@ -211,18 +212,18 @@ days_of_singles (d ∷ ds) =
     ∙ ap (λ xs. d ∷ xs) (days_of_singles ds)
 
 -- the days of a label, of a month and of a year are those with the year, and what else is written
-pub labelled_day : (p : Profile) (t : TerritoryModel) (year : written.Year) (y : ℤ) (m d : ℕ)
+pub labelled_day : (p : Rules) (t : TerritoryModel) (year : written.Year) (y : ℤ) (m d : ℕ)
     → reading p t (record { year = y; month = m; day = d })
     ≡ all_labelled p t (Day year m d) y
 unfolding reading all_labelled
 labelled_day p t year y m d = refl
 
-pub labelled_month : (p : Profile) (t : TerritoryModel) (year : written.Year) (y : ℤ) (m : ℕ)
+pub labelled_month : (p : Rules) (t : TerritoryModel) (year : written.Year) (y : ℤ) (m : ℕ)
     → days_of_month p t y m ≡ all_labelled p t (Month year m) y
 unfolding days_of_month all_labelled
 labelled_month p t year y m = refl
 
-pub labelled_year : (p : Profile) (t : TerritoryModel) (year : written.Year) (y : ℤ)
+pub labelled_year : (p : Rules) (t : TerritoryModel) (year : written.Year) (y : ℤ)
     → days_of_year p t y ≡ all_labelled p t (Year year) y
 unfolding days_of_year all_labelled line
 labelled_year p t year y =
@@ -231,7 +232,7 @@ labelled_year p t year y =
     (λ d low high. sym (and-true (int_eq (dated_on p t d).label.year y)))
 
 -- the days that a date means, if its year is double and if it is single
-pub meant_double : (p : Profile) (t : TerritoryModel) (date : SimpleDate) (year : written.Year)
+pub meant_double : (p : Rules) (t : TerritoryModel) (date : PartialDate) (year : written.Year)
     → year ≡ year_of date → year.is_double ≡ true → all_double p t date ≡ all_meant p t date
 unfolding all_double all_meant
 meant_double p t date year same is =
@@ -241,7 +242,7 @@ meant_double p t date year same is =
     else int_eq (dated_on p t d).label.year (pos (year_of date).first))
     && has_month_and_day date (dated_on p t d).label) (line p)) double
 
-pub meant_single : (p : Profile) (t : TerritoryModel) (date : SimpleDate) (year : written.Year)
+pub meant_single : (p : Rules) (t : TerritoryModel) (date : PartialDate) (year : written.Year)
     (first : ℤ) → year ≡ year_of date → first ≡ pos year.first → year.is_double ≡ false
     → all_labelled p t date first ≡ all_meant p t date
 unfolding all_labelled all_meant

@@ -1,7 +1,7 @@
 -- The last of some runs, by its place.
 use Rattle.std.proofs.Common.{◌≡◌, ◌≤◌, ◌-◌, suc, List, [], ◌∷◌, Some, ap, ◌∙◌, arith, length}
 use Rattle.std.proofs.Common.{get_or}
-use Rattle.osn_lands.specs.declared.runs.Run.{Run}
+use Rattle.osn_territory.specs.declared.runs.Run.{Run}
 use Rattle.osn_written.specs.Spans.{last_of}
 
 pub last_at : (rs : List Run) (r : Run) → 1 ≤ length rs → r ≡ get_or rs (length rs - 1) r

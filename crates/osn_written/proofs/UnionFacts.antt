@@ -13,10 +13,10 @@ use Rattle.std.proofs.lemmas.List.Sorted.{list_any-IsPermutation}
 use Rattle.std.specs.List.{range_with_len, list_any}
 use Rattle.std.specs.List.Sorted.{IsNonDecreasingBy, IsPermutation}
 use Rattle.osn_days.specs.Line.{line}
-use Rattle.osn_days.specs.Profile.{Profile}
+use Rattle.osn_days.specs.Rules.{Rules}
 use Rattle.osn_days.proofs.RangeFacts.{filter_all, filter_none, filter_same, filter_two}
-use Rattle.osn_lands.specs.declared.runs.Run.{Run}
-use Rattle.osn_lands.specs.Runs.{days_in, days_of_run}
+use Rattle.osn_territory.specs.declared.runs.Run.{Run}
+use Rattle.osn_territory.specs.Runs.{days_in, days_of_run}
 use Rattle.osn_written.specs.Runs.{HaveDays, runs_of}
 use Rattle.osn_written.specs.Union.{EndOnLine, first_from, has_day, rest_from, union, with_rest}
 use Rattle.osn_written.specs.SetsMeant.{before_others}
@@ -142,7 +142,7 @@ first_by high next r rs false is order most after others =
     left_by high next next r rs (nat_le next r.last) refl order (omega arith)
     (omega (arith, begun)) (λ d from until. absurd (omega (arith, from, until))) most after others
 
-days_left : (p : Profile) (next b : ℕ) (rs : List Run) → Ascend b rs → EndOnLine p rs
+days_left : (p : Rules) (next b : ℕ) (rs : List Run) → Ascend b rs → EndOnLine p rs
     → days_in (rest_from next rs)
     ≡ filter (λ d. list_any (has_day d) rs) (range_with_len next (p.high + 1 - next))
 days_left p next b [] order on =
@@ -155,7 +155,7 @@ days_left p next b (r ∷ rs) order on =
 -- ---- all days
 
 -- the runs of these days are those of the days that any of the runs has
-pub union_is : (p : Profile) (runs sorted rest : List Run) → IsPermutation runs sorted
+pub union_is : (p : Rules) (runs sorted rest : List Run) → IsPermutation runs sorted
     → IsNonDecreasingBy (λ run. run.first) sorted → EndOnLine p sorted → rest ≡ rest_from 1 sorted
     → runs_of (days_in rest) ≡ union p runs
 unfolding union line
@@ -183,7 +183,7 @@ rest_has_days next (r ∷ rs) =
 
 -- what the loop keeps: the rest so far is that before what is left, and the runs so far are on the
 -- line
-pub record IsRestBefore (p : Profile) (runs rest : List Run) (next : ℕ) (left : List Run)
+pub record IsRestBefore (p : Rules) (runs rest : List Run) (next : ℕ) (left : List Run)
     : Type 0 where
   pub is : rest ++ rest_from next left ≡ rest_from 1 runs
   pub on : EndOnLine p left → EndOnLine p runs
@@ -193,14 +193,14 @@ left_at : (rs : List Run) (i : ℕ) (r : Run) → i < length rs → r ≡ get_or
 left_at rs i r within at =
     drop_more rs i r within ∙ ap (λ (x : Run). x ∷ drop (i + 1) rs) (sym at)
 
-run_left : (p : Profile) (runs rest : List Run) (next i : ℕ) (r : Run) → i < length runs
+run_left : (p : Rules) (runs rest : List Run) (next i : ℕ) (r : Run) → i < length runs
     → r ≡ get_or runs i r → IsRestBefore p runs rest next (drop i runs)
     → IsRestBefore p runs rest next (r ∷ drop (i + 1) runs)
 run_left p runs rest next i r within at so_far =
     subst (IsRestBefore p runs rest next) (left_at runs i r within at) so_far
 
 -- a run of which days are left
-pub one_rest : (p : Profile) (runs rest : List Run) (next i : ℕ) (r : Run) (first : ℕ)
+pub one_rest : (p : Rules) (runs rest : List Run) (next i : ℕ) (r : Run) (first : ℕ)
     → i < length runs → r ≡ get_or runs i r → IsRestBefore p runs rest next (drop i runs)
     → r.last ≤ p.high → first ≡ first_from r next → first ≤ r.last
     → IsRestBefore p runs (rest ++ record { first = first; last = r.last } ∷ []) (r.last + 1)
@@ -221,7 +221,7 @@ one_rest p runs rest next i r first within at so_far high is some =
     }
 
 -- a run with no day left
-pub no_rest : (p : Profile) (runs rest : List Run) (next i : ℕ) (r : Run) (first : ℕ)
+pub no_rest : (p : Rules) (runs rest : List Run) (next i : ℕ) (r : Run) (first : ℕ)
     → i < length runs → r ≡ get_or runs i r → IsRestBefore p runs rest next (drop i runs)
     → r.last ≤ p.high → first ≡ first_from r next → r.last < first
     → IsRestBefore p runs rest next (drop (i + 1) runs)
@@ -253,7 +253,7 @@ runs_added front runs w date (Ok others) is =
 runs_added front runs w date (Err absent) is = rw is refl
 
 -- what is joined of the rest is the union
-pub joined_is : {E : Type 0} (p : Profile) (runs : List Run) (days : List ℕ)
+pub joined_is : {E : Type 0} (p : Rules) (runs : List Run) (days : List ℕ)
     (r : Result (Vec Run Global) E) → runs_of days ≡ union p runs
     → IfOk r (λ joined. joined.items ≡ runs_of days)
     → IfOk r (λ joined. joined.items ≡ union p runs)

@@ -2,11 +2,11 @@
 use Rattle.std.specs.Prelude.{Bool, ◌||◌}
 use Rattle.osn_written.specs.declared.any_date.Extent.{Extent}
 use Rattle.osn_written.specs.declared.any_date.Extent.TheVariants as extent
-use Rattle.osn_written.specs.declared.any_date.SimpleDate.{SimpleDate}
-use Rattle.osn_written.specs.declared.any_date.SimpleDate.TheVariants as date
+use Rattle.osn_written.specs.declared.any_date.PartialDate.{PartialDate}
+use Rattle.osn_written.specs.declared.any_date.PartialDate.TheVariants as date
 
 -- a year is written with three digits and no zero before them
-abbrev pub has_year_of_three_digits : SimpleDate → Bool
+abbrev pub has_year_of_three_digits : PartialDate → Bool
 has_year_of_three_digits (date.Day year month day) = year.has_three_digits
 has_year_of_three_digits (date.Month year month) = year.has_three_digits
 has_year_of_three_digits (date.Year year) = year.has_three_digits

@@ -10,13 +10,13 @@ use Rattle.osn_written.specs.declared.any_date.Extent.{Extent}
 use Rattle.osn_written.specs.declared.any_date.Extent.TheVariants as extent
 use Rattle.osn_written.specs.declared.any_date.Reckoning.{Reckoning}
 use Rattle.osn_written.specs.declared.any_date.Reckoning.TheVariants as calendar
-use Rattle.osn_written.specs.declared.any_date.SimpleDate.{SimpleDate}
-use Rattle.osn_written.specs.declared.any_date.SimpleDate.TheVariants as date
+use Rattle.osn_written.specs.declared.any_date.PartialDate.{PartialDate}
+use Rattle.osn_written.specs.declared.any_date.PartialDate.TheVariants as date
 use Rattle.osn_written.specs.declared.any_date.AnyDate.{AnyDate}
 use Rattle.osn_written.specs.declared.any_date.Year.{Year}
 use Rattle.osn_written.specs.Feast.{feast_name}
 use Rattle.osn_written.specs.Portion.{portion_words}
-use Rattle.osn_lands.specs.Dual.{year_text}
+use Rattle.osn_territory.specs.Dual.{year_text}
 
 -- ---- a day, a month, a year
 
@@ -42,7 +42,7 @@ abbrev pub words_of_month : ℕ → Year → List ℕ
 words_of_month month year = month_name month ++ (codes " " ++ words_of_year year)
 
 -- 11 February 1731/2, February 1731/2, 1731/2
-unfoldable pub words_of_date : SimpleDate → List ℕ
+unfoldable pub words_of_date : PartialDate → List ℕ
 words_of_date (date.Day year month day) = decimal day ++ (codes " " ++ words_of_month month year)
 words_of_date (date.Month year month) = words_of_month month year
 words_of_date (date.Year year) = words_of_year year

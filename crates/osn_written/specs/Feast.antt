@@ -3,7 +3,7 @@
 -- Corpus Christi, the Thursday after Trinity.
 use Rattle.std.specs.Prelude.{ℕ, Bool, ◌&&◌, if◌then◌else◌, ℤ, pos, ◌+ℤ◌, ◌-ℤ◌, unsigned_abs}
 use Rattle.std.specs.Prelude.{List, Option, Some, None, codes, int_le}
-use Rattle.osn_days.specs.Profile.{Profile}
+use Rattle.osn_days.specs.Rules.{Rules}
 use Rattle.osn_written.specs.declared.feast.Feast.{Feast}
 use Rattle.osn_written.specs.declared.feast.Feast.TheVariants.{Septuagesima, AshWednesday}
 use Rattle.osn_written.specs.declared.feast.Feast.TheVariants.{PalmSunday, MaundyThursday}
@@ -45,11 +45,11 @@ days_after_easter WhitTuesday = pos 51
 days_after_easter Trinity = pos 56
 days_after_easter CorpusChristi = pos 60
 
-abbrev pub is_on_line : Profile → ℤ → Bool
+abbrev pub is_on_line : Rules → ℤ → Bool
 is_on_line p day = int_le (pos 1) day && int_le day (pos p.high)
 
 -- its day in a year with that Easter, if the line has it
-abbrev pub feast_day : Profile → ℕ → Feast → Option ℕ
+abbrev pub feast_day : Rules → ℕ → Feast → Option ℕ
 feast_day p easter feast =
     if is_on_line p (pos easter +ℤ days_after_easter feast) then
     Some (unsigned_abs (pos easter +ℤ days_after_easter feast))

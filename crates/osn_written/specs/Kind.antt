@@ -2,8 +2,8 @@
 use Rattle.std.specs.Prelude.{ℕ, List, codes}
 use Rattle.osn_written.specs.declared.any_date.Extent.{Extent}
 use Rattle.osn_written.specs.declared.any_date.Extent.TheVariants as extent
-use Rattle.osn_written.specs.declared.any_date.SimpleDate.{SimpleDate}
-use Rattle.osn_written.specs.declared.any_date.SimpleDate.TheVariants as date
+use Rattle.osn_written.specs.declared.any_date.PartialDate.{PartialDate}
+use Rattle.osn_written.specs.declared.any_date.PartialDate.TheVariants as date
 use Rattle.osn_written.specs.declared.kind.Kind.{Kind}
 use Rattle.osn_written.specs.declared.kind.Kind.TheVariants as kinds
 
@@ -20,7 +20,7 @@ kind_word kinds.Set = codes "set"
 kind_word kinds.Feast = codes "feast"
 
 -- of one date, and of what is written
-abbrev pub kind_of_date : SimpleDate → Kind
+abbrev pub kind_of_date : PartialDate → Kind
 kind_of_date (date.Day year month day) = kinds.Day
 kind_of_date (date.Month year month) = kinds.Month
 kind_of_date (date.Year year) = kinds.Year

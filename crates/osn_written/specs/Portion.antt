@@ -1,7 +1,7 @@
 -- The part of the days of a month or a year that `early`, `mid`, `late` and the halves are. This
 -- project's profile.
 use Rattle.std.specs.Prelude.{ℕ, ◌+◌, ◌-◌, ◌/◌, List, codes}
-use Rattle.osn_lands.specs.declared.runs.Run.{Run}
+use Rattle.osn_territory.specs.declared.runs.Run.{Run}
 use Rattle.osn_written.specs.declared.portion.Portion.{Portion}
 use Rattle.osn_written.specs.declared.portion.Portion.TheVariants as portion
 

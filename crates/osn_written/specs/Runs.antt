@@ -3,28 +3,28 @@
 use Rattle.std.specs.Prelude.{ℕ, Bool, true, ◌&&◌, ◌||◌, ◌+◌, ◌==◌, if◌then◌else◌, ℤ, pos, ◌<◌, ◌≤◌}
 use Rattle.std.specs.Prelude.{List, [], ◌∷◌, filter}
 use Rattle.std.specs.Ordering.{int_eq}
-use Rattle.osn_days.specs.Profile.{Profile}
+use Rattle.osn_days.specs.Rules.{Rules}
 use Rattle.osn_days.specs.Line.{line}
-use Rattle.osn_written.specs.declared.any_date.SimpleDate.{SimpleDate}
-use Rattle.osn_written.specs.declared.any_date.SimpleDate.TheVariants.{Day, Month, Year}
+use Rattle.osn_written.specs.declared.any_date.PartialDate.{PartialDate}
+use Rattle.osn_written.specs.declared.any_date.PartialDate.TheVariants.{Day, Month, Year}
 use Rattle.osn_written.specs.declared.any_date.Year as written
-use Rattle.osn_lands.specs.declared.dated.DatedDay.{DatedDay}
-use Rattle.osn_lands.specs.declared.label.Label.{Label}
-use Rattle.osn_lands.specs.declared.runs.Run.{Run}
-use Rattle.osn_lands.specs.Dated.{dated_on}
-use Rattle.osn_lands.specs.Style.{is_before_25_march}
-use Rattle.osn_lands.specs.Territory.{TerritoryModel}
+use Rattle.osn_territory.specs.declared.dated.DatedDay.{DatedDay}
+use Rattle.osn_territory.specs.declared.label.Label.{Label}
+use Rattle.osn_territory.specs.declared.runs.Run.{Run}
+use Rattle.osn_territory.specs.Dated.{dated_on}
+use Rattle.osn_territory.specs.Style.{is_before_25_march}
+use Rattle.osn_territory.specs.Territory.{TerritoryModel}
 
 -- ---- the days
 
 -- the year that is written
-abbrev pub year_of : SimpleDate → written.Year
+abbrev pub year_of : PartialDate → written.Year
 year_of (Day year month day) = year
 year_of (Month year month) = year
 year_of (Year year) = year
 
 -- the label has the month and the day of the month, if they are written
-abbrev pub has_month_and_day : SimpleDate → Label → Bool
+abbrev pub has_month_and_day : PartialDate → Label → Bool
 has_month_and_day (Day year month day) label = (label.month == month) && (label.day == day)
 has_month_and_day (Month year month) label = label.month == month
 has_month_and_day (Year year) label = true
@@ -46,11 +46,11 @@ is_in_year year day =
     else int_eq day.label.year (pos year.first)
 
 -- the date means the day
-abbrev pub is_meant : SimpleDate → DatedDay → Bool
+abbrev pub is_meant : PartialDate → DatedDay → Bool
 is_meant date day = is_in_year (year_of date) day && has_month_and_day date day.label
 
 -- the days that a date means, as the territory dated each of them, of all days of the line
-unfoldable pub all_meant : Profile → TerritoryModel → SimpleDate → List ℕ
+unfoldable pub all_meant : Rules → TerritoryModel → PartialDate → List ℕ
 all_meant p t date = filter (λ d. is_meant date (dated_on p t d)) (line p)
 
 -- ---- their runs
@@ -69,7 +69,7 @@ runs_of [] = []
 runs_of (d ∷ ds) = runs_from (record { first = d; last = d }) ds
 
 -- the days that a date means, as runs
-unfoldable pub runs_meant : Profile → TerritoryModel → SimpleDate → List Run
+unfoldable pub runs_meant : Rules → TerritoryModel → PartialDate → List Run
 runs_meant p t date = runs_of (all_meant p t date)
 
 -- each run has a day, the first one begins after the day that is given, and a day at least lies
@@ -84,18 +84,18 @@ LieApart runs = LieApartAfter 0 runs
 -- ---- how they are found
 
 -- the days whose label has that year, and the month and day that are written
-abbrev pub is_labelled : SimpleDate → ℤ → DatedDay → Bool
+abbrev pub is_labelled : PartialDate → ℤ → DatedDay → Bool
 is_labelled date year day = int_eq day.label.year year && has_month_and_day date day.label
 
-unfoldable pub all_labelled : Profile → TerritoryModel → SimpleDate → ℤ → List ℕ
+unfoldable pub all_labelled : Rules → TerritoryModel → PartialDate → ℤ → List ℕ
 all_labelled p t date year = filter (λ d. is_labelled date year (dated_on p t d)) (line p)
 
 -- a date of a double year means the day
-abbrev pub is_meant_double : SimpleDate → DatedDay → Bool
+abbrev pub is_meant_double : PartialDate → DatedDay → Bool
 is_meant_double date day =
     is_in_double_year (year_of date).first day && has_month_and_day date day.label
 
-unfoldable pub all_double : Profile → TerritoryModel → SimpleDate → List ℕ
+unfoldable pub all_double : Rules → TerritoryModel → PartialDate → List ℕ
 all_double p t date = filter (λ d. is_meant_double date (dated_on p t d)) (line p)
 
 -- each run has a day

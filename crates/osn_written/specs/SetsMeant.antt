@@ -3,10 +3,10 @@ use Rattle.std.specs.Prelude.{Bool, List, [], ◌∷◌, ◌++◌, Result, Ok, E
 use Rattle.std.specs.declared.alloc.Global.{Global}
 use Rattle.std.specs.List.{list_any}
 use Rattle.std.specs.Result.{result_map_both}
-use Rattle.osn_days.specs.Profile.{Profile}
+use Rattle.osn_days.specs.Rules.{Rules}
 use Rattle.osn_written.specs.declared.any_date.AnyDate.{AnyDate}
-use Rattle.osn_lands.specs.declared.runs.Run.{Run}
-use Rattle.osn_lands.specs.Territory.{TerritoryModel}
+use Rattle.osn_territory.specs.declared.runs.Run.{Run}
+use Rattle.osn_territory.specs.Territory.{TerritoryModel}
 use Rattle.osn_written.specs.declared.finding.NoDay.{NoDay}
 use Rattle.osn_written.specs.declared.set.AbsentMember.{AbsentMember}
 use Rattle.osn_written.specs.Finding.{extent_meant}
@@ -31,16 +31,16 @@ before_others w (Ok runs) (Err absent) = Err absent
 before_others w (Ok runs) (Ok others) = Ok (runs ++ others)
 
 -- the runs of all dates, or the first date that means no day
-abbrev pub members_meant : Profile → TerritoryModel → List AnyDate → Result (List Run) AbsentMember
+abbrev pub members_meant : Rules → TerritoryModel → List AnyDate → Result (List Run) AbsentMember
 members_meant p t [] = Ok []
 members_meant p t (w ∷ ws) = before_others w (extent_meant p t w.extent) (members_meant p t ws)
 
 -- the days of a set, or the first date that means no day
-abbrev pub united : Profile → Result (List Run) AbsentMember → Result (List Run) AbsentMember
+abbrev pub united : Rules → Result (List Run) AbsentMember → Result (List Run) AbsentMember
 united p (Ok runs) = Ok (union p runs)
 united p (Err absent) = Err absent
 
-abbrev pub set_meant : Profile → TerritoryModel → List AnyDate → Result (List Run) AbsentMember
+abbrev pub set_meant : Rules → TerritoryModel → List AnyDate → Result (List Run) AbsentMember
 set_meant p t members = united p (members_meant p t members)
 
 -- the same of the list that the code has

@@ -2,12 +2,12 @@
 -- profile.
 use Rattle.std.specs.Prelude.{ℕ, ◌+◌, ◌-◌, nat_le, nat_lt, if◌then◌else◌, List, [], ◌∷◌}
 use Rattle.std.specs.Prelude.{Option, Some, None, Result, Ok, Err}
-use Rattle.osn_days.specs.Profile.{Profile}
+use Rattle.osn_days.specs.Rules.{Rules}
 use Rattle.osn_written.specs.declared.any_date.Extent.{Extent}
 use Rattle.osn_written.specs.declared.any_date.Extent.TheVariants as extent
-use Rattle.osn_written.specs.declared.any_date.SimpleDate.{SimpleDate}
-use Rattle.osn_lands.specs.declared.runs.Run.{Run}
-use Rattle.osn_lands.specs.Territory.{TerritoryModel}
+use Rattle.osn_written.specs.declared.any_date.PartialDate.{PartialDate}
+use Rattle.osn_territory.specs.declared.runs.Run.{Run}
+use Rattle.osn_territory.specs.Territory.{TerritoryModel}
 use Rattle.osn_written.specs.declared.span.NoSpan.{NoSpan}
 use Rattle.osn_written.specs.declared.span.NoSpan.TheVariants.{NoDay, NoLastDay, OutOfOrder}
 use Rattle.osn_written.specs.declared.span.NoSpan.TheVariants.{OffTheLine}
@@ -28,10 +28,10 @@ last_of (r ∷ []) = Some r.last
 last_of (r ∷ next ∷ rest) = last_of (next ∷ rest)
 
 -- the first and the last day that a date means
-abbrev pub first_meant : Profile → TerritoryModel → SimpleDate → Option ℕ
+abbrev pub first_meant : Rules → TerritoryModel → PartialDate → Option ℕ
 first_meant p t date = first_of (runs_meant p t date)
 
-abbrev pub last_meant : Profile → TerritoryModel → SimpleDate → Option ℕ
+abbrev pub last_meant : Rules → TerritoryModel → PartialDate → Option ℕ
 last_meant p t date = last_of (runs_meant p t date)
 
 -- ---- spans
@@ -58,19 +58,19 @@ not_after None = Err NoDay
 not_after (Some d) = Ok (record { first = 1; last = d })
 
 -- from the day after one, or from that one, to the last day of the line
-abbrev pub after : Profile → Option ℕ → Result Run NoSpan
+abbrev pub after : Rules → Option ℕ → Result Run NoSpan
 after p None = Err NoDay
 after p (Some d) =
     if nat_lt d p.high then Ok (record { first = d + 1; last = p.high }) else Err OffTheLine
 
-abbrev pub not_before : Profile → Option ℕ → Result Run NoSpan
+abbrev pub not_before : Rules → Option ℕ → Result Run NoSpan
 not_before p None = Err NoDay
 not_before p (Some d) = Ok (record { first = d; last = p.high })
 
 -- from the first day that a date or a range may mean to the last one. A range lasts from the first
 -- day of its first date to the last day of its last date, and a bound reaches to an end of the line.
 -- A part of a date is that of the days from its first to its last one
-abbrev pub span_meant : Profile → TerritoryModel → Extent → Result Run NoSpan
+abbrev pub span_meant : Rules → TerritoryModel → Extent → Result Run NoSpan
 span_meant p t (extent.On date) = from_to (first_meant p t date) (last_meant p t date)
 span_meant p t (extent.FromTo a b) = from_to (first_meant p t a) (last_meant p t b)
 span_meant p t (extent.Before date) = before (first_meant p t date)

@@ -1,9 +1,9 @@
 -- The days that any of some runs has, as runs in order.
 use Rattle.std.specs.Prelude.{ℕ, ◌+◌, ◌≤◌, Bool, ◌&&◌, nat_le, if◌then◌else◌, List, [], ◌∷◌, filter}
 use Rattle.std.specs.List.{list_any}
-use Rattle.osn_days.specs.Profile.{Profile}
+use Rattle.osn_days.specs.Rules.{Rules}
 use Rattle.osn_days.specs.Line.{line}
-use Rattle.osn_lands.specs.declared.runs.Run.{Run}
+use Rattle.osn_territory.specs.declared.runs.Run.{Run}
 use Rattle.osn_written.specs.Runs.{runs_of}
 
 -- the run has the day
@@ -11,7 +11,7 @@ abbrev pub has_day : ℕ → Run → Bool
 has_day d run = nat_le run.first d && nat_le d run.last
 
 -- the days that any of some runs has, as runs in order
-unfoldable pub union : Profile → List Run → List Run
+unfoldable pub union : Rules → List Run → List Run
 union p runs = runs_of (filter (λ d. list_any (has_day d) runs) (line p))
 
 -- ---- how they are found
@@ -33,6 +33,6 @@ rest_from next (r ∷ rs) =
     with_rest (first_from r next) r.last (rest_from (r.last + 1) rs) (rest_from next rs)
 
 -- each run ends on the line
-abbrev pub EndOnLine : Profile → List Run → Type 0
+abbrev pub EndOnLine : Rules → List Run → Type 0
 EndOnLine p [] = Unit {0}
 EndOnLine p (r ∷ rs) = (r.last ≤ p.high) × EndOnLine p rs

@@ -1,12 +1,12 @@
 //! Why a written date means no day in a territory.
 ghost use Rattle.std.specs.Prelude.{◌≡◌, not, IfOk};
-ghost use Rattle.osn_days.specs.Profile.{newest_rules};
-ghost use Rattle.osn_lands.specs.LabelOrder.{gaps};
-ghost use Rattle.osn_lands.specs.Territory.{reading, is_empty};
+ghost use Rattle.osn_days.specs.Rules.{newest_rules};
+ghost use Rattle.osn_territory.specs.LabelOrder.{gaps};
+ghost use Rattle.osn_territory.specs.Territory.{reading, is_empty};
 ghost use Rattle.osn_written.specs.Absence as spec;
 
 use crate::written_date::WrittenDate;
-use osn_lands::{Label, Territory};
+use osn_territory::{Label, Territory};
 use std::alloc::AllocError;
 
 /// Why a date means no day in a territory.

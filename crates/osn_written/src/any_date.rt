@@ -19,7 +19,7 @@ pub struct Year {
 
 /// A day, a month or a year. Whether a calendar has the day is not tested.
 #[derive(Clone, Copy, Debug, PartialEq, Eq)]
-pub enum SimpleDate {
+pub enum PartialDate {
     Day { year: Year, month: u8, day: u8 },
     Month { year: Year, month: u8 },
     Year(Year),
@@ -28,26 +28,27 @@ pub enum SimpleDate {
 /// From when to when a date may be.
 #[derive(Clone, Copy, Debug, PartialEq, Eq)]
 pub enum Extent {
-    On(SimpleDate),
-    FromTo(SimpleDate, SimpleDate),
-    Before(SimpleDate),
-    NotAfter(SimpleDate),
-    After(SimpleDate),
-    NotBefore(SimpleDate),
+    On(PartialDate),
+    FromTo(PartialDate, PartialDate),
+    Before(PartialDate),
+    NotAfter(PartialDate),
+    After(PartialDate),
+    NotBefore(PartialDate),
     /// In a part of a month or a year, such as the first third of it.
-    Part(Portion, SimpleDate),
+    Part(Portion, PartialDate),
     /// On the day of a feast in a year, as the place counted it.
     Feast { feast: Feast, year: Year },
 }
 
-impl SimpleDate {
+impl PartialDate {
     /// Returns whether the year is written with three digits and no zero before them.
     fn has_year_of_three_digits(self) -> bool
         ensures { result ≡ spec.has_year_of_three_digits self }
     {
         match self {
-            SimpleDate::Day { year, .. } | SimpleDate::Month { year, .. } => year.has_three_digits,
-            SimpleDate::Year(year) => year.has_three_digits,
+            PartialDate::Day { year, .. } | PartialDate::Month { year, .. } =>
+                year.has_three_digits,
+            PartialDate::Year(year) => year.has_three_digits,
         }
     }
 }

@@ -1,12 +1,12 @@
 //! A date in words.
 ghost use Rattle.std.specs.Prelude.{◌≡◌, Some, pos};
-ghost use Rattle.osn_lands.specs.Dated.{years_text};
-ghost use Rattle.osn_lands.specs.Dual.{year_text};
+ghost use Rattle.osn_territory.specs.Dated.{years_text};
+ghost use Rattle.osn_territory.specs.Dual.{year_text};
 ghost use Rattle.osn_written.specs.DateInWords as spec;
 
-use crate::any_date::{AnyDate, Extent, Reckoning, SimpleDate, Year};
+use crate::any_date::{AnyDate, Extent, PartialDate, Reckoning, Year};
 use osn_days::{Day, Weekday, month_name};
-use osn_lands::{DatedDay, DatedYears, Label};
+use osn_territory::{DatedDay, DatedYears, Label};
 use std::fmt;
 
 /// Returns the zeros that bring a year to four digits.
@@ -26,7 +26,7 @@ fn zeros_before(year: u16) -> &'static str
 
 /// Returns the years of a dated day that is in the year. Which day it is makes no difference to
 /// them.
-#[tactic(auto, unfolding(osn_lands::specs::Dated::years_text))]
+#[tactic(auto, unfolding(osn_territory::specs::Dated::years_text))]
 fn years(year: Year) -> DatedYears
     ensures { years_text result.0 ≡ year_text (pos year.first) (pos (spec.last_year year)) }
 {
@@ -57,7 +57,7 @@ impl fmt::Display for YearInWords {
 
 /// A day, a month or a year in words.
 #[derive(Clone, Copy)]
-struct SimpleInWords(SimpleDate);
+struct SimpleInWords(PartialDate);
 
 impl fmt::Display for SimpleInWords {
     ghost output = { λ x. Some (spec.words_of_date x.0) };
@@ -65,13 +65,13 @@ impl fmt::Display for SimpleInWords {
     #[tactic(auto, unfolding(crate::specs::DateInWords::words_of_date))]
     fn fmt<W: fmt::Write>(&self, f: &mut fmt::Formatter<W>) -> fmt::Result {
         match self.0 {
-            SimpleDate::Day { year, month, day } => {
+            PartialDate::Day { year, month, day } => {
                 write!(f, "{day} {} {}", month_name(month), YearInWords(year))
             }
-            SimpleDate::Month { year, month } => {
+            PartialDate::Month { year, month } => {
                 write!(f, "{} {}", month_name(month), YearInWords(year))
             }
-            SimpleDate::Year(year) => write!(f, "{}", YearInWords(year)),
+            PartialDate::Year(year) => write!(f, "{}", YearInWords(year)),
         }
     }
 }

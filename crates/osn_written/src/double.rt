@@ -1,14 +1,14 @@
 //! Whether a place counted the days double that a date with both years means.
 ghost use Rattle.std.specs.Prelude.{◌≡◌, IfOk};
 ghost use Rattle.std.specs.List.{list_any};
-ghost use Rattle.osn_days.specs.Profile.{newest_rules};
+ghost use Rattle.osn_days.specs.Rules.{newest_rules};
 ghost use Rattle.osn_written.specs.Double as spec;
 
-use crate::any_date::{Extent, SimpleDate};
+use crate::any_date::{Extent, PartialDate};
 use crate::finding::ends_of;
 use crate::runs::{double_days, year_of};
 use osn_days::Day;
-use osn_lands::Territory;
+use osn_territory::Territory;
 use std::alloc::{AllocError, Global};
 
 /// Returns whether the place dated the day by another year.
@@ -31,7 +31,7 @@ fn is_date_not_counted_double(
     alloc: Global,
     own: &Territory,
     territory: &Territory,
-    date: SimpleDate,
+    date: PartialDate,
 ) -> Result<bool, AllocError>
     ensures { IfOk result (λ is. is
         ≡ spec.is_date_not_counted_double newest_rules own.now territory.now date) }

@@ -1,6 +1,6 @@
 //! The feasts that are counted from Easter.
 ghost use Rattle.std.specs.Prelude.{◌≡◌};
-ghost use Rattle.osn_days.specs.Profile.{newest_rules};
+ghost use Rattle.osn_days.specs.Rules.{newest_rules};
 ghost use Rattle.osn_written.specs.Feast as spec;
 
 use osn_days::Day;

@@ -1,7 +1,7 @@
 //! The days of a feast in a year, as a territory counted the year.
 ghost use Rattle.std.specs.Prelude.{◌≡◌, ◌++◌, IfOk, OnOk, filter, filter_map, map};
-ghost use Rattle.osn_days.specs.Profile.{newest_rules};
-ghost use Rattle.osn_lands.specs.Dated.{dated_on};
+ghost use Rattle.osn_days.specs.Rules.{newest_rules};
+ghost use Rattle.osn_territory.specs.Dated.{dated_on};
 ghost use Rattle.osn_written.specs.Feast.{feast_day};
 ghost use Rattle.osn_written.specs.FeastDays as spec;
 ghost use Rattle.osn_written.specs.Runs.{is_in_year, run_of_day};
@@ -11,7 +11,7 @@ use crate::feast::Feast;
 use crate::runs::is_in_double_year;
 use crate::union::union;
 use osn_days::{Day, Year as JanuaryYear};
-use osn_lands::{Run, Territory};
+use osn_territory::{Run, Territory};
 use std::alloc::{AllocError, Global};
 
 /// Returns whether the territory dated a day in a year.

@@ -1,10 +1,10 @@
 //! Which days a date means in a territory with all that is written of it, or why it means none.
 ghost use Rattle.std.specs.Prelude.{◌≡◌, IfOk};
-ghost use Rattle.osn_days.specs.Profile.{newest_rules};
+ghost use Rattle.osn_days.specs.Rules.{newest_rules};
 ghost use Rattle.osn_written.specs.Finding as spec;
 
 use crate::absence::{Absence, absence_of};
-use crate::any_date::{AnyDate, Extent, Reckoning, SimpleDate, Year};
+use crate::any_date::{AnyDate, Extent, PartialDate, Reckoning, Year};
 use crate::feast::Feast;
 use crate::feast_days::feast_meant;
 use crate::runs::runs_meant;
@@ -12,7 +12,7 @@ use crate::span::{NoSpan, span_meant};
 use crate::written_date::WrittenDate;
 use osn_computus::Rule;
 use osn_days::Calendar;
-use osn_lands::{Regime, Run, Style, Territory};
+use osn_territory::{Regime, Run, Style, Territory};
 use std::alloc::{AllocError, Global};
 
 /// Why a written date means no day in a territory.
@@ -59,13 +59,13 @@ pub fn by_reckoning(
 }
 
 /// Returns the first day of a date, as it is written: for a month or a year its day 1.
-pub fn first_day_of(date: SimpleDate) -> WrittenDate
+pub fn first_day_of(date: PartialDate) -> WrittenDate
     ensures { result ≡ spec.first_day_of date }
 {
     let (year, month, day) = match date {
-        SimpleDate::Day { year, month, day } => (year, month, day),
-        SimpleDate::Month { year, month } => (year, month, 1),
-        SimpleDate::Year(year) => (year, 1, 1),
+        PartialDate::Day { year, month, day } => (year, month, day),
+        PartialDate::Month { year, month } => (year, month, 1),
+        PartialDate::Year(year) => (year, 1, 1),
     };
     WrittenDate {
         year: year.first,
@@ -77,7 +77,7 @@ pub fn first_day_of(date: SimpleDate) -> WrittenDate
 }
 
 /// Returns why a date means no day.
-fn absence_in(territory: &Territory, date: SimpleDate) -> Result<Absence, AllocError>
+fn absence_in(territory: &Territory, date: PartialDate) -> Result<Absence, AllocError>
     ensures { IfOk result (λ absence.
         absence ≡ spec.absence_in newest_rules territory.now date) }
 {
@@ -86,7 +86,7 @@ fn absence_in(territory: &Territory, date: SimpleDate) -> Result<Absence, AllocE
 
 /// Returns the first date of what is written, and the last one. For one date or a bound both are
 /// that one, and for a feast both are its year.
-pub fn ends_of(extent: Extent) -> (SimpleDate, SimpleDate)
+pub fn ends_of(extent: Extent) -> (PartialDate, PartialDate)
     ensures { result ≡ spec.ends_of extent }
 {
     match extent {
@@ -97,7 +97,7 @@ pub fn ends_of(extent: Extent) -> (SimpleDate, SimpleDate)
         | Extent::After(date)
         | Extent::NotBefore(date)
         | Extent::Part(_, date) => (date, date),
-        Extent::Feast { year, .. } => (SimpleDate::Year(year), SimpleDate::Year(year)),
+        Extent::Feast { year, .. } => (PartialDate::Year(year), PartialDate::Year(year)),
     }
 }
 
@@ -139,7 +139,7 @@ fn of_span(
 fn of_date(
     alloc: Global,
     territory: &Territory,
-    date: SimpleDate,
+    date: PartialDate,
 ) -> Result<Result<Vec<Run>, NoDay>, AllocError>
     ensures { IfOk result (λ found. spec.list_of found
         ≡ spec.of_date newest_rules territory.now date) }
@@ -169,7 +169,7 @@ fn of_feast(
 }
 
 /// Returns the date, if what is written is one.
-fn one_date(extent: Extent) -> Option<SimpleDate>
+fn one_date(extent: Extent) -> Option<PartialDate>
     ensures { result ≡ spec.one_date extent }
 {
     match extent {

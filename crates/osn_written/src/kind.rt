@@ -2,7 +2,7 @@
 ghost use Rattle.std.specs.Prelude.{◌≡◌};
 ghost use Rattle.osn_written.specs.Kind as spec;
 
-use crate::any_date::{Extent, SimpleDate};
+use crate::any_date::{Extent, PartialDate};
 
 /// What kind of date is written.
 #[derive(Clone, Copy, Debug, PartialEq, Eq)]
@@ -45,13 +45,13 @@ impl Kind {
 }
 
 /// Returns the kind of one date.
-fn kind_of_date(date: SimpleDate) -> Kind
+fn kind_of_date(date: PartialDate) -> Kind
     ensures { result ≡ spec.kind_of_date date }
 {
     match date {
-        SimpleDate::Day { .. } => Kind::Day,
-        SimpleDate::Month { .. } => Kind::Month,
-        SimpleDate::Year(_) => Kind::Year,
+        PartialDate::Day { .. } => Kind::Day,
+        PartialDate::Month { .. } => Kind::Month,
+        PartialDate::Year(_) => Kind::Year,
     }
 }
 

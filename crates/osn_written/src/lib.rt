@@ -25,7 +25,7 @@ mod words;
 mod written_date;
 
 pub use absence::{Absence, absence_of};
-pub use any_date::{AnyDate, Extent, Reckoning, SimpleDate, Year};
+pub use any_date::{AnyDate, Extent, PartialDate, Reckoning, Year};
 pub use date_in_words::DateInWords;
 pub use date_reading::DateReading;
 pub use double::is_extent_not_counted_double;

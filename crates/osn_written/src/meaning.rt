@@ -1,14 +1,14 @@
 //! The days that a written date means in a territory.
 ghost use Rattle.std.specs.Prelude.{◌≡◌, IfOk, map};
-ghost use Rattle.osn_days.specs.Profile.{newest_rules};
-ghost use Rattle.osn_lands.specs.Dated.{dated_on};
-ghost use Rattle.osn_lands.specs.Style.{is_before_25_march};
+ghost use Rattle.osn_days.specs.Rules.{newest_rules};
+ghost use Rattle.osn_territory.specs.Dated.{dated_on};
+ghost use Rattle.osn_territory.specs.Style.{is_before_25_march};
 ghost use Rattle.osn_written.specs.OneDay.{AreSameDays};
 ghost use Rattle.osn_written.specs.Meaning as spec;
 
 use crate::written_date::WrittenDate;
 use osn_days::{Day, Weekday};
-use osn_lands::{DatedDay, Label, Territory};
+use osn_territory::{DatedDay, Label, Territory};
 use std::alloc::{AllocError, Global};
 
 impl WrittenDate {

@@ -1,16 +1,16 @@
 //! What is near a date that no day of a territory has.
 ghost use Rattle.std.specs.Prelude.{◌≡◌, IfOk};
-ghost use Rattle.osn_days.specs.Profile.{newest_rules};
+ghost use Rattle.osn_days.specs.Rules.{newest_rules};
 ghost use Rattle.osn_written.specs.Missing as spec;
 
 use crate::absence::Absence;
-use crate::any_date::{Extent, SimpleDate, Year};
+use crate::any_date::{Extent, PartialDate, Year};
 use crate::finding::{NoDay, ends_of, first_day_of};
 use crate::nearest::nearest_days;
 use crate::runs::runs_meant;
 use crate::written_date::WrittenDate;
 use osn_days::Day;
-use osn_lands::{Run, Territory};
+use osn_territory::{Run, Territory};
 use std::alloc::{AllocError, Global};
 
 /// A date that no day of a territory has, and why.
@@ -99,7 +99,7 @@ pub fn year_without(
                 is_double: false,
                 has_three_digits: false,
             };
-            runs_meant(alloc, territory, SimpleDate::Year(year))
+            runs_meant(alloc, territory, PartialDate::Year(year))
         }
         _ => Ok(Vec::new(alloc)),
     }

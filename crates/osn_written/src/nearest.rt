@@ -1,11 +1,11 @@
 //! The days of a date's month and day in the nearest years that have them.
 ghost use Rattle.std.specs.Prelude.{◌≡◌, ◌<◌, IfOk};
-ghost use Rattle.osn_days.specs.Profile.{newest_rules};
+ghost use Rattle.osn_days.specs.Rules.{newest_rules};
 ghost use Rattle.osn_written.specs.Nearest as spec;
 
 use crate::written_date::WrittenDate;
 use osn_days::Day;
-use osn_lands::{Label, Territory};
+use osn_territory::{Label, Territory};
 use std::alloc::{AllocError, Global};
 
 /// How far the years are looked through: labels have the years 0 to 10,000.

@@ -2,7 +2,7 @@
 ghost use Rattle.std.specs.Prelude.{◌≡◌};
 ghost use Rattle.osn_written.specs.PlainDay as spec;
 
-use crate::any_date::{AnyDate, Extent, SimpleDate};
+use crate::any_date::{AnyDate, Extent, PartialDate};
 use crate::written_date::{DateFault, WrittenDate};
 use osn_days::Weekday;
 
@@ -11,7 +11,7 @@ fn day_in(extent: Extent, weekday: Option<Weekday>) -> Result<WrittenDate, DateF
     ensures { result ≡ spec.day_in extent weekday }
 {
     match extent {
-        Extent::On(SimpleDate::Day { year, month, day }) => Ok(WrittenDate {
+        Extent::On(PartialDate::Day { year, month, day }) => Ok(WrittenDate {
             year: year.first,
             month,
             day,

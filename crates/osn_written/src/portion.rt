@@ -3,7 +3,7 @@ ghost use Rattle.std.specs.Prelude.{◌≡◌, ◌+◌, ◌-◌, ◌/◌, ◌≤
 ghost use Rattle.osn_written.specs.Portion as spec;
 
 use osn_days::Day;
-use osn_lands::Run;
+use osn_territory::Run;
 
 /// A part of the days of a month or a year.
 #[derive(Clone, Copy, Debug, PartialEq, Eq)]

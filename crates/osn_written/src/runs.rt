@@ -1,36 +1,36 @@
 //! The runs of days that a written day, month or year means in a territory.
 ghost use Rattle.std.specs.Prelude.{◌≡◌, ◌++◌, ◌+◌, map, filter, pos, IfOk, OnOk, true};
-ghost use Rattle.osn_days.specs.Profile.{newest_rules};
-ghost use Rattle.osn_lands.specs.Dated.{dated_on};
-ghost use Rattle.osn_lands.specs.Runs.{days_in, days_of_run};
-ghost use Rattle.osn_lands.specs.Style.{is_before_25_march};
-ghost use Rattle.osn_lands.specs.Territory.{reading};
+ghost use Rattle.osn_days.specs.Rules.{newest_rules};
+ghost use Rattle.osn_territory.specs.Dated.{dated_on};
+ghost use Rattle.osn_territory.specs.Runs.{days_in, days_of_run};
+ghost use Rattle.osn_territory.specs.Style.{is_before_25_march};
+ghost use Rattle.osn_territory.specs.Territory.{reading};
 ghost use Rattle.osn_written.specs.Runs as spec;
 
-use crate::any_date::{SimpleDate, Year};
+use crate::any_date::{PartialDate, Year};
 use osn_days::Day;
-use osn_lands::{DatedDay, Label, Run, Territory};
+use osn_territory::{DatedDay, Label, Run, Territory};
 use std::alloc::{AllocError, Global};
 
 /// Returns the year that is written.
-pub(crate) fn year_of(date: SimpleDate) -> Year
+pub(crate) fn year_of(date: PartialDate) -> Year
     ensures { result ≡ spec.year_of date }
 {
     match date {
-        SimpleDate::Day { year, .. } => year,
-        SimpleDate::Month { year, .. } => year,
-        SimpleDate::Year(year) => year,
+        PartialDate::Day { year, .. } => year,
+        PartialDate::Month { year, .. } => year,
+        PartialDate::Year(year) => year,
     }
 }
 
 /// Returns whether the label has the month and the day of the month, if they are written.
-fn has_month_and_day(date: SimpleDate, label: Label) -> bool
+fn has_month_and_day(date: PartialDate, label: Label) -> bool
     ensures { result ≡ spec.has_month_and_day date label }
 {
     match date {
-        SimpleDate::Day { month, day, .. } => label.month == month && label.day == day,
-        SimpleDate::Month { month, .. } => label.month == month,
-        SimpleDate::Year(_) => true,
+        PartialDate::Day { month, day, .. } => label.month == month && label.day == day,
+        PartialDate::Month { month, .. } => label.month == month,
+        PartialDate::Year(_) => true,
     }
 }
 
@@ -51,7 +51,7 @@ pub(crate) fn is_in_double_year(first: u16, day: &DatedDay) -> bool
 }
 
 /// Returns whether a date of a double year means the day.
-fn is_meant_double(date: SimpleDate, day: &DatedDay) -> bool
+fn is_meant_double(date: PartialDate, day: &DatedDay) -> bool
     ensures { result ≡ spec.is_meant_double date day.now }
 {
     is_in_double_year(year_of(date).first, day) && has_month_and_day(date, day.label)
@@ -84,7 +84,7 @@ fn runs_of_label(alloc: Global, territory: &Territory, label: Label) -> Result<V
 fn runs_labelled(
     alloc: Global,
     territory: &Territory,
-    date: SimpleDate,
+    date: PartialDate,
     year: i32,
 ) -> Result<Vec<Run>, AllocError>
     ensures days { IfOk result (λ runs.
@@ -92,18 +92,18 @@ fn runs_labelled(
     ensures have { IfOk result (λ runs. spec.HaveDays runs.items) }
 {
     match date {
-        SimpleDate::Day { month, day, .. } => {
+        PartialDate::Day { month, day, .. } => {
             runs_of_label(alloc, territory, Label { year, month, day })
         }
-        SimpleDate::Month { month, .. } => territory.days_of_month(year, month),
-        SimpleDate::Year(_) => territory.days_of_year(year),
+        PartialDate::Month { month, .. } => territory.days_of_month(year, month),
+        PartialDate::Year(_) => territory.days_of_year(year),
     }
 }
 
 /// Appends the days of a run that a date of a double year means.
 fn push_meant(
     territory: &Territory,
-    date: SimpleDate,
+    date: PartialDate,
     run: Run,
     days: &mut Vec<Day>,
 ) -> Result<(), AllocError>
@@ -124,7 +124,7 @@ fn push_meant(
 fn push_meant_of_year(
     alloc: Global,
     territory: &Territory,
-    date: SimpleDate,
+    date: PartialDate,
     year: i32,
     days: &mut Vec<Day>,
 ) -> Result<(), AllocError>
@@ -143,7 +143,7 @@ fn push_meant_of_year(
 pub(crate) fn double_days(
     alloc: Global,
     territory: &Territory,
-    date: SimpleDate,
+    date: PartialDate,
 ) -> Result<Vec<Day>, AllocError>
     ensures { IfOk result (λ days.
         days.items ≡ spec.all_double newest_rules territory.now date) }
@@ -160,7 +160,7 @@ pub(crate) fn double_days(
 fn double_runs(
     alloc: Global,
     territory: &Territory,
-    date: SimpleDate,
+    date: PartialDate,
 ) -> Result<Vec<Run>, AllocError>
     ensures days { IfOk result (λ runs.
         days_in runs.items ≡ spec.all_double newest_rules territory.now date) }
@@ -174,7 +174,7 @@ fn double_runs(
 fn touching_runs(
     alloc: Global,
     territory: &Territory,
-    date: SimpleDate,
+    date: PartialDate,
 ) -> Result<Vec<Run>, AllocError>
     ensures days { IfOk result (λ runs.
         days_in runs.items ≡ spec.all_meant newest_rules territory.now date) }
@@ -235,7 +235,7 @@ pub(crate) fn joined(alloc: Global, runs: &[Run]) -> Result<Vec<Run>, AllocError
 pub fn runs_meant(
     alloc: Global,
     territory: &Territory,
-    date: SimpleDate,
+    date: PartialDate,
 ) -> Result<Vec<Run>, AllocError>
     ensures value { IfOk result (λ runs.
         runs.items ≡ spec.runs_meant newest_rules territory.now date) }

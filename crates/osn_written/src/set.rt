@@ -1,12 +1,12 @@
 //! The days of a set of dates in a territory, of which one is meant.
 ghost use Rattle.std.specs.Prelude.{◌≡◌, IfOk};
-ghost use Rattle.osn_days.specs.Profile.{newest_rules};
+ghost use Rattle.osn_days.specs.Rules.{newest_rules};
 ghost use Rattle.osn_written.specs.SetsMeant as spec;
 
 use crate::any_date::{AnyDate, Extent};
 use crate::finding::{NoDay, find_runs};
 use crate::union::union;
-use osn_lands::{Run, Territory};
+use osn_territory::{Run, Territory};
 use std::alloc::{AllocError, Global};
 
 /// A date of a set that means no day in a territory, and why.

@@ -1,14 +1,14 @@
 //! From which day to which a written date, a range or a bound may be in a territory.
 ghost use Rattle.std.specs.Prelude.{◌≡◌, ◌≤◌, IfOk};
-ghost use Rattle.osn_days.specs.Profile.{newest_rules};
+ghost use Rattle.osn_days.specs.Rules.{newest_rules};
 ghost use Rattle.osn_written.specs.Spans as spec;
 
-use crate::any_date::{Extent, SimpleDate};
+use crate::any_date::{Extent, PartialDate};
 use crate::feast_days::feast_meant;
 use crate::portion::{Portion, part_of_run};
 use crate::runs::runs_meant;
 use osn_days::{Day, HIGH};
-use osn_lands::{Run, Territory};
+use osn_territory::{Run, Territory};
 use std::alloc::{AllocError, Global};
 
 /// Why a date, a range or a bound is not a span of days.
@@ -48,7 +48,7 @@ pub fn last_of(runs: &[Run]) -> Option<Day>
 fn first_meant(
     alloc: Global,
     territory: &Territory,
-    date: SimpleDate,
+    date: PartialDate,
 ) -> Result<Option<Day>, AllocError>
     ensures { IfOk result (λ day. day ≡ spec.first_meant newest_rules territory.now date) }
 {
@@ -60,7 +60,7 @@ fn first_meant(
 fn last_meant(
     alloc: Global,
     territory: &Territory,
-    date: SimpleDate,
+    date: PartialDate,
 ) -> Result<Option<Day>, AllocError>
     ensures { IfOk result (λ day. day ≡ spec.last_meant newest_rules territory.now date) }
 {
@@ -144,8 +144,8 @@ fn not_before(day: Option<Day>) -> Result<Run, NoSpan>
 fn range_meant(
     alloc: Global,
     territory: &Territory,
-    first: SimpleDate,
-    last: SimpleDate,
+    first: PartialDate,
+    last: PartialDate,
 ) -> Result<Result<Run, NoSpan>, AllocError>
     ensures value { IfOk result (λ span. span ≡ spec.from_to
         (spec.first_meant newest_rules territory.now first)

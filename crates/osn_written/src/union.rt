@@ -1,12 +1,12 @@
 //! The days that any of some runs has, as runs in order.
 ghost use Rattle.std.specs.Prelude.{◌≡◌, ◌≤◌, ◌++◌, ◌∷◌, [], IfOk, OnOk};
 ghost use Rattle.std.specs.List.Sorted.{IsNonDecreasingBy, IsPermutation};
-ghost use Rattle.osn_days.specs.Profile.{newest_rules};
+ghost use Rattle.osn_days.specs.Rules.{newest_rules};
 ghost use Rattle.osn_written.specs.Union as spec;
 
 use crate::runs::joined;
 use osn_days::Day;
-use osn_lands::Run;
+use osn_territory::Run;
 use std::alloc::{AllocError, Global};
 
 /// Puts runs in the order of their first days.

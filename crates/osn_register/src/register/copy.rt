@@ -1,11 +1,11 @@
 //! Registers made of another one, and of edits.
 ghost use Rattle.std.specs.Prelude.{◌≡◌, [], true, None, IfOk, OnOk, OnErr, ◌<◌, length};
-ghost use Rattle.osn_days.specs.Profile.{newest_rules};
+ghost use Rattle.osn_days.specs.Rules.{newest_rules};
 ghost use Rattle.osn_register.specs.Code as form;
 ghost use Rattle.osn_register.specs.Inside.{sources_in};
 ghost use Rattle.osn_register.specs.Sources.{HasSources};
 ghost use Rattle.osn_register.specs.Plain.{applied_all, folded, fold_takes_memory};
-ghost use Rattle.osn_register.specs.Plain.{land_of, with_land, IsSoundTerritory};
+ghost use Rattle.osn_register.specs.Plain.{entry_of, with_entry, IsSoundTerritory};
 
 use crate::edit::Edit;
 use crate::limits::Limits;
@@ -20,10 +20,10 @@ impl Register {
     /// If memory runs out. The copy of an empty register needs none.
     pub fn copy(&self) -> Result<Register, AllocError>
         ensures value { IfOk result (λ r. r ≡ self.now) }
-        ensures memory { OnErr result (0 < length self.now.lands) }
+        ensures memory { OnErr result (0 < length self.now.territories) }
     {
         let mut copied = Register::new(self.alloc, self.limits);
-        for (code, entry) in &self.lands {
+        for (code, entry) in &self.territories {
             copied.insert_copy(code.as_str(), entry)?;
         }
         Ok(copied)
@@ -31,14 +31,14 @@ impl Register {
 
     /// Adds a copy of a territory that another register keeps under a code.
     fn insert_copy(&mut self, code: &str, entry: &NamedTerritory) -> Result<(), AllocError>
-        requires absent { land_of code.now self.old.lands ≡ None }
+        requires absent { entry_of code.now self.old.territories ≡ None }
         requires code { form.is_code code.now ≡ true }
         requires name { form.is_name entry.now.name ≡ true }
-        requires room { length self.old.lands < self.old.limits.lands }
+        requires room { length self.old.territories < self.old.limits.lands }
         requires territory { IsSoundTerritory newest_rules self.old.limits entry.now.territory }
         requires sources { HasSources (sources_in entry.now.sources) }
         ensures ok { OnOk result (self.new ≡ record self.old {
-          lands = with_land self.old.lands code.now entry.now.name entry.now.territory
+          territories = with_entry self.old.territories code.now entry.now.name entry.now.territory
               (sources_in entry.now.sources);
         }) }
         ensures err { OnErr result (self.new ≡ self.old) }
@@ -55,10 +55,10 @@ impl Register {
     /// give no source. On an error some of the edits may have been applied.
     pub fn apply_all(&mut self, edits: &[Edit]) -> Result<(), AllocError>
         ensures ok { OnOk result (self.new ≡ record self.old {
-          lands = applied_all newest_rules self.old.limits self.old.lands edits.now;
+          territories = applied_all newest_rules self.old.limits self.old.territories edits.now;
         }) }
         ensures memory { OnErr result
-            (fold_takes_memory newest_rules self.old.limits self.old.lands edits.now ≡ true) }
+            (fold_takes_memory newest_rules self.old.limits self.old.territories edits.now ≡ true) }
     {
         for edit in edits {
             self.apply_if_lawful(edit)?;

@@ -1,10 +1,10 @@
 //! What the register answers to queries.
 ghost use Rattle.std.specs.Prelude.{◌≡◌, true, None, IfOk, OnErr, ◌<◌, length, map};
-ghost use Rattle.osn_days.specs.Profile.{first_rules, newest_rules};
+ghost use Rattle.osn_days.specs.Rules.{first_rules, newest_rules};
 ghost use Rattle.osn_register.specs.Answer as spec;
 ghost use Rattle.osn_register.specs.BorrowedQuery.{as_query};
 ghost use Rattle.osn_register.specs.EarlierRules.{KeepsAnswer};
-ghost use Rattle.osn_register.specs.Refusal.{IsTestOf};
+ghost use Rattle.osn_register.specs.Refusal.{IsCheckOf};
 ghost use Rattle.osn_register.specs.Plain.{code_refusal};
 ghost use Rattle.osn_register.specs.InsideQuery.{IsAnswered};
 
@@ -25,7 +25,7 @@ use osn_written::{DateReading, Listing};
 use std::alloc::{AllocError, Global};
 
 /// Returns a territory as it is listed.
-fn land(alloc: Global, code: &str, name: &Text) -> Result<Land, AllocError>
+fn listing(alloc: Global, code: &str, name: &Text) -> Result<Land, AllocError>
     ensures { IfOk result (λ l. (l.code ≡ code.now) × (l.name ≡ name.now)) }
 {
     Ok(Land {
@@ -43,14 +43,17 @@ impl Register {
     /// If memory runs out. A refusal, the figures of a year and an empty list of territories need
     /// none.
     pub fn answer(&self, query: &Query) -> Result<Answer, AllocError>
-        ensures value { IfOk result (λ a. a ≡ spec.answer newest_rules self.now.lands query.now) }
+        ensures value { IfOk result
+            (λ a. a ≡ spec.answer newest_rules self.now.territories query.now) }
         // as a law: only the definition's refusals refuse a query
         ensures refused { IfOk result
-            (λ a. spec.refusal_in a ≡ spec.query_refusal newest_rules self.now.lands query.now) }
+            (λ a. spec.refusal_in a
+            ≡ spec.query_refusal newest_rules self.now.territories query.now) }
         ensures memory { OnErr result
-            (spec.takes_memory (spec.answer newest_rules self.now.lands query.now) ≡ true) }
+            (spec.takes_memory (spec.answer newest_rules self.now.territories query.now) ≡ true) }
         // as a law: if the first rules have the year or the day, it keeps what they answer
-        ensures earlier_rules { IfOk result (KeepsAnswer first_rules self.now.lands query.now) }
+        ensures earlier_rules { IfOk result
+            (KeepsAnswer first_rules self.now.territories query.now) }
     {
         self.answer_borrowed(query.borrowed())
     }
@@ -62,13 +65,13 @@ impl Register {
     /// As for `answer`.
     pub fn answer_borrowed(&self, query: BorrowedQuery<'_>) -> Result<Answer, AllocError>
         ensures value { IfOk result
-            (λ a. a ≡ spec.answer newest_rules self.now.lands (as_query query.entry)) }
+            (λ a. a ≡ spec.answer newest_rules self.now.territories (as_query query.entry)) }
         ensures refused { IfOk result (λ a. spec.refusal_in a
-            ≡ spec.query_refusal newest_rules self.now.lands (as_query query.entry)) }
+            ≡ spec.query_refusal newest_rules self.now.territories (as_query query.entry)) }
         ensures memory { OnErr result (spec.takes_memory
-            (spec.answer newest_rules self.now.lands (as_query query.entry)) ≡ true) }
+            (spec.answer newest_rules self.now.territories (as_query query.entry)) ≡ true) }
         ensures earlier_rules { IfOk result
-            (KeepsAnswer first_rules self.now.lands (as_query query.entry)) }
+            (KeepsAnswer first_rules self.now.territories (as_query query.entry)) }
     {
         match self.lawful_answer(query) {
             Ok(answer) => Ok(answer),
@@ -84,7 +87,8 @@ impl Register {
     ///
     /// The first refusal that applies.
     pub fn check_easter(&self, code: &str, year: i64) -> Result<(), Refusal>
-        ensures { IsTestOf (spec.easter_refusal newest_rules self.now.lands code.now year) result }
+        ensures { IsCheckOf (spec.easter_refusal newest_rules self.now.territories code.now year)
+            result }
     {
         self.known_territory(code)?;
         year_in_range(year)?;
@@ -93,8 +97,8 @@ impl Register {
 
     fn lawful_answer(&self, query: BorrowedQuery<'_>) -> Result<Answer, Unanswered>
         ensures { IsAnswered
-            (spec.query_refusal newest_rules self.now.lands (as_query query.entry))
-            (spec.answer newest_rules self.now.lands (as_query query.entry)) result }
+            (spec.query_refusal newest_rules self.now.territories (as_query query.entry))
+            (spec.answer newest_rules self.now.territories (as_query query.entry)) result }
     {
         match query {
             BorrowedQuery::Read(code, year, month, day) => self.read(code, year, month, day),
@@ -111,8 +115,8 @@ impl Register {
 
     fn read(&self, code: &str, year: i64, month: i64, day: i64) -> Result<Answer, Unanswered>
         ensures { IsAnswered
-            (spec.read_refusal newest_rules self.now.lands code.now year month day)
-            (spec.read_answer newest_rules self.now.lands code.now year month day) result }
+            (spec.read_refusal newest_rules self.now.territories code.now year month day)
+            (spec.read_answer newest_rules self.now.territories code.now year month day) result }
     {
         let territory = self.known_territory(code)?;
         let label = asked_label(year, month, day)?;
@@ -121,48 +125,48 @@ impl Register {
 
     fn day_in(&self, code: &str, day: i64) -> Result<Answer, Unanswered>
         ensures { IsAnswered
-            (spec.day_refusal newest_rules self.now.lands code.now day)
-            (spec.day_in_answer newest_rules self.now.lands code.now day) result }
+            (spec.day_refusal newest_rules self.now.territories code.now day)
+            (spec.day_in_answer newest_rules self.now.territories code.now day) result }
     {
-        let (territory, sources) = self.known_land(code)?;
+        let (territory, sources) = self.known_entry(code)?;
         let day = day_on_line(day)?;
         Ok(on_day(self.alloc, territory, sources, day)?)
     }
 
     fn easter(&self, code: &str, year: i64) -> Result<Answer, Unanswered>
         ensures { IsAnswered
-            (spec.easter_refusal newest_rules self.now.lands code.now year)
-            (spec.easter_answer newest_rules self.now.lands code.now year) result }
+            (spec.easter_refusal newest_rules self.now.territories code.now year)
+            (spec.easter_answer newest_rules self.now.territories code.now year) result }
     {
-        let (territory, sources) = self.known_land(code)?;
+        let (territory, sources) = self.known_entry(code)?;
         let year = year_in_range(year)?;
         Ok(easters(self.alloc, territory, sources, year)?)
     }
 
     fn periods(&self, code: &str) -> Result<Answer, Unanswered>
         ensures { IsAnswered
-            (code_refusal self.now.lands code.now)
-            (spec.periods_in_answer newest_rules self.now.lands code.now) result }
+            (code_refusal self.now.territories code.now)
+            (spec.periods_in_answer newest_rules self.now.territories code.now) result }
     {
-        let (territory, sources) = self.known_land(code)?;
+        let (territory, sources) = self.known_entry(code)?;
         Ok(periods(self.alloc, territory, sources)?)
     }
 
     fn exceptions(&self, code: &str) -> Result<Answer, Unanswered>
         ensures { IsAnswered
-            (code_refusal self.now.lands code.now)
-            (spec.exceptions_in_answer newest_rules self.now.lands code.now) result }
+            (code_refusal self.now.territories code.now)
+            (spec.exceptions_in_answer newest_rules self.now.territories code.now) result }
     {
-        let (territory, sources) = self.known_land(code)?;
+        let (territory, sources) = self.known_entry(code)?;
         Ok(exceptions(self.alloc, territory, sources)?)
     }
 
     fn changes(&self, code: &str) -> Result<Answer, Unanswered>
         ensures { IsAnswered
-            (code_refusal self.now.lands code.now)
-            (spec.changes_in_answer newest_rules self.now.lands code.now) result }
+            (code_refusal self.now.territories code.now)
+            (spec.changes_in_answer newest_rules self.now.territories code.now) result }
     {
-        let (territory, sources) = self.known_land(code)?;
+        let (territory, sources) = self.known_entry(code)?;
         Ok(changes(self.alloc, territory, sources)?)
     }
 
@@ -173,8 +177,9 @@ impl Register {
         weekday: Option<Weekday>,
     ) -> Result<Answer, Unanswered>
         ensures { IsAnswered
-            (code_refusal self.now.lands code.now)
-            (spec.written_in_answer newest_rules self.now.lands code.now date.now weekday) result }
+            (code_refusal self.now.territories code.now)
+            (spec.written_in_answer newest_rules self.now.territories code.now date.now weekday)
+            result }
     {
         let territory = self.known_territory(code)?;
         Ok(written(self.alloc, territory, date, weekday)?)
@@ -186,12 +191,12 @@ impl Register {
     ///
     /// `AllocError` if there is no memory for them. An empty register needs none.
     pub fn listed(&self) -> Result<Vec<Land>, AllocError>
-        ensures value { IfOk result (λ v. v.items ≡ map spec.listed self.now.lands) }
-        ensures memory { OnErr result (0 < length self.now.lands) }
+        ensures value { IfOk result (λ v. v.items ≡ map spec.listed self.now.territories) }
+        ensures memory { OnErr result (0 < length self.now.territories) }
     {
-        let mut listed = Vec::with_capacity(self.alloc, self.lands.len())?;
-        for (code, entry) in &self.lands {
-            listed.push(land(self.alloc, code.as_str(), &entry.name)?)?;
+        let mut listed = Vec::with_capacity(self.alloc, self.territories.len())?;
+        for (code, entry) in &self.territories {
+            listed.push(listing(self.alloc, code.as_str(), &entry.name)?)?;
         }
         Ok(listed)
     }

@@ -12,7 +12,7 @@ impl Register {
     /// Returns the source of the period of a territory that starts on a day, if one is given.
     pub fn period_source(&self, code: &str, day: Day) -> Option<&Source>
         ensures { option_map (λ s. s.now) result
-            ≡ spec.period_source (sources_of code.now self.now.lands) day }
+            ≡ spec.period_source (sources_of code.now self.now.territories) day }
     {
         source_of(&self.sources(code)?.periods, day.number())
     }
@@ -20,7 +20,7 @@ impl Register {
     /// Returns the source of the Easter that a territory lists for a year, if one is given.
     pub fn easter_source(&self, code: &str, year: Year) -> Option<&Source>
         ensures { option_map (λ s. s.now) result
-            ≡ spec.easter_source (sources_of code.now self.now.lands) year }
+            ≡ spec.easter_source (sources_of code.now self.now.territories) year }
     {
         source_of(&self.sources(code)?.easters, year.number())
     }

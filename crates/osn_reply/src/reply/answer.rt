@@ -62,12 +62,12 @@ fn write_easters(
 }
 
 /// Begins a reply with territories.
-fn write_lands(out: &mut LineWriter, lands: &[Land]) -> Result<(), AllocError>
+fn write_territories(out: &mut LineWriter, territories: &[Land]) -> Result<(), AllocError>
     ensures text { OnOk result (out.new.text ≡ out.old.text
-        ++ (codes "{\"answer\":" ++ compact_text (spec.lands_data lands.now))) }
+        ++ (codes "{\"answer\":" ++ compact_text (spec.territories_data territories.now))) }
     ensures before { out.new.before ≡ out.old.before }
 {
-    write_list(out, r#"{"answer":{"lands":"#, lands)?;
+    write_list(out, r#"{"answer":{"lands":"#, territories)?;
     out.push("}")
 }
 
@@ -198,7 +198,7 @@ pub(crate) fn write_reply(
             };
             write_figures(out, *year, *golden, *indiction, &gregorian, &julian)
         }
-        Answer::Lands(lands) => write_lands(out, lands.as_slice()),
+        Answer::Lands(territories) => write_territories(out, territories.as_slice()),
         Answer::Periods(periods) => write_periods(out, periods.as_slice()),
         Answer::Exceptions(exceptions) => write_exceptions(out, exceptions.as_slice()),
         Answer::Changes(changes) => write_changes(out, changes.as_slice()),

@@ -6,7 +6,7 @@ ghost use Rattle.osn_days.specs.DateText as spec;
 
 use crate::line_writer::LineWriter;
 use osn_days::{Calendar, Day, date_digits, date_of, date_text};
-use osn_lands::Label;
+use osn_territory::Label;
 use std::alloc::AllocError;
 
 /// Writes `front` and a date.

@@ -1,5 +1,6 @@
 //! Days, runs of them, listed Easters and territories in a reply.
-ghost use Rattle.osn_reply.specs.ReplyText.{exception_data, found_data, found_run_data, land_data};
+ghost use Rattle.osn_reply.specs.ReplyText.{exception_data, found_data, found_run_data};
+ghost use Rattle.osn_reply.specs.ReplyText.{territory_data};
 
 use crate::line_writer::LineWriter;
 use crate::reply::date::{write_date_of, write_label};
@@ -46,7 +47,7 @@ impl WriteJson for Exception {
 }
 
 impl WriteJson for Land {
-    ghost json_value = { land_data };
+    ghost json_value = { territory_data };
 
     fn write_json(&self, out: &mut LineWriter) -> Result<(), AllocError> {
         out.push_text(r#"{"code":"#, self.code.as_str())?;

@@ -4,8 +4,8 @@ ghost use Rattle.osn_reply.specs.ReplyText.{regime_data, period_data};
 use crate::line_writer::LineWriter;
 use crate::reply::write_json::{WriteJson, write_source};
 use osn_days::Keyword;
-use osn_lands::Regime;
 use osn_register::PeriodAndSource;
+use osn_territory::Regime;
 use std::alloc::AllocError;
 
 impl WriteJson for Regime {

@@ -68,7 +68,7 @@ fn write_figures(out: &mut LineWriter, reader: u32, year: i64) -> Result<(), All
     out.push("}")
 }
 
-fn write_lands(out: &mut LineWriter, reader: u32) -> Result<(), AllocError>
+fn write_territories(out: &mut LineWriter, reader: u32) -> Result<(), AllocError>
     ensures text { OnOk result (out.new.text ≡ out.old.text
         ++ compact_text (spec.query_data reader queries.Lands)) }
     ensures before { out.new.before ≡ out.old.before }
@@ -150,7 +150,7 @@ fn write_query(out: &mut LineWriter, reader: u32, query: &Query) -> Result<(), A
         Query::DayIn { code, day } => write_day_in(out, reader, code, *day),
         Query::Easter { code, year } => write_easter(out, reader, code, *year),
         Query::YearFigures { year } => write_figures(out, reader, *year),
-        Query::Lands => write_lands(out, reader),
+        Query::Lands => write_territories(out, reader),
         Query::Periods { code } => write_periods(out, reader, code),
         Query::Exceptions { code } => write_exceptions(out, reader, code),
         Query::Changes { code } => write_changes(out, reader, code),

@@ -9,8 +9,8 @@ ghost use Rattle.osn_format.specs.Version.{rules_of};
 use crate::request::json_object::JsonObject;
 use osn_days::{Keyword, Weekday};
 use osn_format::{Member, Version, WireFault};
-use osn_lands::{Regime, Style};
 use osn_register::Source;
+use osn_territory::{Regime, Style};
 use osn_written::weekday_named;
 
 /// Returns a member that is a text.

@@ -1,6 +1,6 @@
 //! The query of a line's object, with texts borrowed from the object.
 ghost use Rattle.std.specs.Prelude.{◌≡◌, true, IfOk, OnErr};
-ghost use Rattle.osn_register.specs.Query.{names_land};
+ghost use Rattle.osn_register.specs.Query.{names_territory};
 ghost use Rattle.osn_request.specs.LineQuery as spec;
 ghost use Rattle.osn_request.specs.LineQuery.{line_query};
 
@@ -47,7 +47,7 @@ impl<'a> LineQuery<'a> {
     /// Returns `AllocError` if memory runs out. A query that names no territory takes no memory.
     pub fn to_query(self, alloc: Global) -> Result<Query, AllocError>
         ensures value { IfOk result (λ q. q ≡ line_query self.entry) }
-        ensures memory { OnErr result (names_land (line_query self.entry) ≡ true) }
+        ensures memory { OnErr result (names_territory (line_query self.entry) ≡ true) }
     {
         match self {
             LineQuery::Plain(query) => query.to_query(alloc),

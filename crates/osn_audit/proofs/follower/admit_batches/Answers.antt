@@ -1,5 +1,5 @@
 use Rattle.std.proofs.Common.{◌+◌, drop, ap, sym, subst, ◌∙◌, arith}
-use Rattle.osn_days.specs.Profile.{newest_rules}
+use Rattle.osn_days.specs.Rules.{newest_rules}
 use Rattle.osn_register.specs.Plain.{applied_all}
 use Rattle.osn_register.specs.Lawful.{AreLawful}
 use Rattle.osn_core.specs.Sequential.{joined}
@@ -11,11 +11,11 @@ admit_edits-requires c =
     let l = c.loop-batch in
     let limits = c.args.register.now.limits in
     let batch = c.batch-item.result in
-    subst (λ m. AreLawful newest_rules m l.register.lands c.edits.result.now)
+    subst (λ m. AreLawful newest_rules m l.register.territories c.edits.result.now)
     (sym l.invariant.limits)
-    (subst (AreLawful newest_rules limits l.register.lands) (sym c.edits.ensures)
-    (next_batch_lawful limits l.register.lands c.args.batches.now l.batch-index batch (omega arith)
-    c.batch-item.is l.invariant.lawful).0)
+    (subst (AreLawful newest_rules limits l.register.territories) (sym c.edits.ensures)
+    (next_batch_lawful limits l.register.territories c.args.batches.now l.batch-index batch
+    (omega arith) c.batch-item.is l.invariant.lawful).0)
 
 pub loop-batch-preserved : goal.loop-batch-preserved
 loop-batch-preserved c =
@@ -23,11 +23,11 @@ loop-batch-preserved c =
     let one = c.in_ok-admit_edits.ensures in
     let limits = c.args.register.now.limits in
     let batches = c.args.batches.now in
-    let old = l.register.lands in
+    let old = l.register.territories in
     let batch = c.batch-item.result in
     let new =
-    ap (λ r. r.lands) one ∙ ap (applied_all newest_rules l.register.limits old) c.edits.ensures
-    in
+    ap (λ r. r.territories) one
+    ∙ ap (applied_all newest_rules l.register.limits old) c.edits.ensures in
     record {
       limits = ap (λ r. r.limits) one ∙ l.invariant.limits;
       lawful = subst
@@ -35,6 +35,6 @@ loop-batch-preserved c =
           (sym (new ∙ ap (λ m. applied_all newest_rules m old batch) l.invariant.limits))
           (next_batch_lawful limits old batches l.batch-index batch (omega arith) c.batch-item.is
           l.invariant.lawful).1;
-      lands = batch_more _ _ _ _ _ batches l.batch-index batch (omega arith) c.batch-item.is
-          l.invariant.limits new l.invariant.lands;
+      territories = batch_more _ _ _ _ _ batches l.batch-index batch (omega arith) c.batch-item.is
+          l.invariant.limits new l.invariant.territories;
     }

@@ -1,5 +1,5 @@
 use Rattle.std.proofs.Common.{◌≡◌, drop}
-use Rattle.osn_days.specs.Profile.{newest_rules}
+use Rattle.osn_days.specs.Rules.{newest_rules}
 use Rattle.osn_register.specs.Plain.{applied_all}
 use Rattle.osn_register.specs.Lawful.{AreLawful}
 use Rattle.osn_audit.proofs.follower.admit_edits.Given as goal
@@ -9,9 +9,10 @@ abbrev pub invariant-loop-edit : goal.invariant-loop-edit
 invariant-loop-edit l = record {
   limits : l.register.limits ≡ l.initial.register.limits;
   lawful :
-      AreLawful newest_rules l.initial.register.limits l.register.lands (drop l.edit-index l.edits);
-  lands :
-      applied_all newest_rules l.initial.register.limits l.register.lands
+      AreLawful newest_rules l.initial.register.limits l.register.territories
+      (drop l.edit-index l.edits);
+  territories :
+      applied_all newest_rules l.initial.register.limits l.register.territories
       (drop l.edit-index l.edits)
-      ≡ applied_all newest_rules l.initial.register.limits l.initial.register.lands l.edits;
+      ≡ applied_all newest_rules l.initial.register.limits l.initial.register.territories l.edits;
 }

@@ -21,4 +21,4 @@ returns-in-Ok g c =
     (ap (map (λ (word : Bor (List ℕ)). word.now)) lent ∙ c.in-Ok.ensures) c.run_words.ensures
 
 pub returns-in-Err : goal.returns-in-Err
-returns-in-Err g c = inr (refl, inl (refl, c.tell_no_memory.ensures))
+returns-in-Err g c = inr (refl, inl (refl, c.report_no_memory.ensures))

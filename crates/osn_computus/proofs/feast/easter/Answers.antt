@@ -1,5 +1,5 @@
 use Rattle.std.proofs.Common.{◌≤◌, ◌∙◌, Some, ap, subst, arith}
-use Rattle.osn_days.specs.Profile.{first_rules}
+use Rattle.osn_days.specs.Rules.{first_rules}
 use Rattle.osn_computus.specs.Easter.{easter_of}
 use Rattle.osn_computus.proofs.MoonFacts.{moon_bounds, season, some_same}
 use Rattle.osn_computus.proofs.EarlierEasters.{easter_of_both}

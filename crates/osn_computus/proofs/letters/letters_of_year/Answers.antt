@@ -1,6 +1,6 @@
 use Rattle.std.proofs.Common.{◌∙◌, ap, refl, arith}
 use Rattle.osn_days.specs.declared.date.Date.{Date}
-use Rattle.osn_days.specs.Profile.{newest_rules}
+use Rattle.osn_days.specs.Rules.{newest_rules}
 use Rattle.osn_days.specs.Chain.{days_with_date}
 use Rattle.osn_computus.specs.declared.letters.Letters.{Letters}
 use Rattle.osn_computus.proofs.MoonFacts.{spring_found}

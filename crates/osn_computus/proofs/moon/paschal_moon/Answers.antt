@@ -3,7 +3,7 @@ use Rattle.std.proofs.lemmas.Int.{ints}
 use Rattle.osn_days.specs.declared.calendar.Calendar.{Calendar}
 use Rattle.osn_days.specs.declared.date.Date.{Date}
 use Rattle.std.specs.Option.{option_to_list}
-use Rattle.osn_days.specs.Profile.{newest_rules}
+use Rattle.osn_days.specs.Rules.{newest_rules}
 use Rattle.osn_days.specs.Line.{IsYear}
 use Rattle.osn_days.specs.Chain.{days_with_date}
 use Rattle.osn_computus.specs.declared.rule.Rule.{Rule}

@@ -1,6 +1,6 @@
 use Rattle.std.proofs.Common.{◌≡◌, ap, ◌∙◌}
 use Rattle.std.proofs.lemmas.Result.{IfOk-weaker}
-use Rattle.osn_days.specs.Profile.{newest_rules}
+use Rattle.osn_days.specs.Rules.{newest_rules}
 use Rattle.osn_core.specs.Machine.{first_core, outs_of}
 use Rattle.osn_core.specs.History.{no_looks}
 use Rattle.osn_core.proofs.Editor.{editor_outs_of_run}

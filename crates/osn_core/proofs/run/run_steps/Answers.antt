@@ -1,6 +1,6 @@
 use Rattle.std.proofs.Common.{◌++◌, sym, ap, ◌∙◌, rules}
 use Rattle.std.proofs.lemmas.List.{append-nil, drop_all}
-use Rattle.osn_days.specs.Profile.{newest_rules}
+use Rattle.osn_days.specs.Rules.{newest_rules}
 use Rattle.osn_core.specs.Machine.{outs_of}
 use Rattle.osn_core.proofs.run.run_steps.Goals as goal
 

@@ -2,7 +2,7 @@ use Rattle.std.proofs.Common.{◌≡◌, ◌+◌, inl, inr, ◌∙◌, sym, ap, 
 use Rattle.std.proofs.lemmas.Bool.{cases_lt}
 use Rattle.std.proofs.lemmas.Int.{ints}
 use Rattle.std.specs.Option.{option_to_list}
-use Rattle.osn_days.specs.Profile.{newest_rules}
+use Rattle.osn_days.specs.Rules.{newest_rules}
 use Rattle.osn_days.specs.declared.date.Date.{Date}
 use Rattle.osn_days.specs.declared.calendar.Calendar.TheVariants.{Julian, Swedish}
 use Rattle.osn_days.specs.Chain.{february, date_of}

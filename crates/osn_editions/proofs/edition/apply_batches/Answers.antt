@@ -1,5 +1,5 @@
 use Rattle.std.proofs.Common.{ap, ◌∙◌, arith}
-use Rattle.osn_days.specs.Profile.{newest_rules}
+use Rattle.osn_days.specs.Rules.{newest_rules}
 use Rattle.osn_register.specs.Plain.{applied_all}
 use Rattle.osn_editions.proofs.BatchLemmas.{batch_more}
 use Rattle.osn_editions.proofs.edition.apply_batches.Goals as goal
@@ -10,9 +10,9 @@ loop-batch-preserved c =
     let one = c.in_ok-apply_all.ensures.ok in
     record {
       limits = ap (λ r. r.limits) one ∙ l.invariant.limits;
-      lands = batch_more _ _ _ _ _ c.args.batches.now l.batch-index c.batch-item.result
+      territories = batch_more _ _ _ _ _ c.args.batches.now l.batch-index c.batch-item.result
           (omega arith) c.batch-item.is l.invariant.limits
-          (ap (λ r. r.lands) one
-          ∙ ap (applied_all newest_rules l.register.limits l.register.lands) c.edits.ensures)
-          l.invariant.lands;
+          (ap (λ r. r.territories) one
+          ∙ ap (applied_all newest_rules l.register.limits l.register.territories) c.edits.ensures)
+          l.invariant.territories;
     }

@@ -16,10 +16,10 @@ returns-in-Ok-clause-ok g c =
       found.ensures.ok,
       input_of remaining has_failed found.edits left.journal,
       (found.ensures.first, (λ e. (left.journal, e))),
-      input_of remaining has_failed (source_of c.new-told.result) (source_of left.transcript),
+      input_of remaining has_failed (source_of c.new-answers.result) (source_of left.transcript),
       (
         subst (λ file. IsFileOf (g.D.Folder.known c.args.folder.now) c.args.transcript.now
-            (remaining file)) (sym c.new-told.ensures) found.ensures.second,
+            (remaining file)) (sym c.new-answers.ensures) found.ensures.second,
         (λ e. (source_of left.transcript, e)),
       ),
       c.in-Ok.ensures.ok,
@@ -35,10 +35,10 @@ returns-clause-err g c =
     (folders_of g.D.Folder.known c.args.folder.now c.open_both.new.folder)
     (AuditFails c.args.limits) _ c.in-Err.fault c.failed.result
     (input_of remaining has_failed found.edits left.journal)
-    (input_of remaining has_failed (source_of c.new-told.result) (source_of left.transcript))
+    (input_of remaining has_failed (source_of c.new-answers.result) (source_of left.transcript))
     found.ensures.ok (found.ensures.first, (λ e. (left.journal, e))) (
       subst (λ file. IsFileOf (g.D.Folder.known c.args.folder.now) c.args.transcript.now
-          (remaining file)) (sym c.new-told.ensures) found.ensures.second,
+          (remaining file)) (sym c.new-answers.ensures) found.ensures.second,
       (λ e. (source_of left.transcript, e)),
     ) c.failed.ensures c.in-Err.ensures.err c.failure_of_two.ensures.path
     c.failure_of_two.ensures.fault

@@ -10,16 +10,16 @@ loop-questions-preserved c =
     let loop = c.loop-questions in
     let reader = loop.reader + 1 in
     let asked = c.in-Some.questions in
-    let told = c.in-Some.replies in
-    let step = Zip-more loop.questions-iterator c.next.new.self _ (asked, told)
+    let answers = c.in-Some.replies in
+    let step = Zip-more loop.questions-iterator c.next.new.self _ (asked, answers)
     c.in-Some.is c.next.ensures.steps in
     record {
       few = few_left loop.reader _ asked.now _ step.0 loop.invariant.few;
       text = next_piece [] (string_bytes loop.text) (string_bytes c.push_reader.new.text) _
-          (spec.reader_lines reader asked.now.items told.now.items) _
-          (spec.transcript_from 1 c.args.lists.now c.args.told.now) _
+          (spec.reader_lines reader asked.now.items answers.now.items) _
+          (spec.transcript_from 1 c.args.lists.now c.args.answers.now) _
           loop.invariant.text
-          (readers_front reader _ _ _ asked.now _ told.now _ step.0 step.1 refl)
+          (readers_front reader _ _ _ asked.now _ answers.now _ step.0 step.1 refl)
           c.in_ok-push_reader.ensures
           (same_lines reader _ _ _ _ c.deref.ensures.value
           c.deref-in-loop-questions.ensures.value);

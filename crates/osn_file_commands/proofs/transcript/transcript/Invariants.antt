@@ -10,5 +10,5 @@ invariant-loop-questions l = record {
   -- the lines so far, and those of the readers that are left
   text : string_bytes l.text ++ spec.transcript_from (l.reader + 1)
       (iter_rest (zip_first l.questions-iterator)) (iter_rest (zip_second l.questions-iterator))
-      ≡ spec.transcript_from 1 l.lists l.told;
+      ≡ spec.transcript_from 1 l.lists l.answers;
 }

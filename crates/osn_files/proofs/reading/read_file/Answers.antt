@@ -1,6 +1,6 @@
 use Rattle.std.proofs.Common.{refl}
 use Rattle.osn_files.proofs.ReadLemmas.{made-all, no-head, first_version, given_version}
-use Rattle.osn_files.proofs.ReadLemmas.{interrupted}
+use Rattle.osn_files.proofs.ReadLemmas.{ended_early}
 use Rattle.osn_files.proofs.reading.read_file.Goals as goal
 
 pub returns-in-Some-clause-file : goal.returns-in-Some-clause-file
@@ -24,7 +24,7 @@ returns-in-None-clause-file g c = record {
 pub returns-in-Err-clause-file : goal.returns-in-Err-clause-file
 returns-in-Err-clause-file g c =
     rw c.fault_of.ensures
-    (interrupted _ _ _ _ _ c.args.role c.in-Err.end.lines c.in-Err.end.cause _ _ _ _
+    (ended_early _ _ _ _ _ c.args.role c.in-Err.end.lines c.in-Err.end.cause _ _ _ _
     c.in-Err.ensures.fault c.in-Err.ensures.recent c.in-Err.ensures.reason)
 
 pub returns-in-Some-clause-version : goal.returns-in-Some-clause-version

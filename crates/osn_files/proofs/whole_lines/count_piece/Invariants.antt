@@ -1,5 +1,5 @@
 use Rattle.std.proofs.Common.{◌≡◌, ◌+◌, ◌≤◌, ℕ, List, ◌++◌, take}
-use Rattle.osn_files.specs.WholePartInside.{IsCountOf}
+use Rattle.osn_files.specs.CountedPrefixInside.{IsCountOf}
 use Rattle.osn_files.proofs.whole_lines.count_piece.Given as goal
 
 -- the bytes before this one are counted

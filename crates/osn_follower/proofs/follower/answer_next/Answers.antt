@@ -1,9 +1,9 @@
 use Rattle.std.proofs.Common.{◌≡◌, ◌+◌, ◌∙◌, ap, Err, false, List, Ok, refl, subst, sym}
 use Rattle.std.proofs.Common.{true, ℕ}
 use Rattle.osn_core.specs.Sequential.{ObjectState}
-use Rattle.osn_follower.specs.RoundInside.{Answers, IsInterrupted, IsOver}
+use Rattle.osn_follower.specs.RoundInside.{Answers, IsEarlyEnd, IsOver}
 use Rattle.osn_follower.specs.declared.fault.FollowerFault.TheVariants.{Serve}
-use Rattle.osn_follower.proofs.AllRoundsLemmas.{GoesOn-round, IsInterrupted-round, IsOver-round}
+use Rattle.osn_follower.proofs.AllRoundsLemmas.{GoesOn-round, IsEarlyEnd-round, IsOver-round}
 use Rattle.osn_follower.proofs.RoundLemmas.{not_received}
 use Rattle.osn_follower.proofs.follower.answer_next.Goals as goal
 use Rattle.osn_follower.proofs.follower.answer_next.Goals.{then-served-via-then-served}
@@ -13,7 +13,7 @@ use Rattle.osn_follower.proofs.follower.answer_next.Goals.{then-served-via-else-
 pub returns-in-Err-clause-err : goal.returns-in-Err-clause-err
 returns-in-Err-clause-err g c =
     let old = g.W.Sink.contents c.args.sink.now in
-    subst (λ (n : ℕ). IsInterrupted c.args.rules (g.A.Arrivals.arrived c.args.arrivals.now)
+    subst (λ (n : ℕ). IsEarlyEnd c.args.rules (g.A.Arrivals.arrived c.args.arrivals.now)
     (g.A.Arrivals.arrived c.receive.new.arrivals) old old c.args.follower.now
     (record { lines = n; cause = c.in-Err.cause })) (sym c.receive.ensures.lines)
     (not_received c.args.rules c.args.follower.now old _ _ c.in-Err.cause c.in-Err.ensures.err)
@@ -78,10 +78,10 @@ returns-clause-err g c =
     let f = c.args.follower.now in
     let m = c.receive.new.follower in
     let end = c.in-Err-answer.end in
-    subst (λ (n : ℕ). IsInterrupted c.args.rules (g.A.Arrivals.arrived c.args.arrivals.now)
+    subst (λ (n : ℕ). IsEarlyEnd c.args.rules (g.A.Arrivals.arrived c.args.arrivals.now)
     (g.A.Arrivals.arrived c.receive.new.arrivals) old now f
     (record { lines = n + end.lines; cause = Serve end.cause })) (sym c.receive.ensures.lines)
-    (IsInterrupted-round c.args.rules f m m _ _ c.in-Ok.requests c.in-Ok.ensures.ok refl refl old
+    (IsEarlyEnd-round c.args.rules f m m _ _ c.in-Ok.requests c.in-Ok.ensures.ok refl refl old
     now (record { lines = 0; refused = false }) end.lines end.cause
     (subst (λ (text : List ℕ). Answers c.args.rules m.journal.object text old now (Err end))
     c.deref.ensures.value c.in-Err-answer.ensures.answers))

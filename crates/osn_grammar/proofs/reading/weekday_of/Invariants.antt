@@ -3,6 +3,6 @@ use Rattle.osn_grammar.specs.Reading.{weekday_after}
 use Rattle.osn_grammar.proofs.reading.weekday_of.Given as goal
 
 -- what was found before what is left decides with it
-abbrev pub invariant-loop-part : goal.invariant-loop-part
-invariant-loop-part l =
-    weekday_after None l.parts ≡ weekday_after l.found (drop l.part-index l.parts)
+abbrev pub invariant-loop-token : goal.invariant-loop-token
+invariant-loop-token l =
+    weekday_after None l.tokens ≡ weekday_after l.found (drop l.token-index l.tokens)

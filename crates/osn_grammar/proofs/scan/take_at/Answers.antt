@@ -7,6 +7,6 @@ returns c =
     let s = c.args.characters.now in
     let next = c.args.place + 1 in
     one_taken c.take.result s (take (length s - next) (drop next s)) c.args.place
-    c.index-characters-place.result c.args.parts.now.items c.take.new.parts.items
+    c.index-characters-place.result c.args.tokens.now.items c.take.new.tokens.items
     (string_bytes c.args.word.now) (string_bytes c.take.new.word) c.requires
-    c.index-characters-place.is (slice_left s next) c.take.ensures.parts c.take.ensures.word
+    c.index-characters-place.is (slice_left s next) c.take.ensures.tokens c.take.ensures.word

@@ -1,6 +1,6 @@
 use Rattle.std.proofs.Common.{◌≡◌, ◌∙◌, [], rules, length, ap, refl}
 use Rattle.std.proofs.lemmas.Result.{IfOk-weaker}
-use Rattle.osn_days.specs.Profile.{newest_rules}
+use Rattle.osn_days.specs.Rules.{newest_rules}
 use Rattle.osn_written.specs.Meaning.{dated_by}
 use Rattle.osn_letters.proofs.FieldFacts.{meant_are}
 use Rattle.osn_letters.proofs.letter.fields_of_one_day.Goals as goal

@@ -3,7 +3,7 @@ use Rattle.std.proofs.Common.{arith}
 use Rattle.std.proofs.Common.{length-append}
 use Rattle.std.proofs.lemmas.List.{take_at, length-take}
 use Rattle.std.proofs.lemmas.Result.{on_ok_weaker, IfErr-weaker, IfOk-weaker}
-use Rattle.osn_days.specs.Profile.{newest_rules}
+use Rattle.osn_days.specs.Rules.{newest_rules}
 use Rattle.osn_lines.proofs.ByteLemmas.{Consumes-then, Consumes-end, Consumes-keeps}
 use Rattle.osn_letters.specs.declared.fault.LettersFault.TheVariants.{NoMemory}
 use Rattle.osn_letters.specs.Faults.{is_write_fault}
@@ -22,12 +22,13 @@ use Rattle.osn_letters.proofs.stream.write_letters.Goals as goal
 
 pub returns-in_default-clause-early : goal.returns-in_default-clause-early
 returns-in_default-clause-early g c =
-    nothing_early (letters_written (basis newest_rules c.args.register.now.lands c.args.edition
+    nothing_early (letters_written
+    (basis newest_rules c.args.register.now.territories c.args.edition
     c.args.settings)) _ _ NoMemory refl
 
 pub returns-then-read-eq0-clause-whole : goal.returns-then-read-eq0-clause-whole
 returns-then-read-eq0-clause-whole g c =
-    let all = letters_written (basis newest_rules c.args.register.now.lands c.args.edition
+    let all = letters_written (basis newest_rules c.args.register.now.territories c.args.edition
     c.args.settings) in
     let inv = c.loop-call.invariant.progress in
     let bytes = c.in-Ok-read.ensures.bytes in
@@ -48,7 +49,7 @@ returns-then-read-eq0-clause-whole g c =
 
 pub returns-then-read-eq0-clause-tally : goal.returns-then-read-eq0-clause-tally
 returns-then-read-eq0-clause-tally g c =
-    let all = letters_tally (basis newest_rules c.args.register.now.lands c.args.edition
+    let all = letters_tally (basis newest_rules c.args.register.now.territories c.args.edition
     c.args.settings) in
     let inv = c.loop-call.invariant.progress in
     let bytes = c.in-Ok-read.ensures.bytes in
@@ -69,7 +70,7 @@ returns-then-read-eq0-clause-tally g c =
 
 pub returns-then-read-eq0-clause-early : goal.returns-then-read-eq0-clause-early
 returns-then-read-eq0-clause-early g c =
-    let all = letters_written (basis newest_rules c.args.register.now.lands c.args.edition
+    let all = letters_written (basis newest_rules c.args.register.now.territories c.args.edition
     c.args.settings) in
     let inv = c.loop-call.invariant.progress in
     let bytes = c.in-Ok-read.ensures.bytes in
@@ -90,7 +91,7 @@ returns-then-read-eq0-clause-early g c =
 
 pub returns-then-read-eq0-clause-sink : goal.returns-then-read-eq0-clause-sink
 returns-then-read-eq0-clause-sink g c =
-    let all = letters_written (basis newest_rules c.args.register.now.lands c.args.edition
+    let all = letters_written (basis newest_rules c.args.register.now.territories c.args.edition
     c.args.settings) in
     let inv = c.loop-call.invariant.progress in
     let bytes = c.in-Ok-read.ensures.bytes in
@@ -116,7 +117,7 @@ returns-then-read-eq0-clause-sink g c =
 
 pub returns-in_err-take_and_write-clause-early : goal.returns-in_err-take_and_write-clause-early
 returns-in_err-take_and_write-clause-early g c =
-    let all = letters_written (basis newest_rules c.args.register.now.lands c.args.edition
+    let all = letters_written (basis newest_rules c.args.register.now.territories c.args.edition
     c.args.settings) in
     let inv = c.loop-call.invariant.progress in
     let read = c.in-Ok-read.read in
@@ -139,7 +140,7 @@ returns-in_err-take_and_write-clause-early g c =
 
 pub returns-in_err-take_and_write-clause-sink : goal.returns-in_err-take_and_write-clause-sink
 returns-in_err-take_and_write-clause-sink g c =
-    let all = letters_written (basis newest_rules c.args.register.now.lands c.args.edition
+    let all = letters_written (basis newest_rules c.args.register.now.territories c.args.edition
     c.args.settings) in
     let inv = c.loop-call.invariant.progress in
     let read = c.in-Ok-read.read in
@@ -163,11 +164,11 @@ returns-in_err-take_and_write-clause-sink g c =
 
 pub returns-in_default-read-clause-source : goal.returns-in_default-read-clause-source
 returns-in_default-read-clause-source g c =
-    let all = letters_written (basis newest_rules c.args.register.now.lands c.args.edition
+    let all = letters_written (basis newest_rules c.args.register.now.territories c.args.edition
     c.args.settings) in
     let inv = c.loop-call.invariant.progress in (
       inl (search rules),
-      λ told. read_settled all c.loop-call.letters _ _ _ _ inv.0
+      λ fault_is. read_settled all c.loop-call.letters _ _ _ _ inv.0
           (Consumes-keeps _ _ _ inv.0 inv.2 c.in_default-read.ensures.bytes) inv.3,
     )
 
@@ -188,16 +189,16 @@ returns-in_err-take_and_write-clause-source g c =
 
 pub returns-clause-source : goal.returns-clause-source
 returns-clause-source g c =
-    let all = letters_written (basis newest_rules c.args.register.now.lands c.args.edition
+    let all = letters_written (basis newest_rules c.args.register.now.territories c.args.edition
     c.args.settings) in
     let inv = c.loop-call.invariant.progress in (
       inr (input_long _ _ inv.0 4294967295 (omega (arith, inv.1, c.loop-call-test.false)) inv.2),
-      λ told. read_settled all c.loop-call.letters _ _ _ _ inv.0 inv.2 inv.3,
+      λ fault_is. read_settled all c.loop-call.letters _ _ _ _ inv.0 inv.2 inv.3,
     )
 
 pub loop-call-preserved : goal.loop-call-preserved
 loop-call-preserved g c =
-    let all = letters_written (basis newest_rules c.args.register.now.lands c.args.edition
+    let all = letters_written (basis newest_rules c.args.register.now.territories c.args.edition
     c.args.settings) in
     let inv = c.loop-call.invariant.progress in
     let read = c.in-Ok-read.read in
@@ -241,7 +242,8 @@ loop-call-preserved g c =
         read_passes all (text_from c.loop-call.letters)
             (text_from c.take_and_write.new.letters) _ _ _ inv.0 got _ same inv.3
             c.in_ok-take_and_write.ensures.passes,
-        read_counted (letters_tally (basis newest_rules c.args.register.now.lands c.args.edition
+        read_counted (letters_tally
+            (basis newest_rules c.args.register.now.territories c.args.edition
             c.args.settings)) (tally_from c.loop-call.letters)
             (tally_from c.take_and_write.new.letters) inv.0 got _ same inv.4
             c.in_ok-take_and_write.ensures.counts,

@@ -1,6 +1,6 @@
 use Rattle.std.proofs.Common.{◌≡◌, ◌+◌, ◌*◌, ◌≤◌, ℕ, List, [], ◌++◌, length}
 use Rattle.std.specs.Io.KnownBytes.{Consumes}
-use Rattle.osn_days.specs.Profile.{newest_rules}
+use Rattle.osn_days.specs.Rules.{newest_rules}
 use Rattle.osn_letters.specs.LettersInside.{IsReady, Passes, tally_from, text_from}
 use Rattle.osn_letters.specs.TableInside.{letters_tally}
 use Rattle.osn_letters.specs.Table.{letters_written, basis}
@@ -22,10 +22,10 @@ invariant-loop-call g l =
           × Consumes (g.R.Source.remaining l.fn.source) (g.R.Source.remaining l.source) read
           × ((more : List ℕ)
           → Passes (g.W.Sink.contents l.fn.sink) (g.W.Sink.contents l.sink)
-          (letters_written (basis newest_rules l.fn.register.lands l.fn.edition l.fn.settings)
+          (letters_written (basis newest_rules l.fn.register.territories l.fn.edition l.fn.settings)
           (read ++ more))
           (text_from l.letters more))
           × CountsRead
-          (letters_tally (basis newest_rules l.fn.register.lands l.fn.edition l.fn.settings))
+          (letters_tally (basis newest_rules l.fn.register.territories l.fn.edition l.fn.settings))
           (tally_from l.letters) read;
     }

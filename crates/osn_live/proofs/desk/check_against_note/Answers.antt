@@ -1,5 +1,5 @@
 use Rattle.std.proofs.Common.{◌≤◌, length, arith, rules}
-use Rattle.osn_days.specs.Profile.{newest_rules}
+use Rattle.osn_days.specs.Rules.{newest_rules}
 use Rattle.osn_live.proofs.Answered.{later_first, replies_settled}
 use Rattle.osn_live.proofs.desk.check_against_note.Goals as goal
 

@@ -7,7 +7,7 @@ use Rattle.std.specs.Vec.Iter.{into_iter_items}
 use Rattle.std.proofs.lemmas.List.Elements.{All-head, All-tail}
 use Rattle.osn_live.specs.InsideWork.{IsOfPassing}
 use Rattle.osn_live.specs.InsideDesk.{AreAt, IsOfTheirGate}
-use Rattle.osn_days.specs.Profile.{newest_rules}
+use Rattle.osn_days.specs.Rules.{newest_rules}
 use Rattle.osn_live.specs.Desk.{AreReplies, AreAll, HearsOf, HearsOfLists}
 use Rattle.osn_live.proofs.AtWork.{next_pair, no_pair, few_left, count_left, one_done, all_done}
 use Rattle.osn_live.proofs.AtWork.{started_rest, started_count, lists_left, is_one_of}
@@ -26,7 +26,7 @@ loop-list-init g c =
       gates = search (rules, count);
       place = ([], search rules, refl);
       numbers = search rules;
-      tell = search rules;
+      calls = search rules;
       started = search (rules, count);
       replies = search (rules, count);
     }
@@ -37,10 +37,10 @@ loop-list-preserved g c =
     let origin = c.args.editor.now.origin in
     let batches = c.args.editor.now.object.batches in
     let list = c.in-Some.list in
-    let told = c.in_ok-replies.replies in
+    let called = c.in_ok-replies.replies in
     let step = next_pair loop.list-iterator c.next.new.self _ (list, c.in-Some.handle)
     c.in-Some.is c.next.ensures.steps in
-    let one : AreReplies newest_rules origin.limits batches 0 list.now.items told.items =
+    let one : AreReplies newest_rules origin.limits batches 0 list.now.items called.items =
     rw (c.note.ensures.batches, c.note.ensures.origin, c.as_slice.ensures.value)
     at c.in_ok-replies.ensures.replies in
     let handle = c.in-Some.handle in
@@ -53,7 +53,7 @@ loop-list-preserved g c =
         omega (arith, place.2, length-append place.0 (handle ∷ [])),
       );
       numbers = numbers.1;
-      tell = λ gate all rest.
+      calls = λ gate all rest.
           let at = All-head (λ h. h.promise.2.value ≡ gate) handle _
           (subst (AreAt gate) step.1 (loop.invariant.gates gate all)) in
           let hears = subst (λ r. OnOk r (HearsOf g.G.Gate.let_pass g.G.Gate.saw_end
@@ -62,7 +62,7 @@ loop-list-preserved g c =
           let one = hears_at g.G.Gate.let_pass g.G.Gate.saw_end handle.promise gate _ list.now at
           numbers.0 (started_first origin _ _ _ _ handle list.now step.1 step.0
           loop.invariant.started).list_is hears in
-          loop.invariant.tell gate all
+          loop.invariant.calls gate all
           (subst (HearsOfLists g.G.Gate.let_pass g.G.Gate.saw_end gate (loop.who + 1)) (sym step.0)
           (one, rest));
       few = few_left loop.who _ list.now _ step.0 loop.invariant.few;
@@ -73,7 +73,7 @@ loop-list-preserved g c =
       started = started_rest origin _ _ _ _ c.in-Some.handle list.now step.1 step.0
           loop.invariant.started;
       replies = rw c.in_ok-push.ensures.items (one_done (AreAll newest_rules origin.limits batches)
-          c.args.lists.now _ _ list.now loop.all.items told step.0 (λ more rest. (one, rest))
+          c.args.lists.now _ _ list.now loop.all.items called step.0 (λ more rest. (one, rest))
           loop.invariant.replies);
     }
 
@@ -92,9 +92,9 @@ returns-in_err-replies-clause-fault g c =
     let step = next_pair loop.list-iterator c.next.new.self _ (list, c.in-Some.handle)
     c.in-Some.is c.next.ensures.steps in
     let few = is_one_of loop.who _ list.now _ _ step.0 loop.invariant.lists in
-    let told = fault_at _ _ _ (length c.args.lists.now) _ _ (omega arith) few
+    let called = fault_at _ _ _ (length c.args.lists.now) _ _ (omega arith) few
     c.in_err-replies.ensures.fault in
-    search (rules, told)
+    search (rules, called)
 
 pub returns-in_err-replies-clause-gate : goal.returns-in_err-replies-clause-gate
 returns-in_err-replies-clause-gate g c =
@@ -102,7 +102,7 @@ returns-in_err-replies-clause-gate g c =
     let handle = c.in-Some.handle in
     let step = next_pair loop.list-iterator c.next.new.self _ (c.in-Some.list, handle)
     c.in-Some.is c.next.ensures.steps in
-    let told : IsOfTheirGate g.G.Gate.is_open c.args.handles.items c.in_err-replies.field-0.0 =
+    let called : IsOfTheirGate g.G.Gate.is_open c.args.handles.items c.in_err-replies.field-0.0 =
     record {
       of = λ gate all.
           let at = All-head (λ h. h.promise.2.value ≡ gate) handle _
@@ -111,15 +111,15 @@ returns-in_err-replies-clause-gate g c =
           (subst (λ x. IfErr c.join-worked.result.replies (IsOfPassing (g.G.Gate.is_open x))) at
           c.join-worked.ensures.gate) c.in_err-replies.ensures.fault;
     } in
-    search (rules, told)
+    search (rules, called)
 
-pub returns-clause-tell : goal.returns-clause-tell
-returns-clause-tell g c =
+pub returns-clause-calls : goal.returns-clause-calls
+returns-clause-calls g c =
     let loop = c.loop-list in
     let none = no_pair loop.list-iterator c.next.new.self _ c.in-None.is c.next.ensures.steps
     loop.invariant.count in
     record {
-      of = λ gate all. loop.invariant.tell gate all
+      of = λ gate all. loop.invariant.calls gate all
           (subst (HearsOfLists g.G.Gate.let_pass g.G.Gate.saw_end gate (loop.who + 1)) (sym none)
           tt);
     }

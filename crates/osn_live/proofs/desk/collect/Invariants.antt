@@ -4,7 +4,7 @@ use Rattle.std.specs.Slice.Iter.{iter_rest}
 use Rattle.std.specs.Vec.Iter.{into_iter_items, into_iter_len}
 use Rattle.std.specs.declared.alloc.Global.{Global}
 use Rattle.core.specs.declared.thread.PromisedHandle.{PromisedHandle}
-use Rattle.osn_days.specs.Profile.{newest_rules}
+use Rattle.osn_days.specs.Rules.{newest_rules}
 use Rattle.osn_core.specs.declared.step.Reply.{Reply}
 use Rattle.osn_live.specs.Desk.{AreAll, HearsOfLists}
 use Rattle.osn_live.specs.InsideDesk.{AreStarted, AreAt, AreNumbered}
@@ -25,7 +25,7 @@ invariant-loop-list g l = record {
       × (l.fn.handles.items ≡ front ++ into_iter_items (zip_second l.list-iterator))
       × (length front ≡ l.who);
   numbers : AreNumbered (l.who + 1) (into_iter_items (zip_second l.list-iterator));
-  tell : (gate : g.row.G.Denot) → AreAt gate l.fn.handles.items →
+  calls : (gate : g.row.G.Denot) → AreAt gate l.fn.handles.items →
       HearsOfLists g.G.Gate.let_pass g.G.Gate.saw_end gate (l.who + 1)
       (iter_rest (zip_first l.list-iterator)) →
       HearsOfLists g.G.Gate.let_pass g.G.Gate.saw_end gate 1 l.lists;

@@ -1,5 +1,5 @@
 use Rattle.std.proofs.Common.{◌≡◌, take}
-use Rattle.osn_days.specs.Profile.{newest_rules}
+use Rattle.osn_days.specs.Rules.{newest_rules}
 use Rattle.osn_core.specs.Script.{script_after}
 use Rattle.osn_live.specs.Desk.{HearsOf}
 use Rattle.osn_live.proofs.desk.edit_all.Given as goal

@@ -2,7 +2,7 @@ use Rattle.std.proofs.Common.{◌≡◌, ◌++◌, ◌+◌, [], ◌∷◌, get_o
 use Rattle.std.proofs.Common.{◌∙◌}
 use Rattle.std.proofs.lemmas.Grind.{common_steps}
 use Rattle.std.proofs.lemmas.List.{take_more}
-use Rattle.osn_days.specs.Profile.{newest_rules}
+use Rattle.osn_days.specs.Rules.{newest_rules}
 use Rattle.osn_register.specs.declared.query.Query.{Query}
 use Rattle.osn_register.specs.declared.limits.Limits.{Limits}
 use Rattle.osn_core.specs.Sequential.{reply_at}
@@ -15,7 +15,7 @@ use Rattle.osn_live.proofs.work.answer_all.Goals as goal
 
 pub loop-question-preserved : goal.loop-question-preserved
 loop-question-preserved g c =
-    let told = c.in_ok-reply.ensures in
+    let called = c.in_ok-reply.ensures in
     let loop = c.loop-question in
     let l : Limits = c.args.reader.now.origin.limits in
     let now = c.ask.new.self.seen in
@@ -28,10 +28,10 @@ loop-question-preserved g c =
     let pushed : c.push.new.self.items ≡ loop.replies.items ++ c.in_ok-reply.reply ∷ [] =
     grind (arith, common_steps) in
     let one : c.in_ok-reply.reply ≡ reply_at newest_rules l now q =
-    told.value ∙ ap (λ (o : Origin). reply_at newest_rules o.limits now question)
-    (told.origin ∙ loop.invariant.origin) ∙ ap (reply_at newest_rules l now) c.question-item.is in
+    called.value ∙ ap (λ (o : Origin). reply_at newest_rules o.limits now question)
+    (called.origin ∙ loop.invariant.origin) ∙ ap (reply_at newest_rules l now) c.question-item.is in
     let later : AreReplies newest_rules l now 0 before loop.replies.items =
-    replies_later newest_rules l loop.reader.seen now 0 before loop.replies.items told.seen
+    replies_later newest_rules l loop.reader.seen now 0 before loop.replies.items called.seen
     loop.invariant.replies in
     record {
       origin = search rules;
@@ -46,5 +46,5 @@ loop-question-preserved g c =
 
 pub returns-in_err-reply-clause-gate : goal.returns-in_err-reply-clause-gate
 returns-in_err-reply-clause-gate g c =
-    let told = ask_at (g.G.Gate.is_open c.args.turns.now.gate.now) c.in_err-reply.field-0.0 in
-    search (rules, told)
+    let called = ask_at (g.G.Gate.is_open c.args.turns.now.gate.now) c.in_err-reply.field-0.0 in
+    search (rules, called)

@@ -1,5 +1,5 @@
 use Rattle.std.proofs.Common.{◌≡◌, take}
-use Rattle.osn_days.specs.Profile.{newest_rules}
+use Rattle.osn_days.specs.Rules.{newest_rules}
 use Rattle.osn_live.specs.Desk.{AreReplies, HearsOf}
 use Rattle.osn_live.proofs.work.answer_all.Given as goal
 

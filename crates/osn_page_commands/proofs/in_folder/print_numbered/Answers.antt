@@ -9,24 +9,24 @@ pub returns-in-Ok : goal.returns-in-Ok
 returns-in-Ok g c =
     let wrote = output_of g.W.Sink.contents g.W.Sink.has_failed g.W.Sink.holds_back
     c.args.output.now c.print_page.new.output in
-    let told = output_of g.E.Sink.contents g.E.Sink.has_failed g.E.Sink.holds_back
+    let errors = output_of g.E.Sink.contents g.E.Sink.has_failed g.E.Sink.holds_back
     c.args.errors.now c.print_page.new.errors in
     on_edition c.args.number c.args.object
     (λ edition. PrintsPageOn edition c.args.path.now c.args.word.now c.args.date.now
-    c.args.topic.now (place_of c.args.topic.now c.args.word.now edition.lands) wrote told
+    c.args.topic.now (place_of c.args.topic.now c.args.word.now edition.territories) wrote errors
     c.print_page.result)
-    wrote told c.print_page.result (edition_model c.in-Ok.edition) c.in-Ok.ensures.ok
+    wrote errors c.print_page.result (edition_model c.in-Ok.edition) c.in-Ok.ensures.ok
     c.print_page.ensures
 
 pub returns-in-Err : goal.returns-in-Err
 returns-in-Err g c =
     let wrote = output_of g.W.Sink.contents g.W.Sink.has_failed g.W.Sink.holds_back
     c.args.output.now c.args.output.now in
-    let told = output_of g.E.Sink.contents g.E.Sink.has_failed g.E.Sink.holds_back
+    let errors = output_of g.E.Sink.contents g.E.Sink.has_failed g.E.Sink.holds_back
     c.args.errors.now c.tell_edition_fault.new.errors in
     on_no_edition c.args.number c.args.object
     (λ edition. PrintsPageOn edition c.args.path.now c.args.word.now c.args.date.now
-    c.args.topic.now (place_of c.args.topic.now c.args.word.now edition.lands) wrote told
+    c.args.topic.now (place_of c.args.topic.now c.args.word.now edition.territories) wrote errors
     c.tell_edition_fault.result)
-    wrote told c.tell_edition_fault.result c.in-Err.fault c.in-Err.ensures.err refl
+    wrote errors c.tell_edition_fault.result c.in-Err.fault c.in-Err.ensures.err refl
     c.tell_edition_fault.ensures

@@ -11,12 +11,12 @@ returns-in-Ok g c =
     let read = input_of g.R.Source.remaining g.R.Source.has_failed c.args.input.now new.input in
     let wrote = output_of g.W.Sink.contents g.W.Sink.has_failed g.W.Sink.holds_back
     c.args.output.now new.output in
-    let told = output_of g.E.Sink.contents g.E.Sink.has_failed g.E.Sink.holds_back
+    let errors = output_of g.E.Sink.contents g.E.Sink.has_failed g.E.Sink.holds_back
     c.args.errors.now new.errors in
     on_edition c.args.rules.edition c.args.object
-    (λ edition. WritesTable edition (settings_model c.args.settings) c.args.rules read wrote told
+    (λ edition. WritesTable edition (settings_model c.args.settings) c.args.rules read wrote errors
     c.write_table.result)
-    wrote told c.write_table.result (edition_model c.in-Ok.edition) c.in-Ok.ensures.ok
+    wrote errors c.write_table.result (edition_model c.in-Ok.edition) c.in-Ok.ensures.ok
     c.write_table.ensures
 
 pub returns-in-Err : goal.returns-in-Err
@@ -25,10 +25,10 @@ returns-in-Err g c =
     c.args.input.now in
     let wrote = output_of g.W.Sink.contents g.W.Sink.has_failed g.W.Sink.holds_back
     c.args.output.now c.args.output.now in
-    let told = output_of g.E.Sink.contents g.E.Sink.has_failed g.E.Sink.holds_back
+    let errors = output_of g.E.Sink.contents g.E.Sink.has_failed g.E.Sink.holds_back
     c.args.errors.now c.tell_edition_fault.new.errors in
     on_no_edition c.args.rules.edition c.args.object
-    (λ edition. WritesTable edition (settings_model c.args.settings) c.args.rules read wrote told
+    (λ edition. WritesTable edition (settings_model c.args.settings) c.args.rules read wrote errors
     c.tell_edition_fault.result)
-    wrote told c.tell_edition_fault.result c.in-Err.fault c.in-Err.ensures.err refl
+    wrote errors c.tell_edition_fault.result c.in-Err.fault c.in-Err.ensures.err refl
     c.tell_edition_fault.ensures

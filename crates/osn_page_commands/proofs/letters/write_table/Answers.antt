@@ -30,4 +30,4 @@ returns-in-Err g c =
     c.in-Err.fault (sym c.register-register.ensures)
     (sym c.number-number.ensures) ended.early
     (ended.source.0, ended.source.1, ended.sink) in
-    inr (c.in-Err.fault, c.tell_table.ensures, wrote.0, wrote.1)
+    inr (c.in-Err.fault, c.report_table.ensures, wrote.0, wrote.1)

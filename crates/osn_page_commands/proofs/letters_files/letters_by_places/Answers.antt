@@ -27,6 +27,6 @@ returns g c =
         read.fault,
         (read.ensures.fault, read.ensures.source),
         refl,
-        c.tell_places.ensures,
+        c.report_places.ensures,
       ),
     )

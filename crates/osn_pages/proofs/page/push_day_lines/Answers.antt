@@ -1,7 +1,7 @@
 use Rattle.std.proofs.Common.{string_bytes, rules}
 use Rattle.std.proofs.lemmas.Result.{on_ok_weaker}
-use Rattle.osn_days.specs.Profile.{newest_rules}
-use Rattle.osn_lands.specs.Territory.{periods_of}
+use Rattle.osn_days.specs.Rules.{newest_rules}
+use Rattle.osn_territory.specs.Territory.{periods_of}
 use Rattle.osn_register.proofs.CoverFacts.{period_on-place}
 use Rattle.osn_pages.proofs.PeriodFacts.{day_and_period}
 use Rattle.osn_pages.proofs.page.push_day_lines.Goals as goal

@@ -1,6 +1,6 @@
 use Rattle.std.proofs.Common.{string_bytes, rules, ◌++◌, ◌∙◌, ap}
 use Rattle.std.proofs.lemmas.Result.{on_ok_weaker}
-use Rattle.osn_days.specs.Profile.{newest_rules}
+use Rattle.osn_days.specs.Rules.{newest_rules}
 use Rattle.osn_pages.proofs.YearFacts.{year_of_runs}
 use Rattle.osn_pages.proofs.why.push_year.Goals as goal
 

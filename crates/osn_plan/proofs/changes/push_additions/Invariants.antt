@@ -9,6 +9,6 @@ use Rattle.osn_plan.proofs.changes.push_additions.Given as goal
 abbrev pub invariant-loop-period : goal.invariant-loop-period
 invariant-loop-period l =
     l.edits.items ≡ l.initial.edits.items
-    ++ flat_map (λ p. map (edit_of l.sides.code.now)
-    (spec.added_change (sources_at l.sides).wanted (p.first, p.regime)))
+    ++ flat_map (λ p. map (edit_of l.pair.code.now)
+    (spec.added_change (sources_at l.pair).wanted (p.first, p.regime)))
     (take l.period-index l.periods)

@@ -9,6 +9,6 @@ use Rattle.osn_plan.proofs.changes.push_all_wanted.Given as goal
 abbrev pub invariant-loop-period : goal.invariant-loop-period
 invariant-loop-period l =
     l.edits.items ≡ l.initial.edits.items
-    ++ flat_map (λ p. map (edit_of l.sides.code.now)
-    (spec.wanted_change (sources_at l.sides) l.standing (p.first, p.regime)))
+    ++ flat_map (λ p. map (edit_of l.pair.code.now)
+    (spec.wanted_change (sources_at l.pair) l.standing (p.first, p.regime)))
     (take l.period-index l.wanted)

@@ -9,7 +9,7 @@ use Rattle.osn_plan.proofs.exceptions.push_additions.Given as goal
 abbrev pub invariant-loop-year : goal.invariant-loop-year
 invariant-loop-year l =
     l.initial.edits.items
-    ++ flat_map (λ e. map (edit_of l.sides.code.now)
-    (spec.added_exception (sources_at l.sides).wanted e)) l.wanted.exceptions
-    ≡ l.edits.items ++ flat_map (λ e. map (edit_of l.sides.code.now)
-    (spec.added_exception (sources_at l.sides).wanted e)) l.year-iterator
+    ++ flat_map (λ e. map (edit_of l.pair.code.now)
+    (spec.added_exception (sources_at l.pair).wanted e)) l.wanted.exceptions
+    ≡ l.edits.items ++ flat_map (λ e. map (edit_of l.pair.code.now)
+    (spec.added_exception (sources_at l.pair).wanted e)) l.year-iterator

@@ -9,7 +9,7 @@ use Rattle.osn_plan.proofs.exceptions.push_all_wanted.Given as goal
 abbrev pub invariant-loop-year : goal.invariant-loop-year
 invariant-loop-year l =
     l.initial.edits.items
-    ++ flat_map (λ e. map (edit_of l.sides.code.now)
-    (spec.wanted_exception (sources_at l.sides) l.standing e)) l.wanted.exceptions
-    ≡ l.edits.items ++ flat_map (λ e. map (edit_of l.sides.code.now)
-    (spec.wanted_exception (sources_at l.sides) l.standing e)) l.year-iterator
+    ++ flat_map (λ e. map (edit_of l.pair.code.now)
+    (spec.wanted_exception (sources_at l.pair) l.standing e)) l.wanted.exceptions
+    ≡ l.edits.items ++ flat_map (λ e. map (edit_of l.pair.code.now)
+    (spec.wanted_exception (sources_at l.pair) l.standing e)) l.year-iterator

@@ -6,8 +6,8 @@ use Rattle.osn_plan.proofs.planning.all_edits.Given as goal
 abbrev pub invariant-loop-code : goal.invariant-loop-code
 invariant-loop-code l =
     l.edits.items
-    ++ edits_for l.wanted.lands l.register.lands (drop l.place l.wanted.lands)
-    ≡ all_edits l.wanted.lands l.register.lands
+    ++ edits_for l.wanted.territories l.register.territories (drop l.place l.wanted.territories)
+    ≡ all_edits l.wanted.territories l.register.territories
 
 abbrev pub decreases-loop-code : goal.decreases-loop-code
-decreases-loop-code l = length l.wanted.lands - l.place
+decreases-loop-code l = length l.wanted.territories - l.place

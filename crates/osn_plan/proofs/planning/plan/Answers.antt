@@ -5,7 +5,8 @@ use Rattle.osn_plan.proofs.planning.plan.Goals as goal
 
 pub returns-in_err-try_edits-clause-err : goal.returns-in_err-try_edits-clause-err
 returns-in_err-try_edits-clause-err c =
-    handed_on (IsFault c.args.register.now.limits c.args.wanted.now.lands c.args.register.now.lands)
+    handed_on (IsFault c.args.register.now.limits c.args.wanted.now.territories
+    c.args.register.now.territories)
     c.from_residual-in_err-try_edits.result c.in_err-try_edits.field-0.0
     c.from_residual-in_err-try_edits.ensures.1
     (not_planned c.args.wanted.now c.args.register.now c.limits-2.ensures.well_formed

@@ -5,5 +5,5 @@ use Rattle.osn_plan_page.proofs.page.push_absent_lines.Given as goal
 -- the lines of the territories that are left are still to come
 abbrev pub invariant-loop-place : goal.invariant-loop-place
 invariant-loop-place l =
-    string_bytes l.initial.out ++ absent_lines l.wanted.lands l.register.lands
-    ≡ string_bytes l.out ++ absent_lines l.wanted.lands (drop l.place l.register.lands)
+    string_bytes l.initial.out ++ absent_lines l.wanted.territories l.register.territories
+    ≡ string_bytes l.out ++ absent_lines l.wanted.territories (drop l.place l.register.territories)

@@ -1,6 +1,6 @@
 use Rattle.std.proofs.Common.{◌≡◌, ◌++◌, take, string_bytes}
 use Rattle.std.specs.List.{flat_map}
-use Rattle.osn_days.specs.Profile.{newest_rules}
+use Rattle.osn_days.specs.Rules.{newest_rules}
 use Rattle.osn_plan_page.specs.EditLine.{edit_line}
 use Rattle.osn_plan_page.proofs.page.push_edits.Given as goal
 
@@ -8,5 +8,5 @@ use Rattle.osn_plan_page.proofs.page.push_edits.Given as goal
 abbrev pub invariant-loop-edit : goal.invariant-loop-edit
 invariant-loop-edit l =
     string_bytes l.out ≡ string_bytes l.initial.out
-    ++ flat_map (edit_line newest_rules l.register.lands l.wanted.lands)
+    ++ flat_map (edit_line newest_rules l.register.territories l.wanted.territories)
     (take l.edit-index l.edits)

@@ -1,6 +1,6 @@
 use Rattle.std.proofs.Common.{◌≡◌, Some, take}
 use Rattle.std.specs.List.{flat_map}
-use Rattle.osn_days.specs.Profile.{newest_rules}
+use Rattle.osn_days.specs.Rules.{newest_rules}
 use Rattle.osn_register.specs.Answer.{change_if}
 use Rattle.osn_register.specs.Inside.{sources_in}
 use Rattle.osn_register.proofs.change_answer.found_changes.Given as goal

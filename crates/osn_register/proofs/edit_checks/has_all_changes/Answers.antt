@@ -1,5 +1,5 @@
 use Rattle.std.proofs.Common.{ap, ◌∙◌, length, nat_lt}
-use Rattle.osn_days.specs.Profile.{newest_rules}
+use Rattle.osn_days.specs.Rules.{newest_rules}
 use Rattle.osn_register.proofs.PeriodCount.{length-periods_from}
 use Rattle.osn_register.proofs.edit_checks.has_all_changes.Goals as goal
 

@@ -1,5 +1,5 @@
 use Rattle.std.proofs.Common.{◌≡◌, ◌++◌, Some, map}
-use Rattle.osn_days.specs.Profile.{newest_rules}
+use Rattle.osn_days.specs.Rules.{newest_rules}
 use Rattle.osn_register.specs.Answer.{exception_on}
 use Rattle.osn_register.specs.Inside.{sources_in}
 use Rattle.osn_register.proofs.territory_answer.exceptions.Given as goal

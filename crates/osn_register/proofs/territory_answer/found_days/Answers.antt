@@ -1,4 +1,4 @@
-use Rattle.osn_days.specs.Profile.{newest_rules}
+use Rattle.osn_days.specs.Rules.{newest_rules}
 use Rattle.osn_register.specs.Answer.{found_on}
 use Rattle.osn_register.proofs.FoundFacts.{found_more, found_all}
 use Rattle.osn_register.proofs.territory_answer.found_days.Goals as goal

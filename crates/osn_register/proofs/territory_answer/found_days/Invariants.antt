@@ -1,5 +1,5 @@
 use Rattle.std.proofs.Common.{◌≡◌, map, take}
-use Rattle.osn_days.specs.Profile.{newest_rules}
+use Rattle.osn_days.specs.Rules.{newest_rules}
 use Rattle.osn_register.specs.Answer as spec
 use Rattle.osn_register.proofs.territory_answer.found_days.Given as goal
 

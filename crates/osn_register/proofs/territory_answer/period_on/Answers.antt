@@ -1,6 +1,6 @@
-use Rattle.osn_days.specs.Profile.{newest_rules}
-use Rattle.osn_lands.proofs.RegimeFacts.{regime_found}
-use Rattle.osn_lands.specs.Territory.{periods_of}
+use Rattle.osn_days.specs.Rules.{newest_rules}
+use Rattle.osn_territory.proofs.RegimeFacts.{regime_found}
+use Rattle.osn_territory.specs.Territory.{periods_of}
 use Rattle.osn_register.proofs.CoverFacts.{period_on-place}
 use Rattle.osn_register.proofs.territory_answer.period_on.Goals as goal
 

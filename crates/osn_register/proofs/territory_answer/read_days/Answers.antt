@@ -1,5 +1,5 @@
 use Rattle.std.proofs.Common.{ap, ◌∙◌}
-use Rattle.osn_days.specs.Profile.{newest_rules}
+use Rattle.osn_days.specs.Rules.{newest_rules}
 use Rattle.osn_register.specs.Answer.{found_on, found_under}
 use Rattle.osn_register.proofs.FoundFacts.{found_more, found_all}
 use Rattle.osn_register.proofs.territory_answer.read_days.Goals as goal

@@ -1,12 +1,12 @@
 use Rattle.std.proofs.Common.{◌≡◌, ap, sym, ◌∙◌}
 use Rattle.std.proofs.lemmas.List.Elements.{filter_passes, All-same}
 use Rattle.std.specs.List.{All}
-use Rattle.osn_days.specs.Profile.{Profile, newest_rules}
+use Rattle.osn_days.specs.Rules.{Rules, newest_rules}
 use Rattle.osn_days.specs.Line.{line}
-use Rattle.osn_lands.specs.declared.label.Label.{Label}
-use Rattle.osn_lands.specs.Label.{local_label, same_label}
-use Rattle.osn_lands.specs.Territory.{TerritoryModel, regime_at, reading}
-use Rattle.osn_lands.proofs.LabelFacts.{AreParts, same_label_decides}
+use Rattle.osn_territory.specs.declared.label.Label.{Label}
+use Rattle.osn_territory.specs.Label.{local_label, same_label}
+use Rattle.osn_territory.specs.Territory.{TerritoryModel, regime_at, reading}
+use Rattle.osn_territory.proofs.LabelFacts.{AreParts, same_label_decides}
 use Rattle.osn_register.proofs.territory_answer.reading.Goals as goal
 
 labels_equal : (a b : Label) → AreParts a b → b ≡ a
@@ -18,7 +18,7 @@ labels_equal a b parts =
     (sym parts.1.1)
 
 -- each day of a reading has the label
-reading-labels : (p : Profile) (t : TerritoryModel) (label : Label) →
+reading-labels : (p : Rules) (t : TerritoryModel) (label : Label) →
     All (λ d. label ≡ local_label p (regime_at t d) d) (reading p t label)
 unfolding reading
 reading-labels p t label k d within =

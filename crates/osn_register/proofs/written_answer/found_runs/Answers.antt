@@ -1,4 +1,4 @@
-use Rattle.osn_days.specs.Profile.{newest_rules}
+use Rattle.osn_days.specs.Rules.{newest_rules}
 use Rattle.osn_register.specs.Answer.{found_run}
 use Rattle.osn_register.proofs.FoundFacts.{found_more, found_all}
 use Rattle.osn_register.proofs.written_answer.found_runs.Goals as goal

@@ -1,5 +1,5 @@
 use Rattle.std.proofs.Common.{◌≡◌, Ok, false, subst, sym, ◌∙◌, arith, length-take}
-use Rattle.osn_files.specs.WholePart.{IsWholePart}
+use Rattle.osn_files.specs.CountedPrefix.{IsCountedPrefix}
 use Rattle.osn_serve_commands.specs.Keep.{IsUnread, SaysVersion, object_of}
 use Rattle.osn_serve_commands.proofs.ResultLemmas.{if_err_made}
 use Rattle.osn_serve_commands.proofs.KeepLemmas.{not_measured, whole_read, whole_within}
@@ -20,7 +20,7 @@ slice_bounds-kept_object-end c =
       arith,
       length-take part.bytes read,
       whole_within part read
-          (subst (IsWholePart part)
+          (subst (IsCountedPrefix part)
           (c.new.ensures ∙ (c.deref.ensures.value ∙ sym c.deref-2.ensures.value))
           c.in_ok-part.ensures.ok),
     )
@@ -31,7 +31,7 @@ returns-in_err-object-clause-err c =
     (λ e is. subst (IsUnread c.args.limits c.args.bytes.items false) (sym is)
     (c.in_err-object.ensures.err c.args.bytes.items
     (whole_read c.in_ok-part.part c.deref-2.result.now c.args.bytes.items c.deref-2.ensures.value
-    (subst (IsWholePart c.in_ok-part.part)
+    (subst (IsCountedPrefix c.in_ok-part.part)
     (c.new.ensures ∙ (c.deref.ensures.value ∙ sym c.deref-2.ensures.value))
     c.in_ok-part.ensures.ok))))
 
@@ -39,11 +39,11 @@ pub returns-clause-ok : goal.returns-clause-ok
 returns-clause-ok c =
     let object = c.in_ok-object.object in
     let version = c.in_ok-object.version in
-    let counts = subst (IsWholePart c.in_ok-part.part) (c.new.ensures ∙ c.deref.ensures.value)
+    let counts = subst (IsCountedPrefix c.in_ok-part.part) (c.new.ensures ∙ c.deref.ensures.value)
     c.in_ok-part.ensures.ok in
     let whole =
     whole_read c.in_ok-part.part c.deref-2.result.now c.args.bytes.items c.deref-2.ensures.value
-    (subst (IsWholePart c.in_ok-part.part)
+    (subst (IsCountedPrefix c.in_ok-part.part)
     (c.new.ensures ∙ (c.deref.ensures.value ∙ sym c.deref-2.ensures.value))
     c.in_ok-part.ensures.ok) in (
       counts,

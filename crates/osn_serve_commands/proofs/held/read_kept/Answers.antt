@@ -2,7 +2,7 @@ use Rattle.std.proofs.Common.{◌≡◌, false, subst}
 use Rattle.osn_lines.specs.Whole.{WhyNotRead}
 use Rattle.osn_serve_commands.specs.Keep.{IsUnread}
 use Rattle.osn_serve_commands.proofs.ResultLemmas.{if_err_made, any_bytes, known_bytes}
-use Rattle.osn_serve_commands.proofs.KeepLemmas.{none_held, not_read, unread_told}
+use Rattle.osn_serve_commands.proofs.KeepLemmas.{none_held, not_read, reports_unread}
 use Rattle.osn_serve_commands.proofs.held.read_kept.Goals as goal
 
 pub returns-in_err-bytes-clause-err : goal.returns-in_err-bytes-clause-err
@@ -22,7 +22,7 @@ returns-in_err-held_journal-clause-err g c =
     if_err_made c.from_residual-in_err-held_journal.result
     c.from_residual-in_err-held_journal.ensures.1
     (λ e is. any_bytes _ _ (λ held known.
-    unread_told c.args.limits held failed why e is
+    reports_unread c.args.limits held failed why e is
     (none_held c.args.limits held failed why
     (subst (λ l. IsUnread c.args.limits l false why)
     (known_bytes _ held (λ bytes. c.in_ok-bytes.bytes.items ≡ bytes) known

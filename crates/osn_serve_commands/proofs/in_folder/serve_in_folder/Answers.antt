@@ -1,7 +1,7 @@
 use Rattle.std.proofs.Common.{refl}
 use Rattle.std.proofs.lemmas.Result.{IfOk-weaker}
 use Rattle.osn_serve_commands.specs.Mode.{mode_of_options}
-use Rattle.osn_serve_commands.proofs.ModeLemmas.{misused, run_as, unopened_as}
+use Rattle.osn_serve_commands.proofs.ModeLemmas.{misused, run_as, open_failed_as}
 use Rattle.osn_serve_commands.proofs.in_folder.serve_in_folder.Goals as goal
 
 pub returns-in-Load-clause-ok : goal.returns-in-Load-clause-ok
@@ -13,7 +13,7 @@ returns-in-Load-clause-ok g c =
 
 pub returns-in-Load-clause-err : goal.returns-in-Load-clause-err
 returns-in-Load-clause-err g c =
-    unopened_as c.serve.result (λ failure. failure.path.now) (λ failure. failure.fault)
+    open_failed_as c.serve.result (λ failure. failure.path.now) (λ failure. failure.fault)
     (mode_of_options c.args.options) c.in-Ok.mode _ _ _ _ c.in-Ok.ensures.ok c.in-Load.is
     c.serve.ensures.err
 

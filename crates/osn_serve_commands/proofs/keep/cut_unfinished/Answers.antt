@@ -13,8 +13,9 @@ returns-in-Ended-clause-ok g c = (
       let is = all_left c.args.part held c.in-Ended.is whole in (is.0, known ∙ is.1)),
 )
 
-pub returns-in_err-told-in-Unfinished-clause-err : goal.returns-in_err-told-in-Unfinished-clause-err
-returns-in_err-told-in-Unfinished-clause-err g c =
+pub returns-in_err-message-in-Unfinished-clause-err
+    : goal.returns-in_err-message-in-Unfinished-clause-err
+returns-in_err-message-in-Unfinished-clause-err g c =
     if_err_made c.from_residual.result c.from_residual.ensures.1 (λ e is. (inr is, refl, refl))
 
 pub returns-in_err-cut-in-Unfinished-clause-err : goal.returns-in_err-cut-in-Unfinished-clause-err
@@ -32,7 +33,7 @@ returns-in_ok-cut-in-Unfinished-clause-ok g c = (
   Some (c.args.part.lines + 1),
   subst (WritesLine (output_of g.E.Sink.contents g.E.Sink.has_failed g.E.Sink.holds_back
       c.args.errors.now c.write_line.new.errors))
-      (c.as_str.ensures.value ∙ c.in_ok-told-in-Unfinished.ensures) c.write_line.ensures,
+      (c.as_str.ensures.value ∙ c.in_ok-message-in-Unfinished.ensures) c.write_line.ensures,
   (λ held known whole.
       unfinished_cut c.args.part held _ _ c.in-Unfinished.is
       c.in_ok-cut-in-Unfinished.ensures.ok known whole),

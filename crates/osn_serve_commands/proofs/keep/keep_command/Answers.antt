@@ -12,7 +12,7 @@ returns-in-Ok g c =
       between = g.E.Sink.contents errors;
       failed = g.E.Sink.has_failed errors;
       held_back = g.E.Sink.holds_back errors;
-      tells = h.1;
+      reports = h.1;
       ended = inr (
         c.in-Ok.version,
         c.in-Ok.object,
@@ -31,6 +31,6 @@ returns-in-Err g c =
       between = g.E.Sink.contents errors;
       failed = g.E.Sink.has_failed errors;
       held_back = g.E.Sink.holds_back errors;
-      tells = h.1;
+      reports = h.1;
       ended = inl (c.in-Err.fault, refl, c.report_at.ensures, h.2);
     }

@@ -9,7 +9,7 @@ returns-in-Ok g c =
     rw c.if-beside.true (inl (
       string_bytes c.in-Ok.backup,
       c.in-Ok.ensures.ok,
-      c.tell_line.ensures (beside_line path (string_bytes c.in-Ok.backup))
+      c.report_line.ensures (beside_line path (string_bytes c.in-Ok.backup))
           (IfOk-weaker c.beside_line-line.result _ _
           (λ text is. is ∙ ap (beside_line path) c.as_str.ensures.value)
           c.beside_line-line.ensures),

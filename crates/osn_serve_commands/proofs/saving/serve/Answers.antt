@@ -5,7 +5,7 @@ use Rattle.osn_serve_commands.specs.Saving.{LocksIf}
 use Rattle.osn_serve_commands.specs.Serve.{input_if}
 use Rattle.osn_serve_commands.proofs.ResultLemmas.{if_err_made}
 use Rattle.osn_serve_commands.proofs.SaveLemmas.{given_if, may_fail_if, not_opened}
-use Rattle.osn_serve_commands.proofs.SaveLemmas.{replaced_unopened}
+use Rattle.osn_serve_commands.proofs.SaveLemmas.{replaced_open_failure}
 use Rattle.osn_serve_commands.proofs.SaveLemmas.{replacing_ran, service_ran}
 use Rattle.osn_serve_commands.proofs.TargetLemmas.{saved_over, target_refused}
 use Rattle.osn_serve_commands.proofs.saving.serve.Goals as goal
@@ -66,7 +66,8 @@ returns-in-Err-target_if-clause-ok g c =
           (may_fail_if file.remaining file.has_failed found.source found.source) found.ensures.ok
           found.ensures.crash
           (inl (target_refused c.args.limits _ _ _ o _ _ _ c.in-Err-target_if.fault
-          c.path_or_none-in-Err-target_if.ensures c.in-Err-target_if.ensures.err refl c.tell_target.ensures)),
+          c.path_or_none-in-Err-target_if.ensures c.in-Err-target_if.ensures.err refl
+          c.report_target.ensures)),
     )
 
 pub returns-in_err-file-in-Some-clause-err : goal.returns-in_err-file-in-Some-clause-err
@@ -74,7 +75,7 @@ returns-in_err-file-in-Some-clause-err g c =
     let why = c.in_err-file-in-Some.field-0.0 in
     if_err_made c.from_residual.result c.from_residual.ensures.1
     (λ e is. (
-      replaced_unopened _ _ _ c.in-Some.path.now e.path.now why.path.now e.fault why.cause _ _ _
+      replaced_open_failure _ _ _ c.in-Some.path.now e.path.now why.path.now e.fault why.cause _ _ _
           (sym c.replaced_path.ensures ∙ ap (option_map (λ path. path.now)) c.in-Some.is)
           c.in-Ok.ensures.ok is c.in_err-file-in-Some.ensures.err,
       refl,

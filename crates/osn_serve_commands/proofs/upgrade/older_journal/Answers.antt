@@ -23,5 +23,5 @@ returns-clause-ok g c =
       holds = c.in_ok-held.ensures.ok.1;
       older = sym c.has_sources.ensures ∙ c.if-has_sources.false;
       anew = c.in_ok-text.ensures.text ∙ ap (λ v. journal_text_of v held.object) c.newest.ensures;
-      told = c.in_ok-cut.ensures held.bytes.items c.in_ok-held.ensures.ok.0;
+      message = c.in_ok-cut.ensures held.bytes.items c.in_ok-held.ensures.ok.0;
     }

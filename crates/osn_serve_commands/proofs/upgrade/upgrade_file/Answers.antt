@@ -40,7 +40,7 @@ returns-in-Ok-Some-clause-ok g c =
     some_found c.in-Ok-Some.field-0 older (IsNewest c.args.limits given.bytes)
     (λ older. IsOlder c.args.limits given.bytes older.bytes.items (string_bytes older.text)
     (option_map string_bytes older.cut)) c.in-Ok-Some.field-0-is c.in-Ok-Some.ensures.ok in
-    both_ok c.save_older.result _ _ _ c.save_older.ensures.ok c.save_older.ensures.tells
+    both_ok c.save_older.result _ _ _ c.save_older.ensures.ok c.save_older.ensures.reports
     (upgrade_saved c.args.limits c.args.path.now (MayFail file.has_failed)
     (folders_of folder c.args.folder.now c.save_older.new.folder)
     (output_of g.E.Sink.contents g.E.Sink.has_failed g.E.Sink.holds_back c.args.errors.now

@@ -3,8 +3,8 @@ use Rattle.osn_lines.specs.Streams.{output_of}
 use Rattle.osn_report.specs.declared.status.Status.TheVariants as statuses
 use Rattle.osn_serve_commands.specs.Serve.{input_if}
 use Rattle.osn_serve_commands.proofs.SaveLemmas.{may_fail_if}
-use Rattle.osn_text_commands.proofs.PlanLemmas.{hindrance_untold, is_there, opened_if}
-use Rattle.osn_text_commands.specs.Keeping.{TellsHindrance}
+use Rattle.osn_text_commands.proofs.PlanLemmas.{reports_no_hindrance, is_there, opened_if}
+use Rattle.osn_text_commands.specs.Keeping.{ReportsHindrance}
 use Rattle.osn_text_commands.proofs.in_folder.plan_in_folder.Goals as goal
 
 pub returns-in-Done-clause-ok : goal.returns-in-Done-clause-ok
@@ -26,14 +26,14 @@ returns-in-Done-clause-ok g c =
       held_back = g.E.Sink.holds_back errors;
       printed = statuses.Done;
       prints = rw (← c.in-Done.is) c.plan_by.ensures;
-      tells =
-          subst (λ there. TellsHindrance c.args.journal.now there
-          (g.D.Folder.known c.plan_by.new.folder) (g.D.Folder.known c.tell_hindrance.new.folder)
+      reports =
+          subst (λ there. ReportsHindrance c.args.journal.now there
+          (g.D.Folder.known c.plan_by.new.folder) (g.D.Folder.known c.report_hindrance.new.folder)
           (output_of g.E.Sink.contents g.E.Sink.has_failed g.E.Sink.holds_back errors
-          c.tell_hindrance.new.errors) c.tell_hindrance.result)
+          c.report_hindrance.new.errors) c.report_hindrance.result)
           (c.is_some-is_there.ensures
           ∙ sym (is_there file.remaining file.has_failed found.file left))
-          c.tell_hindrance.ensures;
+          c.report_hindrance.ensures;
     }
 
 pub returns-clause-ok : goal.returns-clause-ok
@@ -55,5 +55,5 @@ returns-clause-ok g c =
       held_back = g.E.Sink.holds_back errors;
       printed = c.plan_by.result;
       prints = c.plan_by.ensures;
-      tells = hindrance_untold c.plan_by.result _ _ _ _ c.in_default.not-Done (refl, refl);
+      reports = reports_no_hindrance c.plan_by.result _ _ _ _ c.in_default.not-Done (refl, refl);
     }

@@ -94,5 +94,5 @@ returns-in-Err g c =
         c.cause_of-cause.ensures,
       ),
       refl,
-      c.tell_line.ensures (unkept_line path c.cause_of-cause.result) c.unkept_line.ensures,
+      c.report_line.ensures (unkept_line path c.cause_of-cause.result) c.unkept_line.ensures,
     )

@@ -28,5 +28,5 @@ returns-clause-ok g c =
       opens = found.ensures.ok;
       text = input_of g.D.File.Source.remaining g.D.File.Source.has_failed found.file left;
       reads = (found.ensures.file, (λ e. (left, e)));
-      ended = inl (refl, (c.in-Err.fault, c.in-Err.ensures.err, refl, c.tell_text_file.ensures));
+      ended = inl (refl, (c.in-Err.fault, c.in-Err.ensures.err, refl, c.report_text_file.ensures));
     }

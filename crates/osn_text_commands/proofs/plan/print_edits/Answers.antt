@@ -1,15 +1,15 @@
 use Rattle.std.proofs.Common.{◌≡◌, ℕ, List, Option, IfOk, refl, string_bytes, subst}
 use Rattle.osn_lines.specs.Streams.{Output, output_of}
 use Rattle.osn_report.specs.Printing.{PrintsIfMade}
-use Rattle.osn_report.specs.Messages.{TellsNothing}
+use Rattle.osn_report.specs.Messages.{ReportsNothing}
 use Rattle.osn_report.specs.declared.status.Status.{Status}
 use Rattle.osn_report.specs.declared.status.Status.TheVariants as statuses
-use Rattle.osn_text_commands.specs.Plan.{TellsNoteAfter, plan_text}
+use Rattle.osn_text_commands.specs.Plan.{ReportsNoteAfter, plan_text}
 use Rattle.osn_text_commands.proofs.plan.print_edits.Goals as goal
 
 -- if not all was printed, nothing more was reported
 not_printed : (printed : Status) (line : Option (List ℕ)) (e : Output)
-    → (printed ≡ statuses.Done → ⊥) → TellsNothing e → TellsNoteAfter printed line e printed
+    → (printed ≡ statuses.Done → ⊥) → ReportsNothing e → ReportsNoteAfter printed line e printed
 not_printed statuses.Done line e other nothing = absurd (other refl)
 not_printed statuses.Refused line e other nothing = (refl, nothing)
 not_printed statuses.Misused line e other nothing = (refl, nothing)
@@ -37,7 +37,7 @@ returns-in-Done g c =
           errors)) c.in-Done.is (c.print.ensures text
           (subst (λ es. IfOk c.plan_text.result (λ t. string_bytes t
           ≡ plan_text object wanted es)) c.deref.ensures.value c.plan_text.ensures));
-      notes = c.tell_edits.ensures;
+      notes = c.report_edits.ensures;
     }
 
 pub returns-in_default : goal.returns-in_default

@@ -10,8 +10,8 @@ returns-in-Ok g c =
     let had : later_than c.args.asked.edition (length object.batches) ≡ None = cc in
     rw had (inr (
       c.in-Ok.edits.items,
-      same_plan object _ _ c.args.wanted.now.lands _ _ c.register.ensures.limits
-          c.register.ensures.lands refl c.in-Ok.ensures.ok,
+      same_plan object _ _ c.args.wanted.now.territories _ _ c.register.ensures.limits
+          c.register.ensures.territories refl c.in-Ok.ensures.ok,
       c.print_edits.ensures,
     ))
 
@@ -21,8 +21,8 @@ returns-in-Err g c =
     let had : later_than c.args.asked.edition (length object.batches) ≡ None = cc in
     rw had (inl (
       c.in-Err.fault,
-      same_fault object _ _ c.args.wanted.now.lands c.in-Err.fault c.register.ensures.limits
-          c.register.ensures.lands c.in-Err.ensures.err,
+      same_fault object _ _ c.args.wanted.now.territories c.in-Err.fault c.register.ensures.limits
+          c.register.ensures.territories c.in-Err.ensures.err,
       refl,
-      c.tell_plan.ensures,
+      c.report_plan_fault.ensures,
     ))

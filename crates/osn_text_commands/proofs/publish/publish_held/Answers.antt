@@ -1,8 +1,8 @@
 use Rattle.std.proofs.Common.{◌≡◌, ◌==◌, true, None, Some, inl, inr, refl, sym, ap, length, ◌∙◌}
 use Rattle.std.proofs.lemmas.Result.{IfErr-weaker, IfOk-weaker}
 use Rattle.osn_text_commands.proofs.PlanLemmas.{same_plan}
-use Rattle.osn_text_commands.proofs.PublishLemmas.{later_told, none_pending, pending_told, planned}
-use Rattle.osn_text_commands.proofs.PublishLemmas.{same_fault}
+use Rattle.osn_text_commands.proofs.PublishLemmas.{reports_later, none_pending, reports_pending}
+use Rattle.osn_text_commands.proofs.PublishLemmas.{planned, same_fault}
 use Rattle.osn_text_commands.specs.PlanWords.{pending_line}
 use Rattle.osn_text_commands.specs.PublishInside.{CanStay}
 use Rattle.osn_text_commands.specs.Since.{later_lines, later_than, request_of}
@@ -11,13 +11,13 @@ use Rattle.osn_text_commands.proofs.publish.publish_held.Goals as goal
 pub returns-then-not-is_empty-clause-ok : goal.returns-then-not-is_empty-clause-ok
 returns-then-not-is_empty-clause-ok g c = λ given part_of.
     let s = c.args.held.object in
-    pending_told (CanStay g.K.KeptFile.cut_back_may_fail) (request_of c.args.asked)
-    c.args.held.version s c.args.wanted.now _ _ given _ _ c.tell_line.result s.pending
+    reports_pending (CanStay g.K.KeptFile.cut_back_may_fail) (request_of c.args.asked)
+    c.args.held.version s c.args.wanted.now _ _ given _ _ c.report_line.result s.pending
     (ap (λ l. length l == 0) (sym c.pending.ensures)
     ∙ (sym c.is_empty.ensures ∙ c.if-not-is_empty.true)) (
       refl,
       refl,
-      c.tell_line.ensures (pending_line (length s.pending))
+      c.report_line.ensures (pending_line (length s.pending))
           (IfOk-weaker c.pending_line-line.result _ _
           (λ line is. is
           ∙ ap (λ l. pending_line (length l)) c.pending-then-not-is_empty.ensures)
@@ -34,12 +34,12 @@ returns-in-Some-clause-ok g c = λ given part_of.
     let size : length s.batches ≡ length c.batches-editions.result.now =
     ap length (sym c.batches-editions.ensures.value) in
     let late : later_than asked.edition (length s.batches) ≡ Some c.in-Some.edition = cc in
-    later_told (CanStay g.K.KeptFile.cut_back_may_fail) asked
-    c.args.held.version s c.args.wanted.now _ _ given _ _ c.tell_line-in-Some.result s.pending
+    reports_later (CanStay g.K.KeptFile.cut_back_may_fail) asked
+    c.args.held.version s c.args.wanted.now _ _ given _ _ c.report_line-in-Some.result s.pending
     c.in-Some.edition none late (
       refl,
       refl,
-      c.tell_line-in-Some.ensures
+      c.report_line-in-Some.ensures
           (later_lines asked.text asked.journal c.in-Some.edition (length s.batches))
           (rw size c.later_lines-lines.ensures),
     )
@@ -57,8 +57,8 @@ returns-in-Ok-clause-ok g c =
     planned (CanStay g.K.KeptFile.cut_back_may_fail) asked c.args.held.version s
     c.args.wanted.now _ _ given _ _ status s.pending none had (inr (
       c.in-Ok.edits.items,
-      same_plan s _ _ c.args.wanted.now.lands _ _ c.register.ensures.limits
-          c.register.ensures.lands refl c.in-Ok.ensures.ok,
+      same_plan s _ _ c.args.wanted.now.territories _ _ c.register.ensures.limits
+          c.register.ensures.territories refl c.in-Ok.ensures.ok,
       h given part_of,
     ))) c.publish_unless_behind.ensures.ok
 
@@ -74,8 +74,8 @@ returns-in-Ok-clause-older g c =
       had = had;
       edits = c.in-Ok.edits.items;
       plans =
-          same_plan s _ _ c.args.wanted.now.lands _ _ c.register.ensures.limits
-          c.register.ensures.lands refl c.in-Ok.ensures.ok;
+          same_plan s _ _ c.args.wanted.now.territories _ _ c.register.ensures.limits
+          c.register.ensures.territories refl c.in-Ok.ensures.ok;
       free = h.0;
       older = h.1;
     }) c.publish_unless_behind.ensures.older
@@ -96,13 +96,13 @@ returns-in-Err-clause-ok g c = λ given part_of.
     ∙ (sym c.is_empty.ensures ∙ c.if-not-is_empty.false) in
     let had : later_than asked.edition (length s.batches) ≡ None = cc in
     planned (CanStay g.K.KeptFile.cut_back_may_fail) asked c.args.held.version s
-    c.args.wanted.now _ _ given _ _ c.tell_plan.result s.pending none had (inl (
+    c.args.wanted.now _ _ given _ _ c.report_plan_fault.result s.pending none had (inl (
       refl,
       (
         c.in-Err.fault,
-        same_fault s _ _ c.args.wanted.now.lands c.in-Err.fault c.register.ensures.limits
-            c.register.ensures.lands c.in-Err.ensures.err,
+        same_fault s _ _ c.args.wanted.now.territories c.in-Err.fault c.register.ensures.limits
+            c.register.ensures.territories c.in-Err.ensures.err,
         refl,
-        c.tell_plan.ensures,
+        c.report_plan_fault.ensures,
       ),
     ))

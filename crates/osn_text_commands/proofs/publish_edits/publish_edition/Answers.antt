@@ -1,5 +1,5 @@
 use Rattle.std.proofs.Common.{inl, inr, refl, subst, sym}
-use Rattle.osn_files.specs.WholePart.{IsWholePart}
+use Rattle.osn_files.specs.CountedPrefix.{IsCountedPrefix}
 use Rattle.osn_serve_commands.proofs.ResultLemmas.{known_bytes}
 use Rattle.osn_text_commands.specs.PublishInside.{AreLinesOf}
 use Rattle.osn_text_commands.proofs.publish_edits.publish_edition.Goals as goal
@@ -14,11 +14,11 @@ returns-in-Ok g c = λ given part_of edits lines.
       between = g.E.Sink.contents errors;
       failed = g.E.Sink.has_failed errors;
       held_back = g.E.Sink.holds_back errors;
-      tells = h.1;
+      reports = h.1;
       ended = inl (
         rw (← c.as_str.ensures.value) c.print_report.ensures,
         (λ held known got.
-            made held known (known_bytes given held (IsWholePart c.args.part) got part_of)),
+            made held known (known_bytes given held (IsCountedPrefix c.args.part) got part_of)),
       );
     }
 
@@ -32,11 +32,11 @@ returns-in-Err g c = λ given part_of edits lines.
       between = g.E.Sink.contents errors;
       failed = g.E.Sink.has_failed errors;
       held_back = g.E.Sink.holds_back errors;
-      tells = h.1;
+      reports = h.1;
       ended = inr (
         c.in-Err.fault,
         (refl, c.report_at.ensures),
         (λ held known got.
-            made held known (known_bytes given held (IsWholePart c.args.part) got part_of)),
+            made held known (known_bytes given held (IsCountedPrefix c.args.part) got part_of)),
       );
     }

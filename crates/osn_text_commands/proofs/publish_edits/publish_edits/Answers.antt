@@ -15,7 +15,7 @@ returns-in-Ok-clause-older g c = record {
   sources = c.in-Ok.ensures.sources;
   anew = c.in-Ok.ensures.journal;
   printed = c.in-Ok.ensures.text;
-  told = c.in-Ok.ensures.cut;
+  message = c.in-Ok.ensures.cut;
 }
 
 pub returns-in-Err-clause-ok : goal.returns-in-Err-clause-ok
@@ -37,12 +37,12 @@ returns-in-Ok-check_kept-clause-ok g c = λ given part_of.
 pub returns-clause-ok : goal.returns-clause-ok
 returns-clause-ok g c = λ given part_of.
     none_needed (CanStay g.K.KeptFile.cut_back_may_fail) c.args.path.now c.args.held.object
-    c.args.wanted.now _ _ given _ _ c.tell_line.result c.args.held.version _
+    c.args.wanted.now _ _ given _ _ c.report_line.result c.args.held.version _
     (subst (λ l. needs_sources c.args.held.version l ≡ false) c.deref.ensures.value
     (sym c.needs_sources.ensures ∙ c.if-needs_sources.false)) c.args.edits.items
     (rw c.in-Err-check_kept.ensures.err.1 (
       refl,
       refl,
-      c.tell_line.ensures (not_kept_line c.args.path.now c.args.held.version)
+      c.report_line.ensures (not_kept_line c.args.path.now c.args.held.version)
           c.not_kept_line-lines.ensures,
     ))

@@ -6,6 +6,6 @@ use Rattle.osn_text_commands.proofs.since.push_editions.Given as goal
 abbrev pub invariant-loop-place : goal.invariant-loop-place
 invariant-loop-place l =
     string_bytes l.initial.out
-    ++ spec.editions_lines l.register.lands l.fn.edition (drop l.fn.edition l.batches)
+    ++ spec.editions_lines l.register.territories l.fn.edition (drop l.fn.edition l.batches)
     ≡ string_bytes l.out
-    ++ spec.editions_lines l.register.lands l.place (drop l.place l.batches)
+    ++ spec.editions_lines l.register.territories l.place (drop l.place l.batches)

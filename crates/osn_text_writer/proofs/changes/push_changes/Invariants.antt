@@ -7,7 +7,7 @@ use Rattle.osn_text_writer.proofs.changes.push_changes.Given as goal
 abbrev pub invariant-loop-period : goal.invariant-loop-period
 invariant-loop-period l =
     string_bytes l.initial.out
-    ++ spec.changes_text l.code (sources_of l.code l.register.lands) l.fn.opening l.periods
+    ++ spec.changes_text l.code (sources_of l.code l.register.territories) l.fn.opening l.periods
     ≡ string_bytes l.out
-    ++ spec.changes_text l.code (sources_of l.code l.register.lands) l.before
+    ++ spec.changes_text l.code (sources_of l.code l.register.territories) l.before
     (drop l.period-index l.periods)

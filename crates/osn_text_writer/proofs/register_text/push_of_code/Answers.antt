@@ -5,15 +5,15 @@ use Rattle.osn_text_writer.proofs.register_text.push_of_code.Goals as goal
 
 pub returns-in-Some : goal.returns-in-Some
 returns-in-Some c =
-    subst (λ text. OnOk c.push_land.result
-    (string_bytes c.push_land.new.out ≡ string_bytes c.args.out.now ++ text))
+    subst (λ text. OnOk c.push_next_territory.result
+    (string_bytes c.push_next_territory.new.out ≡ string_bytes c.args.out.now ++ text))
     (text_found c.args.code.now c.in-Some.name.now c.in-Some.territory.now
-    c.args.register.now.lands c.in-Some.ensures.value)
-    c.push_land.ensures
+    c.args.register.now.territories c.in-Some.ensures.value)
+    c.push_next_territory.ensures
 
 pub returns-in-None : goal.returns-in-None
 returns-in-None c =
     let out = string_bytes c.args.out.now in
     sym (ap (λ text. out ++ text)
-    (text_of_none c.args.code.now c.args.register.now.lands c.in-None.ensures.known)
+    (text_of_none c.args.code.now c.args.register.now.territories c.in-None.ensures.known)
     ∙ append-nil out)

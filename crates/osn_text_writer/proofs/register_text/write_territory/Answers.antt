@@ -1,9 +1,10 @@
 use Rattle.std.proofs.Common.{◌++◌, sym, ap, subst, ◌∙◌}
-use Rattle.osn_days.specs.Profile.{newest_rules}
-use Rattle.osn_register.specs.Plain.{land_of}
-use Rattle.osn_text_writer.specs.Says.{SaysLand}
-use Rattle.osn_text_writer.specs.TerritoryText.{edition_line, if_there, lands_text, register_text}
-use Rattle.osn_text_writer.proofs.ReadBack.{land_says}
+use Rattle.osn_days.specs.Rules.{newest_rules}
+use Rattle.osn_register.specs.Plain.{entry_of}
+use Rattle.osn_text_writer.specs.Says.{SaysTerritory}
+use Rattle.osn_text_writer.specs.TerritoryText.{edition_line, if_there, territories_text}
+use Rattle.osn_text_writer.specs.TerritoryText.{register_text}
+use Rattle.osn_text_writer.proofs.ReadBack.{territory_says}
 use Rattle.osn_text_writer.proofs.register_text.write_territory.Goals as goal
 
 pub returns-clause-reads_back : goal.returns-clause-reads_back
@@ -12,9 +13,9 @@ returns-clause-reads_back c =
     let code = c.args.code.now in
     let r = c.args.register.now in
     let n = c.args.edition in
-    let rest = lands_text newest_rules (if_there (land_of code r.lands)) in
-    subst (λ text. SaysLand r text n code)
+    let rest = territories_text newest_rules (if_there (entry_of code r.territories)) in
+    subst (λ text. SaysTerritory r text n code)
     (sym (c.in_ok-push_of_code.ensures
     ∙ ap (λ text. text ++ rest) (c.in_ok-push_edition.ensures
     ∙ ap (λ text. text ++ edition_line n) c.in_ok-text.ensures.bytes)))
-    (land_says n code r)
+    (territory_says n code r)

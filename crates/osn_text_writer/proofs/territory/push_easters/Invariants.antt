@@ -8,8 +8,8 @@ use Rattle.osn_text_writer.proofs.territory.push_easters.Given as goal
 abbrev pub invariant-loop-year : goal.invariant-loop-year
 invariant-loop-year l =
     string_bytes l.initial.out
-    ++ flat_map (spec.easter_text l.code l.territory (sources_of l.code l.register.lands))
+    ++ flat_map (spec.easter_text l.code l.territory (sources_of l.code l.register.territories))
     l.territory.exceptions
     ≡ string_bytes l.out
-    ++ flat_map (spec.easter_text l.code l.territory (sources_of l.code l.register.lands))
+    ++ flat_map (spec.easter_text l.code l.territory (sources_of l.code l.register.territories))
     l.year-iterator

@@ -1,5 +1,5 @@
 use Rattle.std.proofs.Common.{arith, rules}
-use Rattle.osn_days.specs.Profile.{newest_rules}
+use Rattle.osn_days.specs.Rules.{newest_rules}
 use Rattle.osn_written.specs.Nearest as spec
 use Rattle.osn_written.proofs.NearestFacts.{begin_years, next_years}
 use Rattle.osn_written.proofs.nearest.nearest_within.Goals as goal

@@ -1,6 +1,6 @@
 use Rattle.std.proofs.Common.{◌≡◌, ◌+◌, ◌-◌, map}
 use Rattle.std.specs.List.{range_with_len}
-use Rattle.osn_days.specs.Profile.{newest_rules}
+use Rattle.osn_days.specs.Rules.{newest_rules}
 use Rattle.osn_written.specs.Nearest as spec
 use Rattle.osn_written.proofs.nearest.nearest_within.Given as goal
 

@@ -2,8 +2,8 @@ use Rattle.std.proofs.Common.{◌≡◌, ◌++◌, ◌∷◌, [], ◌∙◌, ◌
 use Rattle.std.proofs.Common.{List, Vec, Global, ℕ, drop, append_assoc}
 use Rattle.std.proofs.lemmas.Bool.{false_from_ne_true}
 use Rattle.std.proofs.lemmas.Bool.Decides.{Decides-eqb}
-use Rattle.osn_lands.specs.declared.runs.Run.{Run}
-use Rattle.osn_lands.specs.Runs.{days_in}
+use Rattle.osn_territory.specs.declared.runs.Run.{Run}
+use Rattle.osn_territory.specs.Runs.{days_in}
 use Rattle.osn_written.specs.Runs as spec
 use Rattle.osn_written.proofs.RunFacts.{one_joined}
 use Rattle.osn_written.proofs.runs.joined_after.Goals as goal

@@ -1,5 +1,5 @@
 use Rattle.std.proofs.Common.{◌≡◌, ◌++◌, drop}
-use Rattle.osn_lands.specs.Runs.{days_in}
+use Rattle.osn_territory.specs.Runs.{days_in}
 use Rattle.osn_written.specs.Runs as spec
 use Rattle.osn_written.proofs.runs.joined_after.Given as goal
 

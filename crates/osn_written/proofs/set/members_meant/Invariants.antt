@@ -1,5 +1,5 @@
 use Rattle.std.proofs.Common.{◌≡◌, drop}
-use Rattle.osn_days.specs.Profile.{newest_rules}
+use Rattle.osn_days.specs.Rules.{newest_rules}
 use Rattle.osn_written.specs.SetsMeant.{members_meant}
 use Rattle.osn_written.proofs.UnionFacts.{after_runs}
 use Rattle.osn_written.proofs.set.members_meant.Given as goal

@@ -1,7 +1,7 @@
 use Rattle.std.proofs.Common.{◌≡◌, ◌∙◌, sym, subst}
 use Rattle.std.specs.List.Sorted.{IsNonDecreasingBy, IsPermutation}
-use Rattle.osn_days.specs.Profile.{newest_rules}
-use Rattle.osn_lands.specs.Runs.{days_in}
+use Rattle.osn_days.specs.Rules.{newest_rules}
+use Rattle.osn_territory.specs.Runs.{days_in}
 use Rattle.osn_written.specs.Runs.{HaveDays}
 use Rattle.osn_written.specs.Union.{rest_from}
 use Rattle.osn_written.proofs.UnionFacts.{joined_is, rest_has_days, union_is}

@@ -1,6 +1,6 @@
 use Rattle.std.proofs.Common.{◌≡◌, ◌≤◌, ◌<◌, ◌+◌, ◌∙◌, ap, arith, drop, subst₂, sym, ℕ, Vec, Global}
-use Rattle.osn_days.specs.Profile.{newest_rules}
-use Rattle.osn_lands.specs.declared.runs.Run.{Run}
+use Rattle.osn_days.specs.Rules.{newest_rules}
+use Rattle.osn_territory.specs.declared.runs.Run.{Run}
 use Rattle.osn_written.proofs.UnionFacts.{IsRestBefore, no_rest, one_rest}
 use Rattle.osn_written.proofs.union.without_overlap.Goals as goal
 use Rattle.osn_written.proofs.union.without_overlap.Goals.{then-first-last+in_ok-push_from}

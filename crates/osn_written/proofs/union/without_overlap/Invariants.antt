@@ -1,5 +1,5 @@
 use Rattle.std.proofs.Common.{◌≤◌, ◌+◌, drop}
-use Rattle.osn_days.specs.Profile.{newest_rules}
+use Rattle.osn_days.specs.Rules.{newest_rules}
 use Rattle.osn_written.proofs.UnionFacts.{IsRestBefore}
 use Rattle.osn_written.proofs.union.without_overlap.Given as goal
 

@@ -1,5 +1,5 @@
 use Rattle.std.proofs.Common.{◌≡◌, None, ap, ◌∙◌}
-use Rattle.osn_days.specs.Profile.{newest_rules}
+use Rattle.osn_days.specs.Rules.{newest_rules}
 use Rattle.osn_core.specs.Sequential.{stage_refusal}
 use Rattle.osn_core.specs.Draft.{edit_refusal}
 use Rattle.osn_core.specs.LiveAndStandbyInside.{CopiesState}

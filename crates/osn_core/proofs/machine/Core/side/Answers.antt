@@ -1,5 +1,5 @@
 use Rattle.std.proofs.Common.{◌∙◌, subst}
-use Rattle.osn_days.specs.Profile.{newest_rules}
+use Rattle.osn_days.specs.Rules.{newest_rules}
 use Rattle.osn_core.specs.Control.{reader_at}
 use Rattle.osn_core.specs.LiveAndStandby.{IsSeenBy}
 use Rattle.osn_core.specs.CoreInside.{core_in}
@@ -11,8 +11,8 @@ use Rattle.osn_core.proofs.machine.Core.side.Goals as goal
 pub returns-else-side-self-clause-readers : goal.returns-else-side-self-clause-readers
 returns-else-side-self-clause-readers c reader =
     let core = core_in c.self.inside in
-    subst (λ (s : CoreState). IsSeenBy newest_rules s.object c.args.side c.standby.result.now.lands
-    (reader_at s.control.readers reader)) c.self.view_is
-    (seen_by core c.args.side c.standby.result.now.lands reader c.self.invariant
-    (c.standby.ensures.lands ∙ standby_side core c.args.side c.self.invariant
+    subst (λ (s : CoreState). IsSeenBy newest_rules s.object c.args.side
+    c.standby.result.now.territories (reader_at s.control.readers reader)) c.self.view_is
+    (seen_by core c.args.side c.standby.result.now.territories reader c.self.invariant
+    (c.standby.ensures.territories ∙ standby_side core c.args.side c.self.invariant
     (test_other c.args.side c.self.inside.side c.if-side-self.false)))

@@ -1,7 +1,7 @@
 use Rattle.std.proofs.Common.{◌≡◌, ◌++◌, ◌∙◌, ap, length, sym, subst, List, ℕ, Ok}
 use Rattle.std.proofs.Common.{false}
 use Rattle.osn_core.specs.Sequential.{ObjectState}
-use Rattle.osn_days.specs.Profile.{newest_rules}
+use Rattle.osn_days.specs.Rules.{newest_rules}
 use Rattle.osn_files.specs.Journal.{after_object}
 use Rattle.osn_files.specs.Loaded.{IsOfVersion}
 use Rattle.osn_files.specs.Turns.{in_turn}

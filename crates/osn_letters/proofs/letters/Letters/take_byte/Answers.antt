@@ -1,6 +1,6 @@
 use Rattle.std.proofs.Common.{◌≡◌, ◌∙◌, [], ◌∷◌, None, rules}
 use Rattle.std.proofs.lemmas.Result.{on_ok_weaker, IfErr-weaker}
-use Rattle.osn_letters.specs.Start.{held, next_start}
+use Rattle.osn_letters.specs.ByteOrderMark.{held, next_start}
 use Rattle.osn_letters.proofs.CountFacts.{after_counted, mark_counted, text_counted}
 use Rattle.osn_letters.proofs.LetterFacts.{err_of_fault, mark_taken, text_taken, text_stops}
 use Rattle.osn_letters.proofs.LetterFacts.{stops_first}

@@ -1,7 +1,7 @@
 use Rattle.std.proofs.Common.{rules, ◌≡◌, [], ◌∷◌, ◌++◌, List, ap, sym, ◌∙◌}
-use Rattle.osn_days.specs.Profile.{newest_rules}
+use Rattle.osn_days.specs.Rules.{newest_rules}
 use Rattle.osn_register.specs.declared.edit.Edit.{Edit}
-use Rattle.osn_register.specs.Plain.{LandModel}
+use Rattle.osn_register.specs.Plain.{EntryModel}
 use Rattle.osn_core.specs.Draft.{object_of, IsDraftOf}
 use Rattle.osn_core.proofs.DraftFacts.{draft_register, edition_made}
 use Rattle.osn_live.specs.Certificate.{CertificateState}
@@ -17,8 +17,8 @@ new-next-requires g c =
     rw (c.limits.ensures, c.again.ensures, now) (c.in-Ok.ensures.ok
     ∙ c.in_ok-published.ensures.value
     ∙ c.register.ensures
-    ∙ ap (λ (ls : List LandModel). record { limits = d.register.limits; lands = ls })
-    (c.self.invariant.draft.lands ∙ draft_register newest_rules (object_of d batches)))
+    ∙ ap (λ (ls : List EntryModel). record { limits = d.register.limits; territories = ls })
+    (c.self.invariant.draft.territories ∙ draft_register newest_rules (object_of d batches)))
 
 pub invariant_of-self-2 : goal.invariant_of-self-2
 invariant_of-self-2 g c =

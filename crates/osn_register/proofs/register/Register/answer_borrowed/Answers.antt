@@ -1,5 +1,5 @@
 use Rattle.std.proofs.Common.{◌≡◌, subst, sym, rules}
-use Rattle.osn_days.specs.Profile.{first_rules, newest_rules}
+use Rattle.osn_days.specs.Rules.{first_rules, newest_rules}
 use Rattle.osn_register.specs.Answer.{answer}
 use Rattle.osn_register.specs.BorrowedQuery.{as_query}
 use Rattle.osn_register.specs.EarlierRules.{KeepsAnswer}
@@ -12,14 +12,14 @@ returns-in-Err-Refused-clause-memory c = search rules
 
 pub returns-in-Ok-clause-earlier_rules : goal.returns-in-Ok-clause-earlier_rules
 returns-in-Ok-clause-earlier_rules c =
-    let lands = c.args.self.now.lands in
+    let territories = c.args.self.now.territories in
     let q = as_query c.args.query in
-    let is : c.in-Ok.answer ≡ answer newest_rules lands q = search rules in
-    subst (KeepsAnswer first_rules lands q) (sym is) (keeps_answer lands q)
+    let is : c.in-Ok.answer ≡ answer newest_rules territories q = search rules in
+    subst (KeepsAnswer first_rules territories q) (sym is) (keeps_answer territories q)
 
 pub returns-in-Err-Refused-clause-earlier_rules : goal.returns-in-Err-Refused-clause-earlier_rules
 returns-in-Err-Refused-clause-earlier_rules c =
-    let lands = c.args.self.now.lands in
+    let territories = c.args.self.now.territories in
     let q = as_query c.args.query in
-    let is : Refused c.in-Err-Refused.refusal ≡ answer newest_rules lands q = search rules in
-    subst (KeepsAnswer first_rules lands q) (sym is) (keeps_answer lands q)
+    let is : Refused c.in-Err-Refused.refusal ≡ answer newest_rules territories q = search rules in
+    subst (KeepsAnswer first_rules territories q) (sym is) (keeps_answer territories q)

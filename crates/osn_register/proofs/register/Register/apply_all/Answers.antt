@@ -1,11 +1,11 @@
 use Rattle.std.proofs.Common.{◌≡◌, ℕ, ◌<◌, ◌+◌, ◌||◌, Bool, true, false, List, ◌∷◌, length, get_or}
 use Rattle.std.proofs.Common.{drop, refl, ap, sym, ◌∙◌, arith}
 use Rattle.std.proofs.lemmas.List.{drop_more}
-use Rattle.osn_days.specs.Profile.{newest_rules}
+use Rattle.osn_days.specs.Rules.{newest_rules}
 use Rattle.osn_register.specs.declared.edit.Edit.{Edit}
 use Rattle.osn_register.specs.Plain.{applied, applied_all, apply_takes_memory}
 use Rattle.osn_register.specs.Plain.{fold_takes_memory}
-use Rattle.osn_register.proofs.LandFacts.{on_err}
+use Rattle.osn_register.proofs.EntryFacts.{on_err}
 use Rattle.osn_register.proofs.register.Register.apply_all.Goals as goal
 
 left_from : (es : List Edit) (i : ℕ) (e : Edit) → i < length es → e ≡ get_or es i e →
@@ -22,21 +22,23 @@ loop-edit-preserved c =
     let rest = drop (c.loop-edit.edit-index + 1) es in
     let e = c.edit-item.result in
     let limits = c.args.self.now.limits in
-    let before = c.loop-edit.self.lands in
+    let before = c.loop-edit.self.territories in
     let is = c.in_ok-apply_if_lawful.ensures.ok in
     let left = left_from es c.loop-edit.edit-index e (omega arith) c.edit-item.is in
-    let lands : c.apply_if_lawful.new.self.lands ≡ applied newest_rules limits before e =
-    ap (λ r. r.lands) is ∙ ap (λ m. applied newest_rules m before e) c.loop-edit.invariant.limits in
+    let territories : c.apply_if_lawful.new.self.territories
+    ≡ applied newest_rules limits before e =
+    ap (λ r. r.territories) is
+    ∙ ap (λ m. applied newest_rules m before e) c.loop-edit.invariant.limits in
     record {
       limits = ap (λ r. r.limits) is ∙ c.loop-edit.invariant.limits;
-      lands =
-          ap (λ ls. applied_all newest_rules limits ls rest) lands
+      territories =
+          ap (λ ls. applied_all newest_rules limits ls rest) territories
           ∙ sym (ap (applied_all newest_rules limits before) left)
-          ∙ c.loop-edit.invariant.lands;
+          ∙ c.loop-edit.invariant.territories;
       memory = λ more. c.loop-edit.invariant.memory (
           ap (fold_takes_memory newest_rules limits before) left
           ∙ ap (λ b. apply_takes_memory newest_rules limits before e || b)
-          (ap (λ ls. fold_takes_memory newest_rules limits ls rest) (sym lands) ∙ more)
+          (ap (λ ls. fold_takes_memory newest_rules limits ls rest) (sym territories) ∙ more)
           ∙ or_true (apply_takes_memory newest_rules limits before e)
           );
     }
@@ -47,7 +49,7 @@ returns-in_err-apply_if_lawful-clause-memory c =
     let es = c.args.edits.now in
     let e = c.edit-item.result in
     let limits = c.args.self.now.limits in
-    let before = c.loop-edit.self.lands in
+    let before = c.loop-edit.self.territories in
     let left = left_from es c.loop-edit.edit-index e (omega arith) c.edit-item.is in
     let here : apply_takes_memory newest_rules limits before e ≡ true =
     ap (λ m. apply_takes_memory newest_rules m before e) (sym c.loop-edit.invariant.limits) ∙

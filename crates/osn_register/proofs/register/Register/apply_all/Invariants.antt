@@ -1,5 +1,5 @@
 use Rattle.std.proofs.Common.{◌≡◌, true, drop}
-use Rattle.osn_days.specs.Profile.{newest_rules}
+use Rattle.osn_days.specs.Rules.{newest_rules}
 use Rattle.osn_register.specs.Plain.{applied_all, fold_takes_memory}
 use Rattle.osn_register.proofs.register.Register.apply_all.Given as goal
 
@@ -8,10 +8,11 @@ abbrev pub invariant-loop-edit : goal.invariant-loop-edit
 invariant-loop-edit l =
     record {
       limits : l.self.limits ≡ l.fn.self.limits;
-      lands : applied_all newest_rules l.fn.self.limits l.self.lands (drop l.edit-index l.edits)
-          ≡ applied_all newest_rules l.fn.self.limits l.fn.self.lands l.edits;
-      memory : fold_takes_memory newest_rules l.fn.self.limits l.self.lands
+      territories : applied_all newest_rules l.fn.self.limits l.self.territories
+          (drop l.edit-index l.edits)
+          ≡ applied_all newest_rules l.fn.self.limits l.fn.self.territories l.edits;
+      memory : fold_takes_memory newest_rules l.fn.self.limits l.self.territories
           (drop l.edit-index l.edits) ≡
           true
-          → fold_takes_memory newest_rules l.fn.self.limits l.fn.self.lands l.edits ≡ true;
+          → fold_takes_memory newest_rules l.fn.self.limits l.fn.self.territories l.edits ≡ true;
     }

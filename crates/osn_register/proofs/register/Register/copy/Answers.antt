@@ -1,11 +1,11 @@
 use Rattle.std.proofs.Common.{◌≡◌, true, ◌∷◌, ◌++◌, map, ap, sym, subst, ◌∙◌, string_bytes}
-use Rattle.osn_days.specs.Profile.{newest_rules}
+use Rattle.osn_days.specs.Rules.{newest_rules}
 use Rattle.osn_register.specs.declared.register.NamedTerritory.{NamedTerritory}
 use Rattle.osn_register.specs.Plain.{IsWellFormed}
-use Rattle.osn_register.specs.Inside.{land_in, sources_in}
-use Rattle.osn_register.proofs.LandFacts.{copied_absent, copied_room, copied_within, copied_more}
-use Rattle.osn_register.proofs.LandFacts.{copied_named, copied_some, copied_sources, same_register}
-use Rattle.osn_register.proofs.LandFacts.{on_err}
+use Rattle.osn_register.specs.Inside.{entry_in, sources_in}
+use Rattle.osn_register.proofs.EntryFacts.{copied_absent, copied_room, copied_within, copied_more}
+use Rattle.osn_register.proofs.EntryFacts.{copied_named, copied_some, copied_sources, same_register}
+use Rattle.osn_register.proofs.EntryFacts.{on_err}
 use Rattle.osn_register.specs.Code.{is_code, is_name}
 use Rattle.osn_register.proofs.register.Register.copy.Goals as goal
 use Rattle.osn_register.proofs.register.Register.copy.Goals.{After-as_str}
@@ -14,11 +14,11 @@ well_formed : (c : After-as_str) → IsWellFormed newest_rules c.args.self.now
 well_formed c = subst (IsWellFormed newest_rules) c.self.view_is c.self.invariant
 
 -- what is copied, this territory and those left are all
-all : (c : After-as_str) → c.loop-code.copied.lands ++ land_in string_bytes (λ v. v.name)
+all : (c : After-as_str) → c.loop-code.copied.territories ++ entry_in string_bytes (λ v. v.name)
     (λ v. v.territory) (λ v. sources_in v.sources) (c.in-Some.code.now, c.in-Some.entry.now) ∷ map
-    (land_in string_bytes (λ v. v.name) (λ v. v.territory)
-    (λ v. sources_in v.sources)) c.next.new.self ≡ c.args.self.now.lands
-all c = ap (λ it. c.loop-code.copied.lands ++ map (land_in string_bytes (λ v. v.name)
+    (entry_in string_bytes (λ v. v.name) (λ v. v.territory)
+    (λ v. sources_in v.sources)) c.next.new.self ≡ c.args.self.now.territories
+all c = ap (λ it. c.loop-code.copied.territories ++ map (entry_in string_bytes (λ v. v.name)
     (λ v. v.territory) (λ v. sources_in v.sources)) it)
     (sym c.in-Some.ensures.steps) ∙ c.loop-code.invariant.1
 
@@ -28,7 +28,7 @@ insert_copy-requires-clause-absent c = copied_absent _ _ _ _ c.as_str.result.now
 
 named : (c : After-as_str) → (is_code (string_bytes c.in-Some.code.now) ≡ true)
     × (is_name c.in-Some.entry.now.name ≡ true)
-named c = copied_named _ (land_in {V = NamedTerritory} string_bytes (λ v. v.name)
+named c = copied_named _ (entry_in {V = NamedTerritory} string_bytes (λ v. v.name)
     (λ v. v.territory) (λ v. sources_in v.sources) (c.in-Some.code.now, c.in-Some.entry.now)) _ _
     (all c) (well_formed c).named
 
@@ -47,33 +47,34 @@ insert_copy-requires-clause-territory c = copied_within newest_rules _ _ _ _ _ _
     (well_formed c).territories c.loop-code.invariant.0
 
 pub insert_copy-requires-clause-sources : goal.insert_copy-requires-clause-sources
-insert_copy-requires-clause-sources c = copied_sources _ (land_in {V = NamedTerritory}
+insert_copy-requires-clause-sources c = copied_sources _ (entry_in {V = NamedTerritory}
     string_bytes (λ v. v.name) (λ v. v.territory) (λ v. sources_in v.sources)
     (c.in-Some.code.now, c.in-Some.entry.now)) _ _ (all c) (well_formed c).sources
 
 pub loop-code-preserved : goal.loop-code-preserved
 loop-code-preserved c =
-    let L = land_in {V = NamedTerritory} string_bytes (λ v. v.name) (λ v. v.territory)
+    let L = entry_in {V = NamedTerritory} string_bytes (λ v. v.name) (λ v. v.territory)
     (λ v. sources_in v.sources) in (
       ap (λ r. r.limits) c.in_ok-insert_copy.ensures.ok ∙ c.loop-code.invariant.0,
-      ap (λ r. r.lands ++ map L c.next.new.self) c.in_ok-insert_copy.ensures.ok
-          ∙ copied_more c.loop-code.copied.lands (L (c.in-Some.code.now, c.in-Some.entry.now))
-          (map L c.next.new.self) c.args.self.now.lands c.as_str.result.now
-          (ap (λ it. c.loop-code.copied.lands ++ map L it) (sym c.in-Some.ensures.steps)
+      ap (λ r. r.territories ++ map L c.next.new.self) c.in_ok-insert_copy.ensures.ok
+          ∙ copied_more c.loop-code.copied.territories (L (c.in-Some.code.now, c.in-Some.entry.now))
+          (map L c.next.new.self) c.args.self.now.territories c.as_str.result.now
+          (ap (λ it. c.loop-code.copied.territories ++ map L it) (sym c.in-Some.ensures.steps)
           ∙ c.loop-code.invariant.1) c.as_str.ensures.value,
     )
 
 pub returns-clause-value : goal.returns-clause-value
 returns-clause-value c = same_register c.loop-code.copied c.args.self.now c.loop-code.invariant.0
-    (ap (λ it. c.loop-code.copied.lands ++ map (land_in string_bytes (λ v. v.name)
+    (ap (λ it. c.loop-code.copied.territories ++ map (entry_in string_bytes (λ v. v.name)
     (λ v. v.territory) (λ v. sources_in v.sources)) it)
     (sym c.in-None.ensures.steps.0) ∙ c.loop-code.invariant.1)
 
 pub returns-in_err-insert_copy-clause-memory : goal.returns-in_err-insert_copy-clause-memory
 returns-in_err-insert_copy-clause-memory c =
-    let L = land_in {V = NamedTerritory} string_bytes (λ v. v.name) (λ v. v.territory)
+    let L = entry_in {V = NamedTerritory} string_bytes (λ v. v.name) (λ v. v.territory)
     (λ v. sources_in v.sources) in
-    on_err c.from_residual.result (copied_some c.loop-code.copied.lands
-    (L (c.in-Some.code.now, c.in-Some.entry.now)) (map L c.next.new.self) c.args.self.now.lands
-    (ap (λ it. c.loop-code.copied.lands ++ map L it) (sym c.in-Some.ensures.steps)
+    on_err c.from_residual.result (copied_some c.loop-code.copied.territories
+    (L (c.in-Some.code.now, c.in-Some.entry.now)) (map L c.next.new.self)
+    c.args.self.now.territories
+    (ap (λ it. c.loop-code.copied.territories ++ map L it) (sym c.in-Some.ensures.steps)
     ∙ c.loop-code.invariant.1))

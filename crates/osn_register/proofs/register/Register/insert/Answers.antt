@@ -3,20 +3,20 @@ use Rattle.std.proofs.Common.{string_bytes}
 use Rattle.std.specs.String.{string_eq}
 use Rattle.indexmap.specs.IndexMap.{get}
 use Rattle.indexmap.proofs.CallerLemmas.{insert_entry-new}
-use Rattle.osn_days.specs.Profile.{newest_rules}
-use Rattle.osn_register.specs.Plain.{LandModel, RegisterModel, land_of, IsWellFormed}
+use Rattle.osn_days.specs.Rules.{newest_rules}
+use Rattle.osn_register.specs.Plain.{EntryModel, RegisterModel, entry_of, IsWellFormed}
 use Rattle.osn_register.specs.Inside.{register_in, sources_in}
-use Rattle.osn_register.proofs.LandFacts.{land_of-none, lands_with_new, IsWellFormed-push}
+use Rattle.osn_register.proofs.EntryFacts.{entry_of-none, territories_with_new, IsWellFormed-push}
 use Rattle.osn_register.proofs.register.Register.insert.Goals as goal
 
-abbrev with_lands : RegisterModel → List LandModel → RegisterModel
-with_lands r lands = record r { lands = lands }
+abbrev with_territories : RegisterModel → List EntryModel → RegisterModel
+with_territories r territories = record r { territories = territories }
 
-abbrev with_new : LandModel → RegisterModel → RegisterModel
-with_new l r = record r { lands = r.lands ++ l ∷ [] }
+abbrev with_new : EntryModel → RegisterModel → RegisterModel
+with_new l r = record r { territories = r.territories ++ l ∷ [] }
 
-abbrev new_land : goal.Joined-branch-2 → LandModel
-new_land c = record {
+abbrev new_entry : goal.Joined-branch-2 → EntryModel
+new_entry c = record {
   code = string_bytes c.args.code;
   name = c.args.entry.name;
   territory = c.args.entry.territory;
@@ -25,20 +25,22 @@ new_land c = record {
 
 -- the register with the new territory last
 added : (c : goal.Joined-branch-2) → register_in (record
-    { alloc = c.self.inside.alloc; limits = c.self.inside.limits; lands = c.insert.new.self }) ≡
-    with_new (new_land c) c.args.self.now
+    { alloc = c.self.inside.alloc; limits = c.self.inside.limits; territories = c.insert.new.self })
+    ≡ with_new (new_entry c) c.args.self.now
 added c =
-    let es = c.self.inside.lands.entries in
-    let none : get string_eq c.self.inside.lands c.args.code ≡ None =
-    land_of-none string_bytes (λ v. v.name) (λ v. v.territory) (λ v. sources_in v.sources)
+    let es = c.self.inside.territories.entries in
+    let none : get string_eq c.self.inside.territories c.args.code ≡ None =
+    entry_of-none string_bytes (λ v. v.name) (λ v. v.territory) (λ v. sources_in v.sources)
     (string_bytes c.args.code) es
-    (ap (λ r. land_of (string_bytes c.args.code) r.lands) c.self.view_is ∙ c.requires.absent) in
-    let entries = c.in_ok-insert.ensures.entries ∙ insert_entry-new string_eq c.self.inside.lands
-    c.args.code c.args.entry none in
-    let lands = lands_with_new string_bytes (λ v. v.name) (λ v. v.territory)
+    (ap (λ r. entry_of (string_bytes c.args.code) r.territories) c.self.view_is ∙ c.requires.absent)
+    in
+    let entries = c.in_ok-insert.ensures.entries
+    ∙ insert_entry-new string_eq c.self.inside.territories c.args.code c.args.entry none in
+    let territories = territories_with_new string_bytes (λ v. v.name) (λ v. v.territory)
     (λ v. sources_in v.sources) es
-    c.insert.new.self.entries c.args.code c.args.entry (new_land c) entries refl in
-    ap (with_lands (register_in c.self.inside)) lands ∙ ap (with_new (new_land c)) c.self.view_is
+    c.insert.new.self.entries c.args.code c.args.entry (new_entry c) entries refl in
+    ap (with_territories (register_in c.self.inside)) territories
+    ∙ ap (with_new (new_entry c)) c.self.view_is
 
 pub invariant_of-self-2 : goal.invariant_of-self-2
 invariant_of-self-2 c =
@@ -47,7 +49,7 @@ invariant_of-self-2 c =
     c.self.invariant in
     subst (IsWellFormed newest_rules) (sym (added c))
     (IsWellFormed-push newest_rules c.args.self.now
-    (new_land c) before c.requires.absent c.requires.code c.requires.name c.requires.room
+    (new_entry c) before c.requires.absent c.requires.code c.requires.name c.requires.room
     c.requires.territory c.requires.sources)
 
 pub returns-clause-ok : goal.returns-clause-ok

@@ -47,9 +47,9 @@ returns-clause-text c =
           (ap (λ v. v.text) w.out-is
           ∙ given _ _ _ c.in_ok-begun.was w.begun-is w.write_figures-begun.ensures.text) e)
       | goal.in-Lands w ↦
-          rw w.in-Lands.is (reply _ _ (ap (λ l. spec.lands_data l) w.as_slice-in-Lands.ensures)
-          (ap (λ v. v.text) w.out-is
-          ∙ given _ _ _ c.in_ok-begun.was w.begun-is w.write_lands-begun.ensures.text) e)
+          rw w.in-Lands.is (reply _ _
+          (ap (λ l. spec.territories_data l) w.as_slice-in-Lands.ensures) (ap (λ v. v.text) w.out-is
+          ∙ given _ _ _ c.in_ok-begun.was w.begun-is w.write_territories-begun.ensures.text) e)
       | goal.in-Periods w ↦
           rw w.in-Periods.is (reply _ _
           (ap (λ l. spec.periods_data l) w.as_slice-in-Periods.ensures)

@@ -3,7 +3,7 @@ use Rattle.json.specs.Print.{escape_byte, quoted}
 use Rattle.serde_json.specs.Data.{string, member, no_members}
 use Rattle.osn_days.specs.CalendarWords.{calendar_word}
 use Rattle.osn_computus.specs.RuleWords.{rule_word}
-use Rattle.osn_lands.specs.StyleWords.{style_word}
+use Rattle.osn_territory.specs.StyleWords.{style_word}
 use Rattle.osn_format.proofs.WriteLemmas.{at_last}
 use Rattle.osn_reply.specs.SourceInside.{source_text}
 use Rattle.osn_reply.proofs.LineLemmas.{chain, joined, source_before}

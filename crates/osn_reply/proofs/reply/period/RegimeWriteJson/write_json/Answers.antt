@@ -2,7 +2,7 @@ use Rattle.std.proofs.Common.{[], ◌∷◌, codes}
 use Rattle.json.specs.Print.{escape_byte, quoted}
 use Rattle.osn_days.specs.CalendarWords.{calendar_word}
 use Rattle.osn_computus.specs.RuleWords.{rule_word}
-use Rattle.osn_lands.specs.StyleWords.{style_word}
+use Rattle.osn_territory.specs.StyleWords.{style_word}
 use Rattle.osn_format.proofs.WriteLemmas.{at_last}
 use Rattle.osn_reply.proofs.LineLemmas.{chain}
 use Rattle.osn_reply.proofs.reply.period.RegimeWriteJson.write_json.Goals as goal

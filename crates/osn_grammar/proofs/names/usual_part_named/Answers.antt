@@ -1,6 +1,0 @@
-use Rattle.osn_grammar.specs.Names.{names}
-use Rattle.osn_grammar.proofs.names.usual_part_named.Goals as goal
-
-pub returns : goal.returns
-unfolding names
-returns c = c.first_named.ensures

@@ -1,8 +1,0 @@
-use Rattle.std.proofs.Common.{◌≡◌, drop}
-use Rattle.std.specs.List.{list_all}
-use Rattle.osn_grammar.specs.Parts.{is_roman}
-use Rattle.osn_grammar.proofs.part.are_roman.Given as goal
-
--- what is left decides
-abbrev pub invariant-loop-byte : goal.invariant-loop-byte
-invariant-loop-byte l = list_all is_roman l.word ≡ list_all is_roman (drop l.byte-index l.word)

@@ -1,4 +1,0 @@
-use Rattle.osn_lands.proofs.dual.+later_part.Given as goal
-
-abbrev pub decreases-later_part : goal.decreases-later_part
-decreases-later_part l = l.later

@@ -1,0 +1,101 @@
+-- What explains a fault by the path of its file, in a line after that of the fault. This project's
+-- profile.
+use Rattle.std.specs.Prelude.{ℕ, ◌==◌, List, ◌++◌, codes, Option, Some, None, if◌then◌else◌}
+use Rattle.std.specs.Fmt.{decimal}
+use Rattle.osn_files.specs.declared.fault.FileFault.{FileFault}
+use Rattle.osn_files.specs.declared.fault.FileFault.TheVariants as file_faults
+use Rattle.osn_files.specs.declared.fault.LineFault.{LineFault}
+use Rattle.osn_files.specs.declared.fault.LineFault.TheVariants as line_faults
+use Rattle.osn_files.specs.declared.fault.Role.{Role}
+use Rattle.osn_files.specs.declared.fault.Role.TheVariants.{Journal}
+use Rattle.osn_folder.specs.declared.fault.ChangeCause.{ChangeCause}
+use Rattle.osn_folder.specs.declared.fault.ChangeCause.TheVariants as changes
+use Rattle.osn_folder.specs.declared.fault.FollowFault.{FollowFault}
+use Rattle.osn_folder.specs.declared.fault.FollowFault.TheVariants.{NotRead}
+use Rattle.osn_folder.specs.declared.fault.KeepFault.{KeepFault}
+use Rattle.osn_folder.specs.declared.fault.KeepFault.TheVariants.{NotOpened}
+use Rattle.osn_folder.specs.declared.fault.KeptFileFault.{KeptFileFault}
+use Rattle.osn_folder.specs.declared.fault.KeptFileFault.TheVariants.{ChangeFailed}
+use Rattle.osn_format.specs.declared.wire_fault.WireFault.{WireFault}
+use Rattle.osn_format.specs.declared.wire_fault.WireFault.TheVariants.{LineTooLong, NotJson}
+use Rattle.osn_format.specs.declared.wire_fault.WireFault.TheVariants.{NotObject, BadHead}
+use Rattle.osn_shown.specs.Escaped.{escaped}
+use Rattle.osn_report.specs.OpenFailure.{cause_text}
+use Rattle.osn_report.specs.declared.fault.CommandFault.{CommandFault}
+use Rattle.osn_report.specs.declared.fault.CommandFault.TheVariants as faults
+
+-- why a file could not be made or changed
+abbrev pub change_text : ChangeCause → List ℕ
+change_text changes.NoFolder = codes "no such folder"
+change_text changes.PermissionDenied = codes "permission denied"
+change_text changes.NoSpace = codes "no space left on the device"
+change_text changes.Other = codes "write fault"
+
+-- the note that says this of the file of a path
+abbrev pub note : List ℕ → List ℕ → List ℕ
+note path said = codes "note: " ++ (escaped path ++ (codes ": " ++ (said ++ codes "\n")))
+
+-- ---- a bad line of a journal
+
+-- that a file is not a journal, and how one begins
+abbrev pub head_text : List ℕ → List ℕ
+head_text path = codes "help: "
+    ++ (escaped path ++ codes
+    " is not a journal: oldstyle publish FILE TEXT begins one in a new or empty file\n")
+
+-- what a stop may have left at the end of a journal, and what cuts it off
+abbrev pub torn_text : ℕ → List ℕ → List ℕ
+torn_text line path = codes "help: if line "
+    ++ (decimal line ++ (codes " is the last, a stop left it unfinished: oldstyle serve --keep "
+    ++ (escaped path ++ codes " < /dev/null cuts it off\n")))
+
+-- the help with the first line, if it is not the head of a journal, and with a later one, if it is
+-- not JSON
+abbrev pub head_help : List ℕ → WireFault → Option (List ℕ)
+head_help path LineTooLong = Some (head_text path)
+head_help path NotJson = Some (head_text path)
+head_help path NotObject = Some (head_text path)
+head_help path BadHead = Some (head_text path)
+head_help path fault = None
+
+abbrev pub torn_help : List ℕ → ℕ → WireFault → Option (List ℕ)
+torn_help path line NotJson = Some (torn_text line path)
+torn_help path line fault = None
+
+abbrev pub line_help : List ℕ → ℕ → LineFault → Option (List ℕ)
+line_help path line (line_faults.Wire fault) =
+    if line == 1 then head_help path fault else torn_help path line fault
+line_help path line (line_faults.Register refusal) = None
+
+abbrev pub role_help : List ℕ → Role → ℕ → LineFault → Option (List ℕ)
+role_help path Journal line fault = line_help path line fault
+role_help path role line fault = None
+
+-- ---- each fault
+
+abbrev pub file_explanation : List ℕ → FileFault → Option (List ℕ)
+file_explanation path file_faults.NoMemory = None
+file_explanation path file_faults.ReadFault = Some (note path (codes "read fault"))
+file_explanation path (file_faults.BadLine role line fault) = role_help path role line fault
+
+abbrev pub keep_explanation : List ℕ → KeepFault → Option (List ℕ)
+keep_explanation path (NotOpened cause) = Some (note path (cause_text cause))
+keep_explanation path fault = None
+
+abbrev pub kept_explanation : List ℕ → KeptFileFault → Option (List ℕ)
+kept_explanation path (ChangeFailed cause) = Some (note path (change_text cause))
+kept_explanation path fault = None
+
+abbrev pub followed_explanation : List ℕ → FollowFault → Option (List ℕ)
+followed_explanation path (NotRead cause) = Some (note path (cause_text cause))
+followed_explanation path fault = None
+
+-- the line that explains a fault of the file of a path, if one does
+abbrev pub explanation : List ℕ → CommandFault → Option (List ℕ)
+explanation path (faults.File fault) = file_explanation path fault
+explanation path (faults.ReadFault cause) = Some (note path (cause_text cause))
+explanation path (faults.Keep fault) = keep_explanation path fault
+explanation path (faults.KeptFile fault) = kept_explanation path fault
+explanation path (faults.FollowedFile fault) = followed_explanation path fault
+explanation path (faults.NotSaved cause) = Some (note path (change_text cause))
+explanation path fault = None
