@@ -149,7 +149,7 @@ extent_read (extent.NotBefore d) ok =
       reads = begins_reads not_before_begins read.reads;
       is = not_before_is read.is;
     }
-extent_read (extent.Token portion d) ok = absurd (cc)
+extent_read (extent.Part portion d) ok = absurd (cc)
 extent_read (extent.Feast feast year) ok = absurd (cc)
 
 -- ---- after the extent
@@ -254,7 +254,7 @@ extent_whole (extent.Before d) ok = date_whole d ok
 extent_whole (extent.NotAfter d) ok = date_whole d ok
 extent_whole (extent.After d) ok = date_whole d ok
 extent_whole (extent.NotBefore d) ok = date_whole d ok
-extent_whole (extent.Token portion d) ok = absurd (cc)
+extent_whole (extent.Part portion d) ok = absurd (cc)
 extent_whole (extent.Feast feast year) ok = absurd (cc)
 
 pub words_law : AreWordsRead

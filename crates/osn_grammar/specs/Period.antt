@@ -76,7 +76,7 @@ part_of_month portion.SecondHalf y m = extent.FromTo (day_in y m 16) (end_of y m
 -- a part of a month or a year, and not of a day
 abbrev pub part_of_date : Portion → Result PartialDate DateFault → Option Extent
 part_of_date p (Ok (date.Month year month)) = Some (part_of_month p year month)
-part_of_date p (Ok (date.Year year)) = Some (extent.Token p (date.Year year))
+part_of_date p (Ok (date.Year year)) = Some (extent.Part p (date.Year year))
 part_of_date p _ = None
 
 -- a part of a decade or a century is a range of years

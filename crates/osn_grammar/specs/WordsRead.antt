@@ -30,7 +30,7 @@ is_writable_extent (extent.Before d) = is_writable_date d
 is_writable_extent (extent.NotAfter d) = is_writable_date d
 is_writable_extent (extent.After d) = is_writable_date d
 is_writable_extent (extent.NotBefore d) = is_writable_date d
-is_writable_extent (extent.Token portion d) = false
+is_writable_extent (extent.Part portion d) = false
 is_writable_extent (extent.Feast feast year) = false
 
 abbrev pub is_writable : AnyDate → Bool

@@ -91,7 +91,7 @@ fn part_of_date(portion: Portion, whole: Result<PartialDate, DateFault>) -> Opti
 {
     match whole {
         Ok(PartialDate::Month { year, month }) => Some(part_of_month(portion, year, month)),
-        Ok(PartialDate::Year(year)) => Some(Extent::Token(portion, PartialDate::Year(year))),
+        Ok(PartialDate::Year(year)) => Some(Extent::Part(portion, PartialDate::Year(year))),
         _ => None,
     }
 }

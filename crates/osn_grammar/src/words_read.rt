@@ -44,7 +44,7 @@ pub fn is_writable(date: AnyDate) -> bool
 {
     match date.extent {
         Extent::FromTo(first, last) => is_writable_date(first) && is_writable_date(last),
-        Extent::Token(_, _) | Extent::Feast { .. } => false,
+        Extent::Part(_, _) | Extent::Feast { .. } => false,
         Extent::On(date)
         | Extent::Before(date)
         | Extent::NotAfter(date)

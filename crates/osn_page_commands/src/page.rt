@@ -91,7 +91,7 @@ fn territories_text(alloc: Global, edition: &Edition, is_json: bool) -> Result<S
         string_bytes text ≡ spec.territories_text (edition_model edition.now) is_json) }
 {
     if is_json {
-        query_line(alloc, edition, BorrowedQuery::Territories)
+        query_line(alloc, edition, BorrowedQuery::Lands)
     } else {
         territories_page(alloc, edition.register(), heading_of(edition))
     }
