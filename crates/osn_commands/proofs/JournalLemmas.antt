@@ -1,5 +1,6 @@
 -- The words of a command line with the file of the journal, by their texts.
-use Rattle.std.proofs.Common.{◌≡◌, ◌∙◌, ◌||◌, ℕ, ◌+◌, Bool, true, false, List, [], ◌∷◌, Option, Some}
+use Rattle.std.proofs.Common.{◌≡◌, ◌∙◌, ◌||◌, ℕ, ◌+◌, Bool, true, false, List, [], ◌∷◌, Option}
+use Rattle.std.proofs.Common.{Some}
 use Rattle.std.proofs.Common.{None, map, length, ap, refl, take, drop, sym, nat_lt}
 use Rattle.std.proofs.Common.{option_map, suc, cond, not, if◌then◌else◌}
 use Rattle.std.specs.Prelude.{slice_get}
@@ -9,7 +10,8 @@ use Rattle.std.proofs.lemmas.Option.{slice_get-map}
 use Rattle.std.proofs.lemmas.List.{take-map, drop-map, length-map, map-append}
 use Rattle.clap.specs.Words.{Text}
 use Rattle.osn_commands.specs.Journal.{file_after_equals, is_journal_option, is_repeated, option_at}
-use Rattle.osn_commands.specs.Journal.{with_file, with_named, with_next_file, with_option, with_path}
+use Rattle.osn_commands.specs.Journal.{with_file, with_named, with_next_file, with_option}
+use Rattle.osn_commands.specs.Journal.{with_path}
 use Rattle.osn_commands.proofs.TypedLemmas.{any_of_map}
 
 -- the place of what passes a test of what is read of it

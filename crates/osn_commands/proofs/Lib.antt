@@ -1,3 +1,11 @@
+pub mod KeptText
+pub mod EditionLaw
+pub mod EditionLemmas
+pub mod NoteLemmas
+pub mod FolderLemmas
+pub mod PlanLemmas
+pub mod PublishLemmas
+pub mod TextLemmas
 pub mod RunLemmas
 pub mod LimitsLemmas
 pub mod TypedLemmas

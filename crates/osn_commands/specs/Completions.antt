@@ -1,7 +1,7 @@
 -- The text that completes words, printed.
 use Rattle.std.specs.Prelude.{◌≡◌, List, ℕ, Option, Some, None}
-use Rattle.osn_completions.specs.Completions.{completions, shell_named}
-use Rattle.osn_completions.specs.declared.shell.Shell.{Shell}
+use Rattle.osn_invocation.specs.Completions.{completions, shell_named}
+use Rattle.osn_invocation.specs.declared.shell.Shell.{Shell}
 use Rattle.osn_lines.specs.Streams.{Output}
 use Rattle.osn_report.specs.Printing.{PrintsIfMade}
 use Rattle.osn_report.specs.Messages.{ReportsMisuse}

@@ -1,3 +1,16 @@
+pub mod TextFile
+pub mod Text
+pub mod PlanWords
+pub mod Note
+pub mod PlanFault
+pub mod Plan
+pub mod Edition
+pub mod Since
+pub mod Publish
+pub mod PublishInside
+pub mod Keeping
+pub mod InFolder
+pub mod PublishFolder
 pub mod Completions
 pub mod Limits
 pub mod Run

@@ -32,8 +32,8 @@ use Rattle.osn_report.specs.declared.status.Status.{Status}
 use Rattle.osn_report.specs.declared.status.Status.TheVariants as statuses
 use Rattle.osn_serve_commands.specs.InFolder.{RunsServing, opened_by}
 use Rattle.osn_serve_commands.specs.Mode.{mode_by}
-use Rattle.osn_text_commands.specs.InFolder.{PlansInFolder, RunsText}
-use Rattle.osn_text_commands.specs.PublishFolder.{PublishesInFolder}
+use Rattle.osn_commands.specs.InFolder.{PlansInFolder, RunsText}
+use Rattle.osn_commands.specs.PublishFolder.{PublishesInFolder}
 use Rattle.osn_commands.specs.Completions.{PrintsCompletions}
 use Rattle.osn_commands.specs.Help.{help_on}
 use Rattle.osn_commands.specs.Journal.{with_journal}

@@ -2,7 +2,7 @@
 ghost use Rattle.osn_commands.specs.Completions.{PrintsCompletions};
 ghost use Rattle.osn_lines.specs.Streams.{output_of};
 
-use osn_completions::{completions, shell_named};
+use osn_invocation::{completions, shell_named};
 use osn_lines::Sink;
 use osn_report::{Misuse, Status, print, report_misuse};
 use std::alloc::Global;

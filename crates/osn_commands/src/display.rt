@@ -8,9 +8,8 @@ ghost use Rattle.osn_report.specs.Messages.{ReportsNoWords};
 
 use clap::Error;
 use clap::error::ErrorKind;
-use osn_lines::Sink;
+use osn_lines::{EscapedLines, Sink};
 use osn_report::{Status, print, report_no_memory, write_line};
-use osn_shown::EscapedLines;
 use std::alloc::{AllocError, Global};
 use std::io;
 

@@ -1,15 +1,40 @@
-//! `run`, which does what a command line asks for over the files of a folder. What the crate
-//! promises to the program above: the command that the arguments ask for was run, under the limits
-//! and with the files that they name. Or the fault of the arguments was shown.
+//! `run`, which does what a command line asks for over the files of a folder, and the commands of
+//! the register as a text: `text` prints it, `plan` prints the edits that change a journal into
+//! what a text says, and `publish` makes them one edition. What the crate promises to the program
+//! above: the command that the arguments ask for was run, under the limits and with the files that
+//! they name. Or the fault of the arguments was shown. A publish leaves the file of the journal
+//! with the whole edition, or as it was, also if the journal is new or is rewritten. A command that
+//! ends early reports why in one line on standard error.
 #![tactic(auto)]
 
 mod completing;
 mod display;
+mod edition;
 mod help;
+mod in_folder;
 mod journal;
+mod keeping;
+mod kept_journal;
 mod limits;
+mod note;
+mod plan;
+mod plan_fault;
+mod plan_words;
 mod program;
+mod publish;
+mod publish_edits;
+mod since;
+mod text;
+mod text_file;
 mod typed;
 
 pub use display::report_no_words;
+pub use edition::WholeEdition;
+pub use in_folder::{plan_in_folder, text_in_folder};
+pub use kept_journal::publish_in_folder;
+pub use plan::plan_command;
 pub use program::run;
+pub use publish::publish_command;
+pub use publish_edits::NeedsRewrite;
+pub use since::PublishRequest;
+pub use text::text_command;

@@ -9,13 +9,15 @@ ghost use Rattle.osn_lines.specs.Streams.{input_of, output_of};
 ghost use Rattle.osn_report.specs.Folders.{folders_of};
 ghost use Rattle.osn_report.specs.Printing.{PrintsOrReports};
 ghost use Rattle.osn_report.specs.declared.fault.CommandFault.{CommandFault};
-ghost use Rattle.osn_text_commands.specs.PublishInside.{CanStay};
+ghost use Rattle.osn_commands.specs.PublishInside.{CanStay};
 ghost use Rattle.osn_commands.specs.Run.{Fails, Runs, RunsArgs, RunsInvocation, RunsWords};
 
 use crate::completing::completions_command;
 use crate::display::show;
 use crate::help::help_on;
+use crate::in_folder::{plan_in_folder, text_in_folder};
 use crate::journal::with_journal;
+use crate::kept_journal::publish_in_folder;
 use crate::limits::limits_of_words;
 use osn_file_commands::{audit_in_folder, desk_in_folder, replay_in_folder};
 use osn_folder::{Folder, OpenFailed};
@@ -27,7 +29,6 @@ use osn_report::{
     CommandFault, Failure, Status, print_or_report, report_at, report_misuse, report_no_memory,
 };
 use osn_serve_commands::serve_in_folder;
-use osn_text_commands::{plan_in_folder, publish_in_folder, text_in_folder};
 use std::convert::AsStr;
 use std::sync::Wait;
 use std::thread::Threads;

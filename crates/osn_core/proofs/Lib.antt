@@ -9,3 +9,4 @@ pub mod Owed
 pub mod Runs
 pub mod Editor
 pub mod Forward
+pub mod BatchLemmas

@@ -8,3 +8,4 @@ pub mod LiveAndStandby
 pub mod LiveAndStandbyInside
 pub mod CoreInside
 pub mod History
+pub mod Edition

@@ -1,12 +1,17 @@
 //! The sequential object over the register, and the machine that readers and one editor step over
 //! two copies of it. What the crate promises to those above: over every list of steps, the editor
 //! and the readers get what the sequential object gives them. Each query is answered as at the
-//! place where its reader entered.
+//! place where its reader entered. The editions of a journal that are looked at. The crate
+//! guarantees that an edition that is asked for by its number has the register of the first
+//! batches, as many as that number, and no pending edit. Without a number it is the newest one. A
+//! number that is greater than that of the newest edition is refused.
 #![tactic(auto)]
 
 mod batch;
 mod command;
 mod draft;
+mod edition;
+mod edition_word;
 mod live_and_standby;
 mod machine;
 mod object;
@@ -19,6 +24,8 @@ mod step;
 pub use batch::Batch;
 pub use command::Command;
 pub use draft::Draft;
+pub use edition::{Edition, EditionFault, edition_of};
+pub use edition_word::edition_of_word;
 pub use machine::{Core, MOST_READERS};
 pub use object::Object;
 pub use run::replay;

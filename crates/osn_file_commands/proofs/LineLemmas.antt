@@ -8,7 +8,7 @@ use Rattle.std.specs.List.{flat_map}
 use Rattle.std.specs.declared.alloc.Global.{Global}
 use Rattle.osn_register.specs.declared.query.Query.{Query}
 use Rattle.osn_core.specs.declared.step.Reply.{Reply}
-use Rattle.osn_reply.specs.Transcript.{transcript_line}
+use Rattle.osn_service.specs.Transcript.{transcript_line}
 use Rattle.osn_file_commands.specs.Transcript.{reader_lines, transcript_from}
 
 flat_map_next : {X A : Type 0} (f : X → List A) (xs : List X) (i : ℕ) (d : X) → i < length xs

@@ -6,7 +6,7 @@ use Rattle.osn_core.specs.Sequential.{ObjectState}
 use Rattle.osn_lines.specs.Streams.{Input}
 use Rattle.osn_files.specs.declared.fault.FileFault.{FileFault}
 use Rattle.osn_files.specs.declared.fault.Role.TheVariants.{Transcript}
-use Rattle.osn_audit.specs.Audit.{agreed_lines}
+use Rattle.osn_file_commands.specs.TranscriptAudit.{agreed_lines}
 use Rattle.osn_report.specs.Files.{Makes, IsFileFault}
 use Rattle.osn_report.specs.Journal.{MakesObject, MakesNoObject}
 use Rattle.osn_report.specs.declared.fault.CommandFault.{CommandFault}

@@ -1,3 +1,10 @@
+pub mod TranscriptAudit
+pub mod AuditLaw
+pub mod AuditFiles
+pub mod AuditStanding
+pub mod AuditInside
+pub mod InsideFollower
+pub mod InsideFollowers
 pub mod Audit
 pub mod Replay
 pub mod Transcript

@@ -11,7 +11,7 @@ use Rattle.osn_lines.specs.Streams.{Input}
 use Rattle.osn_files.specs.Schedule.{schedule}
 use Rattle.osn_files.specs.declared.fault.FileFault.{FileFault}
 use Rattle.osn_files.specs.declared.fault.Role.TheVariants.{Schedule}
-use Rattle.osn_reply.specs.OutText.{out_line}
+use Rattle.osn_service.specs.OutText.{out_line}
 use Rattle.osn_report.specs.Files.{Makes, IsFileFault}
 use Rattle.osn_report.specs.declared.fault.CommandFault.{CommandFault}
 use Rattle.osn_report.specs.declared.fault.CommandFault.TheVariants.{File, NoMemory, Refused}

@@ -15,7 +15,7 @@ use Rattle.osn_files.specs.Questions.{questions}
 use Rattle.osn_files.specs.Script.{script}
 use Rattle.osn_files.specs.declared.fault.FileFault.{FileFault}
 use Rattle.osn_files.specs.declared.fault.Role.TheVariants.{Script, Questions}
-use Rattle.osn_reply.specs.Transcript.{transcript_line}
+use Rattle.osn_service.specs.Transcript.{transcript_line}
 use Rattle.osn_report.specs.Files.{Makes, IsFileFault}
 use Rattle.osn_report.specs.declared.fault.CommandFault.{CommandFault}
 use Rattle.osn_report.specs.declared.fault.CommandFault.TheVariants.{Desk, File, NoMemory}

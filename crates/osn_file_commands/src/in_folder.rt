@@ -7,7 +7,7 @@ ghost use Rattle.osn_file_commands.specs.Transcript.{Transcribes, TranscribesNot
 ghost use Rattle.osn_report.specs.Failure as spec;
 ghost use Rattle.osn_report.specs.Folders.{ReadsOne, ReadsTwo, folders_of};
 
-use crate::audit::audit_command;
+use crate::audit_outcome::audit_command;
 use crate::desk::desk_command;
 use crate::replay::replay_command;
 use osn_folder::{Folder, open_both, open_named};

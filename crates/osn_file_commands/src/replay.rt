@@ -2,15 +2,15 @@
 ghost use Rattle.std.specs.Prelude.{◌≡◌, IfErr, IfOk, string_bytes};
 ghost use Rattle.std.specs.List.{flat_map};
 ghost use Rattle.osn_lines.specs.Streams.{input_of};
-ghost use Rattle.osn_reply.specs.OutText.{out_line};
+ghost use Rattle.osn_service.specs.OutText.{out_line};
 ghost use Rattle.osn_file_commands.specs.Replay.{Replays, ReplayFails, StepsFail, StepsGive};
 
 use osn_core::{Out, Step, replay};
 use osn_files::read_schedule;
 use osn_lines::Source;
 use osn_register::Limits;
-use osn_reply::out_text;
 use osn_report::CommandFault;
+use osn_service::out_text;
 use std::alloc::{AllocError, Global};
 
 /// Returns the lines of what steps gave, one for each.

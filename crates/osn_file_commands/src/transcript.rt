@@ -4,7 +4,7 @@ ghost use Rattle.osn_file_commands.specs.Transcript as spec;
 
 use osn_core::Reply;
 use osn_register::Query;
-use osn_reply::transcript_text;
+use osn_service::transcript_text;
 use std::alloc::{AllocError, Global};
 
 /// Appends the lines of one reader.

@@ -16,7 +16,7 @@ use Rattle.osn_register.specs.Plain as plain
 use Rattle.osn_register.specs.Plain.{EntryModel, refusal}
 use Rattle.osn_register.specs.Refusal.{or_else}
 use Rattle.osn_core.specs.declared.command.Command.{Command}
-use Rattle.osn_format.specs.declared.version.Version.{Version}
+use Rattle.osn_request.specs.declared.version.Version.{Version}
 use Rattle.osn_request.specs.Request.{object_of}
 use Rattle.osn_files.specs.Commands.{command_in}
 use Rattle.osn_files.specs.JournalText.{line_text}

@@ -23,8 +23,8 @@ use Rattle.osn_territory.specs.declared.style.Style.TheVariants as styles
 use Rattle.osn_territory.specs.StyleWords.{style_word, style_named}
 use Rattle.osn_register.specs.Code.{is_code, is_name, is_code_byte, is_capital}
 use Rattle.osn_register.specs.Sources.{IsGiven, is_source}
-use Rattle.osn_format.specs.Json.{source_member}
-use Rattle.osn_format.specs.declared.member.Member.TheVariants as members
+use Rattle.osn_request.specs.Json.{source_member}
+use Rattle.osn_request.specs.declared.member.Member.TheVariants as members
 use Rattle.osn_request.specs.Field.{text_at, regime_of}
 use Rattle.osn_files.proofs.TextFacts.{Fits, Fits-string, Fit, Fit-member}
 

@@ -7,7 +7,7 @@ use Rattle.std.proofs.lemmas.Bool.{lt-ltb}
 use Rattle.std.proofs.lemmas.List.{take_min}
 use Rattle.std.specs.Prelude.{min, not, is_ok, is_some, nat_eq, if◌then◌else◌}
 use Rattle.std.specs.List.{starts_with}
-use Rattle.osn_format.specs.Version.{plain_version}
+use Rattle.osn_request.specs.Version.{plain_version}
 use Rattle.osn_request.specs.Request.{value_of}
 use Rattle.osn_files.specs.JournalText.{line_text}
 use Rattle.osn_files.specs.LastLine.{is_unfinished, last_line}

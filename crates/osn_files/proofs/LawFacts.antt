@@ -27,7 +27,7 @@ use Rattle.osn_core.specs.Sequential.{NoneEmpty, IsSound, stage_refusal, publish
 use Rattle.osn_core.specs.Sequential.{draft_territories}
 use Rattle.osn_core.proofs.Batches.{joined-push}
 use Rattle.osn_request.specs.Request.{object_of}
-use Rattle.osn_format.specs.declared.version.Version.{Version}
+use Rattle.osn_request.specs.declared.version.Version.{Version}
 use Rattle.osn_files.specs.declared.fault.LineFault.{LineFault}
 use Rattle.osn_files.specs.Journal.{after_command, after_object, load}
 use Rattle.osn_files.specs.Turns.{on_read, go_on, in_turn}

@@ -12,8 +12,8 @@ use Rattle.osn_core.specs.Sequential.{ObjectState, IsSound, opened, with_pending
 use Rattle.osn_core.specs.Sequential.{draft_territories}
 use Rattle.osn_lines.specs.Lines.{lines, EndsWithFeed}
 use Rattle.osn_lines.proofs.FeedLemmas.{lines-append}
-use Rattle.osn_format.specs.declared.version.Version.{Version}
-use Rattle.osn_format.specs.declared.wire_fault.WireFault.{WireFault}
+use Rattle.osn_request.specs.declared.version.Version.{Version}
+use Rattle.osn_request.specs.declared.wire_fault.WireFault.{WireFault}
 use Rattle.osn_request.specs.Request.{object_of}
 use Rattle.osn_files.specs.declared.fault.LineFault.{LineFault}
 use Rattle.osn_files.specs.Journal.{load, after_object, after_command}

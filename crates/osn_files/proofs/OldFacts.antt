@@ -16,14 +16,14 @@ use Rattle.osn_register.specs.declared.edit.Edit.TheVariants.{DropChange, AddExc
 use Rattle.osn_register.specs.declared.edit.Edit.TheVariants.{DropException}
 use Rattle.osn_core.specs.declared.command.Command.{Command}
 use Rattle.osn_core.specs.declared.command.Command.TheVariants.{Stage, Publish}
-use Rattle.osn_format.specs.declared.member.Member.TheVariants as members
+use Rattle.osn_request.specs.declared.member.Member.TheVariants as members
 use Rattle.osn_request.specs.declared.request.op.Op.{Op}
 use Rattle.osn_request.specs.declared.request.op.Op.TheVariants as ops
 use Rattle.osn_request.specs.declared.request.op.EditOp.{EditOp}
 use Rattle.osn_request.specs.declared.request.op.EditOp.TheVariants as edit_ops
-use Rattle.osn_format.specs.declared.version.Version.TheVariants.{First}
-use Rattle.osn_format.specs.declared.wire_fault.WireFault.{WireFault}
-use Rattle.osn_format.specs.declared.wire_fault.WireFault.TheVariants.{BadField}
+use Rattle.osn_request.specs.declared.version.Version.TheVariants.{First}
+use Rattle.osn_request.specs.declared.wire_fault.WireFault.{WireFault}
+use Rattle.osn_request.specs.declared.wire_fault.WireFault.TheVariants.{BadField}
 use Rattle.osn_request.specs.EditRequest.{edit_of, add_land_of, add_change_of, alter_change_of}
 use Rattle.osn_request.specs.EditRequest.{drop_change_of, add_exception_of, drop_exception_of}
 use Rattle.osn_request.specs.Field.{◌>>=◌, or_fault, text_at, whole_at, word_at, style_at}

@@ -11,8 +11,8 @@ use native.Mathlib.Nat.{max-zero, zero-max, suc-max-suc, le-max_left, le-max_rig
 use Rattle.serde_json.specs.Data.{Data}
 use Rattle.osn_register.specs.declared.query.Query.{Query}
 use Rattle.osn_request.specs.Request.{object_of}
-use Rattle.osn_format.specs.declared.version.Version.{Version}
-use Rattle.osn_format.specs.Version.{newest_version}
+use Rattle.osn_request.specs.declared.version.Version.{Version}
+use Rattle.osn_request.specs.Version.{newest_version}
 use Rattle.osn_files.specs.Questions.{query_by, queries_of, greatest_reader, by_reader}
 use Rattle.osn_files.specs.Questions.{question_in, with_question, all_by_reader, questions}
 use Rattle.osn_files.specs.QuestionsInside.{with_query_at, with_query, with_object}

@@ -15,11 +15,11 @@ use Rattle.osn_lines.specs.Taking.{TakesAll, TakesFirst, TakesEnded, StopsAfter}
 use Rattle.osn_lines.specs.Taking.{HasKeptUp}
 use Rattle.osn_request.specs.declared.request.RequestError.{RequestError}
 use Rattle.osn_request.specs.declared.request.RequestError.TheVariants as errors
-use Rattle.osn_format.specs.declared.wire_fault.WireFault.{WireFault}
-use Rattle.osn_format.specs.declared.wire_fault.WireFault.TheVariants.{BadHead}
+use Rattle.osn_request.specs.declared.wire_fault.WireFault.{WireFault}
+use Rattle.osn_request.specs.declared.wire_fault.WireFault.TheVariants.{BadHead}
 use Rattle.osn_request.specs.Field.{◌>>=◌, or_fault}
 use Rattle.osn_request.specs.Request.{object_of, Fails}
-use Rattle.osn_format.specs.declared.version.Version.{Version}
+use Rattle.osn_request.specs.declared.version.Version.{Version}
 use Rattle.osn_files.specs.declared.fault.LineFault.{LineFault}
 use Rattle.osn_files.specs.declared.fault.LineFault.TheVariants.{Wire}
 use Rattle.osn_files.specs.declared.fault.Role.{Role}

@@ -23,9 +23,9 @@ use Rattle.osn_core.specs.Sequential.{HasLawfulSource}
 use Rattle.osn_core.specs.declared.command.Command.TheVariants.{Stage, Publish}
 use Rattle.osn_request.specs.EditRequest.{add_land_of, add_change_of, alter_change_of}
 use Rattle.osn_request.specs.EditRequest.{drop_change_of, add_exception_of, drop_exception_of}
-use Rattle.osn_format.specs.declared.version.Version.{Version}
-use Rattle.osn_format.specs.declared.version.Version.TheVariants.{First, Second, Fourth}
-use Rattle.osn_format.specs.Version.{newest_version, version_number}
+use Rattle.osn_request.specs.declared.version.Version.{Version}
+use Rattle.osn_request.specs.declared.version.Version.TheVariants.{First, Second, Fourth}
+use Rattle.osn_request.specs.Version.{newest_version, version_number}
 use Rattle.osn_files.specs.Commands.{command_in}
 use Rattle.osn_files.specs.JournalText.{change_data, edit_data, publish_data}
 use Rattle.osn_files.specs.Loaded.{HasEdit}

@@ -24,7 +24,7 @@ use Rattle.serde_json.proofs.Texts.{print-outline}
 use Rattle.osn_lines.specs.Inside.{HasNoFeed}
 use Rattle.osn_lines.specs.Lines.{lines}
 use Rattle.osn_lines.proofs.LineLemmas.{HasNoFeed-append, lines-feed}
-use Rattle.osn_format.specs.declared.wire_fault.WireFault.TheVariants.{LineTooLong}
+use Rattle.osn_request.specs.declared.wire_fault.WireFault.TheVariants.{LineTooLong}
 use Rattle.osn_request.specs.Request.{object_of, object_in, value_of}
 use Rattle.osn_files.specs.JournalText.{line_text}
 use Rattle.osn_files.proofs.ByteFacts.{length-quoted, HasNoFeed-quoted, HasNoFeed-decimal}

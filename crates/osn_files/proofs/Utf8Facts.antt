@@ -9,8 +9,8 @@ use Rattle.osn_register.specs.declared.limits.Limits.{Limits}
 use Rattle.osn_register.specs.Lawful.{AreLawful}
 use Rattle.osn_register.specs.Plain.{EntryModel, effect, applied_all}
 use Rattle.osn_core.specs.Sequential.{ObjectState, HasLawfulSource, joined, IsSound}
-use Rattle.osn_format.specs.declared.version.Version.{Version}
-use Rattle.osn_format.specs.Version.{newest_version}
+use Rattle.osn_request.specs.declared.version.Version.{Version}
+use Rattle.osn_request.specs.Version.{newest_version}
 use Rattle.osn_files.specs.JournalText.{edits_text, batches_text, journal_text_of}
 use Rattle.osn_files.proofs.LawFacts.{lawful_front, lawful_rest, each_first, each_after}
 use Rattle.osn_files.proofs.SaysFacts.{Says-publish, Says-lawful, IsLine-head}

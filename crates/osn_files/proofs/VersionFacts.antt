@@ -20,13 +20,13 @@ use Rattle.osn_register.specs.declared.edit.Edit.TheVariants.{DropChange, AddExc
 use Rattle.osn_register.specs.declared.edit.Edit.TheVariants.{DropException}
 use Rattle.osn_core.specs.Sequential.{ObjectState, joined}
 use Rattle.osn_core.specs.declared.command.Command.TheVariants.{Stage}
-use Rattle.osn_format.specs.declared.member.Member.TheVariants as members
-use Rattle.osn_format.specs.declared.version.Version.{Version}
-use Rattle.osn_format.specs.declared.version.Version.TheVariants.{Fourth}
-use Rattle.osn_format.specs.declared.wire_fault.WireFault.{WireFault}
-use Rattle.osn_format.specs.declared.wire_fault.WireFault.TheVariants.{BadField}
-use Rattle.osn_format.specs.Member.{member_name}
-use Rattle.osn_format.specs.Version.{newest_version, plain_version, rules_of, has_sources}
+use Rattle.osn_request.specs.declared.member.Member.TheVariants as members
+use Rattle.osn_request.specs.declared.version.Version.{Version}
+use Rattle.osn_request.specs.declared.version.Version.TheVariants.{Fourth}
+use Rattle.osn_request.specs.declared.wire_fault.WireFault.{WireFault}
+use Rattle.osn_request.specs.declared.wire_fault.WireFault.TheVariants.{BadField}
+use Rattle.osn_request.specs.Member.{member_name}
+use Rattle.osn_request.specs.Version.{newest_version, plain_version, rules_of, has_sources}
 use Rattle.osn_request.specs.declared.request.op.Op.{Op}
 use Rattle.osn_request.specs.declared.request.op.Op.TheVariants as ops
 use Rattle.osn_request.specs.declared.request.op.EditOp.{EditOp}

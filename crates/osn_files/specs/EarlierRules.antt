@@ -6,7 +6,7 @@ use Rattle.osn_register.specs.declared.edit.Edit.{Edit}
 use Rattle.osn_register.specs.declared.limits.Limits.{Limits}
 use Rattle.osn_register.specs.Plain.{folded}
 use Rattle.osn_core.specs.Sequential.{ObjectState, joined}
-use Rattle.osn_format.specs.declared.version.Version.TheVariants.{First}
+use Rattle.osn_request.specs.declared.version.Version.TheVariants.{First}
 use Rattle.osn_files.specs.Journal.{load}
 use Rattle.osn_files.specs.Version.{version_of}
 

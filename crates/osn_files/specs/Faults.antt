@@ -3,7 +3,7 @@
 use Rattle.std.specs.Prelude.{◌≡◌, ℕ, Bool, List, Option}
 use Rattle.osn_lines.specs.Faults.{IsReadFault}
 use Rattle.osn_register.specs.Refusal.{refusal_number, refusal_name}
-use Rattle.osn_format.specs.WireFault.{wire_fault_number, wire_fault_name}
+use Rattle.osn_request.specs.WireFault.{wire_fault_number, wire_fault_name}
 use Rattle.osn_files.specs.declared.fault.LineFault.{LineFault}
 use Rattle.osn_files.specs.declared.fault.LineFault.TheVariants.{Wire, Register}
 use Rattle.osn_files.specs.declared.fault.Role.{Role}

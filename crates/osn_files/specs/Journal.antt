@@ -9,7 +9,7 @@ use Rattle.osn_core.specs.declared.command.Command.{Command}
 use Rattle.osn_core.specs.declared.command.Command.TheVariants.{Stage, Publish}
 use Rattle.osn_core.specs.Sequential.{ObjectState, opened, with_pending, with_edition}
 use Rattle.osn_core.specs.Sequential.{stage_refusal, publish_refusal}
-use Rattle.osn_format.specs.declared.version.Version.{Version}
+use Rattle.osn_request.specs.declared.version.Version.{Version}
 use Rattle.osn_files.specs.declared.fault.LineFault.{LineFault}
 use Rattle.osn_files.specs.declared.fault.LineFault.TheVariants.{Register}
 use Rattle.osn_files.specs.Commands.{command_in}

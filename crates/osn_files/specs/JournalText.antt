@@ -16,10 +16,10 @@ use Rattle.osn_register.specs.declared.edit.Edit.TheVariants.{DropChange, AddExc
 use Rattle.osn_register.specs.declared.edit.Edit.TheVariants.{DropException}
 use Rattle.osn_register.specs.Lawful.{source_given}
 use Rattle.osn_core.specs.Sequential.{ObjectState}
-use Rattle.osn_format.specs.Json.{signed, source_member}
-use Rattle.osn_format.specs.declared.version.Version.{Version}
-use Rattle.osn_format.specs.declared.version.Version.TheVariants.{Fourth}
-use Rattle.osn_format.specs.Version.{plain_version}
+use Rattle.osn_request.specs.Json.{signed, source_member}
+use Rattle.osn_request.specs.declared.version.Version.{Version}
+use Rattle.osn_request.specs.declared.version.Version.TheVariants.{Fourth}
+use Rattle.osn_request.specs.Version.{plain_version}
 use Rattle.osn_files.specs.Version.{head_data}
 
 -- what an edit of this op asks for that changes the regime of a territory from a day on

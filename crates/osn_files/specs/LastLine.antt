@@ -5,7 +5,7 @@ use Rattle.std.specs.Prelude.{nat_lt, not, is_some, if◌then◌else◌}
 use Rattle.std.specs.List.{starts_with}
 use Rattle.osn_lines.specs.Lines.{longest_line}
 use Rattle.osn_request.specs.Request.{value_of}
-use Rattle.osn_format.specs.Version.{plain_version}
+use Rattle.osn_request.specs.Version.{plain_version}
 use Rattle.osn_files.specs.JournalText.{line_text}
 use Rattle.osn_files.specs.Version.{head_data}
 use Rattle.osn_files.specs.declared.last_line.LastLine.{LastLine}

@@ -14,8 +14,8 @@ use Rattle.osn_core.specs.Sequential.{ObjectState, HasLawfulSource, joined, with
 use Rattle.osn_core.specs.Sequential.{with_edition}
 use Rattle.osn_core.specs.Sequential.{stage_refusal, publish_refusal}
 use Rattle.osn_lines.specs.Lines.{lines, EndsWithFeed}
-use Rattle.osn_format.specs.declared.version.Version.{Version}
-use Rattle.osn_format.specs.Version.{rules_of, has_sources}
+use Rattle.osn_request.specs.declared.version.Version.{Version}
+use Rattle.osn_request.specs.Version.{rules_of, has_sources}
 use Rattle.osn_files.specs.Journal.{load}
 use Rattle.osn_files.specs.JournalText.{edit_data, publish_data, line_text}
 use Rattle.osn_files.specs.Version.{version_of}

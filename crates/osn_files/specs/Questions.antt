@@ -8,13 +8,13 @@ use Rattle.serde_json.specs.Data.{Data}
 use Rattle.osn_register.specs.declared.query.Query.{Query}
 use Rattle.osn_request.specs.declared.request.op.Op.{Op}
 use Rattle.osn_request.specs.declared.request.op.Op.TheVariants as ops
-use Rattle.osn_format.specs.declared.wire_fault.WireFault.{WireFault}
-use Rattle.osn_format.specs.declared.wire_fault.WireFault.TheVariants.{NotAQuery}
+use Rattle.osn_request.specs.declared.wire_fault.WireFault.{WireFault}
+use Rattle.osn_request.specs.declared.wire_fault.WireFault.TheVariants.{NotAQuery}
 use Rattle.osn_request.specs.Field.{◌>>=◌}
 use Rattle.osn_request.specs.Op.{op_of}
 use Rattle.osn_request.specs.QueryRequest.{query_of}
-use Rattle.osn_format.specs.declared.version.Version.{Version}
-use Rattle.osn_format.specs.Version.{newest_version}
+use Rattle.osn_request.specs.declared.version.Version.{Version}
+use Rattle.osn_request.specs.Version.{newest_version}
 use Rattle.osn_files.specs.declared.fault.LineFault.{LineFault}
 use Rattle.osn_files.specs.Turns.{on_read, in_turn}
 

@@ -2,7 +2,7 @@
 use Rattle.std.specs.Prelude.{ℕ, zero, suc, List, [], ◌∷◌, ◌++◌, Result, Ok}
 use Rattle.serde_json.specs.Data.{Data}
 use Rattle.osn_register.specs.declared.query.Query.{Query}
-use Rattle.osn_format.specs.declared.version.Version.{Version}
+use Rattle.osn_request.specs.declared.version.Version.{Version}
 use Rattle.osn_files.specs.declared.fault.LineFault.{LineFault}
 use Rattle.osn_files.specs.Questions.{question_in}
 use Rattle.osn_files.specs.Turns.{on_read}

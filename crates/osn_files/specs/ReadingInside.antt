@@ -2,9 +2,9 @@
 use Rattle.std.specs.Prelude.{◌≡◌, ◌+◌, ◌<◌, ℕ, List, [], ◌∷◌, ◌++◌, length, Option, Some, None}
 use Rattle.std.specs.Prelude.{Result, Ok, Err, IfErr}
 use Rattle.serde_json.specs.Data.{Data}
-use Rattle.osn_format.specs.declared.wire_fault.WireFault.TheVariants.{BadHead}
+use Rattle.osn_request.specs.declared.wire_fault.WireFault.TheVariants.{BadHead}
 use Rattle.osn_request.specs.Field.{or_fault}
-use Rattle.osn_format.specs.declared.version.Version.{Version}
+use Rattle.osn_request.specs.declared.version.Version.{Version}
 use Rattle.osn_files.specs.declared.fault.LineFault.{LineFault}
 use Rattle.osn_files.specs.declared.reading.Reading.{Reading}
 use Rattle.osn_files.specs.declared.stop.LineStop.{LineStop}

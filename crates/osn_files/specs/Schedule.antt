@@ -5,17 +5,17 @@ use Rattle.serde_json.specs.Data.{Data}
 use Rattle.osn_days.specs.Keyword.{meaning}
 use Rattle.osn_core.specs.declared.step.Step.{Step}
 use Rattle.osn_core.specs.declared.step.Step.TheVariants as steps
-use Rattle.osn_format.specs.declared.member.Member.TheVariants as members
+use Rattle.osn_request.specs.declared.member.Member.TheVariants as members
 use Rattle.osn_request.specs.declared.request.op.Op.{Op}
 use Rattle.osn_request.specs.declared.request.op.Op.TheVariants as ops
-use Rattle.osn_format.specs.declared.wire_fault.WireFault.{WireFault}
-use Rattle.osn_format.specs.declared.wire_fault.WireFault.TheVariants.{UnknownOp, UnknownStep}
+use Rattle.osn_request.specs.declared.wire_fault.WireFault.{WireFault}
+use Rattle.osn_request.specs.declared.wire_fault.WireFault.TheVariants.{UnknownOp, UnknownStep}
 use Rattle.osn_request.specs.EditRequest.{edit_of}
 use Rattle.osn_request.specs.Field.{◌>>=◌, or_fault, text_at, whole_at}
 use Rattle.osn_request.specs.Op.{op_of}
 use Rattle.osn_request.specs.QueryRequest.{query_of, reader_in}
-use Rattle.osn_format.specs.declared.version.Version.{Version}
-use Rattle.osn_format.specs.Version.{newest_version}
+use Rattle.osn_request.specs.declared.version.Version.{Version}
+use Rattle.osn_request.specs.Version.{newest_version}
 use Rattle.osn_files.specs.declared.fault.LineFault.{LineFault}
 use Rattle.osn_files.specs.declared.step_line.StepKind.{StepKind}
 use Rattle.osn_files.specs.declared.step_line.StepKind.TheVariants as kinds

@@ -2,10 +2,10 @@
 -- profile.
 use Rattle.std.specs.Prelude.{ℕ, ◌+◌, List, [], ◌∷◌, Option, Some, None, Result, Ok, Err}
 use Rattle.serde_json.specs.Data.{Data}
-use Rattle.osn_format.specs.declared.wire_fault.WireFault.{WireFault}
-use Rattle.osn_format.specs.declared.wire_fault.WireFault.TheVariants.{BadHead}
+use Rattle.osn_request.specs.declared.wire_fault.WireFault.{WireFault}
+use Rattle.osn_request.specs.declared.wire_fault.WireFault.TheVariants.{BadHead}
 use Rattle.osn_request.specs.Request.{object_of}
-use Rattle.osn_format.specs.declared.version.Version.{Version}
+use Rattle.osn_request.specs.declared.version.Version.{Version}
 use Rattle.osn_files.specs.declared.fault.LineFault.{LineFault}
 use Rattle.osn_files.specs.declared.fault.LineFault.TheVariants.{Wire}
 use Rattle.osn_files.specs.Version.{version_of}

@@ -2,15 +2,15 @@
 use Rattle.std.specs.Prelude.{List, ℕ, Option, option_and_then, Result}
 use Rattle.serde_json.specs.Data.{Data, object, member, no_members}
 use Rattle.serde_json.specs.Find.{get, as_number, as_i64}
-use Rattle.osn_format.specs.declared.member.Member.TheVariants as members
-use Rattle.osn_format.specs.declared.wire_fault.WireFault.{WireFault}
-use Rattle.osn_format.specs.declared.wire_fault.WireFault.TheVariants.{BadHead}
+use Rattle.osn_request.specs.declared.member.Member.TheVariants as members
+use Rattle.osn_request.specs.declared.wire_fault.WireFault.{WireFault}
+use Rattle.osn_request.specs.declared.wire_fault.WireFault.TheVariants.{BadHead}
 use Rattle.osn_request.specs.Field.{◌>>=◌, or_fault}
-use Rattle.osn_format.specs.Member.{member_name}
+use Rattle.osn_request.specs.Member.{member_name}
 use Rattle.osn_request.specs.Request.{object_of}
-use Rattle.osn_format.specs.Json.{whole}
-use Rattle.osn_format.specs.Version.{version_number, version_numbered}
-use Rattle.osn_format.specs.declared.version.Version.{Version}
+use Rattle.osn_request.specs.Json.{whole}
+use Rattle.osn_request.specs.Version.{version_number, version_numbered}
+use Rattle.osn_request.specs.declared.version.Version.{Version}
 
 -- the version that the object of a head says
 abbrev pub version_in : Data → Option Version

@@ -4,7 +4,7 @@ use Rattle.json.specs.Token.{Token}
 use Rattle.json.specs.Tree.{members_tokens}
 use Rattle.serde_json.specs.Data.{Data, string, object, Members, member, no_members}
 use Rattle.serde_json.specs.Written.{members_outline}
-use Rattle.osn_format.specs.Json.{signed, source_member}
+use Rattle.osn_request.specs.Json.{signed, source_member}
 use Rattle.osn_files.specs.declared.written.Field.{Field}
 use Rattle.osn_files.specs.declared.written.Field.TheVariants.{Text, Signed, Source}
 

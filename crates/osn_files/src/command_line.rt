@@ -4,8 +4,7 @@ ghost use Rattle.osn_request.specs.Request.{GivesLast};
 ghost use Rattle.osn_files.specs.Commands as spec;
 
 use osn_core::Command;
-use osn_format::{Version, WireFault};
-use osn_request::{LineObject, Op, RequestError, edit_of, op_of};
+use osn_request::{LineObject, Op, RequestError, Version, WireFault, edit_of, op_of};
 use std::alloc::Global;
 
 /// Returns the command of a line's object by the rules of a version.

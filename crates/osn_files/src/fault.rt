@@ -2,8 +2,8 @@
 ghost use Rattle.std.specs.Prelude.{◌≡◌};
 ghost use Rattle.osn_files.specs.Faults.{line_fault_number, line_fault_name};
 
-use osn_format::WireFault;
 use osn_register::Refusal;
+use osn_request::WireFault;
 use thiserror::Error;
 
 /// What a file is read as.

@@ -13,9 +13,9 @@ ghost use Rattle.osn_files.specs.declared.fault.Role.TheVariants.{Journal};
 use crate::fault::{FileFault, Role};
 use crate::reading::read_file;
 use osn_core::Object;
-use osn_format::Version;
 use osn_lines::Source;
 use osn_register::Limits;
+use osn_request::Version;
 use std::alloc::Global;
 
 /// Loads the object of a journal, which is a head and then edits and publishes, a line each. They

@@ -1,7 +1,7 @@
 //! The state of a file's last line: whether its line feed is there, or it was not finished.
 ghost use Rattle.std.specs.Prelude.{◌≡◌, ◌≤◌, ℕ, List, [], ◌++◌, IfOk, OnOk, length, nat_eq};
 ghost use Rattle.std.specs.List.{starts_with};
-ghost use Rattle.osn_format.specs.Version.{plain_version};
+ghost use Rattle.osn_request.specs.Version.{plain_version};
 ghost use Rattle.osn_files.specs.JournalText.{line_text};
 ghost use Rattle.osn_files.specs.LastLine as spec;
 ghost use Rattle.osn_files.specs.LastLineInside.{IsFrontOf};
@@ -9,9 +9,8 @@ ghost use Rattle.osn_files.specs.Version.{head_data};
 
 use crate::written::head_line;
 use json::Scratch;
-use osn_format::WireFault;
 use osn_lines::{LONGEST_LINE, Line};
-use osn_request::{RequestError, object_of};
+use osn_request::{RequestError, WireFault, object_of};
 use std::alloc::{AllocError, Global};
 
 /// The room that a head gets at first.

@@ -6,9 +6,8 @@ ghost use Rattle.osn_files.specs.QuestionsInside.{with_query_at, with_query};
 use crate::question_line::question_in;
 use crate::reading::LineFold;
 use crate::stop::LineStop;
-use osn_format::Version;
 use osn_register::Query;
-use osn_request::LineObject;
+use osn_request::{LineObject, Version};
 use std::alloc::{AllocError, Global};
 use std::marker::Model;
 

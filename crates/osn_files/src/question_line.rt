@@ -5,9 +5,8 @@ ghost use Rattle.osn_request.specs.Request.{GivesLast};
 ghost use Rattle.osn_files.specs.Questions as spec;
 
 use osn_core::MOST_READERS;
-use osn_format::WireFault;
 use osn_register::Query;
-use osn_request::{JsonObject, LineQuery, Op, RequestError, line_query_of, op_of};
+use osn_request::{JsonObject, LineQuery, Op, RequestError, WireFault, line_query_of, op_of};
 use std::alloc::Global;
 
 /// Returns the reader who asks, from 1 to 64, and the query, of the object of a request, with texts

@@ -7,9 +7,9 @@ ghost use Rattle.osn_files.specs.declared.fault.Role.TheVariants.{Questions};
 use crate::fault::{FileFault, Role};
 use crate::lists::Lists;
 use crate::reading::read_lines;
-use osn_format::Version;
 use osn_lines::Source;
 use osn_register::Query;
+use osn_request::Version;
 use std::alloc::Global;
 
 /// Reads the questions of a file, a query a line, each with its reader, who is 1 to 64. There is a

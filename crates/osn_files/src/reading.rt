@@ -5,7 +5,7 @@ ghost use Rattle.std.specs.Bool.{MatchBool};
 ghost use Rattle.serde_json.specs.Data.{Data};
 ghost use Rattle.serde_json.specs.Read.{read};
 ghost use Rattle.osn_lines.specs.Lines.{IsLine, lines};
-ghost use Rattle.osn_format.specs.declared.version.Version.{Version as LineVersion};
+ghost use Rattle.osn_request.specs.declared.version.Version.{Version as LineVersion};
 ghost use Rattle.osn_request.specs.LineObject.{line_data};
 ghost use Rattle.osn_request.specs.Request as spec;
 ghost use Rattle.osn_files.specs.declared.fault.LineFault.{LineFault as Fault};
@@ -19,9 +19,8 @@ use crate::fault::{FileFault, LineFault, Role};
 use crate::stop::LineStop;
 use crate::version::version_of;
 use json::Scratch;
-use osn_format::{Version, WireFault};
 use osn_lines::{EndedEarly, Line, LineTaker, Source, TakeFault, take_lines};
-use osn_request::{LineObject, object_in, text_of};
+use osn_request::{LineObject, Version, WireFault, object_in, text_of};
 use std::alloc::{AllocError, Global};
 
 /// What makes a value of the lines of a file, one after another.

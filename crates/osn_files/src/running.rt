@@ -10,9 +10,8 @@ use crate::command_line::command_in;
 use crate::reading::LineFold;
 use crate::stop::LineStop;
 use osn_core::{Command, Object};
-use osn_format::Version;
 use osn_register::Edit;
-use osn_request::LineObject;
+use osn_request::{LineObject, Version};
 use std::alloc::Global;
 
 fn stage(object: &mut Object, edit: Edit) -> Result<(), LineStop>

@@ -8,9 +8,8 @@ use crate::reading::{LineFold, read_lines};
 use crate::step_line::step_in;
 use crate::stop::LineStop;
 use osn_core::Step;
-use osn_format::Version;
 use osn_lines::Source;
-use osn_request::LineObject;
+use osn_request::{LineObject, Version};
 use std::alloc::Global;
 
 /// The steps of one editor and of a number of readers.

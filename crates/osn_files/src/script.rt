@@ -8,9 +8,8 @@ use crate::fault::{FileFault, Role};
 use crate::reading::{LineFold, read_lines};
 use crate::stop::LineStop;
 use osn_core::Command;
-use osn_format::Version;
 use osn_lines::Source;
-use osn_request::LineObject;
+use osn_request::{LineObject, Version};
 use std::alloc::Global;
 
 impl LineFold for Vec<Command> {

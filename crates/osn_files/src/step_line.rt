@@ -5,9 +5,9 @@ ghost use Rattle.osn_request.specs.Request.{GivesLast};
 ghost use Rattle.osn_files.specs.Schedule as spec;
 
 use osn_core::Step;
-use osn_format::{Member, Version, WireFault};
 use osn_request::{
-    LineObject, Op, RequestError, edit_of, op_of, query_of, reader_in, text_at, whole_at,
+    LineObject, Member, Op, RequestError, Version, WireFault, edit_of, op_of, query_of, reader_in,
+    text_at, whole_at,
 };
 use std::alloc::Global;
 

@@ -1,8 +1,7 @@
 //! Why a line ends the reading of a file.
 use crate::fault::LineFault;
-use osn_format::WireFault;
 use osn_register::Refusal;
-use osn_request::RequestError;
+use osn_request::{RequestError, WireFault};
 use std::alloc::AllocError;
 
 /// Why a line ends the reading of a file.

@@ -2,11 +2,10 @@
 ghost use Rattle.std.specs.Prelude.{◌≡◌};
 ghost use Rattle.osn_request.specs.LineObject.{line_data};
 ghost use Rattle.osn_request.specs.Field.{or_fault};
-ghost use Rattle.osn_format.specs.declared.wire_fault.WireFault.TheVariants.{BadHead};
+ghost use Rattle.osn_request.specs.declared.wire_fault.WireFault.TheVariants.{BadHead};
 ghost use Rattle.osn_files.specs.Version as spec;
 
-use osn_format::{Member, Version, WireFault};
-use osn_request::{JsonObject, LineObject};
+use osn_request::{JsonObject, LineObject, Member, Version, WireFault};
 
 /// Returns the version that the object of a head says, if it says one.
 fn version_in(object: &LineObject<'_>) -> Option<Version>

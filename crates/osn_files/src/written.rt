@@ -6,8 +6,8 @@ ghost use Rattle.osn_days.specs.Rules.{newest_rules};
 ghost use Rattle.osn_lines.specs.Lines.{lines};
 ghost use Rattle.osn_core.specs.Sequential.{IsSound};
 ghost use Rattle.osn_register.specs.declared.edit.Edit.TheVariants as edits;
-ghost use Rattle.osn_format.specs.Json.{value_tokens};
-ghost use Rattle.osn_format.specs.Version.{plain_version};
+ghost use Rattle.osn_request.specs.Json.{value_tokens};
+ghost use Rattle.osn_request.specs.Version.{plain_version};
 ghost use Rattle.osn_files.specs.Journal.{load};
 ghost use Rattle.osn_files.specs.JournalText as spec;
 ghost use Rattle.osn_files.specs.Loaded.{HasEdits};
@@ -17,8 +17,8 @@ ghost use Rattle.osn_files.specs.WrittenInside.{object_of, rest_tokens, with_fie
 use json::Writer;
 use osn_core::{Batch, Object};
 use osn_days::Keyword;
-use osn_format::{Member, Version, write_signed, write_text};
 use osn_register::{Edit, Source, Text};
+use osn_request::{Member, Version, write_signed, write_text};
 use osn_territory::Regime;
 use std::alloc::{AllocError, Global};
 

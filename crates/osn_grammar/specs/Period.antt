@@ -84,15 +84,15 @@ abbrev pub part_by : Portion → Option Years → Result PartialDate DateFault �
 part_by p (Some years) whole = Some (range_of (part_of_years p years))
 part_by p None whole = part_of_date p whole
 
-abbrev pub token_of : Portion → List Token → Option Extent
-token_of p whole =
+abbrev pub part_of : Portion → List Token → Option Extent
+part_of p whole =
     part_by p (or_years (one_in whole) (by_word whole)) (month_or_year whole)
 
 -- early 1675, mid-1675, middle third of 1675
 abbrev pub part_after : Portion → List Token → Option Extent
-part_after p (Dash ∷ whole) = token_of p whole
-part_after p (token.Fraction share.Third ∷ whole) = token_of p whole
-part_after p whole = token_of p whole
+part_after p (Dash ∷ whole) = part_of p whole
+part_after p (token.Fraction share.Third ∷ whole) = part_of p whole
+part_after p whole = part_of p whole
 
 -- ---- seasons and quarters
 
@@ -139,7 +139,7 @@ nth_of n = if n == 1 then Some place.First else (if n == 2 then Some place.Secon
 
 abbrev pub nth_part : Option Nth → Fraction → List Token → Option Extent
 nth_part None fraction whole = None
-nth_part (Some nth) fraction whole = token_of (portion_of nth fraction) whole
+nth_part (Some nth) fraction whole = part_of (portion_of nth fraction) whole
 
 abbrev pub after_number : Numeral → List Token → Option Extent
 after_number n (Dash ∷ Number code ∷ []) = coded n code

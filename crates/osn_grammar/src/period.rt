@@ -97,8 +97,8 @@ fn part_of_date(portion: Portion, whole: Result<PartialDate, DateFault>) -> Opti
 }
 
 /// Returns the part of the month, the year, the decade or the century that parts are.
-fn token_of(portion: Portion, whole: &[Token]) -> Option<Extent>
-    ensures { result ≡ spec.token_of portion whole.now }
+fn part_of(portion: Portion, whole: &[Token]) -> Option<Extent>
+    ensures { result ≡ spec.part_of portion whole.now }
 {
     match or_years(one_in(whole), by_word(whole)) {
         Some(years) => Some(range_of(part_of_years(portion, years))),
@@ -111,9 +111,9 @@ fn part_after(portion: Portion, rest: &[Token]) -> Option<Extent>
     ensures { result ≡ spec.part_after portion rest.now }
 {
     match rest {
-        [Dash, whole @ ..] => token_of(portion, whole),
-        [Fraction(Share::Third), whole @ ..] => token_of(portion, whole),
-        _ => token_of(portion, rest),
+        [Dash, whole @ ..] => part_of(portion, whole),
+        [Fraction(Share::Third), whole @ ..] => part_of(portion, whole),
+        _ => part_of(portion, rest),
     }
 }
 
@@ -190,7 +190,7 @@ fn nth_part(place: Option<Place>, share: Share, whole: &[Token]) -> Option<Exten
     ensures { result ≡ spec.nth_part place share whole.now }
 {
     match place {
-        Some(place) => token_of(portion_of(place, share), whole),
+        Some(place) => part_of(portion_of(place, share), whole),
         None => None,
     }
 }

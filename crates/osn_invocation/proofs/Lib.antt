@@ -1,3 +1,4 @@
 pub mod NumberLemmas
 pub mod TextLemmas
 pub mod GrammarLemmas
+pub mod RowLemmas

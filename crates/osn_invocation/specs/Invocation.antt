@@ -12,7 +12,8 @@ use Rattle.osn_invocation.specs.declared.invocation.CommandWords.{CommandWords}
 use Rattle.osn_invocation.specs.declared.invocation.CommandWords.TheVariants.{Serve, Replay, Desk}
 use Rattle.osn_invocation.specs.declared.invocation.CommandWords.TheVariants.{Page, Audit, Convert}
 use Rattle.osn_invocation.specs.declared.invocation.CommandWords.TheVariants.{Letters, Completions}
-use Rattle.osn_invocation.specs.declared.invocation.CommandWords.TheVariants.{Editions, Plan, Publish}
+use Rattle.osn_invocation.specs.declared.invocation.CommandWords.TheVariants.{Editions, Plan}
+use Rattle.osn_invocation.specs.declared.invocation.CommandWords.TheVariants.{Publish}
 use Rattle.osn_invocation.specs.declared.invocation.CommandWords.TheVariants as commands
 use Rattle.osn_invocation.specs.declared.invocation.Invocation.{Invocation}
 use Rattle.osn_invocation.specs.declared.letters.DateOptions.{DateOptions}

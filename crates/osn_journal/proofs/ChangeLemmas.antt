@@ -8,7 +8,7 @@ use Rattle.osn_register.specs.declared.edit.Edit.{Edit}
 use Rattle.osn_register.specs.declared.limits.Limits.{Limits}
 use Rattle.osn_core.proofs.Batches.{joined-push}
 use Rattle.osn_core.specs.Sequential.{ObjectState, joined, with_pending}
-use Rattle.osn_format.specs.declared.version.Version.{Version}
+use Rattle.osn_request.specs.declared.version.Version.{Version}
 use Rattle.osn_files.specs.JournalText.{journal_text_of}
 use Rattle.osn_files.specs.Loaded.{HasEdit, HasEdits, IsJournalOf}
 use Rattle.osn_files.proofs.LoadFacts.{loads_by_lines}

@@ -3,7 +3,7 @@ use Rattle.std.proofs.Common.{◌≡◌, ◌∙◌, ℕ, List, [], ◌∷◌, �
 use Rattle.std.proofs.lemmas.List.{flat_map_more}
 use Rattle.osn_register.specs.declared.edit.Edit.{Edit}
 use Rattle.osn_core.specs.Sequential.{ObjectState}
-use Rattle.osn_format.specs.declared.version.Version.{Version}
+use Rattle.osn_request.specs.declared.version.Version.{Version}
 use Rattle.osn_files.specs.JournalText.{batches_text, batch_text, edits_text}
 use Rattle.osn_files.specs.JournalText.{edit_data, publish_data, line_text}
 use Rattle.osn_files.specs.Version.{head_data}

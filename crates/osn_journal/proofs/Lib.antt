@@ -4,3 +4,11 @@ mod ChangeLemmas
 mod KeepingLemmas
 mod AppendLemmas
 mod StoreLemmas
+mod LineLemmas
+mod FrontLemmas
+mod FollowedJournalLemmas
+mod AnswerLemmas
+mod OutcomeLemmas
+mod RoundLemmas
+mod AllRoundsLemmas
+mod LawLemmas

@@ -9,9 +9,9 @@ use Rattle.osn_register.specs.declared.edit.Edit.TheVariants.{DropChange, AddExc
 use Rattle.osn_register.specs.declared.edit.Edit.TheVariants.{DropException}
 use Rattle.osn_register.specs.Lawful.{source_given}
 use Rattle.osn_core.specs.Sequential.{ObjectState, joined}
-use Rattle.osn_format.specs.declared.version.Version.{Version}
-use Rattle.osn_format.specs.declared.version.Version.TheVariants.{First, Second, Fourth}
-use Rattle.osn_format.specs.Version.{plain_version}
+use Rattle.osn_request.specs.declared.version.Version.{Version}
+use Rattle.osn_request.specs.declared.version.Version.TheVariants.{First, Second, Fourth}
+use Rattle.osn_request.specs.Version.{plain_version}
 use Rattle.osn_files.specs.Loaded.{HasEdit, HasEdits, HasSource}
 use Rattle.osn_files.proofs.VersionFacts.{newest_edit}
 use Rattle.osn_service.specs.Sources.{GivesNoSource, KeepsSourceless}

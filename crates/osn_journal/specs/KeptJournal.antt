@@ -7,8 +7,8 @@ use Rattle.osn_core.specs.Sequential.{ObjectState}
 use Rattle.osn_lines.specs.declared.fault.EndedEarly.{EndedEarly}
 use Rattle.osn_lines.specs.Lines.{lines}
 use Rattle.osn_folder.specs.declared.fault.KeptFileFault.{KeptFileFault}
-use Rattle.osn_format.specs.declared.version.Version.{Version}
-use Rattle.osn_format.specs.declared.version.Version.TheVariants.{First, Second, Fourth}
+use Rattle.osn_request.specs.declared.version.Version.{Version}
+use Rattle.osn_request.specs.declared.version.Version.TheVariants.{First, Second, Fourth}
 use Rattle.osn_files.specs.JournalText.{journal_text_of, edits_text}
 use Rattle.osn_files.specs.Loaded.{HasEdits, IsJournalOf}
 use Rattle.osn_service.specs.declared.fault.ServiceFault.{ServiceFault}

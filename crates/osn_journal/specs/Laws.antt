@@ -5,8 +5,8 @@ use Rattle.osn_register.specs.declared.edit.Edit.{Edit}
 use Rattle.osn_register.specs.Lawful.{source_given}
 use Rattle.osn_register.specs.declared.limits.Limits.{Limits}
 use Rattle.osn_core.specs.Sequential.{ObjectState, IsSound, with_pending, with_edition}
-use Rattle.osn_format.specs.declared.version.Version.{Version}
-use Rattle.osn_format.specs.Version.{newest_version, plain_version}
+use Rattle.osn_request.specs.declared.version.Version.{Version}
+use Rattle.osn_request.specs.Version.{newest_version, plain_version}
 use Rattle.osn_files.specs.JournalText.{journal_text_of, version_for, edit_data, publish_data}
 use Rattle.osn_files.specs.JournalText.{line_text}
 use Rattle.osn_files.specs.Loaded.{HasEdit, HasEdits, IsJournalOf, LoadsByLines}

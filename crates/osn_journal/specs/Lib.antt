@@ -2,3 +2,10 @@ pub mod KeptJournal
 pub mod ChangeInside
 pub mod KeptObjectInside
 pub mod Laws
+pub mod Arrivals
+pub mod Outcomes
+pub mod Follows
+pub mod FollowerLaw
+pub mod FollowerInside
+pub mod FollowedJournalInside
+pub mod RoundInside

@@ -4,3 +4,4 @@ pub mod LineLemmas
 pub mod TakeLemmas
 pub mod InputLemmas
 pub mod EndedLemmas
+pub mod EscapedLemmas

@@ -7,3 +7,5 @@ pub mod Taking
 pub mod Faults
 pub mod Inside
 pub mod Whole
+pub mod Escaped
+pub mod Near

@@ -1,14 +1,18 @@
 //! Lines of bytes: what they are read from and written to, how they are cut, and the loop that
-//! gives each line to what takes lines. The crate guarantees that `take_lines` gives exactly the
-//! lines of the input, in order, in whatever pieces the bytes come. If it ends early, it returns
-//! the number of lines and why. `read_all` has all bytes of an input in memory.
+//! gives each line to what takes lines; and how a line of a message has the text of a user. The
+//! crate guarantees that `take_lines` gives exactly the lines of the input, in order, in whatever
+//! pieces the bytes come. If it ends early, it returns the number of lines and why. `read_all` has
+//! all bytes of an input in memory. `Shown` escapes what a terminal acts on, and `is_near` decides
+//! which name a mistyped word may be meant for.
 #![tactic(auto)]
 
 mod bytes;
 mod cut;
 mod ended;
+mod escaped;
 mod fault;
 mod line;
+mod near;
 mod plain;
 mod progress;
 mod sink;
@@ -20,8 +24,10 @@ mod whole;
 
 pub use bytes::Bytes;
 pub use ended::ended_length;
+pub use escaped::{Escaped, EscapedLines};
 pub use fault::{EndedEarly, TakeFault};
 pub use line::{LONGEST_LINE, Line};
+pub use near::is_near;
 pub use plain::Plain;
 pub use progress::Progress;
 pub use sink::{Sink, WriteFailed, write_all};

@@ -3,10 +3,10 @@ use Rattle.std.proofs.Common.{◌≡◌, ℕ, Option, Some, inl, inr}
 use Rattle.osn_core.specs.Sequential.{ObjectState}
 use Rattle.osn_lines.specs.Streams.{Output}
 use Rattle.osn_report.specs.declared.status.Status.{Status}
-use Rattle.osn_editions.specs.Edition.{EditionModel, IsEditionFault, edition_of}
+use Rattle.osn_core.specs.Edition.{EditionModel, IsEditionFault, edition_of}
 use Rattle.osn_page_commands.specs.Editions.{OnEdition, TellsEditionFault}
-use Rattle.osn_editions.specs.declared.edition.EditionFault.{EditionFault}
-use Rattle.osn_editions.specs.declared.edition.EditionFault.TheVariants.{TooLate, NoMemory}
+use Rattle.osn_core.specs.declared.edition.EditionFault.{EditionFault}
+use Rattle.osn_core.specs.declared.edition.EditionFault.TheVariants.{TooLate, NoMemory}
 
 module _ (number : Option ℕ) (s : ObjectState) (Does : EditionModel → Type 0) (o e : Output)
     (status : Status) where

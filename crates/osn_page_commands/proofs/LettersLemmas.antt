@@ -2,7 +2,7 @@
 use Rattle.std.proofs.Common.{◌≡◌, ℕ, Bool, true, false, List, IfSome, subst}
 use Rattle.osn_days.specs.Rules.{newest_rules}
 use Rattle.osn_register.specs.Plain.{EntryModel}
-use Rattle.osn_editions.specs.Edition.{EditionModel}
+use Rattle.osn_core.specs.Edition.{EditionModel}
 use Rattle.osn_letters.specs.Table.{TableBasis, Written, letters_written, EndsEarly, IsWhole}
 use Rattle.osn_letters.specs.declared.fault.LettersFault.{LettersFault}
 use Rattle.osn_letters.specs.RowRemarks.{IsTallyOf}

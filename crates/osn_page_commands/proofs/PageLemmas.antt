@@ -1,6 +1,7 @@
 -- A command that prints a page, or reports why there is none, did what its contract says.
-use Rattle.std.proofs.Common.{◌≡◌, Bool, List, ℕ, Option, Some, None, Ok, ◌∙◌, ap, refl, subst₂, inl, inr}
-use Rattle.osn_editions.specs.Edition.{EditionModel}
+use Rattle.std.proofs.Common.{◌≡◌, Bool, List, ℕ, Option, Some, None, Ok, ◌∙◌, ap, refl, subst₂}
+use Rattle.std.proofs.Common.{inl, inr}
+use Rattle.osn_core.specs.Edition.{EditionModel}
 use Rattle.osn_invocation.specs.Invocation.{PageRequestModel}
 use Rattle.osn_lines.specs.Streams.{Output}
 use Rattle.osn_register.specs.Refusal.{IsRefusalOrNoMemory}

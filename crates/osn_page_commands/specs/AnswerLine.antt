@@ -1,14 +1,14 @@
 -- The answer of a page as a line of JSON: the line that the service writes to the query of the page.
 use Rattle.std.specs.Prelude.{ℕ, pos, List, Option, Some, None}
 use Rattle.osn_days.specs.declared.weekday.Weekday.{Weekday}
-use Rattle.osn_editions.specs.Edition.{EditionModel, reply_in}
+use Rattle.osn_core.specs.Edition.{EditionModel, reply_in}
 use Rattle.osn_grammar.specs.Reading.{members}
 use Rattle.osn_pages.specs.declared.page.Page.{Page}
 use Rattle.osn_pages.specs.declared.page.Page.TheVariants as pages
 use Rattle.osn_register.specs.declared.query.Query.{Query}
 use Rattle.osn_register.specs.declared.query.Query.TheVariants as queries
-use Rattle.osn_reply.specs.ReplyText.{reply_line}
-use Rattle.osn_reply.specs.declared.outcome.Outcome.TheVariants.{Replied}
+use Rattle.osn_service.specs.ReplyText.{reply_line}
+use Rattle.osn_service.specs.declared.outcome.Outcome.TheVariants.{Replied}
 use Rattle.osn_written.specs.declared.date_reading.DateReading.TheVariants as readings
 
 -- the line that the service writes to a query of its first reader, from an edition

@@ -3,8 +3,8 @@ use Rattle.std.specs.Prelude.{ℕ, Bool, ◌||◌, if◌then◌else◌, codes, L
 use Rattle.std.specs.Prelude.{Option, Some, None, is_some}
 use Rattle.std.specs.Result.{is_ok}
 use Rattle.osn_grammar.specs.ReadDate.{written_date}
-use Rattle.osn_near.specs.Near.{is_near}
-use Rattle.osn_shown.specs.Escaped.{escaped}
+use Rattle.osn_lines.specs.Near.{is_near}
+use Rattle.osn_lines.specs.Escaped.{escaped}
 use Rattle.osn_written.specs.WrittenDate.{number_of, parts_at}
 use Rattle.osn_written.specs.declared.written_date.DateFault.TheVariants as faults
 use Rattle.osn_page_commands.specs.MonthWord.{month_in_date}

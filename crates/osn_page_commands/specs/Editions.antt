@@ -5,15 +5,15 @@ use Rattle.std.specs.Prelude.{Option, Some, None, is_some}
 use Rattle.std.specs.Fmt.{decimal}
 use Rattle.std.specs.Option.{MatchOption}
 use Rattle.osn_core.specs.Sequential.{ObjectState}
-use Rattle.osn_editions.specs.Edition.{EditionModel, edition_of}
-use Rattle.osn_editions.specs.declared.edition.EditionFault.{EditionFault}
-use Rattle.osn_editions.specs.declared.edition.EditionFault.TheVariants.{TooLate, NoMemory}
+use Rattle.osn_core.specs.Edition.{EditionModel, edition_of}
+use Rattle.osn_core.specs.declared.edition.EditionFault.{EditionFault}
+use Rattle.osn_core.specs.declared.edition.EditionFault.TheVariants.{TooLate, NoMemory}
 use Rattle.osn_lines.specs.Streams.{Output}
 use Rattle.osn_report.specs.Messages.{EndsBy, ReportsIfMade}
 use Rattle.osn_report.specs.declared.fault.CommandFault.TheVariants as faults
 use Rattle.osn_report.specs.declared.status.Status.{Status}
 use Rattle.osn_report.specs.declared.status.Status.TheVariants as statuses
-use Rattle.osn_shown.specs.Escaped.{escaped}
+use Rattle.osn_lines.specs.Escaped.{escaped}
 
 -- the line on a word that is not the number of an edition
 unfoldable pub word_line : List ℕ → List ℕ

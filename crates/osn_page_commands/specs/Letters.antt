@@ -9,7 +9,7 @@ use Rattle.osn_days.specs.Rules.{newest_rules}
 use Rattle.osn_grammar.specs.declared.written.DateOrder.{DateOrder}
 use Rattle.osn_register.specs.declared.limits.Limits.{Limits}
 use Rattle.osn_core.specs.Sequential.{ObjectState}
-use Rattle.osn_editions.specs.Edition.{EditionModel}
+use Rattle.osn_core.specs.Edition.{EditionModel}
 use Rattle.osn_page_commands.specs.Editions.{OnEdition}
 use Rattle.osn_lines.specs.Streams.{Input, Output}
 use Rattle.osn_files.specs.declared.fault.FileFault.{FileFault}
@@ -31,7 +31,7 @@ use Rattle.osn_letters.specs.declared.separator.Separator.{Separator}
 use Rattle.osn_letters.specs.declared.settings.TableSettings.{TableSettings}
 use Rattle.osn_page_commands.specs.declared.letters.TableRules.{TableRules}
 use Rattle.osn_report.specs.Journal.{MakesObject, MakesNoObject}
-use Rattle.osn_shown.specs.Escaped.{escaped}
+use Rattle.osn_lines.specs.Escaped.{escaped}
 use Rattle.osn_report.specs.Printing.{EndsUnwritten, PrintsNone}
 use Rattle.osn_report.specs.Messages.{EndsBy, Reports, ReportsIfMade, ReportsNothing}
 use Rattle.osn_report.specs.declared.fault.CommandFault.TheVariants.{File, NoMemory}

@@ -15,7 +15,7 @@ use Rattle.osn_page_commands.specs.Places.{IsPlacesFault, ReportsPlaces}
 use Rattle.osn_page_commands.specs.TableWords.{settings_of_options}
 use Rattle.osn_page_commands.specs.declared.letters.TableRules.{TableRules}
 use Rattle.osn_report.specs.Folders.{Folders, IsReadOf, ReadsOne}
-use Rattle.osn_editions.specs.Edition.{edition_of_word}
+use Rattle.osn_core.specs.Edition.{edition_of_word}
 use Rattle.osn_page_commands.specs.Editions.{TellsEditionWord}
 use Rattle.osn_report.specs.Messages.{ReportsIfMade, ReportsMisuse}
 use Rattle.osn_report.specs.OpenFailure.{open_failure_line}

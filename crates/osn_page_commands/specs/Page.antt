@@ -5,8 +5,8 @@ use Rattle.std.specs.Prelude.{Bool, true, false, ◌&&◌, if◌then◌else◌, 
 use Rattle.std.specs.Option.{MatchOption}
 use Rattle.std.specs.Fmt.{decimal}
 use Rattle.std.specs.Result.{is_err}
-use Rattle.osn_almanac.specs.Almanac.{almanac, almanac_refusal}
-use Rattle.osn_almanac.specs.YearPage.{year_page}
+use Rattle.osn_pages.specs.Almanac.{almanac, almanac_refusal}
+use Rattle.osn_pages.specs.YearPage.{year_page}
 use Rattle.osn_days.specs.Rules.{newest_rules}
 use Rattle.osn_days.specs.declared.weekday.Weekday.{Weekday}
 use Rattle.osn_written.specs.declared.any_date.AnyDate.{AnyDate}
@@ -21,7 +21,7 @@ use Rattle.osn_register.specs.declared.refusal.Refusal.{Refusal}
 use Rattle.osn_register.specs.declared.refusal.Refusal.TheVariants.{BadCode, UnknownLand}
 use Rattle.osn_register.specs.declared.refusal.Refusal.TheVariants.{YearOffRange}
 use Rattle.osn_core.specs.Sequential.{ObjectState}
-use Rattle.osn_editions.specs.Edition.{EditionModel, edition_of_word}
+use Rattle.osn_core.specs.Edition.{EditionModel, edition_of_word}
 use Rattle.osn_page_commands.specs.Editions.{OnEdition, TellsEditionWord}
 use Rattle.osn_lines.specs.Streams.{Input, Output}
 use Rattle.osn_files.specs.declared.fault.FileFault.{FileFault}
@@ -50,7 +50,7 @@ use Rattle.osn_page_commands.specs.declared.place.Place.TheVariants.{One, NotOne
 use Rattle.osn_report.specs.Fault.{numbered_line}
 use Rattle.osn_report.specs.Folders.{Folders, ReadsOne}
 use Rattle.osn_report.specs.Journal.{MakesObject, MakesNoObject}
-use Rattle.osn_shown.specs.Escaped.{escaped}
+use Rattle.osn_lines.specs.Escaped.{escaped}
 use Rattle.osn_report.specs.Printing.{PrintsIfMade, PrintsOrReports}
 use Rattle.osn_report.specs.Messages.{EndsBy, ReportsIfMade}
 use Rattle.osn_report.specs.declared.fault.CommandFault.{CommandFault}
@@ -84,7 +84,7 @@ set_text s code date given is_json =
 -- and on all territories
 abbrev pub territories_text : EditionModel → Bool → List ℕ
 territories_text s is_json =
-    if is_json then query_line s queries.Territories
+    if is_json then query_line s queries.Lands
     else territories_page s.territories s.number s.pending
 
 -- the text of what was asked for, of an edition, if this is the text of its date

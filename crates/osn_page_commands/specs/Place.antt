@@ -3,11 +3,11 @@ use Rattle.std.specs.Prelude.{ℕ, Bool, ◌||◌, if◌then◌else◌, List, []
 use Rattle.std.specs.Prelude.{Option, Some, None, is_some, codes}
 use Rattle.std.specs.List.{filter, flat_map}
 use Rattle.std.specs.Str.{str_eq_ignore_ascii_case}
-use Rattle.osn_near.specs.Near.{is_near}
+use Rattle.osn_lines.specs.Near.{is_near}
 use Rattle.osn_register.specs.Answer.{listed}
 use Rattle.osn_register.specs.Plain.{EntryModel, entry_of}
 use Rattle.osn_register.specs.declared.answer.Land.{Land}
-use Rattle.osn_shown.specs.Escaped.{escaped}
+use Rattle.osn_lines.specs.Escaped.{escaped}
 use Rattle.osn_page_commands.specs.declared.place.Place.{Place}
 use Rattle.osn_page_commands.specs.declared.place.Place.TheVariants.{One, NotOne}
 

@@ -13,7 +13,7 @@ use Rattle.osn_lines.specs.Streams.{Input, Output}
 use Rattle.osn_page_commands.specs.Letters.{is_wide, wide_text}
 use Rattle.osn_report.specs.Messages.{EndsBy, ReportsIfMade}
 use Rattle.osn_report.specs.OpenFailure.{open_failure_line}
-use Rattle.osn_shown.specs.Escaped.{escaped}
+use Rattle.osn_lines.specs.Escaped.{escaped}
 use Rattle.osn_report.specs.declared.fault.CommandFault.TheVariants.{NoMemory}
 use Rattle.osn_report.specs.declared.status.Status.{Status}
 use Rattle.osn_report.specs.declared.status.Status.TheVariants as statuses

@@ -1,15 +1,15 @@
 //! The answer of a page as a line of JSON: the service's reply to the query of the page.
 ghost use Rattle.std.specs.Prelude.{◌≡◌, IfOk, option_map, string_bytes};
-ghost use Rattle.osn_editions.specs.Edition.{edition_model};
+ghost use Rattle.osn_core.specs.Edition.{edition_model};
 ghost use Rattle.osn_page_commands.specs.AnswerLine as spec;
 ghost use Rattle.osn_register.specs.BorrowedQuery.{as_query};
 
+use osn_core::Edition;
 use osn_days::Weekday;
-use osn_editions::Edition;
 use osn_grammar::members_of;
 use osn_pages::Page;
 use osn_register::BorrowedQuery;
-use osn_reply::{Outcome, reply_text};
+use osn_service::{Outcome, reply_text};
 use osn_written::{DateReading, Listing};
 use std::alloc::{AllocError, Global};
 

@@ -1,16 +1,14 @@
 //! Reports on standard error a word that is not what its place asks for, and what may be meant.
 ghost use Rattle.std.specs.Prelude.{◌≡◌, ◌++◌, find, map, IfOk, OnOk, option_map, string_bytes};
 ghost use Rattle.osn_lines.specs.Streams.{output_of};
-ghost use Rattle.osn_near.specs.Near.{is_near as is_name_near};
+ghost use Rattle.osn_lines.specs.Near.{is_near as is_name_near};
 ghost use Rattle.osn_page_commands.specs.DateHint as spec;
 ghost use Rattle.osn_page_commands.specs.Pieces.{pieces};
 
 use crate::month_word::month_in_date;
 use osn_grammar::parse_day;
-use osn_lines::Sink;
-use osn_near::is_near;
+use osn_lines::{Escaped, Sink, is_near};
 use osn_report::{Misuse, Status, misuse_line, report_line};
-use osn_shown::Escaped;
 use osn_written::{DateFault, number_of, parts_at};
 use std::alloc::{AllocError, Global};
 

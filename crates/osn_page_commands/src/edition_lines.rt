@@ -3,10 +3,9 @@ ghost use Rattle.std.specs.Prelude.{◌≡◌, IfOk, string_bytes};
 ghost use Rattle.osn_lines.specs.Streams.{output_of};
 ghost use Rattle.osn_page_commands.specs.Editions as spec;
 
-use osn_editions::EditionFault;
-use osn_lines::Sink;
+use osn_core::EditionFault;
+use osn_lines::{Escaped, Sink};
 use osn_report::{Status, report_line, report_no_memory};
-use osn_shown::Escaped;
 use std::alloc::{AllocError, Global};
 
 /// Returns the line on a word that is not the number of an edition.

@@ -1,14 +1,13 @@
 //! The command `letters`.
 ghost use Rattle.std.specs.Prelude.{◌≡◌};
-ghost use Rattle.osn_editions.specs.Edition.{edition_model};
+ghost use Rattle.osn_core.specs.Edition.{edition_model};
 ghost use Rattle.osn_page_commands.specs.Editions.{OnEdition};
 ghost use Rattle.osn_lines.specs.Streams.{input_of, output_of};
 ghost use Rattle.osn_page_commands.specs.Letters as spec;
 
 use crate::edition_lines::tell_edition_fault;
 use crate::table_faults::report_table;
-use osn_core::Object;
-use osn_editions::{Edition, edition_of};
+use osn_core::{Edition, Object, edition_of};
 use osn_files::load_journal;
 use osn_letters::{TableSettings, Tally, write_letters};
 use osn_lines::{Progress, Sink, Source};

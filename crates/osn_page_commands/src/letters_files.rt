@@ -12,7 +12,7 @@ use crate::edition_lines::tell_edition_word;
 use crate::letters::{TableRules, letters_command};
 use crate::places::report_places;
 use crate::table_words::settings_of_options;
-use osn_editions::edition_of_word;
+use osn_core::edition_of_word;
 use osn_folder::{Folder, OpenFailed, open_file};
 use osn_invocation::LettersOptions;
 use osn_letters::{TableSettings, read_places};

@@ -1,7 +1,7 @@
 //! The commands that print a page on what a journal published.
 ghost use Rattle.std.specs.Prelude.{◌≡◌, IfOk, IfErr, OnOk, None, string_bytes};
 ghost use Rattle.osn_lines.specs.Streams.{output_of};
-ghost use Rattle.osn_editions.specs.Edition.{edition_model};
+ghost use Rattle.osn_core.specs.Edition.{edition_model};
 ghost use Rattle.osn_register.specs.Plain.{code_refusal};
 ghost use Rattle.osn_register.specs.Refusal.{IsRefusalOrNoMemory};
 ghost use Rattle.osn_page_commands.specs.Page as spec;
@@ -12,12 +12,12 @@ use crate::page_request::Topic;
 use crate::place::{Place, place_named};
 use crate::place_lines::place_lines;
 use crate::refusal_lines::refusal_line;
-use osn_almanac::{almanac_text, year_page_text};
+use osn_core::Edition;
 use osn_days::Weekday;
-use osn_editions::Edition;
 use osn_lines::Sink;
 use osn_pages::{
-    Page, Published, has_no_day, page_text, set_has_no_day, set_page_text, territories_page,
+    Page, Published, almanac_text, has_no_day, page_text, set_has_no_day, set_page_text,
+    territories_page, year_page_text,
 };
 use osn_register::{BorrowedQuery, Refusal, Register};
 use osn_report::{Status, print, print_or_report, report_line, report_no_memory};

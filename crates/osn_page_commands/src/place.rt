@@ -2,7 +2,7 @@
 ghost use Rattle.std.specs.Prelude.{◌≡◌, find, IfOk, option_map};
 ghost use Rattle.osn_page_commands.specs.Place as spec;
 
-use osn_near::is_near;
+use osn_lines::is_near;
 use osn_register::{Land, LandList, Register, Text};
 use osn_written::Listing;
 use std::alloc::{AllocError, Global};

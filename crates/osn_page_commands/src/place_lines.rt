@@ -5,8 +5,8 @@ ghost use Rattle.osn_register.specs.Answer.{listed};
 ghost use Rattle.osn_page_commands.specs.Place as spec;
 
 use crate::place::nearest_territory;
+use osn_lines::Escaped;
 use osn_register::{Land, Register};
-use osn_shown::Escaped;
 use std::alloc::{AllocError, Global};
 use std::fmt;
 use std::fmt::Write;

@@ -8,9 +8,8 @@ ghost use Rattle.osn_report.specs.declared.status.Status.{Status};
 use crate::table_faults::{WIDE, is_wide};
 use osn_folder::OpenFailed;
 use osn_letters::{PlacesColumn, PlacesFault};
-use osn_lines::Sink;
+use osn_lines::{Escaped, Sink};
 use osn_report::{Status, report_line, report_no_memory, report_open_failure};
-use osn_shown::Escaped;
 use std::alloc::{AllocError, Global};
 
 const NO_HEADER: &str = "no header: the first line names the columns place and code";

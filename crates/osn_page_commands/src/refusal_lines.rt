@@ -3,9 +3,9 @@ ghost use Rattle.std.specs.Prelude.{◌≡◌, ◌++◌, IfOk, OnOk, string_byte
 ghost use Rattle.osn_page_commands.specs.Page as spec;
 
 use crate::page_request::Topic;
+use osn_lines::Escaped;
 use osn_register::Refusal;
 use osn_report::refused;
-use osn_shown::Escaped;
 use std::alloc::{AllocError, Global};
 use std::fmt;
 use std::fmt::Write;

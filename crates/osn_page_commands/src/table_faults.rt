@@ -8,9 +8,8 @@ ghost use Rattle.osn_report.specs.declared.status.Status.{Status};
 
 use osn_files::FileFault;
 use osn_letters::{AddedColumn, Column, ColumnNames, DateNames, LettersFault, WeekdayName};
-use osn_lines::Sink;
+use osn_lines::{Escaped, Sink};
 use osn_report::{CommandFault, Status, report, report_line, report_no_memory};
-use osn_shown::Escaped;
 use std::alloc::{AllocError, Global};
 
 const NO_HEADER: &str = "no header: the first line has the names of the columns";

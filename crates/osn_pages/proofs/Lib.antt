@@ -3,3 +3,5 @@ pub mod GridFacts
 mod MonthFacts
 mod PeriodFacts
 mod YearFacts
+pub mod Text
+mod AlmanacYearFacts

@@ -14,3 +14,7 @@ pub mod Grid
 pub mod Law
 pub mod Page
 pub mod SetPage
+pub mod Columns
+pub mod Feasts
+pub mod Almanac
+pub mod YearPage

@@ -1,8 +1,8 @@
 //! The numbers and names that replies give, as the formats list them, and the lists that answers
 //! contain.
 use crate::compare::same;
-use osn_format::{Member, WireFault};
 use osn_register::{Listing, Refusal};
+use osn_request::{Member, WireFault};
 use std::alloc::AllocError;
 use std::process::Abort;
 

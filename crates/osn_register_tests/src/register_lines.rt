@@ -1,8 +1,8 @@
 //! Edits, queries and replies as lines.
 use osn_core::Reply;
 use osn_register::{Edit, Query};
-use osn_reply::{Outcome, reply_text};
 use osn_request::{Request, read_request};
+use osn_service::{Outcome, reply_text};
 use std::alloc::Global;
 use std::process::Abort;
 

@@ -16,10 +16,10 @@ use Rattle.osn_folder.specs.declared.fault.KeepFault.{KeepFault}
 use Rattle.osn_folder.specs.declared.fault.KeepFault.TheVariants.{NotOpened}
 use Rattle.osn_folder.specs.declared.fault.KeptFileFault.{KeptFileFault}
 use Rattle.osn_folder.specs.declared.fault.KeptFileFault.TheVariants.{ChangeFailed}
-use Rattle.osn_format.specs.declared.wire_fault.WireFault.{WireFault}
-use Rattle.osn_format.specs.declared.wire_fault.WireFault.TheVariants.{LineTooLong, NotJson}
-use Rattle.osn_format.specs.declared.wire_fault.WireFault.TheVariants.{NotObject, BadHead}
-use Rattle.osn_shown.specs.Escaped.{escaped}
+use Rattle.osn_request.specs.declared.wire_fault.WireFault.{WireFault}
+use Rattle.osn_request.specs.declared.wire_fault.WireFault.TheVariants.{LineTooLong, NotJson}
+use Rattle.osn_request.specs.declared.wire_fault.WireFault.TheVariants.{NotObject, BadHead}
+use Rattle.osn_lines.specs.Escaped.{escaped}
 use Rattle.osn_report.specs.OpenFailure.{cause_text}
 use Rattle.osn_report.specs.declared.fault.CommandFault.{CommandFault}
 use Rattle.osn_report.specs.declared.fault.CommandFault.TheVariants as faults

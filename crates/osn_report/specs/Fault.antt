@@ -18,8 +18,8 @@ use Rattle.osn_files.specs.declared.fault.LineFault.{LineFault}
 use Rattle.osn_files.specs.declared.fault.Role.{Role}
 use Rattle.osn_files.specs.declared.fault.Role.TheVariants.{Journal, Script, Questions, Schedule}
 use Rattle.osn_files.specs.declared.fault.Role.TheVariants.{Transcript}
-use Rattle.osn_format.specs.Version.{version_number}
-use Rattle.osn_format.specs.declared.version.Version.{Version}
+use Rattle.osn_request.specs.Version.{version_number}
+use Rattle.osn_request.specs.declared.version.Version.{Version}
 use Rattle.osn_live.specs.Faults.{desk_fault_number, desk_fault_name}
 use Rattle.osn_live.specs.declared.faults.DeskFault.{DeskFault}
 use Rattle.osn_live.specs.declared.faults.DeskFault.TheVariants as desk_faults

@@ -3,7 +3,7 @@ use Rattle.std.specs.Prelude.{ℕ, List, ◌++◌, codes}
 use Rattle.std.specs.Fmt.{decimal}
 use Rattle.osn_days.specs.CalendarWords.{calendar_word}
 use Rattle.osn_days.specs.Weekday.{weekday_name}
-use Rattle.osn_shown.specs.Escaped.{escaped}
+use Rattle.osn_lines.specs.Escaped.{escaped}
 use Rattle.osn_written.specs.declared.written_date.DateFault.{DateFault}
 use Rattle.osn_written.specs.declared.written_date.DateFault.TheVariants as faults
 use Rattle.osn_written.specs.WrittenDate.{month_day_words}

@@ -11,9 +11,8 @@ use crate::open_failure::{cause_text, report_open_failure};
 use crate::status::Status;
 use osn_files::{FileFault, LineFault, Role};
 use osn_folder::{ChangeCause, FollowFault, KeepFault, KeptFileFault};
-use osn_format::WireFault;
-use osn_lines::Sink;
-use osn_shown::Escaped;
+use osn_lines::{Escaped, Sink};
+use osn_request::WireFault;
 use std::alloc::{AllocError, Global};
 
 /// Returns the text on why a file could not be made or changed.

@@ -5,10 +5,10 @@ ghost use Rattle.osn_report.specs.declared.fault.CommandFault.{CommandFault};
 
 use osn_files::FileFault;
 use osn_folder::{ChangeCause, FollowFault, KeepFault, KeptFileFault, OpenFailed};
-use osn_format::Version;
 use osn_lines::ReadAllFault;
 use osn_live::DeskFault;
 use osn_register::Refusal;
+use osn_request::Version;
 use osn_service::ServeFault;
 use std::alloc::AllocError;
 

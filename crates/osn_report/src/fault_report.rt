@@ -12,10 +12,10 @@ use crate::hint::{limit_hint, line_hint};
 use crate::status::Status;
 use osn_files::{FileFault, LineFault, Role};
 use osn_folder::{FollowFault, KeepFault, KeptFileFault};
-use osn_format::Version;
 use osn_lines::{Sink, write_all};
 use osn_live::DeskFault;
 use osn_register::Refusal;
+use osn_request::Version;
 use osn_service::ServeFault;
 use std::alloc::{AllocError, Global};
 

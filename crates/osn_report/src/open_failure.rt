@@ -7,8 +7,7 @@ ghost use Rattle.osn_report.specs.OpenFailure as spec;
 use crate::fault_report::report_line;
 use crate::status::Status;
 use osn_folder::OpenFailed;
-use osn_lines::Sink;
-use osn_shown::Escaped;
+use osn_lines::{Escaped, Sink};
 use std::alloc::{AllocError, Global};
 
 /// Returns the text on why a file could not be opened.

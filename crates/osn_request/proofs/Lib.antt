@@ -1,3 +1,4 @@
+pub mod WriteLemmas
 mod FewLemmas
 mod FlatLemmas
 mod QueryLemmas

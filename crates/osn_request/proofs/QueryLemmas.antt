@@ -4,8 +4,8 @@ use Rattle.serde_json.specs.Data.{Data}
 use Rattle.osn_register.specs.declared.query.Query.{Query}
 use Rattle.osn_register.specs.declared.query.Query.TheVariants as queries
 use Rattle.osn_register.specs.Query.{names_territory}
-use Rattle.osn_format.specs.declared.member.Member.TheVariants as members
-use Rattle.osn_format.specs.declared.wire_fault.WireFault.{WireFault}
+use Rattle.osn_request.specs.declared.member.Member.TheVariants as members
+use Rattle.osn_request.specs.declared.wire_fault.WireFault.{WireFault}
 use Rattle.osn_request.specs.declared.request.op.QueryOp.{QueryOp}
 use Rattle.osn_request.specs.declared.request.op.QueryOp.TheVariants as ops
 use Rattle.osn_request.specs.Field.{◌>>=◌, whole_at}

@@ -5,12 +5,12 @@ use Rattle.osn_register.specs.declared.edit.Edit.{Edit}
 use Rattle.osn_register.specs.declared.edit.Edit.TheVariants.{AddLand, AddChange, AlterChange}
 use Rattle.osn_register.specs.declared.edit.Edit.TheVariants.{DropChange, AddException}
 use Rattle.osn_register.specs.declared.edit.Edit.TheVariants.{DropException}
-use Rattle.osn_format.specs.declared.member.Member.TheVariants as members
+use Rattle.osn_request.specs.declared.member.Member.TheVariants as members
 use Rattle.osn_request.specs.declared.request.op.EditOp.{EditOp}
 use Rattle.osn_request.specs.declared.request.op.EditOp.TheVariants as ops
-use Rattle.osn_format.specs.declared.version.Version.{Version}
-use Rattle.osn_format.specs.declared.wire_fault.WireFault.{WireFault}
-use Rattle.osn_format.specs.Version.{rules_of}
+use Rattle.osn_request.specs.declared.version.Version.{Version}
+use Rattle.osn_request.specs.declared.wire_fault.WireFault.{WireFault}
+use Rattle.osn_request.specs.Version.{rules_of}
 use Rattle.osn_request.specs.Field.{◌>>=◌, text_at, whole_at, regime_of, source_at}
 
 unfoldable pub add_land_of : Version → Data → Result Edit WireFault

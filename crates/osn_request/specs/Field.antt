@@ -13,13 +13,13 @@ use Rattle.osn_territory.specs.declared.style.Style.{Style}
 use Rattle.osn_territory.specs.StyleWords.{style_named}
 use Rattle.osn_register.specs.Sources.{is_source}
 use Rattle.osn_written.specs.WrittenDate.{weekday_named}
-use Rattle.osn_format.specs.declared.member.Member.{Member}
-use Rattle.osn_format.specs.declared.member.Member.TheVariants as members
-use Rattle.osn_format.specs.declared.wire_fault.WireFault.{WireFault}
-use Rattle.osn_format.specs.declared.wire_fault.WireFault.TheVariants.{BadField}
-use Rattle.osn_format.specs.declared.version.Version.{Version}
-use Rattle.osn_format.specs.Member.{member_name}
-use Rattle.osn_format.specs.Version.{has_sources}
+use Rattle.osn_request.specs.declared.member.Member.{Member}
+use Rattle.osn_request.specs.declared.member.Member.TheVariants as members
+use Rattle.osn_request.specs.declared.wire_fault.WireFault.{WireFault}
+use Rattle.osn_request.specs.declared.wire_fault.WireFault.TheVariants.{BadField}
+use Rattle.osn_request.specs.declared.version.Version.{Version}
+use Rattle.osn_request.specs.Member.{member_name}
+use Rattle.osn_request.specs.Version.{has_sources}
 
 -- one reading after another, if the first has no fault
 infixl 10 ◌>>=◌

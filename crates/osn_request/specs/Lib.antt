@@ -1,3 +1,7 @@
+pub mod Version
+pub mod Json
+pub mod Member
+pub mod WireFault
 pub mod Flat
 pub mod LineObject
 pub mod Field

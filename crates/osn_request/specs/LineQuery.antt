@@ -6,7 +6,7 @@ use Rattle.osn_grammar.specs.ReadDate.{date_reading}
 use Rattle.osn_register.specs.BorrowedQuery.{as_query}
 use Rattle.osn_register.specs.declared.query.Query.{Query}
 use Rattle.osn_register.specs.declared.query.Query.TheVariants as queries
-use Rattle.osn_format.specs.declared.wire_fault.WireFault.{WireFault}
+use Rattle.osn_request.specs.declared.wire_fault.WireFault.{WireFault}
 use Rattle.osn_request.specs.declared.request.line_query.LineQuery.{LineQuery}
 use Rattle.osn_request.specs.declared.request.line_query.LineQuery.TheVariants as lines
 

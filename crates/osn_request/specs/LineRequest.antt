@@ -1,6 +1,6 @@
 -- The request of one that borrows from its line.
 use Rattle.std.specs.Prelude.{Bool, true, false, Result, Ok, Err}
-use Rattle.osn_format.specs.declared.wire_fault.WireFault.{WireFault}
+use Rattle.osn_request.specs.declared.wire_fault.WireFault.{WireFault}
 use Rattle.osn_request.specs.declared.request.line_request.LineRequest.{LineRequest}
 use Rattle.osn_request.specs.declared.request.line_request.LineRequest.TheVariants as lines
 use Rattle.osn_request.specs.LineQuery.{line_query}

@@ -2,13 +2,13 @@
 use Rattle.std.specs.Prelude.{ℕ, List, [], ◌∷◌, codes, Option, Result}
 use Rattle.serde_json.specs.Data.{Data}
 use Rattle.osn_days.specs.Keyword.{meaning}
-use Rattle.osn_format.specs.declared.member.Member.TheVariants as members
+use Rattle.osn_request.specs.declared.member.Member.TheVariants as members
 use Rattle.osn_request.specs.declared.request.op.Op.{Op}
 use Rattle.osn_request.specs.declared.request.op.Op.TheVariants.{Edit, Publish, Query}
 use Rattle.osn_request.specs.declared.request.op.EditOp.TheVariants as edits
 use Rattle.osn_request.specs.declared.request.op.QueryOp.TheVariants as queries
-use Rattle.osn_format.specs.declared.wire_fault.WireFault.{WireFault}
-use Rattle.osn_format.specs.declared.wire_fault.WireFault.TheVariants.{UnknownOp}
+use Rattle.osn_request.specs.declared.wire_fault.WireFault.{WireFault}
+use Rattle.osn_request.specs.declared.wire_fault.WireFault.TheVariants.{UnknownOp}
 use Rattle.osn_request.specs.Field.{◌>>=◌, or_fault, text_at}
 
 abbrev pub op_named : List ℕ → Option Op

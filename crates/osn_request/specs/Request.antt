@@ -7,10 +7,10 @@ use Rattle.serde_json.specs.Data.{Data}
 use Rattle.serde_json.specs.Read.{read}
 use Rattle.serde_json.specs.Find.{as_object}
 use Rattle.osn_lines.specs.Lines.{longest_line}
-use Rattle.osn_format.specs.declared.version.Version.{Version}
-use Rattle.osn_format.specs.declared.wire_fault.WireFault.{WireFault}
-use Rattle.osn_format.specs.declared.wire_fault.WireFault.TheVariants.{LineTooLong, NotJson}
-use Rattle.osn_format.specs.declared.wire_fault.WireFault.TheVariants.{NotObject}
+use Rattle.osn_request.specs.declared.version.Version.{Version}
+use Rattle.osn_request.specs.declared.wire_fault.WireFault.{WireFault}
+use Rattle.osn_request.specs.declared.wire_fault.WireFault.TheVariants.{LineTooLong, NotJson}
+use Rattle.osn_request.specs.declared.wire_fault.WireFault.TheVariants.{NotObject}
 use Rattle.osn_request.specs.declared.request.op.Op.{Op}
 use Rattle.osn_request.specs.declared.request.op.Op.TheVariants as ops
 use Rattle.osn_request.specs.declared.request.Request.{Request}

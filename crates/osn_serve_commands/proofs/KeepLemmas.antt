@@ -16,7 +16,7 @@ use Rattle.osn_lines.specs.declared.whole.ReadAllFault.TheVariants as read_fault
 use Rattle.osn_files.specs.Faults.{MatchFileFault}
 use Rattle.osn_files.specs.Files.{ReadsFile}
 use Rattle.osn_folder.specs.declared.fault.KeptFileFault.{KeptFileFault}
-use Rattle.osn_format.specs.declared.version.Version.{Version}
+use Rattle.osn_request.specs.declared.version.Version.{Version}
 use Rattle.osn_files.specs.Journal.{load}
 use Rattle.osn_files.specs.Loaded.{IsOfVersion}
 use Rattle.osn_lines.specs.Ended.{ended_length, with_byte}

@@ -6,11 +6,11 @@ use Rattle.osn_lines.specs.declared.fault.EndedEarly.{EndedEarly}
 use Rattle.osn_invocation.specs.Invocation.{ServiceModel}
 use Rattle.osn_service.specs.Faults.{MatchServed}
 use Rattle.osn_service.specs.declared.service.Served.{Served}
-use Rattle.osn_follower.specs.Arrivals.{Arrival}
-use Rattle.osn_follower.specs.Follows.{Follows}
-use Rattle.osn_follower.specs.Outcomes.{following}
-use Rattle.osn_follower.specs.declared.fault.FollowerFault.{FollowerFault}
-use Rattle.osn_follower.specs.declared.fault.FollowerFault.TheVariants as follower
+use Rattle.osn_journal.specs.Arrivals.{Arrival}
+use Rattle.osn_journal.specs.Follows.{Follows}
+use Rattle.osn_journal.specs.Outcomes.{following}
+use Rattle.osn_journal.specs.declared.follower_fault.FollowerFault.{FollowerFault}
+use Rattle.osn_journal.specs.declared.follower_fault.FollowerFault.TheVariants as follower
 use Rattle.osn_report.specs.Messages.{Ends, Reports, ReportsAt}
 use Rattle.osn_report.specs.declared.fault.CommandFault.{CommandFault}
 use Rattle.osn_report.specs.declared.fault.CommandFault.TheVariants.{File, FollowedFile, Service}

@@ -15,7 +15,7 @@ use Rattle.osn_files.specs.declared.fault.FileFault.TheVariants.{ReadFault}
 use Rattle.osn_folder.specs.Crash.{LeavesAllSafe}
 use Rattle.osn_folder.specs.Folder.{Known, Changes, IsFileIf, Opens, path_if}
 use Rattle.osn_folder.specs.Folder.{Keeps, CannotKeep, IsKeptAt, Leaves, Stays}
-use Rattle.osn_follower.specs.Arrivals.{Arrival}
+use Rattle.osn_journal.specs.Arrivals.{Arrival}
 use Rattle.osn_folder.specs.declared.fault.KeepFault.{KeepFault}
 use Rattle.osn_invocation.specs.Invocation.{ServiceModel}
 use Rattle.osn_journal.specs.KeptJournal.{FileState}

@@ -10,9 +10,9 @@ use Rattle.osn_lines.specs.Faults.{IsReadFault}
 use Rattle.osn_lines.specs.Lines.{lines}
 use Rattle.osn_lines.specs.Streams.{Input, Output}
 use Rattle.osn_lines.specs.declared.fault.EndedEarly.{EndedEarly}
-use Rattle.osn_format.specs.Version.{has_sources, plain_version}
-use Rattle.osn_format.specs.declared.version.Version.{Version}
-use Rattle.osn_format.specs.declared.version.Version.TheVariants.{First, Second, Fourth}
+use Rattle.osn_request.specs.Version.{has_sources, plain_version}
+use Rattle.osn_request.specs.declared.version.Version.{Version}
+use Rattle.osn_request.specs.declared.version.Version.TheVariants.{First, Second, Fourth}
 use Rattle.osn_files.specs.Faults.{MatchFileFault}
 use Rattle.osn_files.specs.Journal.{load}
 use Rattle.osn_files.specs.JournalText.{line_text}

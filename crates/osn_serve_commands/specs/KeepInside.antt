@@ -2,7 +2,7 @@
 use Rattle.std.specs.Prelude.{◌≡◌, ℕ, Bool, List, ◌++◌, take, Option, Some, IfSome}
 use Rattle.osn_register.specs.declared.limits.Limits.{Limits}
 use Rattle.osn_core.specs.Sequential.{ObjectState}
-use Rattle.osn_format.specs.declared.version.Version.{Version}
+use Rattle.osn_request.specs.declared.version.Version.{Version}
 use Rattle.osn_files.specs.CountedPrefix.{IsCountedPrefix, whole_bytes}
 use Rattle.osn_files.specs.declared.whole_lines.CountedPrefix.{CountedPrefix}
 use Rattle.osn_report.specs.declared.fault.CommandFault.{CommandFault}

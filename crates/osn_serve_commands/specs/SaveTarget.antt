@@ -22,7 +22,7 @@ use Rattle.osn_report.specs.Messages.{EndsBy, ReportsAt, ReportsIfMade}
 use Rattle.osn_report.specs.declared.fault.CommandFault.TheVariants as command_faults
 use Rattle.osn_report.specs.declared.status.Status.{Status}
 use Rattle.osn_report.specs.declared.status.Status.TheVariants as statuses
-use Rattle.osn_shown.specs.Escaped.{escaped}
+use Rattle.osn_lines.specs.Escaped.{escaped}
 use Rattle.std.specs.Prelude.{Some, Err}
 use Rattle.osn_serve_commands.specs.declared.target.SaveTarget.{SaveTarget}
 use Rattle.osn_serve_commands.specs.declared.target.SaveTarget.TheVariants.{NoFile, Empty}

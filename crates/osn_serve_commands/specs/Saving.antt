@@ -12,7 +12,7 @@ use Rattle.osn_lines.specs.Streams.{Output}
 use Rattle.osn_report.specs.Messages.{Ends, EndsBy, ReportsAt, ReportsIfMade, ReportsLine}
 use Rattle.osn_report.specs.declared.fault.CommandFault.TheVariants.{NoMemory, NotSaved}
 use Rattle.osn_report.specs.declared.status.Status.{Status}
-use Rattle.osn_shown.specs.Escaped.{escaped}
+use Rattle.osn_lines.specs.Escaped.{escaped}
 use Rattle.osn_report.specs.declared.status.Status.TheVariants as statuses
 
 -- the file of this path was locked, if there is one

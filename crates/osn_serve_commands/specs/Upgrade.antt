@@ -4,8 +4,8 @@ use Rattle.std.specs.Prelude.{◌≡◌, ◌⊎◌, ℕ, Bool, true, false, List
 use Rattle.osn_register.specs.declared.limits.Limits.{Limits}
 use Rattle.osn_core.specs.Sequential.{ObjectState}
 use Rattle.osn_lines.specs.Streams.{Input, Output}
-use Rattle.osn_format.specs.Version.{has_sources, newest_version}
-use Rattle.osn_format.specs.declared.version.Version.{Version}
+use Rattle.osn_request.specs.Version.{has_sources, newest_version}
+use Rattle.osn_request.specs.declared.version.Version.{Version}
 use Rattle.osn_files.specs.JournalText.{journal_text_of}
 use Rattle.osn_folder.specs.Crash.{SavesSafely, CannotSaveSafely}
 use Rattle.osn_folder.specs.Folder.{Known, Changes, Keeps, CannotKeep, IsKeptAt, Leaves, Locks}

@@ -2,8 +2,8 @@
 use Rattle.std.specs.Prelude.{◌≡◌, ℕ, true, false, List, Option}
 use Rattle.osn_register.specs.declared.limits.Limits.{Limits}
 use Rattle.osn_core.specs.Sequential.{ObjectState}
-use Rattle.osn_format.specs.Version.{has_sources, newest_version}
-use Rattle.osn_format.specs.declared.version.Version.{Version}
+use Rattle.osn_request.specs.Version.{has_sources, newest_version}
+use Rattle.osn_request.specs.declared.version.Version.{Version}
 use Rattle.osn_files.specs.JournalText.{journal_text_of}
 use Rattle.osn_serve_commands.specs.Keep.{HoldsObject, cut_text, unfinished_line}
 use Rattle.osn_serve_commands.specs.KeepInside.{AreReadOf}

@@ -1,6 +1,6 @@
 //! The command `serve` with a journal that another run keeps: each line is answered from the newest
 //! edition that the file contains.
-ghost use Rattle.osn_follower.specs.Follows.{MatchFollower};
+ghost use Rattle.osn_journal.specs.Follows.{MatchFollower};
 ghost use Rattle.osn_invocation.specs.Invocation.{service_model};
 ghost use Rattle.osn_lines.specs.Streams.{output_of};
 ghost use Rattle.osn_report.specs.declared.fault.CommandFault.{CommandFault};
@@ -8,8 +8,8 @@ ghost use Rattle.osn_serve_commands.specs.Follow.{EndsFollowed};
 ghost use Rattle.std.specs.Prelude.{◌≡◌};
 ghost use Rattle.osn_serve_commands.specs.Follow as spec;
 
-use osn_follower::{Arrivals, FollowerFault, follow};
 use osn_invocation::ServeOptions;
+use osn_journal::{Arrivals, FollowerFault, follow};
 use osn_lines::Sink;
 use osn_register::Limits;
 use osn_report::{CommandFault, Status, report, report_at};

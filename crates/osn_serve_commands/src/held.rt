@@ -8,10 +8,10 @@ ghost use Rattle.osn_serve_commands.specs.KeepInside.{AreReadOf, IsHeldIn, IsUnr
 
 use osn_core::Object;
 use osn_files::{CountedPrefix, FileFault, counted_prefix, load_with_version};
-use osn_format::Version;
 use osn_lines::{Bytes, Source, read_all};
 use osn_register::Limits;
 use osn_report::CommandFault;
+use osn_request::Version;
 use std::alloc::Global;
 
 /// What a file that will be kept contains.

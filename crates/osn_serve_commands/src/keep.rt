@@ -18,11 +18,11 @@ use crate::held::{check_kept, read_kept};
 use osn_core::Object;
 use osn_files::{CountedPrefix, LastLine, head_line};
 use osn_folder::{KeptFile, KeptFileFault};
-use osn_format::Version;
 use osn_journal::serve_kept;
 use osn_lines::{Sink, Source};
 use osn_register::Limits;
 use osn_report::{CommandFault, Status, report, report_at, write_line};
+use osn_request::Version;
 use osn_service::{ServeRules, ServiceFault};
 use std::alloc::{AllocError, Global};
 

@@ -7,9 +7,8 @@ ghost use Rattle.osn_serve_commands.specs.Saving.{ReportsUnsaved, beside_line, c
 
 use crate::serve::ServeResult;
 use osn_folder::{Folder, KeepFault, SaveFault, save_beside, save_file};
-use osn_lines::Sink;
+use osn_lines::{Escaped, Sink};
 use osn_report::{CommandFault, Status, report_at, report_line, report_no_memory, write_line};
-use osn_shown::Escaped;
 use std::alloc::{AllocError, Global};
 
 /// A file that a journal will be saved to, and its lock.

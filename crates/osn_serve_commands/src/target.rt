@@ -8,10 +8,9 @@ ghost use Rattle.osn_serve_commands.specs.SaveTarget as spec;
 
 use osn_files::{FileFault, load_journal};
 use osn_folder::{ChangeCause, Folder, OpenFailed};
-use osn_lines::{Bytes, ReadAllFault, Sink, read_all};
+use osn_lines::{Bytes, Escaped, ReadAllFault, Sink, read_all};
 use osn_register::Limits;
 use osn_report::{CommandFault, Status, report_at, report_line, report_no_memory};
-use osn_shown::Escaped;
 use std::alloc::{AllocError, Global};
 
 /// What a journal will be saved over.

@@ -17,10 +17,10 @@ use crate::keep::cut_text;
 use crate::saved_file::report_unsaved;
 use osn_files::{CountedPrefix, LastLine, journal_text_of};
 use osn_folder::{Folder, save_file};
-use osn_format::Version;
 use osn_lines::{Sink, Source};
 use osn_register::Limits;
 use osn_report::{CommandFault, Status, report_at, write_line};
+use osn_request::Version;
 use std::alloc::{AllocError, Global};
 
 /// Puts a text in place of the file of a path, which is locked for that, whole or not at all. The

@@ -12,7 +12,7 @@ use Rattle.osn_lines.specs.declared.fault.EndedEarly.{EndedEarly}
 use Rattle.osn_lines.specs.Faults.{WriteFails}
 use Rattle.osn_lines.specs.Lines.{lines}
 use Rattle.osn_lines.specs.Streams.{Input}
-use Rattle.osn_reply.specs.ReplyText.{reply_line, outcome_data}
+use Rattle.osn_service.specs.ReplyText.{reply_line, outcome_data}
 use Rattle.osn_service.specs.declared.fault.ServeFault.{ServeFault}
 use Rattle.osn_service.specs.declared.fault.ServeFault.TheVariants.{NoMemory, ReadFault, WriteFault}
 use Rattle.osn_service.specs.declared.fault.ServiceFault.{ServiceFault}

@@ -11,10 +11,10 @@ use Rattle.osn_core.specs.Sequential.{ObjectState, state_unless, stage_refusal, 
 use Rattle.osn_core.specs.Sequential.{publish_refusal, with_edition}
 use Rattle.osn_lines.specs.Lines.{lines}
 use Rattle.osn_lines.proofs.FeedLemmas as feed
-use Rattle.osn_format.specs.declared.wire_fault.WireFault.{WireFault}
+use Rattle.osn_request.specs.declared.wire_fault.WireFault.{WireFault}
 use Rattle.osn_request.specs.declared.request.Request.{Request}
 use Rattle.osn_request.specs.declared.request.Request.TheVariants.{Stage, Publish, Ask}
-use Rattle.osn_reply.specs.declared.outcome.Outcome.{Outcome}
+use Rattle.osn_service.specs.declared.outcome.Outcome.{Outcome}
 use Rattle.osn_service.specs.Served.{line_text, outputs, after_lines}
 use Rattle.osn_service.specs.declared.rules.ServeRules.{ServeRules}
 use Rattle.osn_service.specs.Session.{unless_refused, outcome_of, state_after, line_after}

@@ -1,3 +1,4 @@
+pub mod LineLemmas
 pub mod WaitLemmas
 pub mod PartLemmas
 pub mod LawLemmas

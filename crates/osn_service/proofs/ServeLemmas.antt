@@ -4,7 +4,7 @@ use Rattle.std.proofs.Common.{fold, Option, refl, sym, ap, subst, length-append,
 use Rattle.std.proofs.Common.{⊎_elim, inl, inr}
 use Rattle.osn_core.specs.Sequential.{ObjectState}
 use Rattle.osn_lines.specs.Faults.{WriteFails}
-use Rattle.osn_reply.specs.Outcome.{is_refused}
+use Rattle.osn_service.specs.Outcome.{is_refused}
 use Rattle.osn_service.specs.declared.reply_buffer.ReplyBuffer.{ReplyBuffer}
 use Rattle.osn_service.specs.declared.rules.ServeRules.{ServeRules}
 use Rattle.osn_service.specs.Faults.{HasLongReply, RepliesFail}

@@ -2,7 +2,7 @@
 use Rattle.std.proofs.Common.{◌≡◌, ◌<◌, ◌∙◌, ℕ, Bool, true, false, List, [], ◌∷◌, ◌++◌, length}
 use Rattle.std.proofs.Common.{Option, Some, Ok, Err, refl, sym, ap, subst}
 use Rattle.osn_core.specs.Sequential.{ObjectState}
-use Rattle.osn_reply.specs.Outcome.{is_refused}
+use Rattle.osn_service.specs.Outcome.{is_refused}
 use Rattle.osn_service.specs.declared.rules.ServeRules.{ServeRules}
 use Rattle.osn_service.specs.declared.session.Session.{Session}
 use Rattle.osn_service.specs.declared.stop.Stop.{Stop}

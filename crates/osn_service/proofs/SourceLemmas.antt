@@ -11,9 +11,9 @@ use Rattle.osn_register.specs.Lawful.{source_given}
 use Rattle.osn_core.specs.Sequential.{ObjectState, joined, state_unless, stage_refusal}
 use Rattle.osn_core.specs.Sequential.{with_pending, publish_refusal, with_edition}
 use Rattle.osn_core.proofs.Batches.{joined-push}
-use Rattle.osn_format.specs.declared.wire_fault.WireFault.{WireFault}
-use Rattle.osn_format.specs.declared.wire_fault.WireFault.TheVariants.{NeedsUpgrade}
-use Rattle.osn_format.specs.Version.{newest_version}
+use Rattle.osn_request.specs.declared.wire_fault.WireFault.{WireFault}
+use Rattle.osn_request.specs.declared.wire_fault.WireFault.TheVariants.{NeedsUpgrade}
+use Rattle.osn_request.specs.Version.{newest_version}
 use Rattle.osn_request.specs.declared.request.Request.{Request}
 use Rattle.osn_request.specs.declared.request.Request.TheVariants.{Stage, Publish, Ask}
 use Rattle.osn_request.specs.Request.{request}

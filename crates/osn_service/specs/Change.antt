@@ -4,8 +4,8 @@ use Rattle.osn_days.specs.Rules.{newest_rules}
 use Rattle.osn_register.specs.declared.refusal.Refusal.{Refusal}
 use Rattle.osn_core.specs.Sequential.{ObjectState, stage_refusal, publish_refusal, with_pending}
 use Rattle.osn_core.specs.Sequential.{with_edition, state_unless}
-use Rattle.osn_reply.specs.declared.outcome.Outcome.{Outcome}
-use Rattle.osn_reply.specs.declared.outcome.Outcome.TheVariants.{Staged, Published}
+use Rattle.osn_service.specs.declared.outcome.Outcome.{Outcome}
+use Rattle.osn_service.specs.declared.outcome.Outcome.TheVariants.{Staged, Published}
 use Rattle.osn_service.specs.Session.{unless_refused}
 use Rattle.osn_service.specs.declared.store.Change.{Change}
 use Rattle.osn_service.specs.declared.store.Change.TheVariants.{Stage, Publish}

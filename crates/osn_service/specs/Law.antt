@@ -4,12 +4,13 @@ use Rattle.std.specs.Prelude.{◌≡◌, ◌⊎◌, ℕ, List, [], ◌∷◌, �
 use Rattle.std.specs.List.{All, concat, flat_map}
 use Rattle.osn_core.specs.Sequential.{ObjectState}
 use Rattle.osn_lines.specs.Lines.{lines}
-use Rattle.osn_format.specs.declared.wire_fault.WireFault.{WireFault}
+use Rattle.osn_request.specs.declared.wire_fault.WireFault.{WireFault}
 use Rattle.osn_request.specs.declared.request.Request.{Request}
 use Rattle.osn_request.specs.declared.request.Request.TheVariants.{Stage, Publish, Ask}
-use Rattle.osn_reply.specs.declared.outcome.Outcome.{Outcome}
-use Rattle.osn_reply.specs.declared.outcome.Outcome.TheVariants.{Staged, Published, Refused, Fault}
-use Rattle.osn_reply.specs.declared.outcome.Outcome.TheVariants.{Replied}
+use Rattle.osn_service.specs.declared.outcome.Outcome.{Outcome}
+use Rattle.osn_service.specs.declared.outcome.Outcome.TheVariants.{Staged, Published, Refused}
+use Rattle.osn_service.specs.declared.outcome.Outcome.TheVariants.{Fault}
+use Rattle.osn_service.specs.declared.outcome.Outcome.TheVariants.{Replied}
 use Rattle.osn_service.specs.declared.rules.ServeRules.{ServeRules}
 use Rattle.osn_service.specs.Served.{outputs, after_lines}
 use Rattle.osn_service.specs.Session.{line_outcome, line_after, line_request}

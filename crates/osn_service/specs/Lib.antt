@@ -1,3 +1,9 @@
+pub mod Outcome
+pub mod ReplyText
+pub mod OutText
+pub mod Transcript
+pub mod LineWriterInside
+pub mod SourceInside
 pub mod Change
 pub mod Faults
 pub mod Law

@@ -1,7 +1,7 @@
 -- Which lines are refused, and the first of them.
 use Rattle.std.specs.Prelude.{◌≡◌, ℕ, true, false, List, [], ◌∷◌, ◌++◌, take}
 use Rattle.osn_core.specs.Sequential.{ObjectState}
-use Rattle.osn_reply.specs.Outcome.{is_refused}
+use Rattle.osn_service.specs.Outcome.{is_refused}
 use Rattle.osn_service.specs.declared.rules.ServeRules.{ServeRules}
 use Rattle.osn_service.specs.Served.{after_lines}
 use Rattle.osn_service.specs.Session.{line_outcome, line_after}

@@ -1,6 +1,6 @@
 -- The object that was read of a line, or its fault.
 use Rattle.std.specs.Prelude.{◌≡◌, ◌⊎◌, ℕ, List, Result, Ok, Err, MatchResult, is_ok, true}
-use Rattle.osn_format.specs.Version.{newest_version}
+use Rattle.osn_request.specs.Version.{newest_version}
 use Rattle.osn_request.specs.declared.request.line_object.LineObject.{LineObject}
 use Rattle.osn_request.specs.declared.request.RequestError.{RequestError}
 use Rattle.osn_request.specs.LineObject.{line_data}

@@ -5,7 +5,7 @@ use Rattle.std.specs.Io.KnownBytes.{Appends}
 use Rattle.osn_core.specs.Sequential.{ObjectState}
 use Rattle.osn_service.specs.declared.rules.ServeRules.{ServeRules}
 use Rattle.osn_service.specs.Replies.{replies}
-use Rattle.osn_reply.specs.ReplyText.{reply_line}
+use Rattle.osn_service.specs.ReplyText.{reply_line}
 use Rattle.osn_service.specs.Session.{line_outcome, line_after}
 
 -- the reply line to a line

@@ -9,14 +9,15 @@ use Rattle.osn_register.specs.declared.refusal.Refusal.{Refusal}
 use Rattle.osn_register.specs.Lawful.{source_given}
 use Rattle.osn_core.specs.Sequential as object
 use Rattle.osn_core.specs.Sequential.{ObjectState, stage_refusal, publish_refusal, reply_at}
-use Rattle.osn_reply.specs.declared.outcome.Outcome.{Outcome}
-use Rattle.osn_reply.specs.declared.outcome.Outcome.TheVariants.{Staged, Published, Refused, Fault}
-use Rattle.osn_reply.specs.declared.outcome.Outcome.TheVariants.{Replied}
+use Rattle.osn_service.specs.declared.outcome.Outcome.{Outcome}
+use Rattle.osn_service.specs.declared.outcome.Outcome.TheVariants.{Staged, Published, Refused}
+use Rattle.osn_service.specs.declared.outcome.Outcome.TheVariants.{Fault}
+use Rattle.osn_service.specs.declared.outcome.Outcome.TheVariants.{Replied}
 use Rattle.osn_request.specs.declared.request.Request.{Request}
 use Rattle.osn_request.specs.declared.request.Request.TheVariants.{Stage, Publish, Ask}
-use Rattle.osn_format.specs.declared.wire_fault.WireFault.{WireFault}
-use Rattle.osn_format.specs.declared.wire_fault.WireFault.TheVariants.{ReadOnly, NeedsUpgrade}
-use Rattle.osn_format.specs.Version.{newest_version}
+use Rattle.osn_request.specs.declared.wire_fault.WireFault.{WireFault}
+use Rattle.osn_request.specs.declared.wire_fault.WireFault.TheVariants.{ReadOnly, NeedsUpgrade}
+use Rattle.osn_request.specs.Version.{newest_version}
 use Rattle.osn_request.specs.Field.{◌>>=◌}
 use Rattle.osn_request.specs.Request.{request}
 use Rattle.osn_service.specs.declared.rules.ServeRules.{ServeRules}

@@ -5,13 +5,13 @@ use Rattle.std.specs.Io.KnownBytes.{Appends}
 use Rattle.osn_lines.specs.Faults.{WriteFails}
 use Rattle.osn_lines.specs.Lines.{lines}
 use Rattle.osn_core.specs.Sequential.{ObjectState}
-use Rattle.osn_reply.specs.declared.outcome.Outcome.{Outcome}
-use Rattle.osn_reply.specs.ReplyText.{reply_line}
+use Rattle.osn_service.specs.declared.outcome.Outcome.{Outcome}
+use Rattle.osn_service.specs.ReplyText.{reply_line}
 use Rattle.osn_service.specs.declared.reply_buffer.ReplyBuffer.{ReplyBuffer}
 use Rattle.osn_service.specs.declared.rules.ServeRules.{ServeRules}
 use Rattle.osn_service.specs.declared.session.Session.{Session}
 use Rattle.osn_service.specs.declared.stop.Stop.{Stop}
-use Rattle.osn_reply.specs.Outcome.{is_refused}
+use Rattle.osn_service.specs.Outcome.{is_refused}
 use Rattle.osn_service.specs.Faults.{HasReply, RepliesFail}
 use Rattle.osn_service.specs.Refusals.{NoneRefused}
 use Rattle.osn_service.specs.Served.{line_text, outputs, after_lines}

@@ -1,12 +1,13 @@
 //! Replies that wait to be written.
 ghost use Rattle.std.specs.Prelude.{◌≡◌, [], false, length, nat_le, IfErr, OnOk, OnErr};
 ghost use Rattle.osn_lines.specs.Faults.{WriteFails};
-ghost use Rattle.osn_reply.specs.ReplyText.{reply_line};
+ghost use Rattle.osn_service.specs.ReplyText.{reply_line};
 ghost use Rattle.osn_service.specs.ServiceInside.{full, Pushes, Writes, WritesSome};
 
+use crate::outcome::Outcome;
+use crate::reply::push_reply;
 use crate::stop::UnwrittenReplies;
 use osn_lines::{Sink, write_all};
-use osn_reply::{Outcome, push_reply};
 use std::alloc::{AllocError, Global};
 
 /// What waits is written once it has this many bytes.

@@ -8,8 +8,8 @@ ghost use Rattle.osn_days.specs.Rules.{newest_rules};
 ghost use Rattle.osn_core.specs.Sequential.{reply_at};
 ghost use Rattle.osn_lines.specs.Faults.{WriteFails};
 ghost use Rattle.osn_lines.specs.Lines.{IsLine};
-ghost use Rattle.osn_reply.specs.Outcome.{is_refused};
-ghost use Rattle.osn_reply.specs.ReplyText.{reply_line};
+ghost use Rattle.osn_service.specs.Outcome.{is_refused};
+ghost use Rattle.osn_service.specs.ReplyText.{reply_line};
 ghost use Rattle.osn_request.specs.LineQuery.{line_query};
 ghost use Rattle.osn_request.specs.LineRequest.{as_request};
 ghost use Rattle.osn_request.specs.Request.{Fails};
@@ -20,16 +20,17 @@ ghost use Rattle.osn_service.specs.ServiceInside.{full, Pushes, Settles, WritesS
 ghost use Rattle.osn_service.specs.Session as spec;
 ghost use Rattle.osn_service.specs.SessionInside.{Answers, session_state};
 
+use crate::outcome::Outcome;
 use crate::reply_buffer::ReplyBuffer;
 use crate::rules::ServeRules;
 use crate::stop::{Stop, UnwrittenReplies};
 use crate::store::{Change, Store};
 use json::Scratch;
 use osn_core::Reply;
-use osn_format::WireFault;
 use osn_lines::{Line, LineTaker, Sink};
-use osn_reply::Outcome;
-use osn_request::{LineObject, LineQuery, LineRequest, RequestError, line_request_of, object_of};
+use osn_request::{
+    LineObject, LineQuery, LineRequest, RequestError, WireFault, line_request_of, object_of,
+};
 use std::alloc::{AllocError, Global};
 
 /// Adds the reply to a line that changes nothing, and returns whether it was refused.

@@ -9,9 +9,9 @@ ghost use Rattle.osn_service.specs.Change as spec;
 ghost use Rattle.osn_service.specs.Change.{change_refusal, changed, number_after};
 ghost use Rattle.osn_service.specs.Store.{Makes, MatchStoreFault, FailsToKeep, KeepsSince};
 
+use crate::outcome::Outcome;
 use osn_core::{Object, Reply};
 use osn_register::{BorrowedQuery, Edit, Refusal};
-use osn_reply::Outcome;
 use std::alloc::AllocError;
 use std::convert::Infallible;
 

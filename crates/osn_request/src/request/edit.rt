@@ -4,11 +4,12 @@ ghost use Rattle.osn_request.specs.EditRequest as spec;
 ghost use Rattle.osn_request.specs.Request.{GivesLast};
 ghost use Rattle.osn_register.specs.Sources.{is_source};
 
+use crate::member::Member;
 use crate::request::RequestError;
 use crate::request::field::{regime_of, source_at, text_at, whole_at};
 use crate::request::json_object::JsonObject;
 use crate::request::op::EditOp;
-use osn_format::{Member, Version};
+use crate::version::Version;
 use osn_register::{Edit, Source, Text};
 use std::alloc::{AllocError, Global};
 

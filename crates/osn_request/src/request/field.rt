@@ -2,13 +2,15 @@
 ghost use Rattle.std.specs.Prelude.{◌≡◌, true, MatchResult, IfOk, IfSome, Ok, Err, option_map};
 ghost use Rattle.osn_register.specs.Sources.{is_source};
 ghost use Rattle.osn_written.specs.WrittenDate.{weekday_named};
-ghost use Rattle.osn_format.specs.declared.member.Member.TheVariants as members;
+ghost use Rattle.osn_request.specs.declared.member.Member.TheVariants as members;
 ghost use Rattle.osn_request.specs.Field as spec;
-ghost use Rattle.osn_format.specs.Version.{rules_of};
+ghost use Rattle.osn_request.specs.Version.{rules_of};
 
+use crate::member::Member;
 use crate::request::json_object::JsonObject;
+use crate::version::Version;
+use crate::wire_fault::WireFault;
 use osn_days::{Keyword, Weekday};
-use osn_format::{Member, Version, WireFault};
 use osn_register::Source;
 use osn_territory::{Regime, Style};
 use osn_written::weekday_named;

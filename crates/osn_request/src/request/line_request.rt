@@ -1,6 +1,6 @@
 //! The request of a line's object, whose query borrows from it.
 ghost use Rattle.std.specs.Prelude.{◌≡◌, true, Ok, MatchResult, IfOk, IfErr};
-ghost use Rattle.osn_format.specs.Version.{newest_version};
+ghost use Rattle.osn_request.specs.Version.{newest_version};
 ghost use Rattle.osn_request.specs.declared.request.RequestError.TheVariants.{NoMemory};
 ghost use Rattle.osn_request.specs.LineRequest.{as_request, is_edit};
 ghost use Rattle.osn_request.specs.Op.{op_of as asked_of};
@@ -12,7 +12,7 @@ use crate::request::line_query::LineQuery;
 use crate::request::op::{Op, op_of};
 use crate::request::query::line_query_of;
 use crate::request::{Request, RequestError};
-use osn_format::Version;
+use crate::version::Version;
 use osn_register::Edit;
 use std::alloc::{AllocError, Global};
 

@@ -2,9 +2,10 @@
 ghost use Rattle.std.specs.Prelude.{◌≡◌};
 ghost use Rattle.osn_request.specs.Op as spec;
 
+use crate::member::Member;
 use crate::request::field::text_at;
 use crate::request::json_object::JsonObject;
-use osn_format::{Member, WireFault};
+use crate::wire_fault::WireFault;
 
 /// What a line asks for.
 #[derive(Clone, Copy, Debug, PartialEq, Eq)]

@@ -6,12 +6,13 @@ ghost use Rattle.osn_request.specs.LineQuery.{line_query, Reads};
 ghost use Rattle.osn_request.specs.QueryRequest as spec;
 ghost use Rattle.osn_request.specs.Request.{GivesLast};
 
+use crate::member::Member;
 use crate::request::RequestError;
 use crate::request::field::{text_at, weekday_at, whole_at};
 use crate::request::json_object::JsonObject;
 use crate::request::line_query::LineQuery;
 use crate::request::op::QueryOp;
-use osn_format::{Member, WireFault};
+use crate::wire_fault::WireFault;
 use osn_register::{BorrowedQuery, Query};
 use std::alloc::Global;
 

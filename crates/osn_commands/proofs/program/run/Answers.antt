@@ -2,7 +2,7 @@ use Rattle.std.proofs.Common.{◌≡◌, ◌∙◌, ℕ, List, Bor, ap, map, ref
 use Rattle.osn_folder.specs.Folder.{MayFail}
 use Rattle.osn_lines.specs.Streams.{input_of, output_of}
 use Rattle.osn_report.specs.Folders.{folders_of}
-use Rattle.osn_text_commands.specs.PublishInside.{CanStay}
+use Rattle.osn_commands.specs.PublishInside.{CanStay}
 use Rattle.osn_commands.specs.Run.{RunsWords}
 use Rattle.osn_commands.proofs.program.run.Goals as goal
 

@@ -1,7 +1,7 @@
 use Rattle.std.proofs.Common.{ℕ, List, Bor, map, refl}
 use Rattle.osn_folder.specs.Folder.{MayFail}
 use Rattle.osn_lines.specs.Streams.{input_of}
-use Rattle.osn_text_commands.specs.PublishInside.{CanStay}
+use Rattle.osn_commands.specs.PublishInside.{CanStay}
 use Rattle.osn_commands.proofs.RunLemmas.{show_typed}
 use Rattle.osn_commands.proofs.program.run_words.Goals as goal
 

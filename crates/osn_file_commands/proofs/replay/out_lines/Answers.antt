@@ -1,5 +1,5 @@
 use Rattle.std.proofs.Common.{string_bytes}
-use Rattle.osn_reply.specs.OutText.{out_line}
+use Rattle.osn_service.specs.OutText.{out_line}
 use Rattle.osn_file_commands.proofs.LineLemmas.{next_line}
 use Rattle.osn_file_commands.proofs.replay.out_lines.Goals as goal
 

@@ -1,6 +1,6 @@
 use Rattle.std.proofs.Common.{◌≡◌, take, string_bytes}
 use Rattle.std.specs.List.{flat_map}
-use Rattle.osn_reply.specs.OutText.{out_line}
+use Rattle.osn_service.specs.OutText.{out_line}
 use Rattle.osn_file_commands.proofs.replay.out_lines.Given as goal
 
 -- the lines of the outs so far

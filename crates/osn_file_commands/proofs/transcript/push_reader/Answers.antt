@@ -1,6 +1,6 @@
 use Rattle.std.proofs.Common.{string_bytes, ◌∙◌}
 use Rattle.std.proofs.lemmas.Slice.Zip.{Zip-more, either_empty_from_Zip}
-use Rattle.osn_reply.specs.Transcript.{transcript_line}
+use Rattle.osn_service.specs.Transcript.{transcript_line}
 use Rattle.osn_file_commands.proofs.LineLemmas.{last_piece, next_piece, reader_front, reader_end}
 use Rattle.osn_file_commands.specs.Transcript as spec
 use Rattle.osn_file_commands.proofs.transcript.push_reader.Goals as goal

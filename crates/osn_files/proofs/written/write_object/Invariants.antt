@@ -1,5 +1,5 @@
 use Rattle.std.proofs.Common.{◌≡◌, ◌++◌, drop}
-use Rattle.osn_format.specs.Json.{value_tokens}
+use Rattle.osn_request.specs.Json.{value_tokens}
 use Rattle.osn_files.specs.WrittenInside.{members_of, object_of, rest_tokens}
 use Rattle.osn_files.proofs.written.write_object.Given as goal
 

@@ -1,5 +1,5 @@
 use Rattle.std.proofs.Common.{◌≡◌, drop, find, map}
-use Rattle.osn_near.specs.Near.{is_near}
+use Rattle.osn_lines.specs.Near.{is_near}
 use Rattle.osn_page_commands.proofs.date_hint.first_near.Given as goal
 
 -- what is left decides

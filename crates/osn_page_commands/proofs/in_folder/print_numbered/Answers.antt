@@ -1,7 +1,7 @@
 use Rattle.std.proofs.Common.{refl}
 use Rattle.osn_lines.specs.Streams.{output_of}
 use Rattle.osn_page_commands.proofs.EditionLemmas.{on_edition, on_no_edition}
-use Rattle.osn_editions.specs.Edition.{edition_model}
+use Rattle.osn_core.specs.Edition.{edition_model}
 use Rattle.osn_page_commands.specs.Page.{PrintsPageOn, place_of}
 use Rattle.osn_page_commands.proofs.in_folder.print_numbered.Goals as goal
 

@@ -1,7 +1,7 @@
 use Rattle.std.proofs.Common.{refl}
 use Rattle.osn_lines.specs.Streams.{input_of, output_of}
 use Rattle.osn_page_commands.proofs.EditionLemmas.{on_edition, on_no_edition}
-use Rattle.osn_editions.specs.Edition.{edition_model}
+use Rattle.osn_core.specs.Edition.{edition_model}
 use Rattle.osn_page_commands.specs.Letters.{WritesTable, settings_model}
 use Rattle.osn_page_commands.proofs.letters.write_numbered.Goals as goal
 

@@ -1,5 +1,5 @@
 use Rattle.std.proofs.Common.{sym, inl, inr}
-use Rattle.osn_editions.specs.Edition.{edition_model}
+use Rattle.osn_core.specs.Edition.{edition_model}
 use Rattle.osn_lines.specs.Streams.{input_of, output_of}
 use Rattle.osn_page_commands.specs.Letters.{settings_model}
 use Rattle.osn_page_commands.proofs.LettersLemmas.{ended_table, whole_table}

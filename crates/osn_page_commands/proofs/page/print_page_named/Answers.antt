@@ -1,5 +1,5 @@
 use Rattle.std.proofs.Common.{refl}
-use Rattle.osn_editions.specs.Edition.{edition_model}
+use Rattle.osn_core.specs.Edition.{edition_model}
 use Rattle.osn_lines.specs.Streams.{output_of}
 use Rattle.osn_page_commands.specs.Place.{place_named}
 use Rattle.osn_page_commands.proofs.PageLemmas.{place_unknown}

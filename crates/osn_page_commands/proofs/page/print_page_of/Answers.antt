@@ -1,5 +1,5 @@
 use Rattle.std.proofs.Common.{subst}
-use Rattle.osn_editions.specs.Edition.{edition_model}
+use Rattle.osn_core.specs.Edition.{edition_model}
 use Rattle.osn_lines.specs.Streams.{output_of}
 use Rattle.osn_page_commands.specs.Page.{PrintsTopicText}
 use Rattle.osn_page_commands.proofs.PageLemmas.{page_made}

@@ -1,7 +1,0 @@
-use Rattle.std.proofs.Common.{rules}
-use Rattle.osn_almanac.specs.Almanac as spec
-use Rattle.osn_almanac.proofs.figures.push_cycles.Goals as goal
-
-pub returns : goal.returns
-unfolding spec.cycles_line
-returns c = rw (← c.golden_number-golden.ensures.value, ← c.indiction.ensures) (search rules)

@@ -1,4 +1,0 @@
-pub mod Columns
-pub mod Feasts
-pub mod Almanac
-pub mod YearPage

@@ -1,5 +1,0 @@
-pub mod EditLemmas
-pub mod EntryLemmas
-pub mod FollowLemmas
-pub mod LawLemmas
-mod ReadLemmas

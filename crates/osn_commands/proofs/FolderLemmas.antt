@@ -1,0 +1,47 @@
+-- The rewritten journal is as the contract says.
+use Rattle.std.proofs.Common.{◌∙◌, ℕ, List, Option, Some, None, ap, subst, sym}
+use Rattle.osn_core.specs.Sequential.{ObjectState}
+use Rattle.osn_files.specs.CountedPrefix.{IsCountedPrefix}
+use Rattle.osn_files.specs.declared.whole_lines.CountedPrefix.{CountedPrefix}
+use Rattle.osn_request.specs.declared.version.Version.{Version}
+use Rattle.osn_register.specs.Plain.{RegisterModel}
+use Rattle.osn_register.specs.declared.limits.Limits.{Limits}
+use Rattle.osn_serve_commands.specs.Keep.{HoldsObject, cut_text, unfinished_line}
+use Rattle.osn_serve_commands.specs.KeepInside.{AreReadOf, IsHeldIn}
+use Rattle.osn_commands.specs.Publish.{IsRewriteNeeded}
+use Rattle.osn_commands.specs.PublishInside.{IsOlderPlan, IsPartOf}
+use Rattle.osn_commands.specs.Since.{RequestModel}
+
+-- what counts of the bytes that were read counts of what was given
+pub part_read : (given : Option (List ℕ)) (bytes : List ℕ) (part : CountedPrefix)
+    → AreReadOf given bytes → IsCountedPrefix part bytes → IsPartOf part given
+part_read None bytes part read whole = tt
+part_read (Some held) bytes part read whole = subst (IsCountedPrefix part) read whole
+
+-- the journal that held these bytes is the one that was given
+pub edition_of_older : (limits : Limits) (asked : RequestModel) (wanted : RegisterModel)
+    (given : Option (List ℕ))
+    (held bytes journal text : List ℕ) (cut : Option (List ℕ)) (part : CountedPrefix)
+    (version : Version) (s : ObjectState) → AreReadOf given held
+    → IsHeldIn limits held part version s
+    → IsOlderPlan asked held part version s wanted bytes journal text cut
+    → IsRewriteNeeded limits asked wanted given bytes journal text cut
+edition_of_older limits asked wanted given held bytes journal text cut part version s read holds h =
+    let older = h.older in
+    let same = sym older.same in record {
+      read = subst (AreReadOf given) same read;
+      version = version;
+      object = s;
+      holds = subst (λ l. HoldsObject limits l version s) same holds.1;
+      pending = h.pending;
+      edits = h.edits;
+      had = h.had;
+      plans = h.plans;
+      free = h.free;
+      needs = older.needs;
+      lawful = older.lawful;
+      sources = older.sources;
+      anew = older.anew;
+      printed = older.printed;
+      message = older.message held holds.0 ∙ ap (λ l. cut_text (unfinished_line l)) same;
+    }

@@ -1,0 +1,62 @@
+-- A plan from the register of an object is one from what the object has published, and a journal
+-- that may be there is as the plan's contract says.
+use Rattle.std.proofs.Common.{◌≡◌, ℕ, Bool, List, Option, Some, None, is_some, option_map}
+use Rattle.std.proofs.Common.{refl, subst}
+use Rattle.osn_core.specs.Sequential.{ObjectState}
+use Rattle.osn_folder.specs.Folder.{Known}
+use Rattle.osn_register_text.specs.Plan.{IsPlan}
+use Rattle.osn_lines.specs.Streams.{Output}
+use Rattle.osn_register.specs.Plain.{EntryModel}
+use Rattle.osn_register.specs.declared.edit.Edit.{Edit}
+use Rattle.osn_register.specs.declared.limits.Limits.{Limits}
+use Rattle.osn_report.specs.Messages.{ReportsNothing}
+use Rattle.osn_report.specs.declared.status.Status.{Status}
+use Rattle.osn_report.specs.declared.status.Status.TheVariants as statuses
+use Rattle.osn_serve_commands.specs.Serve.{input_if}
+use Rattle.osn_commands.specs.InFolder.{IsOpened, ReportsHindranceAfter}
+use Rattle.osn_commands.specs.Text.{published}
+
+pub same_plan : (s : ObjectState) (limits : Limits) (territories wanted : List EntryModel)
+    (made edits : List Edit) → limits ≡ s.limits → territories ≡ published s → made ≡ edits
+    → IsPlan limits wanted territories made → IsPlan s.limits wanted (published s) edits
+same_plan s limits territories wanted made edits is same all h =
+    subst (λ es. IsPlan s.limits wanted (published s) es) all
+    (subst (λ ls. IsPlan s.limits wanted ls made) same
+    (subst (λ l. IsPlan l wanted territories made) is h))
+
+module _ {S : Type 0} (remaining : S → Option (List ℕ)) (has_failed : S → Bool)
+    (old new : Option S) where
+  -- a source that may be there is one that is given or not
+  pub is_there : is_some (input_if remaining has_failed old new) ≡ is_some old
+  is_there = by old
+    where
+      by : (old : Option S) → is_some (input_if remaining has_failed old new) ≡ is_some old
+      by None = refl
+      by (Some source) = refl
+
+  -- what it gives is what its file will
+  pub opened_if : (path : List ℕ) (before after : Option Known)
+      → IsOpened path (option_map remaining old) before after
+      → IsOpened path (option_map (λ journal. journal.bytes)
+      (input_if remaining has_failed old new)) before after
+  opened_if path before after h = by old h
+    where
+      by : (old : Option S) → IsOpened path (option_map remaining old) before after
+          → IsOpened path (option_map (λ journal. journal.bytes)
+          (input_if remaining has_failed old new)) before after
+      by None h = h
+      by (Some source) h = h
+
+-- ---- what is written
+
+-- after a plan that was not printed nothing more is
+pub reports_no_hindrance : (printed : Status) (path : List ℕ) (there : Bool) (known : Option Known)
+    (e : Output) → (printed ≡ statuses.Done → ⊥) → ReportsNothing e
+    → ReportsHindranceAfter printed path there known known e printed
+reports_no_hindrance statuses.Done path there known e other nothing = absurd (other refl)
+reports_no_hindrance statuses.Refused path there known e other nothing = (refl, refl, nothing)
+reports_no_hindrance statuses.Misused path there known e other nothing = (refl, refl, nothing)
+reports_no_hindrance statuses.ReadFault path there known e other nothing = (refl, refl, nothing)
+reports_no_hindrance statuses.WriteFault path there known e other nothing = (refl, refl, nothing)
+reports_no_hindrance statuses.Unwritten path there known e other nothing = (refl, refl, nothing)
+reports_no_hindrance statuses.NoMemory path there known e other nothing = (refl, refl, nothing)

@@ -1,0 +1,28 @@
+use Rattle.std.proofs.Common.{◌≡◌, None, inl, inr, length, refl}
+use Rattle.osn_commands.proofs.PlanLemmas.{same_plan}
+use Rattle.osn_commands.proofs.PublishLemmas.{same_fault}
+use Rattle.osn_commands.specs.Since.{later_than}
+use Rattle.osn_commands.proofs.plan.print_plan.Goals as goal
+
+pub returns-in-Ok : goal.returns-in-Ok
+returns-in-Ok g c =
+    let object = c.args.object.now in
+    let had : later_than c.args.asked.edition (length object.batches) ≡ None = cc in
+    rw had (inr (
+      c.in-Ok.edits.items,
+      same_plan object _ _ c.args.wanted.now.territories _ _ c.register.ensures.limits
+          c.register.ensures.territories refl c.in-Ok.ensures.ok,
+      c.print_edits.ensures,
+    ))
+
+pub returns-in-Err : goal.returns-in-Err
+returns-in-Err g c =
+    let object = c.args.object.now in
+    let had : later_than c.args.asked.edition (length object.batches) ≡ None = cc in
+    rw had (inl (
+      c.in-Err.fault,
+      same_fault object _ _ c.args.wanted.now.territories c.in-Err.fault c.register.ensures.limits
+          c.register.ensures.territories c.in-Err.ensures.err,
+      refl,
+      c.report_plan_fault.ensures,
+    ))

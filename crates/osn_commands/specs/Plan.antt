@@ -1,0 +1,128 @@
+-- What the command `plan` prints, and what it writes to standard error.
+use Rattle.std.specs.Prelude.{◌≡◌, ◌⊎◌, ◌+◌, ◌++◌, ⊤, ℕ, Bool, List, length}
+use Rattle.std.specs.Prelude.{Option, Some, None, IfSome, is_some}
+use Rattle.osn_days.specs.Rules.{newest_rules}
+use Rattle.osn_core.specs.Sequential.{ObjectState}
+use Rattle.osn_files.specs.Loaded.{IsOfVersion}
+use Rattle.osn_files.specs.declared.fault.FileFault.{FileFault}
+use Rattle.osn_request.specs.declared.version.Version.{Version}
+use Rattle.osn_lines.specs.Lines.{lines}
+use Rattle.osn_lines.specs.Streams.{Input, Output}
+use Rattle.osn_register.specs.Plain.{RegisterModel}
+use Rattle.osn_register.specs.declared.edit.Edit.{Edit}
+use Rattle.osn_register.specs.declared.limits.Limits.{Limits}
+use Rattle.osn_report.specs.Journal.{Begins, BeginsNot}
+use Rattle.osn_report.specs.Printing.{PrintsIfMade, PrintsNoneAt}
+use Rattle.osn_report.specs.Messages.{ReportsIfMade, ReportsNothing}
+use Rattle.osn_report.specs.declared.fault.CommandFault.TheVariants.{File}
+use Rattle.osn_report.specs.declared.status.Status.{Status}
+use Rattle.osn_report.specs.declared.status.Status.TheVariants as statuses
+use Rattle.osn_serve_commands.specs.Keep.{first_output, later_output}
+use Rattle.osn_register_text.specs.Fault.{IsFault}
+use Rattle.osn_register_text.specs.Plan.{IsPlan}
+use Rattle.osn_register_text.specs.declared.plan_fault.PlanFault.{PlanFault}
+use Rattle.osn_register_text.specs.PlanPage.{plan_page}
+use Rattle.osn_commands.specs.Note.{ReportsNote, note_line, note_of}
+use Rattle.osn_commands.specs.PlanFault.{ReportsPlanFault}
+use Rattle.osn_commands.specs.PlanWords.{plan_end}
+use Rattle.osn_commands.specs.Since.{behind, behind_lines, later_lines, later_than}
+use Rattle.osn_commands.specs.Text.{published}
+use Rattle.osn_commands.specs.TextFile.{Says, IsTextFileFault, ReportsTextFile}
+use Rattle.osn_commands.specs.declared.text_file.TextFileFault.{TextFileFault}
+
+-- the lines of a plan, which would be the next edition of an object
+abbrev pub plan_text : ObjectState → RegisterModel → List Edit → List ℕ
+plan_text s wanted edits =
+    plan_page newest_rules (published s) wanted.territories edits
+    ++ plan_end (length edits) (length s.batches + 1)
+
+-- ---- what is written beside a plan
+
+-- a line was written if all was printed, or else nothing more
+abbrev pub ReportsNoteAfter : Status → Option (List ℕ) → Output → Status → Type 0
+ReportsNoteAfter statuses.Done line e status = ReportsNote line e status
+ReportsNoteAfter printed line e status = (status ≡ printed) × ReportsNothing e
+
+-- A text was printed, and then a line written to standard error, if there is one.
+pub record PrintsNoted (text : List ℕ) (note : Option (List ℕ)) (o e : Output) (status : Status)
+    : Type 0 where
+  pub between : Option (List ℕ)
+  pub failed : Bool
+  pub held_back : Bool
+  pub printed : Status
+  pub prints : PrintsIfMade text o (first_output e between failed held_back) printed
+  pub notes : ReportsNoteAfter printed note (later_output e between failed) status
+
+-- that a text is behind an edition, or else another line
+abbrev pub behind_or : List ℕ → List ℕ → ObjectState → Option ℕ → Option (List ℕ)
+    → Option (List ℕ)
+behind_or journal text s None other = other
+behind_or journal text s (Some edition) other =
+    Some (behind_lines text journal edition (published s) s.batches)
+
+-- ---- how the command ends
+
+-- the line on the edits of a plan to a text of an edition, for the journal of this version that
+-- makes an object, and is there or not; the paths are those of the journal and of the text
+abbrev pub edits_line : List ℕ → List ℕ → Bool → Version → ObjectState → Option ℕ → List Edit
+    → Option (List ℕ)
+edits_line journal text is_there version s edition edits =
+    behind_or journal text s (behind edition s.batches edits)
+    (note_line journal (note_of is_there version s edits))
+
+-- there is no plan from the published register to the wanted one, which was reported with the path
+-- of the text
+abbrev pub RefusesPlan : ObjectState → List ℕ → RegisterModel → Output → Output → Status → Type 0
+RefusesPlan s path wanted o e status =
+    (fault : PlanFault) × IsFault s.limits wanted.territories (published s) fault × (o.new ≡ o.old)
+    × ReportsPlanFault path e fault status
+
+-- the plan from what an object has published to the register that is wanted was printed, and then
+-- lines on its edits were written, if there are some; or there is no plan
+abbrev pub PrintsPlanTo : ObjectState → List ℕ → RegisterModel → (List Edit → Option (List ℕ))
+    → Output → Output → Status → Type 0
+PrintsPlanTo s path wanted note o e status =
+    RefusesPlan s path wanted o e status
+    ⊎ ((edits : List Edit) × IsPlan s.limits wanted.territories (published s) edits
+    × PrintsNoted (plan_text s wanted edits) (note edits) o e status)
+
+-- the file of this path says no register, which was reported
+abbrev pub RefusesText : Limits → List ℕ → Input → Output → Output → Status → Type 0
+RefusesText limits path text o e status =
+    (fault : TextFileFault) × IsTextFileFault limits text fault × (o.new ≡ o.old)
+    × ReportsTextFile path e fault status
+
+-- that, unless the text is of an edition that the journal lacks, which was reported
+abbrev pub PrintsUnlessLater : Option ℕ → ObjectState → List ℕ → List ℕ → RegisterModel
+    → (List Edit → Option (List ℕ)) → Output → Output → Status → Type 0
+PrintsUnlessLater None s journal path wanted note o e status =
+    PrintsPlanTo s path wanted note o e status
+PrintsUnlessLater (Some edition) s journal path wanted note o e status =
+    (o.new ≡ o.old)
+    × ReportsIfMade e statuses.Refused (later_lines path journal edition (length s.batches)) status
+
+-- the same for what the text of this path says, which may be nothing, by the edition that it says
+abbrev pub PrintsPlanOf : Limits → ObjectState → List ℕ → List ℕ → Input
+    → (Option ℕ → List Edit → Option (List ℕ)) → Output → Output → Status → Type 0
+PrintsPlanOf limits s journal path text note o e status =
+    RefusesText limits path text o e status
+    ⊎ ((edition : Option ℕ) × (wanted : RegisterModel) × Says limits text.bytes edition wanted
+    × PrintsUnlessLater (later_than edition (length s.batches)) s journal path wanted
+    (note edition) o e status)
+
+-- a journal is of this version, by its head, if it is there
+abbrev pub IsOfVersionIf : Option Input → Version → Type 0
+IsOfVersionIf None version = ⊤
+IsOfVersionIf (Some journal) version =
+    IfSome journal.bytes (λ bytes. IsOfVersion version (lines bytes))
+
+-- for a journal and a text, each with its path: the journal is refused; or it makes an object, or
+-- there is none, and that was done with an empty one
+abbrev pub PrintsPlan : Limits → List ℕ → Option Input → List ℕ → Input → Output → Output
+    → Status → Type 0
+PrintsPlan limits path journal text_path text o e status =
+    ((fault : FileFault) × BeginsNot limits journal fault × PrintsNoneAt path (File fault) o e status)
+    ⊎ ((s : ObjectState) × Begins limits journal s
+    × (version : Version) × IsOfVersionIf journal version
+    × PrintsPlanOf limits s path text_path text
+    (edits_line path text_path (is_some journal) version s) o e status)

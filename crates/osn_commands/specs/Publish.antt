@@ -1,0 +1,225 @@
+-- How a publish ends: what it printed and reported, and what the file of the journal contains then.
+use Rattle.std.specs.Prelude.{◌≡◌, ◌⊎◌, ◌+◌, ◌++◌, ℕ, Bool, true, false, List, [], ◌∷◌, length}
+use Rattle.std.specs.Prelude.{take, codes, Option, Some, None, IfSome}
+use Rattle.std.specs.Io.KnownBytes.{Appends}
+use Rattle.std.specs.List.{All}
+use Rattle.std.specs.Option.{MatchOption}
+use Rattle.osn_days.specs.Rules.{newest_rules}
+use Rattle.osn_core.specs.Sequential.{HasLawfulSource, ObjectState}
+use Rattle.osn_folder.specs.declared.fault.KeptFileFault.{KeptFileFault}
+use Rattle.osn_journal.specs.KeptJournal.{FileState}
+use Rattle.osn_lines.specs.Streams.{Input, Output}
+use Rattle.osn_files.specs.JournalText.{journal_text}
+use Rattle.osn_files.specs.CountedPrefix.{whole_bytes}
+use Rattle.osn_request.specs.declared.version.Version.{Version}
+use Rattle.osn_register_text.specs.Plan.{IsPlan}
+use Rattle.osn_register_text.specs.PlanPage.{plan_page}
+use Rattle.osn_register.specs.Plain.{RegisterModel}
+use Rattle.osn_register.specs.declared.edit.Edit.{Edit}
+use Rattle.osn_register.specs.declared.limits.Limits.{Limits}
+use Rattle.osn_register.specs.declared.refusal.Refusal.{Refusal}
+use Rattle.osn_register.specs.declared.refusal.Refusal.TheVariants as refusals
+use Rattle.osn_report.specs.Printing.{FailsToPrint, PrintsIfMade, PrintsNone, PrintsNoneAt}
+use Rattle.osn_report.specs.Messages.{Ends, ReportsIfMade, ReportsLine}
+use Rattle.osn_report.specs.declared.fault.CommandFault.{CommandFault}
+use Rattle.osn_report.specs.declared.fault.CommandFault.TheVariants.{Refused}
+use Rattle.osn_report.specs.declared.status.Status.{Status}
+use Rattle.osn_report.specs.declared.status.Status.TheVariants as statuses
+use Rattle.osn_serve_commands.specs.Keep.{HoldsObject, HoldsNoObject, IfHeld, IsChangeFault}
+use Rattle.osn_serve_commands.specs.Keep.{ReportsCut, ready_file, first_output, later_output}
+use Rattle.osn_serve_commands.specs.Keep.{cut_text, is_kept, unfinished_line}
+use Rattle.osn_commands.specs.Edition.{IsNoMemoryOr, appended_text, edition_refusal}
+use Rattle.osn_commands.specs.Edition.{edition_text, needs_sources, with_batch}
+use Rattle.osn_commands.specs.Plan.{RefusesPlan}
+use Rattle.osn_commands.specs.PlanWords.{new_journal_line, not_kept_line, pending_line}
+use Rattle.osn_commands.specs.PlanWords.{published_line, standing_line}
+use Rattle.osn_commands.specs.Since.{RequestModel, behind_lines, hindered, later_lines}
+use Rattle.osn_commands.specs.Since.{later_than}
+use Rattle.osn_commands.specs.Text.{published}
+
+-- ---- what is printed
+
+-- that the journal of a path is new, if it is, and the lines of a plan
+abbrev pub begun_text : List ℕ → ObjectState → RegisterModel → List Edit → List ℕ
+begun_text path s wanted edits =
+    new_journal_line path (length s.batches)
+    ++ plan_page newest_rules (published s) wanted.territories edits
+
+-- these, and the line on the edition that was made
+abbrev pub published_text : List ℕ → ObjectState → RegisterModel → List Edit → List ℕ
+published_text path s wanted edits =
+    begun_text path s wanted edits ++ published_line (length s.batches + 1)
+
+-- the lines of a plan without edits, and the line that there is nothing to change
+abbrev pub standing_text : ObjectState → RegisterModel → List ℕ
+standing_text s wanted =
+    plan_page newest_rules (published s) wanted.territories [] ++ standing_line (length s.batches)
+
+-- the line on an edition whose report could not be printed
+abbrev pub unprinted_line : List ℕ
+unprinted_line =
+    codes "oldstyle: the edition is in the journal, but its report could not be printed\n"
+
+-- the text of an edition in the journal was printed; or the output failed after a prefix, which was
+-- reported. The publish is done either way
+abbrev pub PrintsReport : List ℕ → Output → Output → Status → Type 0
+PrintsReport text o e status =
+    (Ends e None status × Appends o.old o.new text)
+    ⊎ (ReportsLine e statuses.Done unprinted_line status × FailsToPrint text o)
+
+-- ---- what the file contains
+
+-- The file is as it was; or its last line was cut off, if it was not finished, and else it is as it
+-- was. If cutting it back may fail, a prefix of the edition's lines may be there too.
+abbrev pub IsLeftWhole : Type 0 → List ℕ → List Edit → Option ℕ → Option (List ℕ) → Type 0
+IsLeftWhole CanStay held edits cut contents =
+    ((cut ≡ None) × (contents ≡ Some held))
+    ⊎ ((cut ≡ unfinished_line held)
+    × ((contents ≡ Some (whole_bytes held))
+    ⊎ (CanStay × (n : ℕ)
+    × (contents ≡ Some (whole_bytes held ++ take n (appended_text held edits))))))
+
+-- the edition is in the file: all of it, on the disk
+abbrev pub HoldsEdition : List ℕ → List Edit → Option KeptFileFault → Option ℕ → FileState → Type 0
+HoldsEdition held edits before cut file =
+    (cut ≡ unfinished_line held) × (file ≡ ready_file (edition_text held edits) before)
+
+-- it is not, since the file could not be changed
+abbrev pub LosesEdition : Type 0 → List ℕ → List Edit → CommandFault → Option ℕ → FileState → Type 0
+LosesEdition CanStay held edits fault cut file =
+    IsChangeFault fault file.fault × IsLeftWhole CanStay held edits cut file.contents
+
+-- Edits had to be written to the file of this path as an edition, and this text printed. Which line was cut off
+-- was reported first, if one was. The edition is in the file and the text was printed, if it could
+-- be; or the edition is not in the file, which was reported.
+pub record WritesEdition (CanStay : Type 0) (path : List ℕ) (old file : FileState)
+    (given : Option (List ℕ)) (edits : List Edit) (text : List ℕ) (o e : Output)
+    (status : Status) : Type 0 where
+  pub cut : Option ℕ
+  pub between : Option (List ℕ)
+  pub failed : Bool
+  pub held_back : Bool
+  pub reports : ReportsCut (first_output e between failed held_back) cut
+  pub ended : (PrintsReport text o (later_output e between failed) status
+      × IfHeld old given (λ held. HoldsEdition held edits old.fault cut file))
+      ⊎ ((fault : CommandFault) × PrintsNoneAt path fault o (later_output e between failed) status
+      × IfHeld old given (λ held. LosesEdition CanStay held edits fault cut file))
+
+-- ---- how the command ends
+
+-- nothing was changed in the file, nothing was printed, and it was reported why
+abbrev pub Refuses : CommandFault → FileState → FileState → Output → Output → Status → Type 0
+Refuses fault old file o e status = (file ≡ old) × PrintsNone fault o e status
+
+-- the same by this line, which takes memory
+abbrev pub RefusesBy : List ℕ → FileState → FileState → Output → Output → Status → Type 0
+RefusesBy line old file o e status =
+    (file ≡ old) × (o.new ≡ o.old) × ReportsIfMade e statuses.Refused line status
+
+-- edits were appended as an edition, unless there are none, or one is refused, or memory ran out.
+-- Each source that one gives may be given
+abbrev pub AppendsEdits : Type 0 → List ℕ → ObjectState → RegisterModel → FileState → FileState
+    → Option (List ℕ) → List Edit → Output → Output → Status → Type 0
+AppendsEdits CanStay path s wanted old file given [] o e status =
+    (file ≡ old) × PrintsIfMade (standing_text s wanted) o e status
+AppendsEdits CanStay path s wanted old file given (edit ∷ edits) o e status =
+    Refuses (Refused refusals.NoMemory) old file o e status
+    ⊎ MatchOption (edition_refusal s (edit ∷ edits))
+    (All HasLawfulSource (edit ∷ edits)
+    × WritesEdition CanStay path old file given (edit ∷ edits)
+    (published_text path s wanted (edit ∷ edits)) o e status)
+    (λ refusal. Refuses (Refused refusal) old file o e status)
+
+-- that, if a journal of this version is kept; or it is not, which was reported with the path of the
+-- journal
+abbrev pub AppendsIfKept : Bool → Type 0 → List ℕ → Version → ObjectState → RegisterModel
+    → FileState → FileState → Option (List ℕ) → List Edit → Output → Output → Status → Type 0
+AppendsIfKept true CanStay path version s wanted old file given edits o e status =
+    AppendsEdits CanStay path s wanted old file given edits o e status
+AppendsIfKept false CanStay path version s wanted old file given edits o e status =
+    RefusesBy (not_kept_line path version) old file o e status
+
+-- if edits need sources that the version lacks, one of them is refused, or memory ran out;
+-- otherwise that was done
+abbrev pub PublishesEdits : Bool → Type 0 → List ℕ → Version → ObjectState → RegisterModel
+    → FileState → FileState → Option (List ℕ) → List Edit → Output → Output → Status → Type 0
+PublishesEdits true CanStay path version s wanted old file given edits o e status =
+    (refusal : Refusal) × IsNoMemoryOr (edition_refusal s edits) refusal
+    × Refuses (Refused refusal) old file o e status
+PublishesEdits false CanStay path version s wanted old file given edits o e status =
+    AppendsIfKept (is_kept version) CanStay path version s wanted old file given edits o e status
+
+-- that, unless the text is behind an edition, which was reported
+abbrev pub PublishesUnlessBehind : Option ℕ → Type 0 → RequestModel → Version → ObjectState
+    → RegisterModel → FileState → FileState → Option (List ℕ) → List Edit → Output → Output
+    → Status → Type 0
+PublishesUnlessBehind None CanStay asked version s wanted old file given edits o e status =
+    PublishesEdits (needs_sources version edits) CanStay asked.journal version s wanted old file
+    given edits o e status
+PublishesUnlessBehind (Some edition) CanStay asked version s wanted old file given edits o e
+    status =
+    RefusesBy (behind_lines asked.text asked.journal edition (published s) s.batches) old file o e
+    status
+
+-- from what an object has published to the register that is wanted: there is no plan; or the edits
+-- of one were published
+abbrev pub PublishesPlan : Type 0 → Version → ObjectState → RequestModel → RegisterModel
+    → FileState → FileState → Option (List ℕ) → Output → Output → Status → Type 0
+PublishesPlan CanStay version s asked wanted old file given o e status =
+    ((file ≡ old) × RefusesPlan s asked.text wanted o e status)
+    ⊎ ((edits : List Edit) × IsPlan s.limits wanted.territories (published s) edits
+    × PublishesUnlessBehind (hindered asked s.batches edits) CanStay asked version s wanted old
+    file given edits o e status)
+
+-- that, unless the text is of an edition that the journal lacks, which was reported
+abbrev pub PublishesUnlessLater : Option ℕ → Type 0 → Version → ObjectState → RequestModel
+    → RegisterModel → FileState → FileState → Option (List ℕ) → Output → Output → Status → Type 0
+PublishesUnlessLater None CanStay version s asked wanted old file given o e status =
+    PublishesPlan CanStay version s asked wanted old file given o e status
+PublishesUnlessLater (Some edition) CanStay version s asked wanted old file given o e status =
+    RefusesBy (later_lines asked.text asked.journal edition (length s.batches)) old file o e status
+
+-- that, unless edits are pending, which was reported
+abbrev pub PublishesUnlessPending : Type 0 → Version → ObjectState → List Edit → RequestModel
+    → RegisterModel → FileState → FileState → Option (List ℕ) → Output → Output → Status → Type 0
+PublishesUnlessPending CanStay version s [] asked wanted old file given o e status =
+    PublishesUnlessLater (later_than asked.edition (length s.batches)) CanStay version s asked
+    wanted old file given o e status
+PublishesUnlessPending CanStay version s (edit ∷ edits) asked wanted old file given o e status =
+    RefusesBy (pending_line (length (edit ∷ edits))) old file o e status
+
+-- How a publish ends over a file that was `old` and is `file` then, and which a source gave. It
+-- contains no object, and is as it was; or it contains one, in a journal of some version, and that
+-- was done.
+abbrev pub EndsPublish : Type 0 → Limits → RequestModel → RegisterModel → FileState → FileState
+    → Input → Output → Output → Status → Type 0
+EndsPublish CanStay limits asked wanted old file given o e status =
+    ((fault : CommandFault) × (file ≡ old) × PrintsNoneAt asked.journal fault o e status
+    × IfHeld old given.bytes (λ held. HoldsNoObject limits held given.unread fault))
+    ⊎ ((version : Version) × (s : ObjectState)
+    × IfHeld old given.bytes (λ held. HoldsObject limits held version s)
+    × PublishesUnlessPending CanStay version s s.pending asked wanted old file given.bytes o e
+    status)
+
+-- ---- an edition that the file can't take
+
+-- A source gave these bytes, of a journal with nothing pending whose version has no sources, and
+-- edits of a plan need them. The rewritten journal has them as its next edition. And there are the
+-- text that is printed then, and the one on a last line that was not finished.
+pub record IsRewriteNeeded (limits : Limits) (asked : RequestModel) (wanted : RegisterModel)
+    (given : Option (List ℕ)) (bytes journal text : List ℕ) (cut : Option (List ℕ)) : Type 0 where
+  pub read : IfSome given (λ held. bytes ≡ held)
+  pub version : Version
+  pub object : ObjectState
+  pub holds : HoldsObject limits bytes version object
+  pub pending : object.pending ≡ []
+  pub edits : List Edit
+  pub had : later_than asked.edition (length object.batches) ≡ None
+  pub plans : IsPlan object.limits wanted.territories (published object) edits
+  pub free : hindered asked object.batches edits ≡ None
+  pub needs : needs_sources version edits ≡ true
+  pub lawful : edition_refusal object edits ≡ None
+  pub sources : All HasLawfulSource edits
+  pub anew : journal ≡ journal_text (with_batch object edits)
+  pub printed : text ≡ published_text asked.journal object wanted edits
+  pub message : cut ≡ cut_text (unfinished_line bytes)

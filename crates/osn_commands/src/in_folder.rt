@@ -1,0 +1,161 @@
+//! The commands `text` and `plan` over the files of a folder, opened by their paths first.
+ghost use Rattle.std.specs.Prelude.{◌≡◌, ◌≢◌, ◌∷◌, [], IfErr, IfOk, OnErr, option_map};
+ghost use Rattle.osn_folder.specs.Folder.{CannotOpen, MayFail};
+ghost use Rattle.osn_folder.specs.declared.fault.OpenFailed.{OpenFailed};
+ghost use Rattle.osn_lines.specs.Streams.{input_of, output_of};
+ghost use Rattle.osn_report.specs.Folders.{ReadsOne, folders_of};
+ghost use Rattle.osn_serve_commands.specs.Serve.{input_if};
+ghost use Rattle.osn_commands.specs.InFolder as spec;
+ghost use Rattle.osn_commands.specs.Text.{PrintsText};
+
+use crate::keeping::report_hindrance;
+use crate::plan::plan_command;
+use crate::text::text_command;
+use osn_core::edition_of_word;
+use osn_folder::{Folder, OpenFailed, open_file};
+use osn_lines::Sink;
+use osn_page_commands::tell_edition_word;
+use osn_register::Limits;
+use osn_report::{Status, report_open_failure};
+use std::alloc::Global;
+
+/// Opens the journal of a path, and prints its edition of a number, or the newest one.
+fn numbered_text_in_folder<D: Folder, W: Sink, E: Sink>(
+    alloc: Global,
+    limits: Limits,
+    folder: &mut D,
+    journal: &str,
+    number: Option<u32>,
+    code: Option<&str>,
+    output: &mut W,
+    errors: &mut E,
+) -> Result<Status, OpenFailed>
+    ensures ok { IfOk result (λ status. ReadsOne journal.now (MayFail D.File.has_failed)
+        (folders_of D.known folder.old folder.new)
+        (λ file. PrintsText limits journal.now file number
+        (option_map (λ code. code.now) code.entry)
+        (output_of W.contents W.has_failed W.holds_back output.old output.new)
+        (output_of E.contents E.has_failed E.holds_back errors.old errors.new) status)) }
+    ensures err { OnErr result (CannotOpen (journal.now ∷ [])
+        (D.known folder.old) (D.known folder.new)
+        × (output.new ≡ output.old) × (errors.new ≡ errors.old)) }
+{
+    let mut file = open_file(folder, journal)?;
+    Ok(text_command(
+        alloc, limits, journal, &mut file, number, code, output, errors,
+    ))
+}
+
+/// Opens the journal of a path, and does what `text_command` does for the edition that a word
+/// names, or the newest one. If the word is not a number, standard error says so, and no file is
+/// opened.
+///
+/// # Errors
+///
+/// Why the journal could not be opened. Nothing was written then.
+pub fn text_in_folder<D: Folder, W: Sink, E: Sink>(
+    alloc: Global,
+    limits: Limits,
+    folder: &mut D,
+    journal: &str,
+    edition: Option<&str>,
+    code: Option<&str>,
+    output: &mut W,
+    errors: &mut E,
+) -> Result<Status, OpenFailed>
+    ensures ok { IfOk result (spec.RunsText limits journal.now
+        (option_map (λ word. word.now) edition.entry) (option_map (λ code. code.now) code.entry)
+        (MayFail D.File.has_failed) (folders_of D.known folder.old folder.new)
+        (output_of W.contents W.has_failed W.holds_back output.old output.new)
+        (output_of E.contents E.has_failed E.holds_back errors.old errors.new)) }
+    ensures err { OnErr result (CannotOpen (journal.now ∷ [])
+        (D.known folder.old) (D.known folder.new)
+        × (output.new ≡ output.old) × (errors.new ≡ errors.old)) }
+{
+    match edition_of_word(edition) {
+        Ok(number) => numbered_text_in_folder(
+            alloc, limits, folder, journal, number, code, output, errors,
+        ),
+        Err(typed) => Ok(tell_edition_word(alloc, errors, typed)),
+    }
+}
+
+/// Opens the journal of a path, if one is there.
+///
+/// # Errors
+///
+/// Why a journal that is there could not be opened.
+fn open_if_there<D: Folder>(folder: &mut D, journal: &str) -> Result<Option<D::File>, OpenFailed>
+    ensures ok { IfOk result (λ file. spec.IsOpened journal.now
+        (option_map D.File.remaining file) (D.known folder.old) (D.known folder.new)) }
+    ensures err { OnErr result (CannotOpen (journal.now ∷ [])
+        (D.known folder.old) (D.known folder.new)) }
+    ensures cause { IfErr result (λ cause. cause ≢ OpenFailed.NotFound) }
+{
+    match open_file(folder, journal) {
+        Ok(file) => Ok(Some(file)),
+        Err(OpenFailed::NotFound) => Ok(None),
+        Err(cause) => Err(cause),
+    }
+}
+
+/// Opens the text of a path, and does what `plan_command` does for a journal of its path, which is
+/// there or not.
+fn plan_by<D: Folder, W: Sink, E: Sink>(
+    alloc: Global,
+    limits: Limits,
+    folder: &mut D,
+    path: &str,
+    journal: &mut Option<D::File>,
+    text: &str,
+    output: &mut W,
+    errors: &mut E,
+) -> Status
+    ensures { spec.PrintsPlanBy limits path.now
+        (input_if D.File.remaining D.File.has_failed journal.old journal.new) text.now
+        (MayFail D.File.has_failed) (folders_of D.known folder.old folder.new)
+        (output_of W.contents W.has_failed W.holds_back output.old output.new)
+        (output_of E.contents E.has_failed E.holds_back errors.old errors.new) result }
+{
+    match open_file(folder, text) {
+        Ok(mut file) => plan_command(
+            alloc, limits, path, journal, text, &mut file, output, errors,
+        ),
+        Err(cause) => report_open_failure(alloc, errors, text, cause),
+    }
+}
+
+/// Opens the journal of a path, if one is there, and then a text, and does what `plan_command`
+/// does. If the text could not be opened, standard error reports why, with its path. After a plan
+/// it reports why the journal could not be kept, as far as that is found out without making one.
+///
+/// # Errors
+///
+/// Why a journal that is there could not be opened. Nothing was written then.
+pub fn plan_in_folder<D: Folder, W: Sink, E: Sink>(
+    alloc: Global,
+    limits: Limits,
+    folder: &mut D,
+    journal: &str,
+    text: &str,
+    output: &mut W,
+    errors: &mut E,
+) -> Result<Status, OpenFailed>
+    ensures ok { IfOk result (spec.PlansInFolder limits journal.now text.now
+        (MayFail D.File.has_failed) (folders_of D.known folder.old folder.new)
+        (output_of W.contents W.has_failed W.holds_back output.old output.new)
+        (output_of E.contents E.has_failed E.holds_back errors.old errors.new)) }
+    ensures err { OnErr result (CannotOpen (journal.now ∷ [])
+        (D.known folder.old) (D.known folder.new)
+        × (output.new ≡ output.old) × (errors.new ≡ errors.old)) }
+    ensures cause { IfErr result (λ cause. cause ≢ OpenFailed.NotFound) }
+{
+    let mut file = open_if_there(folder, journal)?;
+    let is_there = file.is_some();
+    match plan_by(
+        alloc, limits, folder, journal, &mut file, text, output, errors,
+    ) {
+        Status::Done => Ok(report_hindrance(alloc, folder, journal, is_there, errors)),
+        failed => Ok(failed),
+    }
+}

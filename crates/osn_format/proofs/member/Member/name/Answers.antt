@@ -1,5 +1,0 @@
-use Rattle.std.proofs.Common.{rules}
-use Rattle.osn_format.proofs.member.Member.name.Goals as goal
-
-pub returns-in-Month : goal.returns-in-Month
-returns-in-Month c = search rules

@@ -1,5 +1,0 @@
-use Rattle.std.proofs.Common.{rules}
-use Rattle.osn_format.proofs.version.Version.newest.Goals as goal
-
-pub returns : goal.returns
-returns c = search rules

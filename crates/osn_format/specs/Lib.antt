@@ -1,4 +1,0 @@
-pub mod Version
-pub mod Json
-pub mod Member
-pub mod WireFault

@@ -1,0 +1,173 @@
+-- What one round of a follower has done: it reads once, looks once, and answers.
+use Rattle.std.specs.Prelude.{◌≡◌, ◌≤◌, ◌⊎◌, ℕ, Bool, true, false, List, [], ◌∷◌, ◌++◌, length}
+use Rattle.std.specs.Prelude.{Option, Result, Ok, Err}
+use Rattle.std.specs.List.{All}
+use Rattle.osn_core.specs.Sequential.{ObjectState}
+use Rattle.osn_lines.specs.Ended.{ended_bytes, unended_bytes}
+use Rattle.osn_lines.specs.declared.fault.EndedEarly.{EndedEarly}
+use Rattle.osn_files.specs.declared.fault.FileFault.{FileFault}
+use Rattle.osn_files.specs.declared.fault.FileFault.TheVariants as files
+use Rattle.osn_service.specs.declared.outcome.Outcome.{Outcome}
+use Rattle.osn_service.specs.Faults as service
+use Rattle.osn_service.specs.Faults.{MatchServed}
+use Rattle.osn_service.specs.declared.fault.ServeFault.{ServeFault}
+use Rattle.osn_service.specs.declared.fault.ServeFault.TheVariants.{NoMemory}
+use Rattle.osn_service.specs.declared.rules.ServeRules.{ServeRules}
+use Rattle.osn_service.specs.declared.service.Served.{Served}
+use Rattle.osn_journal.specs.declared.follower_fault.FollowerFault.{FollowerFault}
+use Rattle.osn_journal.specs.declared.follower_fault.FollowerFault.TheVariants.{Serve, Journal}
+use Rattle.osn_journal.specs.declared.follower.Follower.{Follower}
+use Rattle.osn_journal.specs.declared.follower.RequestLines.{RequestLines}
+use Rattle.osn_journal.specs.declared.followed_journal.FollowedJournal.{FollowedJournal}
+use Rattle.osn_journal.specs.declared.line_front.LineFront.{LineFront}
+use Rattle.osn_journal.specs.Arrivals.{Arrival, Arrive, Gained, arrival_of}
+use Rattle.osn_journal.specs.Follows.{WritesAll, WritesFirst, WritesInPart, IsFirstRefused}
+use Rattle.osn_journal.specs.Follows.{IsRefused, MatchFollower, Ends}
+use Rattle.osn_journal.specs.Follows.{HasNoRefusal}
+use Rattle.osn_journal.specs.FollowerInside.{StandsFor, StandsForLines, IsJournalOf, IsFollowing}
+use Rattle.osn_journal.specs.Outcomes.{outcomes, outcomes_of, with_feed}
+
+-- ---- a read
+
+-- whether a read gave nothing, which is the end of the input
+abbrev pub is_end : List ℕ → Bool
+is_end [] = true
+is_end (b ∷ bs) = false
+
+-- the bytes that wait once these were read
+abbrev pub waiting_after : List ℕ → List ℕ → List ℕ
+waiting_after waiting [] = with_feed waiting
+waiting_after waiting (b ∷ bs) = waiting ++ b ∷ bs
+
+-- lines have ended by a read
+pub record IsReadOf (old new : LineFront) (before after : Option (List Arrival))
+    (lines : RequestLines) : Type 0 where
+  pub bytes : List ℕ
+  pub arrive : Arrive before after (arrival_of bytes ∷ [])
+  pub last : lines.is_last ≡ is_end bytes
+  pub few : length lines.text.items ≤ 196608
+  pub stand : (waiting : List ℕ) → StandsFor waiting old
+      → StandsForLines lines.text.items (ended_bytes (waiting_after waiting bytes))
+  pub rest : (waiting : List ℕ) → StandsFor waiting old
+      → StandsFor (unended_bytes (waiting_after waiting bytes)) new
+
+-- none have: nothing arrived, or there was no memory for what did
+abbrev pub IsUnreadOf : Option (List Arrival) → Option (List Arrival) → ServeFault → Type 0
+IsUnreadOf before after fault = service.MatchFault fault
+    ((bytes : List ℕ) × Arrive before after (arrival_of bytes ∷ []))
+    (Arrive before after []) ⊥
+
+-- ---- a look
+
+-- the lines that a look found were loaded
+pub record Loads (old new : FollowedJournal) (before after : Option (List Arrival)) : Type 0 where
+  pub gained : List ℕ
+  pub arrive : Arrive before after (Gained gained ∷ [])
+  pub limits : new.limits ≡ old.limits
+  pub journal : (file : List ℕ) → IsJournalOf old.limits file old
+      → IsJournalOf old.limits (file ++ gained) new
+
+-- a line that is found is refused, in the file of the journal
+abbrev pub RefusesLine : FollowedJournal → List ℕ → FileFault → Type 0
+RefusesLine old gained fault =
+    (file : List ℕ) → IsJournalOf old.limits file old
+    → IsRefused old.limits (file ++ gained) fault
+
+-- they were not: there was no memory, or one of them is refused, or nothing was found
+abbrev pub LoadsNot : FollowedJournal → Option (List Arrival) → Option (List Arrival)
+    → FollowerFault → Type 0
+LoadsNot old before after fault = MatchFollower fault
+    (λ fault. (fault ≡ NoMemory)
+    × (gained : List ℕ) × Arrive before after (Gained gained ∷ []))
+    (λ fault. (gained : List ℕ) × Arrive before after (Gained gained ∷ [])
+    × RefusesLine old gained fault)
+    (λ fault. Arrive before after [])
+
+-- NoMemory is reported as that, and each other fault of the journal as it is
+abbrev pub IsUnloaded : FileFault → FollowerFault → Type 0
+IsUnloaded files.NoMemory fault = fault ≡ Serve NoMemory
+IsUnloaded files.ReadFault fault = fault ≡ Journal files.ReadFault
+IsUnloaded (files.BadLine role line why) fault = fault ≡ Journal (files.BadLine role line why)
+
+-- ---- a read and a look
+
+-- lines have ended by a read, and the journal was brought up to date
+pub record Comes (old new : Follower) (before after : Option (List Arrival))
+    (lines : RequestLines) : Type 0 where
+  pub bytes : List ℕ
+  pub gained : List ℕ
+  pub arrive : Arrive before after (arrival_of bytes ∷ Gained gained ∷ [])
+  pub last : lines.is_last ≡ is_end bytes
+  pub few : length lines.text.items ≤ 196608
+  pub stand : (waiting : List ℕ) → StandsFor waiting old.requests
+      → StandsForLines lines.text.items (ended_bytes (waiting_after waiting bytes))
+  pub rest : (waiting : List ℕ) → StandsFor waiting old.requests
+      → StandsFor (unended_bytes (waiting_after waiting bytes)) new.requests
+  pub limits : new.journal.limits ≡ old.journal.limits
+  pub journal : (file : List ℕ) → IsJournalOf old.journal.limits file old.journal
+      → IsJournalOf old.journal.limits (file ++ gained) new.journal
+
+-- what arrived if no line is answered: at most a read, and at most a look
+abbrev pub ArrivesInPart : Option (List Arrival) → Option (List Arrival) → Type 0
+ArrivesInPart before after =
+    Arrive before after []
+    ⊎ ((bytes : List ℕ) × (Arrive before after (arrival_of bytes ∷ [])
+    ⊎ ((gained : List ℕ) × Arrive before after (arrival_of bytes ∷ Gained gained ∷ []))))
+
+-- it was not
+abbrev pub ComesNot : Follower → Option (List Arrival) → Option (List Arrival) → FollowerFault
+    → Type 0
+ComesNot old before after fault = MatchFollower fault
+    (λ fault. service.MatchFault fault (ArrivesInPart before after) (Arrive before after []) ⊥)
+    (λ fault. (bytes : List ℕ) × (gained : List ℕ)
+    × Arrive before after (arrival_of bytes ∷ Gained gained ∷ [])
+    × RefusesLine old.journal gained fault)
+    (λ fault. (bytes : List ℕ) × Arrive before after (arrival_of bytes ∷ []))
+
+-- ---- an answer
+
+-- how the lines of a text were answered from an object
+abbrev pub Answers : ServeRules → ObjectState → List ℕ → Option (List ℕ) → Option (List ℕ)
+    → Result Served (EndedEarly ServeFault) → Type 0
+Answers rules s text old new (Ok served) =
+    MatchServed served.refused
+    (λ n. WritesAll (outcomes rules s text) old new n × HasNoRefusal rules (outcomes rules s text))
+    (λ n. WritesFirst (outcomes rules s text) old new n
+    × IsFirstRefused (outcomes rules s text) n × (rules.stop_at_refusal ≡ true))
+    served.lines
+Answers rules s text old new (Err end) =
+    service.MatchFault end.cause (WritesFirst (outcomes rules s text) old new end.lines) ⊥
+    (WritesInPart (outcomes rules s text) old new end.lines)
+
+-- ---- a round
+
+-- whatever the replies before were, more were added now, and more may come
+abbrev pub GoesOn : ServeRules → Option (List Arrival) → Option (List Arrival) → Option (List ℕ)
+    → Option (List ℕ) → Follower → Follower → Type 0
+GoesOn rules before after old new f g =
+    (next : List Arrival) × Arrive before after next × (g.journal.limits ≡ f.journal.limits)
+    × ((begun : Option (List ℕ)) (arrivals : List Arrival) (all : List Outcome)
+    → IsFollowing rules f.journal.limits begun arrivals all f old
+    → (more : List Outcome)
+    × IsFollowing rules f.journal.limits begun (arrivals ++ next) more g new)
+
+-- it ended so, whatever the replies before were
+abbrev pub EndsAfter : ServeRules → Option (List ℕ) → Option (List ℕ) → Follower
+    → List Arrival → Result Served (EndedEarly FollowerFault) → Type 0
+EndsAfter rules old new f next result =
+    (begun : Option (List ℕ)) (arrivals : List Arrival) (all : List Outcome)
+    → IsFollowing rules f.journal.limits begun arrivals all f old
+    → Ends rules f.journal.limits (arrivals ++ next)
+    (outcomes_of rules f.journal.limits [] [] (arrivals ++ next)) begun new result
+
+-- all lines were answered, or one was refused and ended the service
+abbrev pub IsOver : ServeRules → Option (List Arrival) → Option (List Arrival) → Option (List ℕ)
+    → Option (List ℕ) → Follower → Served → Type 0
+IsOver rules before after old new f served =
+    (next : List Arrival) × Arrive before after next × EndsAfter rules old new f next (Ok served)
+
+-- it ended early
+abbrev pub IsEarlyEnd : ServeRules → Option (List Arrival) → Option (List Arrival)
+    → Option (List ℕ) → Option (List ℕ) → Follower → EndedEarly FollowerFault → Type 0
+IsEarlyEnd rules before after old new f end =
+    (next : List Arrival) × Arrive before after next × EndsAfter rules old new f next (Err end)

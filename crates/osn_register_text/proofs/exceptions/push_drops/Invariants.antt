@@ -1,0 +1,15 @@
+use Rattle.std.proofs.Common.{◌≡◌, ◌++◌, map}
+use Rattle.std.specs.List.{flat_map}
+use Rattle.osn_register_text.specs.Change.{edit_of}
+use Rattle.osn_register_text.specs.Differences as spec
+use Rattle.osn_register_text.specs.PlanInside.{sources_at}
+use Rattle.osn_register_text.proofs.exceptions.push_drops.Given as goal
+
+-- the drops of the days that are left are still to come
+abbrev pub invariant-loop-year : goal.invariant-loop-year
+invariant-loop-year l =
+    l.initial.edits.items
+    ++ flat_map (λ e. map (edit_of l.pair.code.now)
+    (spec.dropped_exception (sources_at l.pair) l.wanted e)) l.standing.exceptions
+    ≡ l.edits.items ++ flat_map (λ e. map (edit_of l.pair.code.now)
+    (spec.dropped_exception (sources_at l.pair) l.wanted e)) l.year-iterator

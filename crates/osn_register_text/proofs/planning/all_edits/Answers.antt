@@ -1,0 +1,61 @@
+use Rattle.std.proofs.Common.{◌+◌, ◌<◌, ◌++◌, length, drop, ap, sym, ◌∙◌, arith, append_assoc}
+use Rattle.std.proofs.Common.{append-nil}
+use Rattle.std.proofs.lemmas.Option.{slice_get_within}
+use Rattle.std.specs.List.{slice_get}
+use Rattle.osn_register.specs.declared.limits.Limits.{Limits}
+use Rattle.osn_register_text.specs.Differences.{edits_for, entry_edits}
+use Rattle.osn_register_text.proofs.Mapped.{same_entry_edits}
+use Rattle.osn_register_text.proofs.Places.{left_from, none_left, is_listed, none_listed}
+use Rattle.osn_register_text.proofs.planning.all_edits.Goals as goal
+
+pub overflow_add-place : goal.overflow_add-place
+overflow_add-place c =
+    let wanted = c.args.wanted.now.territories in
+    let place = c.loop-code.place in
+    let here = is_listed (slice_get wanted place) _ _ _ (sym c.in-Some.ensures.value) in
+    let within : place < length wanted = slice_get_within wanted place here.entry here.is in
+    omega (
+      arith,
+      within,
+      c.in-Some.ensures.well_formed.within,
+      ap (λ (l : Limits). l.lands) c.limits-most.ensures.value,
+    )
+
+pub loop-code-smaller : goal.loop-code-smaller
+loop-code-smaller c =
+    let wanted = c.args.wanted.now.territories in
+    let place = c.loop-code.place in
+    let here = is_listed (slice_get wanted place) _ _ _ (sym c.in-Some.ensures.value) in
+    let within : place < length wanted = slice_get_within wanted place here.entry here.is in
+    omega (arith, within)
+
+pub loop-code-preserved : goal.loop-code-preserved
+loop-code-preserved c =
+    let territories = c.args.register.now.territories in
+    let wanted = c.args.wanted.now.territories in
+    let place = c.loop-code.place in
+    let old = c.loop-code.edits.items in
+    let code = c.in-Some.code.now in
+    let name = c.in-Some.name.now in
+    let territory = c.in-Some.territory.now in
+    let rest = edits_for wanted territories (drop (place + 1) wanted) in
+    let here = is_listed (slice_get wanted place) code name territory
+    (sym c.in-Some.ensures.value) in
+    ap (λ es. es ++ rest) c.in_ok-push_edits.ensures
+    ∙ append_assoc old (entry_edits wanted territories code name territory) rest
+    ∙ ap (λ es. old ++ (es ++ rest))
+    (sym (same_entry_edits wanted territories here.entry code name territory here.code_is
+    here.name_is here.territory_is))
+    ∙ ap (λ ls. old ++ edits_for wanted territories ls)
+    (sym (left_from wanted place here.entry here.is)) ∙ c.loop-code.invariant
+
+pub returns : goal.returns
+returns c =
+    let territories = c.args.register.now.territories in
+    let wanted = c.args.wanted.now.territories in
+    let place = c.loop-code.place in
+    sym (append-nil c.loop-code.edits.items)
+    ∙ ap (λ ls. c.loop-code.edits.items ++ edits_for wanted territories ls)
+    (sym (none_left wanted place
+    (none_listed (slice_get wanted place) (sym c.in_default.ensures.value))))
+    ∙ c.loop-code.invariant

@@ -1,0 +1,81 @@
+//! The text of a plan.
+ghost use Rattle.std.specs.Prelude.{◌≡◌, ◌++◌, IfOk, OnOk, string_bytes};
+ghost use Rattle.std.specs.List.{flat_map};
+ghost use Rattle.osn_days.specs.Rules.{newest_rules};
+ghost use Rattle.osn_register_text.specs.EditLine.{edit_line};
+ghost use Rattle.osn_register_text.specs.PlanPage as spec;
+
+use crate::edit_line::push_edit;
+use osn_register::{Edit, Register};
+use std::alloc::{AllocError, Global};
+use std::fmt::Write;
+
+/// Appends the lines of these edits.
+fn push_edits(
+    alloc: Global,
+    out: &mut String,
+    register: &Register,
+    wanted: &Register,
+    edits: &[Edit],
+) -> Result<(), AllocError>
+    ensures { OnOk result (string_bytes out.new ≡ string_bytes out.old
+        ++ flat_map (edit_line newest_rules register.now.territories wanted.now.territories)
+        edits.now) }
+{
+    for edit in edits {
+        push_edit(alloc, out, register, wanted, edit)?;
+    }
+    Ok(())
+}
+
+/// Appends the line of a territory that a wanted register lacks.
+#[tactic(auto, unfolding(crate::specs::PlanPage::absent_line))]
+fn push_absent_line(out: &mut String, wanted: &Register, code: &str) -> Result<(), AllocError>
+    ensures { OnOk result (string_bytes out.new
+        ≡ string_bytes out.old ++ spec.absent_line wanted.now.territories code.now) }
+{
+    if wanted.find_territory(code).is_some() {
+        return Ok(());
+    }
+    writeln!(out, "{code}: not in the text, stays as it is")
+}
+
+/// Appends the lines of the territories that a wanted register lacks.
+fn push_absent_lines(
+    out: &mut String,
+    register: &Register,
+    wanted: &Register,
+) -> Result<(), AllocError>
+    ensures { OnOk result (string_bytes out.new ≡ string_bytes out.old
+        ++ spec.absent_lines wanted.now.territories register.now.territories) }
+{
+    for place in 0..register.limits().lands as usize {
+        let Some((code, _, _)) = register.territory_at(place) else {
+            return Ok(());
+        };
+        push_absent_line(out, wanted, code)?;
+    }
+    Ok(())
+}
+
+/// Returns the text of edits that change a register towards a wanted one. Each edit is a line, in
+/// their order; then there is one for each territory that the wanted register lacks. If there are
+/// neither, the text is empty.
+///
+/// # Errors
+///
+/// Returns `AllocError` if memory runs out.
+pub fn plan_page(
+    alloc: Global,
+    register: &Register,
+    wanted: &Register,
+    edits: &[Edit],
+) -> Result<String, AllocError>
+    ensures { IfOk result (λ s. string_bytes s
+        ≡ spec.plan_page newest_rules register.now.territories wanted.now.territories edits.now) }
+{
+    let mut text = String::new(alloc);
+    push_edits(alloc, &mut text, register, wanted, edits)?;
+    push_absent_lines(&mut text, register, wanted)?;
+    Ok(text)
+}

@@ -1,0 +1,83 @@
+//! The edits of one territory.
+ghost use Rattle.std.specs.Prelude.{◌≡◌, ◌∷◌, ◌++◌, [], map, OnOk};
+ghost use Rattle.osn_register.specs.declared.edit.Edit.TheVariants.{AddLand};
+ghost use Rattle.osn_register.specs.Answer.{period_source};
+ghost use Rattle.osn_register_text.specs.Change.{edit_of};
+ghost use Rattle.osn_register_text.specs.Differences as spec;
+ghost use Rattle.osn_register_text.specs.PlanInside.{sources_at};
+
+use crate::pair::TerritoryPair;
+use crate::{exceptions, plan_changes};
+use osn_days::Day;
+use osn_register::{Edit, Text};
+use osn_territory::{Regime, Territory};
+use std::alloc::AllocError;
+
+/// Appends the edits that take a territory to the wanted one.
+fn push_differences(
+    pair: TerritoryPair<'_>,
+    standing: &Territory,
+    wanted: &Territory,
+    edits: &mut Vec<Edit>,
+) -> Result<(), AllocError>
+    ensures { OnOk result (edits.new.items ≡ edits.old.items
+        ++ map (edit_of pair.entry.code.now)
+        (spec.differences (sources_at pair.entry) standing.now wanted.now)) }
+{
+    plan_changes::push_drops(pair, standing.periods(), wanted, edits)?;
+    plan_changes::push_all_wanted(pair, standing, wanted.periods(), edits)?;
+    exceptions::push_drops(pair, standing, wanted, edits)?;
+    exceptions::push_all_wanted(pair, standing, wanted, edits)
+}
+
+/// Appends the edit that adds a territory with its opening regime, and the wanted source of that.
+fn push_territory(
+    pair: TerritoryPair<'_>,
+    name: &str,
+    regime: Regime,
+    edits: &mut Vec<Edit>,
+) -> Result<(), AllocError>
+    ensures { OnOk result (edits.new.items ≡ edits.old.items
+        ++ AddLand pair.entry.code.now name.now regime
+        (period_source (sources_at pair.entry).wanted 1) ∷ []) }
+{
+    edits.push(Edit::AddLand {
+        code: pair.code_text()?,
+        name: Text::from_str(pair.alloc, name)?,
+        regime,
+        source: pair.period_source(Day::FIRST)?,
+    })?;
+    Ok(())
+}
+
+/// Appends the edits that make the wanted territory of one that has its opening regime alone.
+fn push_later(
+    pair: TerritoryPair<'_>,
+    wanted: &Territory,
+    edits: &mut Vec<Edit>,
+) -> Result<(), AllocError>
+    ensures { OnOk result (edits.new.items ≡ edits.old.items
+        ++ map (edit_of pair.entry.code.now)
+        (spec.later (sources_at pair.entry).wanted wanted.now)) }
+{
+    plan_changes::push_additions(pair, &wanted.periods()[1..], edits)?;
+    exceptions::push_additions(pair, wanted, edits)
+}
+
+/// Appends the edits that take the territory of a code to the wanted one, or add it.
+pub(crate) fn push_edits(
+    pair: TerritoryPair<'_>,
+    name: &str,
+    wanted: &Territory,
+    edits: &mut Vec<Edit>,
+) -> Result<(), AllocError>
+    ensures { OnOk result (edits.new.items ≡ edits.old.items
+        ++ spec.entry_edits pair.entry.wanted.now.territories pair.entry.register.now.territories
+        pair.entry.code.now name.now wanted.now) }
+{
+    if let Some((_, standing)) = pair.register.find_territory(pair.code) {
+        return push_differences(pair, standing, wanted, edits);
+    }
+    push_territory(pair, name, wanted.periods()[0].regime, edits)?;
+    push_later(pair, wanted, edits)
+}

@@ -1,0 +1,22 @@
+use Rattle.std.proofs.Common.{[], ◌∷◌, codes}
+use Rattle.json.specs.Print.{escape_byte, quoted}
+use Rattle.osn_request.proofs.WriteLemmas.{at_last}
+use Rattle.osn_service.proofs.LineLemmas.{chain}
+use Rattle.osn_service.proofs.reply.found.LandWriteJson.write_json.Goals as goal
+
+pub returns-clause-text : goal.returns-clause-text
+unfolding escape_byte
+returns-clause-text c =
+    at_last c.push.result c.push.ensures.text
+    (λ e. rw (
+      e,
+      c.in_ok-push_text-2.ensures.text,
+      c.in_ok-push_text.ensures.text,
+      c.as_str.ensures.value,
+      c.as_str-2.ensures.value,
+    )
+    (chain c.args.out.now.text
+    ((codes "{\"code\":", quoted c.args.self.now.code)
+    ∷ (codes ",\"name\":", quoted c.args.self.now.name)
+    ∷ [])
+    (codes "}")))

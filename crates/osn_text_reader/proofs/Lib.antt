@@ -1,3 +1,0 @@
-pub mod ChangeLemmas
-pub mod MemberLemmas
-pub mod NumberLemmas

@@ -1,7 +1,0 @@
-use Rattle.toml.proofs.Views.{table_get}
-use Rattle.osn_text_reader.specs.Text.{edition_key}
-use Rattle.osn_text_reader.proofs.parse.edition_value.Goals as goal
-
-pub returns : goal.returns
-returns c =
-    table_get c.get.result edition_key c.args.table.now.entries c.get.ensures.value

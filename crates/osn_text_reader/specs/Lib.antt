@@ -1,9 +1,0 @@
-pub mod Key
-pub mod RefusalWords
-pub mod Words
-pub mod Field
-pub mod DayField
-pub mod TerritoryText
-pub mod Text
-pub mod Lines
-pub mod Inside

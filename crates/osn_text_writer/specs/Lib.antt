@@ -1,2 +1,0 @@
-pub mod TerritoryText
-pub mod Says
