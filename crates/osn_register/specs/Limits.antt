@@ -3,4 +3,4 @@ use Rattle.osn_register.specs.declared.limits.Limits.{Limits}
 
 abbrev pub standard_limits : Limits
 standard_limits =
-    record { territories = 500; changes = 40; exceptions = 200; edits = 20000; editions = 5000 }
+    record { lands = 500; changes = 40; exceptions = 200; edits = 20000; editions = 5000 }
