@@ -2,7 +2,7 @@
 use Rattle.std.specs.Prelude.{◌≡◌, ◌⊎◌, Bool, List, [], ◌∷◌, ℕ, Option, Some, None, is_some}
 use Rattle.std.specs.Prelude.{MatchResult, option_map}
 use Rattle.osn_core.specs.Edition.{edition_of_word}
-use Rattle.osn_page_commands.specs.Editions.{TellsEditionWord}
+use Rattle.osn_page_commands.specs.Editions.{ReportsEditionWord}
 use Rattle.osn_folder.specs.Folder.{CannotOpen, Changes, IsFileOf, Known, Opens}
 use Rattle.osn_folder.specs.declared.fault.OpenFailed.{OpenFailed}
 use Rattle.osn_lines.specs.Streams.{Input, Output}
@@ -31,7 +31,7 @@ abbrev pub RunsText : Limits → List ℕ → Option (List ℕ) → Option (List
 RunsText limits journal edition code CanFail d o e status = MatchResult (edition_of_word edition)
     (λ number. ReadsOne journal CanFail d
     (λ file. PrintsText limits journal file number code o e status))
-    (λ typed. (d.after ≡ d.before) × (o.new ≡ o.old) × TellsEditionWord typed e status)
+    (λ typed. (d.after ≡ d.before) × (o.new ≡ o.old) × ReportsEditionWord typed e status)
 
 -- the text of a path could not be opened, which was reported, and nothing was written
 abbrev pub MissesText : List ℕ → Folders → Output → Output → Status → Type 0

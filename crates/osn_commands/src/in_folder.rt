@@ -14,7 +14,7 @@ use crate::text::text_command;
 use osn_core::edition_of_word;
 use osn_folder::{Folder, OpenFailed, open_file};
 use osn_lines::Sink;
-use osn_page_commands::tell_edition_word;
+use osn_page_commands::report_edition_word;
 use osn_register::Limits;
 use osn_report::{Status, report_open_failure};
 use std::alloc::Global;
@@ -76,7 +76,7 @@ pub fn text_in_folder<D: Folder, W: Sink, E: Sink>(
         Ok(number) => numbered_text_in_folder(
             alloc, limits, folder, journal, number, code, output, errors,
         ),
-        Err(typed) => Ok(tell_edition_word(alloc, errors, typed)),
+        Err(typed) => Ok(report_edition_word(alloc, errors, typed)),
     }
 }
 

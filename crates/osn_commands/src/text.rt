@@ -8,7 +8,7 @@ ghost use Rattle.osn_commands.specs.Text as spec;
 use osn_core::{Edition, Object, edition_of};
 use osn_files::load_journal;
 use osn_lines::{Sink, Source};
-use osn_page_commands::{tell_edition_fault, territory_refusal_line};
+use osn_page_commands::{report_edition_fault, territory_refusal_line};
 use osn_register::{Limits, Register};
 use osn_register_text::{write_territory, write_text};
 use osn_report::{CommandFault, Status, print, report_at, report_line};
@@ -82,7 +82,7 @@ fn print_numbered<W: Sink, E: Sink>(
 {
     match edition_of(alloc, object, number) {
         Ok(edition) => print_territories(alloc, &edition, path, code, output, errors),
-        Err(fault) => tell_edition_fault(alloc, errors, fault),
+        Err(fault) => report_edition_fault(alloc, errors, fault),
     }
 }
 

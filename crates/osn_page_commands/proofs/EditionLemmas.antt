@@ -4,7 +4,7 @@ use Rattle.osn_core.specs.Sequential.{ObjectState}
 use Rattle.osn_lines.specs.Streams.{Output}
 use Rattle.osn_report.specs.declared.status.Status.{Status}
 use Rattle.osn_core.specs.Edition.{EditionModel, IsEditionFault, edition_of}
-use Rattle.osn_page_commands.specs.Editions.{OnEdition, TellsEditionFault}
+use Rattle.osn_page_commands.specs.Editions.{OnEdition, ReportsEditionFault}
 use Rattle.osn_core.specs.declared.edition.EditionFault.{EditionFault}
 use Rattle.osn_core.specs.declared.edition.EditionFault.TheVariants.{TooLate, NoMemory}
 
@@ -17,7 +17,7 @@ module _ (number : Option ℕ) (s : ObjectState) (Does : EditionModel → Type 0
 
   -- there is none, which was reported
   pub on_no_edition : (fault : EditionFault) → IsEditionFault number s fault → o.new ≡ o.old
-      → TellsEditionFault fault e status → OnEdition number s Does o e status
+      → ReportsEditionFault fault e status → OnEdition number s Does o e status
   on_no_edition (TooLate late newest) is same message =
       inr (rw (is.1.1, is.0, ← is.1.0) (same, message))
   on_no_edition NoMemory is same message = inl (is, same, message)

@@ -22,8 +22,8 @@ word_line word = codes "oldstyle: "
     ++ codes ": an edition is a number, such as 3\n")
 
 -- that was reported
-abbrev pub TellsEditionWord : List ℕ → Output → Status → Type 0
-TellsEditionWord word e status = ReportsIfMade e statuses.Misused (word_line word) status
+abbrev pub ReportsEditionWord : List ℕ → Output → Status → Type 0
+ReportsEditionWord word e status = ReportsIfMade e statuses.Misused (word_line word) status
 
 -- what to do about it
 abbrev pub late_help : ℕ → List ℕ
@@ -39,10 +39,10 @@ late_lines number newest = codes "oldstyle: edition "
     ++ (decimal newest ++ (codes "\n" ++ late_help newest))))
 
 -- it was reported why there is no such edition
-abbrev pub TellsEditionFault : EditionFault → Output → Status → Type 0
-TellsEditionFault (TooLate number newest) e status =
+abbrev pub ReportsEditionFault : EditionFault → Output → Status → Type 0
+ReportsEditionFault (TooLate number newest) e status =
     ReportsIfMade e statuses.Refused (late_lines number newest) status
-TellsEditionFault NoMemory e status = EndsBy e faults.NoMemory status
+ReportsEditionFault NoMemory e status = EndsBy e faults.NoMemory status
 
 -- a number was given that is greater than that of the newest edition, which was reported, and
 -- nothing was written

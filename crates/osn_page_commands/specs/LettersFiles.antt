@@ -16,7 +16,7 @@ use Rattle.osn_page_commands.specs.TableWords.{settings_of_options}
 use Rattle.osn_page_commands.specs.declared.letters.TableRules.{TableRules}
 use Rattle.osn_report.specs.Folders.{Folders, IsReadOf, ReadsOne}
 use Rattle.osn_core.specs.Edition.{edition_of_word}
-use Rattle.osn_page_commands.specs.Editions.{TellsEditionWord}
+use Rattle.osn_page_commands.specs.Editions.{ReportsEditionWord}
 use Rattle.osn_report.specs.Messages.{ReportsIfMade, ReportsMisuse}
 use Rattle.osn_report.specs.OpenFailure.{open_failure_line}
 use Rattle.osn_report.specs.declared.status.Status.{Status}
@@ -85,4 +85,4 @@ abbrev pub RunsLetters : Limits → List ℕ → LettersModel → (Bool → Type
 RunsLetters limits journal options CanFail d i o e status = MatchResult
     (edition_of_word options.edition)
     (λ number. RunsNumbered limits journal options number CanFail d i o e status)
-    (λ typed. (d.after ≡ d.before) × (o.new ≡ o.old) × TellsEditionWord typed e status)
+    (λ typed. (d.after ≡ d.before) × (o.new ≡ o.old) × ReportsEditionWord typed e status)

@@ -22,7 +22,7 @@ use Rattle.osn_register.specs.declared.refusal.Refusal.TheVariants.{BadCode, Unk
 use Rattle.osn_register.specs.declared.refusal.Refusal.TheVariants.{YearOffRange}
 use Rattle.osn_core.specs.Sequential.{ObjectState}
 use Rattle.osn_core.specs.Edition.{EditionModel, edition_of_word}
-use Rattle.osn_page_commands.specs.Editions.{OnEdition, TellsEditionWord}
+use Rattle.osn_page_commands.specs.Editions.{OnEdition, ReportsEditionWord}
 use Rattle.osn_lines.specs.Streams.{Input, Output}
 use Rattle.osn_files.specs.declared.fault.FileFault.{FileFault}
 use Rattle.osn_folder.specs.Folder.{IsOpenFailure}
@@ -266,7 +266,7 @@ abbrev pub RunsPage : Limits → List ℕ → Option (List ℕ) → PageRequestM
     → Folders → Output → Output → Status → Type 0
 RunsPage limits path edition words CanFail d o e status = MatchResult (edition_of_word edition)
     (λ number. RunsNumbered limits path number words CanFail d o e status)
-    (λ typed. (d.after ≡ d.before) × (o.new ≡ o.old) × TellsEditionWord typed e status)
+    (λ typed. (d.after ≡ d.before) × (o.new ≡ o.old) × ReportsEditionWord typed e status)
 
 -- ---- why it ended early
 

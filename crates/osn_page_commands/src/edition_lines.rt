@@ -18,8 +18,8 @@ fn word_line(alloc: Global, word: &str) -> Result<String, AllocError>
 }
 
 /// Reports on standard error that a word is not the number of an edition. Returns the status.
-pub fn tell_edition_word<E: Sink>(alloc: Global, errors: &mut E, word: &str) -> Status
-    ensures { spec.TellsEditionWord word.now
+pub fn report_edition_word<E: Sink>(alloc: Global, errors: &mut E, word: &str) -> Status
+    ensures { spec.ReportsEditionWord word.now
         (output_of E.contents E.has_failed E.holds_back errors.old errors.new) result }
 {
     report_line(errors, Status::Misused, word_line(alloc, word))
@@ -47,8 +47,8 @@ fn late_lines(alloc: Global, number: u32, newest: usize) -> Result<String, Alloc
 }
 
 /// Reports on standard error why an edition can't be had. Returns the status.
-pub fn tell_edition_fault<E: Sink>(alloc: Global, errors: &mut E, fault: EditionFault) -> Status
-    ensures { spec.TellsEditionFault fault
+pub fn report_edition_fault<E: Sink>(alloc: Global, errors: &mut E, fault: EditionFault) -> Status
+    ensures { spec.ReportsEditionFault fault
         (output_of E.contents E.has_failed E.holds_back errors.old errors.new) result }
 {
     match fault {

@@ -1,6 +1,6 @@
 //! The command `editions`: a line for each edition of a journal.
 ghost use Rattle.std.specs.Prelude.{◌≡◌, ◌<◌, ◌^◌, ◌+◌, ◌++◌, [], IfOk, OnOk, length, string_bytes};
-ghost use Rattle.std.specs.List.{sum_by};
+ghost use Rattle.std.specs.List.{list_any, sum_by};
 ghost use Rattle.osn_lines.specs.Streams.{input_of, output_of};
 ghost use Rattle.osn_page_commands.specs.EditionList as spec;
 
@@ -20,12 +20,19 @@ fn have_same_code(edit: &Edit, other: &Edit) -> bool
     edit.code().as_str() == other.code().as_str()
 }
 
+/// Returns whether an edit is of the same territory as one of others.
+fn has_code_of_any(edit: &Edit, others: &[Edit]) -> bool
+    ensures { result ≡ list_any (spec.same_code edit.now) others.now }
+{
+    others.iter().any(|other| have_same_code(edit, other))
+}
+
 /// Appends the code of an edit, unless one of the edits before has the same.
 fn push_code(out: &mut String, before: &[Edit], edit: &Edit) -> Result<(), AllocError>
     ensures { OnOk result
         (string_bytes out.new ≡ string_bytes out.old ++ spec.new_code before.now edit.now) }
 {
-    if before.iter().any(|other| have_same_code(edit, other)) {
+    if has_code_of_any(edit, before) {
         return Ok(());
     }
     write!(out, " {}", edit.code().as_str())

@@ -9,7 +9,7 @@ ghost use Rattle.osn_page_commands.specs.Page as spec;
 ghost use Rattle.osn_report.specs.Folders.{folders_of};
 
 use crate::date_hint::report_word;
-use crate::edition_lines::{tell_edition_fault, tell_edition_word};
+use crate::edition_lines::{report_edition_fault, report_edition_word};
 use crate::page::print_page;
 use crate::page_request::{Topic, date_text_of, territory_word, topic_of_words, wrong_word};
 use osn_core::{Object, edition_of, edition_of_word};
@@ -52,7 +52,7 @@ fn print_numbered<W: Sink, E: Sink>(
 {
     match edition_of(alloc, object, number) {
         Ok(edition) => print_page(alloc, &edition, path, word, date, topic, output, errors),
-        Err(fault) => tell_edition_fault(alloc, errors, fault),
+        Err(fault) => report_edition_fault(alloc, errors, fault),
     }
 }
 
@@ -147,6 +147,6 @@ pub fn page_in_folder<'a, D: Folder, W: Sink, E: Sink>(
         Ok(number) => numbered_page_in_folder(
             alloc, limits, folder, journal, number, words, output, errors,
         ),
-        Err(typed) => Ok(tell_edition_word(alloc, errors, typed)),
+        Err(typed) => Ok(report_edition_word(alloc, errors, typed)),
     }
 }

@@ -5,7 +5,7 @@ ghost use Rattle.osn_page_commands.specs.Editions.{OnEdition};
 ghost use Rattle.osn_lines.specs.Streams.{input_of, output_of};
 ghost use Rattle.osn_page_commands.specs.Letters as spec;
 
-use crate::edition_lines::tell_edition_fault;
+use crate::edition_lines::report_edition_fault;
 use crate::table_faults::report_table;
 use osn_core::{Edition, Object, edition_of};
 use osn_files::load_journal;
@@ -98,7 +98,7 @@ fn write_numbered<R: Source, W: Sink, E: Sink, P: Progress>(
         Ok(edition) => write_table(
             alloc, &edition, settings, rules, input, output, errors, progress,
         ),
-        Err(fault) => tell_edition_fault(alloc, errors, fault),
+        Err(fault) => report_edition_fault(alloc, errors, fault),
     }
 }
 

@@ -8,7 +8,7 @@ ghost use Rattle.osn_page_commands.specs.Letters.{settings_model};
 ghost use Rattle.osn_page_commands.specs.LettersFiles as spec;
 ghost use Rattle.osn_report.specs.Folders.{folders_of};
 
-use crate::edition_lines::tell_edition_word;
+use crate::edition_lines::report_edition_word;
 use crate::letters::{TableRules, letters_command};
 use crate::places::report_places;
 use crate::table_words::settings_of_options;
@@ -196,6 +196,6 @@ pub fn letters_in_folder<D: Folder, R: Source, W: Sink, E: Sink, T: Sink + Drop>
         Ok(number) => numbered_letters_in_folder(
             alloc, limits, folder, journal, options, number, input, output, errors, terminal,
         ),
-        Err(typed) => Ok(tell_edition_word(alloc, errors, typed)),
+        Err(typed) => Ok(report_edition_word(alloc, errors, typed)),
     }
 }

@@ -25,7 +25,7 @@ mod table_faults;
 mod table_words;
 
 pub use conversion::convert_command;
-pub use edition_lines::{tell_edition_fault, tell_edition_word};
+pub use edition_lines::{report_edition_fault, report_edition_word};
 pub use editions::editions_command;
 pub use editions_folder::editions_in_folder;
 pub use in_folder::page_in_folder;

@@ -23,10 +23,10 @@ returns-in-Err g c =
     let wrote = output_of g.W.Sink.contents g.W.Sink.has_failed g.W.Sink.holds_back
     c.args.output.now c.args.output.now in
     let errors = output_of g.E.Sink.contents g.E.Sink.has_failed g.E.Sink.holds_back
-    c.args.errors.now c.tell_edition_fault.new.errors in
+    c.args.errors.now c.report_edition_fault.new.errors in
     on_no_edition c.args.number c.args.object
     (λ edition. PrintsPageOn edition c.args.path.now c.args.word.now c.args.date.now
     c.args.topic.now (place_of c.args.topic.now c.args.word.now edition.territories) wrote errors
-    c.tell_edition_fault.result)
-    wrote errors c.tell_edition_fault.result c.in-Err.fault c.in-Err.ensures.err refl
-    c.tell_edition_fault.ensures
+    c.report_edition_fault.result)
+    wrote errors c.report_edition_fault.result c.in-Err.fault c.in-Err.ensures.err refl
+    c.report_edition_fault.ensures

@@ -26,9 +26,9 @@ returns-in-Err g c =
     let wrote = output_of g.W.Sink.contents g.W.Sink.has_failed g.W.Sink.holds_back
     c.args.output.now c.args.output.now in
     let errors = output_of g.E.Sink.contents g.E.Sink.has_failed g.E.Sink.holds_back
-    c.args.errors.now c.tell_edition_fault.new.errors in
+    c.args.errors.now c.report_edition_fault.new.errors in
     on_no_edition c.args.rules.edition c.args.object
     (λ edition. WritesTable edition (settings_model c.args.settings) c.args.rules read wrote errors
-    c.tell_edition_fault.result)
-    wrote errors c.tell_edition_fault.result c.in-Err.fault c.in-Err.ensures.err refl
-    c.tell_edition_fault.ensures
+    c.report_edition_fault.result)
+    wrote errors c.report_edition_fault.result c.in-Err.fault c.in-Err.ensures.err refl
+    c.report_edition_fault.ensures
