@@ -39,6 +39,7 @@ fn push_code(out: &mut String, before: &[Edit], edit: &Edit) -> Result<(), Alloc
 }
 
 /// Appends the codes of edits, each once.
+#[tactic(auto, using(crate::proofs::EditionListLemmas::next_code))]
 fn push_codes(out: &mut String, edits: &[Edit]) -> Result<(), AllocError>
     ensures { OnOk result
         (string_bytes out.new ≡ string_bytes out.old ++ spec.codes_after [] edits.now) }
@@ -77,6 +78,7 @@ fn push_edition(
 }
 
 /// Appends the line of each edition.
+#[tactic(auto, using(crate::proofs::EditionListLemmas::next_edition, std::proofs::lemmas::List::Sums::sum_by_more_le))]
 fn push_editions(out: &mut String, batches: &[Batch]) -> Result<(), AllocError>
     requires { sum_by (λ b. length b) batches.now + length batches.now < 2 ^ 62 }
     ensures { OnOk result (string_bytes out.new
