@@ -29,9 +29,9 @@ OFFSET = 1_721_425
 CALENDARS = ["gregorian", "julian", "swedish"]
 WRONG_WORDS = {
     "form": 'a date is written 1731-02-11, "11 February 1731" or "11 February 1731/2", '
-            "with a weekday before it or without",
-    "short year": "a year of one or two digits needs its zeros, such as 0045",
-    "later year": "after the / comes the year that follows, in full or its last digits, "
+            "with or without a weekday before it",
+    "short year": "a year of one or two digits needs leading zeros, such as 0045",
+    "later year": "after the / comes the year that follows, in full or by its last digits, "
                   "such as 1731/2, 1731/32 or 1731/1732",
     "year": "a year is 0 to 10000",
     "month": "a month is 1 to 12: in a range of years write the later year in full, such as "
@@ -71,7 +71,7 @@ MISTAKES = [
     ("month FILE XX 1700 13", MONTH),
     ("month FILE XX 1700 Febuary", MONTH),
     ("territory FILE --limits lands=x", "limits are some of lands=N,changes=N,exceptions=N,edits=N,"
-                                        "editions=N, with a comma between"),
+                                        "editions=N, separated by commas"),
 ]
 # The same for a word that isn't the last one.
 EARLIER_MISTAKES = [

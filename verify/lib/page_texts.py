@@ -98,7 +98,7 @@ def year_line(territory, year):
     days = territory.days_of_year(year)
     if not days:
         return f"no such date in that year: the place had no day of the year {year}"
-    return (f"no such date in that year: the year {year} went there from "
+    return (f"no such date in that year: the year {year} ran there from "
             f"{numbered(territory, days[0])} to {numbered(territory, days[-1])}")
 
 
@@ -108,7 +108,7 @@ def why_lines(territory, date):
         days = territory.days_of(date.label())
         return [f"not with both years: {numbered(territory, day)}" for day in days]
     if why == "off the line":
-        return ["off the line of days: there it goes from "
+        return ["off the line of days: there it runs from "
                 f"{numbered(territory, 1)} to {numbered(territory, HIGH)}"]
     if why == "skipped":
         return [line for change in territory.gaps(date.label())

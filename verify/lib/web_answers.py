@@ -17,12 +17,12 @@ OPEN = {"from any earlier day": ("From", "any earlier day"),
         "to   any later day": ("To", "any later day")}
 # What the page has in place of a line of `read`, without a capital letter and a full stop.
 NOT_DOUBLE = "not counted double there: the place wrote only the later year"
-LINE = "the days of the register go from 1 January 1 to 31 December 9999, by the Gregorian calendar"
+LINE = "the days of the register run from 1 January 1 to 31 December 9999, by the Gregorian calendar"
 SHOWN = [
     (r" \(day \d+\)", ""), (r"not counted double there: .*", NOT_DOUBLE),
     (r"no date of its calendar: .*", "no calendar of the place has that day of the month"),
     (r"off the line of days: .*|no day of the line is .*", LINE),
-    (r"no such date in that year: the year \d+ went", "that year went"),
+    (r"no such date in that year: the year \d+ ran", "that year ran"),
     (r"no such date in that year: the place .*", "the place had no day of that year"),
     (r"of the last date:", "the last date of the range has no day"), (r"skipped: ", ""),
     (r" \(source: (.+)\)", r". Source: \1"), (r"; (.+ itself dated |by its own )", r". \1"),

@@ -35,7 +35,7 @@ def month_line(territory, days):
 
 
 def run_lines(territory, year, days):
-    yield (f"the year {year} went there from {numbered(territory, days[0])} to "
+    yield (f"the year {year} ran there from {numbered(territory, days[0])} to "
            f"{numbered(territory, days[-1])}: {count(days)}")
     if days[0] == 1:
         yield "its first day is the first of the line of days"

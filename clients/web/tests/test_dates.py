@@ -53,7 +53,7 @@ def test_the_order_of_three_numbers(date: str, day_first: str | None,
 
 def test_a_text_that_is_not_read_has_advice() -> None:
     assert found("year of one or two digits").advice == (
-        "A year of one or two digits needs its zeros, such as 0045.")
+        "A year of one or two digits needs leading zeros, such as 0045.")
     assert found("skipped", "day").advice == found(None, "year").advice == ""
 
 

@@ -39,7 +39,7 @@ def test_a_month_has_its_gregorian_days(client: Any) -> None:
 
 
 @pytest.mark.parametrize("asked, sentence", [
-    ("GB&year=1731&month=3", "Years went there from 25 March, which is in this month: its days are "
+    ("GB&year=1731&month=3", "Years ran there from 25 March, which is in this month: its days are "
      "at the beginning of the year 1731 and at its end."),
     ("GB&year=1752&month=9", "Wednesday 2 September 1752 was followed by Thursday 14 September "
      "1752. 11 dates left out."),
@@ -77,9 +77,9 @@ def test_a_year_is_as_the_place_counted_it(client: Any, program: str, code: str,
             assert " ".join(feast.groups()) in text
         elif " was followed by " in line:
             assert re.sub(r" \(day \d+\)", "", line).replace(": ", ". ") in text
-        elif line.startswith("the year") and " went there " in line:
+        elif line.startswith("the year") and " ran there " in line:
             first, last = re.findall(r"(?:from|to) (.+?) \(day", line)
-            assert f"It went from {first} to {last} ." in text
+            assert f"It ran from {first} to {last} ." in text
 
 
 def test_a_year_without_days_says_so(client: Any) -> None:

@@ -15,7 +15,7 @@ from oldstyle_web.settings import Settings
 SKIPPED = ["Tuesday 31 December 1751 was followed by Wednesday 1 January 1752.",
            "The year's beginning changed: until then years from 25 March, from then on years from "
            "1 January.", "Nearest: Thursday 10 January 1750/1.", "Nearest: Friday 10 January 1752."]
-YEAR = "That year went there from Monday 25 March 1700 to Monday 24 March 1700/1."
+YEAR = "That year ran there from Monday 25 March 1700 to Monday 24 March 1700/1."
 READ_AS = "Read as New Style, as the date says."
 NOT_SOUGHT = "Friday is not compared: the date is not one day."
 

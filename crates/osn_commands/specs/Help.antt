@@ -104,7 +104,7 @@ surplus_help command =
     else (if takes_date command || bytes_eq command (codes "territory")
     then codes "help: put a date or a name of several words in quotes: \"11 February 1731\"\n"
     else codes
-    "help: put a path that has spaces in quotes: oldstyle help COMMAND shows which words it takes\n"
+    "help: put a path that has spaces in quotes: oldstyle help COMMAND lists the arguments\n"
     ))
 
 abbrev pub has_surplus : List Text → Bool

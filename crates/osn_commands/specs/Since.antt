@@ -113,11 +113,11 @@ behind_begin text journal edition = codes "oldstyle: "
     ++ (escaped journal ++ codes ":\n")))))
 
 unfoldable pub behind_end : List ℕ → ℕ → List ℕ
-behind_end journal editions = codes "help: print the text again by oldstyle text "
+behind_end journal editions = codes "help: print the text again with oldstyle text "
     ++ (escaped journal
     ++ (codes "; or write edition = "
     ++ (decimal editions
-    ++ codes " in it, if it has these edits; or publish it anyway by --onto-newest\n")))
+    ++ codes " in it, if it has these edits; or publish it anyway with --onto-newest\n")))
 
 -- the lines on a text of an edition, and what later ones of the journal changed
 abbrev pub behind_lines : List ℕ → List ℕ → ℕ → List EntryModel → List (List Edit) → List ℕ

@@ -66,6 +66,6 @@ pub fn report_no_words<E: Sink>(why: &io::Error, errors: &mut E) -> Status
     if why.kind() == io::ErrorKind::OutOfMemory {
         return report_no_memory(errors);
     }
-    write_line(errors, "error: a word of the command line is not UTF-8\n");
+    write_line(errors, "error: an argument is not UTF-8\n");
     Status::Misused
 }

@@ -41,7 +41,7 @@ const QUOTES: &str =
     "help: put a date or a name of several words in quotes: \"11 February 1731\"\n";
 
 const PATH: &str =
-    "help: put a path that has spaces in quotes: oldstyle help COMMAND shows which words it takes\n";
+    "help: put a path that has spaces in quotes: oldstyle help COMMAND lists the arguments\n";
 
 /// Returns the help on a word that is not a number.
 fn number_help(command: &str) -> &'static str

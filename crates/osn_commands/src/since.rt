@@ -205,8 +205,8 @@ fn push_end(out: &mut String, journal: &str, editions: usize) -> Result<(), Allo
     let journal = Escaped(journal);
     writeln!(
         out,
-        "help: print the text again by oldstyle text {journal}; or write edition = {editions} in \
-it, if it has these edits; or publish it anyway by --onto-newest"
+        "help: print the text again with oldstyle text {journal}; or write edition = {editions} \
+in it, if it has these edits; or publish it anyway with --onto-newest"
     )
 }
 

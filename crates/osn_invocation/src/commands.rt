@@ -32,8 +32,8 @@ pub(crate) const DATES: [CommandRow; 6] = [
 A date is written 1731-02-11, \"11 February 1731\" or \"11 February 1731/2\", with or without a
 weekday before it, or in another form, such as \"11 Feb. 1731/32\". Its year is that of the
 document, or both years are given. It may be a month, a year, a range or a bound, such as
-\"March 1731\", \"3-10 May 1640\" or \"before 1640\", and say more, such as \"[about 1640?]\" or
-\"11 February 1731 N.S.\". If a date means several days, those of the weekday come first.",
+\"March 1731\", \"3-10 May 1640\" or \"before 1640\", and be qualified, as in \"[about 1640?]\" or
+\"11 February 1731 N.S.\". If a date means several days, those on the weekday come first.",
         arguments: &[
             JOURNAL,
             PLACE,
@@ -126,8 +126,8 @@ A month that the year has at its beginning and at its end is printed twice.",
         examples: "Example:
   ./oldstyle year examples/samples.journal GB 1731
 
-The year goes from its first day there to its last one. Its feasts are those that the territory
-dated in it. The figures are of the year from 1 January, and the page says so.",
+The year runs from its first day there to its last one. Its feasts are those that the territory
+dated in it. The figures are those of the year from 1 January, as the page says.",
         arguments: &[
             JOURNAL,
             PLACE,
@@ -166,15 +166,15 @@ dated in it. The figures are of the year from 1 January, and the page says so.",
 pub(crate) const TABLES: [CommandRow; 5] = [
     CommandRow {
         name: "letters",
-        about: "Reads a table of letters on standard input, and adds the days that each date means",
+        about: "Adds the days that each date means to a table of letters on standard input",
         examples: "Examples:
   ./oldstyle letters examples/samples.journal < examples/letters.csv
   ./oldstyle letters examples/samples.journal --places examples/places.csv --summary \\
     < examples/transcribed.csv
 
-The table is CSV with a header. It is written to standard output as it came, and twelve
-columns follow its own: days, gregorian, julian, dual, weekday_found, jdn, earliest, latest, kind,
-edtf, edition and remark.",
+The table is CSV with a header. It is written to standard output with twelve more columns after
+its own: days, gregorian, julian, dual, weekday_found, jdn, earliest, latest, kind, edtf, edition
+and remark.",
         arguments: &[
             JOURNAL,
             Valued(
@@ -205,12 +205,12 @@ edtf, edition and remark.",
             Valued(
                 "weekday",
                 "NAME",
-                "The name of the column of weekdays [default: weekday, which the table may lack]",
+                "The name of the column of weekdays [default: weekday, if the table has it]",
             ),
             Valued(
                 "places",
                 "FILE",
-                "A table in CSV that says by its columns place and code which code a place has",
+                "A table in CSV whose columns place and code give the code of each place",
             ),
             Valued(
                 "separator",
@@ -230,15 +230,15 @@ edtf, edition and remark.",
     },
     CommandRow {
         name: "serve",
-        about: "Answers request lines on standard input, as the program does without a command",
+        about: "Answers request lines from standard input, as the program does without a command",
         examples: "Example:
   ./oldstyle serve --journal examples/samples.journal --save new.journal < examples/added.jsonl
 
 Requests and replies are JSON lines. With --save, the journal is saved only if all lines were
 answered. With --keep, each change is in the journal before its reply is written. A journal of an
 earlier version than 4 accepts no source of an edit: --upgrade saves it as version 4, whole or not
-at all. With --follow, edits are refused, and FILE need not be there yet. With
---stop-at-refusal, a batch of edits is published whole or not at all.",
+at all. With --follow, edits are refused, and FILE need not exist yet. With --stop-at-refusal, a
+batch of edits is published whole or not at all.",
         arguments: &[
             Valued(
                 "journal",
@@ -248,7 +248,7 @@ at all. With --follow, edits are refused, and FILE need not be there yet. With
             Valued(
                 "save",
                 "FILE",
-                "Where the journal is saved at the end of the input, unless a fault ended the run",
+                "The file to save the journal to at the end of the input, unless the run fails",
             ),
             Valued(
                 "keep",
@@ -257,7 +257,7 @@ at all. With --follow, edits are refused, and FILE need not be there yet. With
             ),
             Flag(
                 "upgrade",
-                "Saves the journal of --keep as version 4 first, if it is of an earlier one",
+                "First saves the journal of --keep as version 4, if its version is earlier",
             ),
             Valued(
                 "follow",
@@ -267,7 +267,7 @@ at all. With --follow, edits are refused, and FILE need not be there yet. With
             Readers("The number of readers, 1 to 64 [default: 8]"),
             Flag(
                 "read-only",
-                "Refuses each edit and each publish by 45 ReadOnly",
+                "Refuses each edit and each publish with 45 ReadOnly",
             ),
             Flag(
                 "stop-at-refusal",
@@ -278,12 +278,13 @@ at all. With --follow, edits are refused, and FILE need not be there yet. With
     },
     CommandRow {
         name: "text",
-        about: "Prints, as a text in TOML to be edited, the territories that a journal published",
+        about: "Prints the published territories of a journal as a text in TOML, to be edited",
         examples: "Examples:
   ./oldstyle text examples/samples.journal > territories.toml
   ./oldstyle text examples/samples.journal GB
 
-A text that was not changed plans no edit. Its first line names the edition that it was made from.",
+If nothing in the text is changed, plan prints no edit. The first line of the text names the
+edition that it was made from.",
         arguments: &[
             JOURNAL,
             Optional("code", "CODE", "The code of the only territory to print"),
@@ -294,7 +295,7 @@ A text that was not changed plans no edit. Its first line names the edition that
     },
     CommandRow {
         name: "plan",
-        about: "Prints the edits that change what a journal published into what a text says",
+        about: "Prints the edits that make the territories of a journal what a text says they are",
         examples: "Example:
   ./oldstyle plan examples/samples.journal territories.toml
 
@@ -309,13 +310,13 @@ dates it. A territory that TEXT does not name stays as it is. The journal is onl
   ./oldstyle publish new.journal territories.toml
 
 All edits are in the journal as one edition, or none of them. A text with a fault changes nothing.
-Nor does a text that would undo a change of an edition later than its own.",
+Nor does a text that would undo what an edition later than its own has changed.",
         arguments: &[
             JOURNAL,
             TEXT,
             Flag(
                 "onto-newest",
-                "Publishes also what undoes or changes again the edits of later editions",
+                "Publishes even if that undoes or again changes what later editions changed",
             ),
             JOURNAL_OPTION,
             LIMITS,
@@ -334,11 +335,11 @@ pub(crate) const OTHERS: [CommandRow; 6] = [
     },
     CommandRow {
         name: "replay",
-        about: "Takes the steps of one editor and of readers, and prints what each gives",
+        about: "Runs the steps of one editor and of readers, and prints what each of them returns",
         examples: "Example:
   ./oldstyle replay --readers 2 examples/two_readers.schedule
 
-A step is a JSON line. All steps are taken before anything is printed.",
+A step is a JSON line. All steps are run before anything is printed.",
         arguments: &[
             RequiredReaders("The number of readers, 1 to 64"),
             Required("schedule", "SCHEDULE", "The file of the steps"),
@@ -351,8 +352,8 @@ A step is a JSON line. All steps are taken before anything is printed.",
         examples: "Example:
   ./oldstyle desk examples/rome.script examples/rome.questions
 
-A question is a JSON line. Questions and replies are printed by reader and then by place. The
-editions of the replies may differ from run to run.",
+A question is a JSON line. The questions of each reader, in order, are printed with their replies,
+one reader after another. The editions of the replies may differ from run to run.",
         arguments: &[
             Required(
                 "script",
@@ -365,18 +366,18 @@ editions of the replies may differ from run to run.",
     },
     CommandRow {
         name: "almanac",
-        about: "Prints the almanac of a year in a territory that a journal published",
+        about: "Prints the almanac of a territory for a year",
         examples: "Example:
   ./oldstyle almanac examples/samples.journal GB 1752
 
 YEAR means two years: the months are those of the year as the territory counted it, and the
 figures, the changes and the feasts are those of the year from 1 January. If the year began on
 25 March, almanac 1731 has February of 1731/2, and Easter and Ash Wednesday of 1731 from 1 January.
-The command year prints one year alone.",
+The command year prints a single year.",
         arguments: &[
             JOURNAL,
             CODE,
-            Year("The year, 1 to 9999: of the months as counted there, of all else from 1 January"),
+            Year("The year, 1 to 9999: for the months as counted there, otherwise from 1 January"),
             EDITION,
             DEFAULT_JOURNAL,
             LIMITS,
@@ -384,7 +385,7 @@ The command year prints one year alone.",
     },
     CommandRow {
         name: "audit",
-        about: "Says whether each reply of a transcript is the one that a journal gives",
+        about: "Checks that each reply of a transcript is the one that a journal gives",
         examples: "Example:
   ./oldstyle desk examples/rome.script examples/rome.questions > rome.transcript
   ./oldstyle audit examples/rome.script rome.transcript",

@@ -21,9 +21,9 @@ const STATUSES: &str = "Statuses:
   4  memory ran out
 If the status is not 0, standard error says what was refused or failed.
 
-JOURNAL may be left out. After a command that begins with it, --journal FILE names it. The commands
-read, day, month, year, territory, almanac, letters, text and editions have a default: the file
-that OLDSTYLE_JOURNAL names, or else the user's own journal, if there is one, which is
+JOURNAL may be left out of a command that begins with it: --journal FILE then names the file. The
+commands read, day, month, year, territory, almanac, letters, text and editions have a default: the
+file that OLDSTYLE_JOURNAL names, or else the user's own journal, if there is one, which is
 oldstyle/register.journal in XDG_DATA_HOME or ~/.local/share.";
 
 /// Returns a command with these arguments added.

@@ -54,7 +54,7 @@ codes_line path line place = codes "oldstyle: "
     ++ (codes " line "
     ++ (decimal line
     ++ (codes ": the place "
-    ++ (escaped place ++ codes " has another code already: take one of the two rows out\n")))))
+    ++ (escaped place ++ codes " has another code already: remove one of the two rows\n")))))
 
 -- it was reported why the table of a path was not read
 abbrev pub ReportsPlaces : List ℕ → Output → PlacesFault → Status → Type 0

@@ -74,8 +74,8 @@ fn codes_line(alloc: Global, path: &str, line: u64, place: &str) -> Result<Strin
         (λ message. string_bytes message ≡ spec.codes_line path.now line place.now) }
 {
     format!(in alloc;
-        "oldstyle: {} line {line}: the place {} has another code already: take one of the two \
-rows out\n",
+        "oldstyle: {} line {line}: the place {} has another code already: remove one of the \
+two rows\n",
         Escaped(path),
         Escaped(place)
     )

@@ -44,7 +44,7 @@ nearest_lines p t w = flat_map nearest_line (nearest p t w)
 -- the ends of the line, as the territory dated them
 unfoldable pub line_ends : DatedDay → DatedDay → List ℕ
 line_ends first last =
-    codes "off the line of days: there it goes from "
+    codes "off the line of days: there it runs from "
     ++ (numbered_day first ++ (codes " to " ++ (numbered_day last ++ codes "\n")))
 
 -- ---- a date of no calendar

@@ -32,12 +32,12 @@ named_day x = weekday_words x.day ++ (codes " " ++ dated_text x)
 unfoldable pub numbered_day : DatedDay → List ℕ
 numbered_day x = named_day x ++ (codes " (day " ++ (decimal x.day ++ codes ")"))
 
--- from which day to which a year went: the year 1731 went there from .. to ..
+-- from which day to which a year went: the year 1731 ran there from .. to ..
 unfoldable pub year_ends : ℕ → DatedDay → DatedDay → List ℕ
 year_ends year first last =
     codes "the year "
     ++ (decimal year
-    ++ (codes " went there from " ++ (numbered_day first ++ (codes " to " ++ numbered_day last))))
+    ++ (codes " ran there from " ++ (numbered_day first ++ (codes " to " ++ numbered_day last))))
 
 -- the day before a change and the day of the change, as the territory named both
 unfoldable pub followed : DatedDay → DatedDay → List ℕ

@@ -61,7 +61,7 @@ line_ends p first last =
     (if first == 1 then codes "its first day is the first of the line of days\n" else [])
     ++ (if last == p.high then codes "its last day is the last of the line of days\n" else [])
 
--- the year 1731 went there from .. to ..: 366 days
+-- the year 1731 ran there from .. to ..: 366 days
 unfoldable pub run_line : Rules → ℕ → DatedDay → DatedDay → ℕ → List ℕ
 run_line p year first last count =
     year_ends year first last

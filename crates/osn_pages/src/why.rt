@@ -87,7 +87,7 @@ fn push_line_ends(out: &mut String, first: DatedDay, last: DatedDay) -> Result<(
 {
     writeln!(
         out,
-        "off the line of days: there it goes from {} to {}",
+        "off the line of days: there it runs from {} to {}",
         NumberedDay(first),
         NumberedDay(last)
     )

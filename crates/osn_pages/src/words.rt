@@ -85,11 +85,7 @@ impl fmt::Display for YearEnds {
     fn fmt<W: fmt::Write>(&self, f: &mut fmt::Formatter<W>) -> fmt::Result {
         let first = NumberedDay(self.first);
         let last = NumberedDay(self.last);
-        write!(
-            f,
-            "the year {} went there from {first} to {last}",
-            self.year
-        )
+        write!(f, "the year {} ran there from {first} to {last}", self.year)
     }
 }
 

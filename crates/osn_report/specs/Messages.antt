@@ -99,4 +99,4 @@ abbrev pub ReportsNoWords : Output → ErrorKind → Status → Type 0
 ReportsNoWords e kind status =
     ((kind ≡ OutOfMemory) × EndsBy e NoMemory status)
     ⊎ ((kind ≢ OutOfMemory)
-    × ReportsLine e Misused (codes "error: a word of the command line is not UTF-8\n") status)
+    × ReportsLine e Misused (codes "error: an argument is not UTF-8\n") status)

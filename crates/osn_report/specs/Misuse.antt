@@ -19,16 +19,16 @@ use Rattle.osn_report.specs.declared.misuse.Misuse.TheVariants.{PartWithoutYear,
 
 abbrev pub both_calendars : List ℕ
 both_calendars =
-    codes "a day by both calendars has the two dates of one day, as 3/13 June 1675, and from "
-    ++ codes "1 January to 24 March a double year, as 3/13 Feb. 1674/5"
+    codes "a day by both calendars has the two dates of one day, such as 3/13 June 1675, and "
+    ++ codes "from 1 January to 24 March a double year, such as 3/13 Feb. 1674/5"
 
 -- what a date asks for, if that is not said by its own dates
 abbrev pub usual_text : DateFault → List ℕ
 usual_text faults.Malformed =
     codes "a date is written 1731-02-11, \"11 February 1731\" or \"11 February 1731/2\", "
-    ++ codes "with a weekday before it or without"
+    ++ codes "with or without a weekday before it"
 usual_text faults.LaterYear =
-    codes "after the / comes the year that follows, in full or its last digits, "
+    codes "after the / comes the year that follows, in full or by its last digits, "
     ++ codes "such as 1731/2, 1731/32 or 1731/1732"
 usual_text faults.Year = codes "a year is 0 to 10000"
 usual_text faults.Month =
@@ -41,11 +41,12 @@ usual_text faults.NotOneDay = codes
     "a month, a year or a range is not one day: write the day, such as \"11 February 1731\""
 usual_text faults.Qualifier = codes
     "about, ?, [ ], O.S. and the like say more than the day: write only the day"
-usual_text faults.ShortYear = codes "a year of one or two digits needs its zeros, such as 0045"
+usual_text faults.ShortYear =
+    codes "a year of one or two digits needs leading zeros, such as 0045"
 usual_text faults.OpenYear = codes
     "173? may be any year of a decade: write the year in four digits, such as 1731 or 0173"
 usual_text faults.DayOrMonth = codes
-    "11/2/1731 may be 11 February or 2 November: write the month by its name"
+    "a date such as 11/2/1731 may be 11 February or 2 November: write the month by its name"
 usual_text faults.BothCalendars = both_calendars
 usual_text (faults.TwoDays old new written) = both_calendars
 usual_text faults.NamedCalendar =
@@ -53,9 +54,9 @@ usual_text faults.NamedCalendar =
     ++ codes "3 June O.S./13 June N.S. 1675"
 usual_text faults.Feast = codes "a feast is not read: write its day"
 usual_text faults.RomanNumeral =
-    codes "a Roman numeral is read as the day beside a month's name, as xi February 1731, or as "
-    ++ codes "the month between two numbers, but vi, xx and single letters are other words too: "
-    ++ codes "write it in digits"
+    codes "a Roman numeral is read as the day beside a month's name, such as xi February 1731, "
+    ++ codes "or as the month between two numbers, but vi, xx and single letters are other words "
+    ++ codes "too: write it in digits"
 usual_text faults.OpenPart =
     codes "early, mid, late and the halves are parts of a month, a year, a decade or a century, "
     ++ codes "and a winter is of two years: write the months, such as December 1675 to February "
@@ -96,10 +97,10 @@ misuse_text (NoSuchDate calendar) = codes "the "
 misuse_text Month = codes "a month is 1 to 12 or its name, such as September or Sept"
 misuse_text Year = codes "a year is 1 to 9999 as the place counted it: for 1731/2 write 1731"
 misuse_text Limits = codes
-    "limits are some of lands=N,changes=N,exceptions=N,edits=N,editions=N, with a comma between"
+    "limits are some of lands=N,changes=N,exceptions=N,edits=N,editions=N, separated by commas"
 misuse_text Separator = codes "a separator is comma, semicolon or tab"
 misuse_text Order = codes "an order is dmy, for 11/2/1731 as 11 February, or mdy, for 2/11/1731"
-misuse_text OpenOrder = codes "11/2/1731 may be 11 February or 2 November: "
+misuse_text OpenOrder = codes "a date such as 11/2/1731 may be 11 February or 2 November: "
     ++ codes "write the month by its name, or use --order dmy or mdy"
 misuse_text DateAndParts = codes
     "it can't be used with --year, --month or --day: leave it out, or leave them out"

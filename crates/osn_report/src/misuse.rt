@@ -64,10 +64,10 @@ fn usual_text(fault: DateFault) -> &'static str
     match fault {
         DateFault::Malformed => {
             "a date is written 1731-02-11, \"11 February 1731\" or \"11 February 1731/2\", \
-with a weekday before it or without"
+with or without a weekday before it"
         }
         DateFault::LaterYear => {
-            "after the / comes the year that follows, in full or its last digits, \
+            "after the / comes the year that follows, in full or by its last digits, \
 such as 1731/2, 1731/32 or 1731/1732"
         }
         DateFault::Year => "a year is 0 to 10000",
@@ -85,16 +85,17 @@ such as 1640-1645"
         DateFault::Qualifier => {
             "about, ?, [ ], O.S. and the like say more than the day: write only the day"
         }
-        DateFault::ShortYear => "a year of one or two digits needs its zeros, such as 0045",
+        DateFault::ShortYear => "a year of one or two digits needs leading zeros, such as 0045",
         DateFault::OpenYear => {
             "173? may be any year of a decade: write the year in four digits, such as 1731 or 0173"
         }
         DateFault::DayOrMonth => {
-            "11/2/1731 may be 11 February or 2 November: write the month by its name"
+            "a date such as 11/2/1731 may be 11 February or 2 November: \
+write the month by its name"
         }
         DateFault::BothCalendars | DateFault::TwoDays { .. } => {
-            "a day by both calendars has the two dates of one day, as 3/13 June 1675, and from \
-1 January to 24 March a double year, as 3/13 Feb. 1674/5"
+            "a day by both calendars has the two dates of one day, such as 3/13 June 1675, and \
+from 1 January to 24 March a double year, such as 3/13 Feb. 1674/5"
         }
         DateFault::NamedCalendar => {
             "a day by both calendars names both of them or neither, such as \
@@ -102,8 +103,8 @@ such as 1640-1645"
         }
         DateFault::Feast => "a feast is not read: write its day",
         DateFault::RomanNumeral => {
-            "a Roman numeral is read as the day beside a month's name, as xi February 1731, or as \
-the month between two numbers, but vi, xx and single letters are other words too: \
+            "a Roman numeral is read as the day beside a month's name, such as xi February 1731, \
+or as the month between two numbers, but vi, xx and single letters are other words too: \
 write it in digits"
         }
         DateFault::OpenPart => {
@@ -178,15 +179,15 @@ number",
             ),
             Misuse::Limits => f.write_str(
                 "limits are some of lands=N,changes=N,exceptions=N,edits=N,editions=N, \
-with a comma between",
+separated by commas",
             ),
             Misuse::Separator => f.write_str("a separator is comma, semicolon or tab"),
             Misuse::Order => f.write_str(
                 "an order is dmy, for 11/2/1731 as 11 February, or mdy, for 2/11/1731",
             ),
             Misuse::OpenOrder => f.write_str(
-                "11/2/1731 may be 11 February or 2 November: write the month by its name, or use \
---order dmy or mdy",
+                "a date such as 11/2/1731 may be 11 February or 2 November: \
+write the month by its name, or use --order dmy or mdy",
             ),
             Misuse::DateAndParts => f.write_str(
                 "it can't be used with --year, --month or --day: leave it out, or leave them out",

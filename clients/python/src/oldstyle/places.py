@@ -53,8 +53,8 @@ def read_places(path: str) -> Dict[str, str]:
     table: Dict[str, str] = {}
     for line, place, code in records(path, text):
         if table.setdefault(place, code) != code:
-            raise wrong(path, line, f"the place {place} has another code already: take one of the "
-                                    "two rows out")
+            raise wrong(path, line, f"the place {place} has another code already: remove one of "
+                                    "the two rows")
     return table
 
 

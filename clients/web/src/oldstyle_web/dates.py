@@ -24,32 +24,33 @@ SENTENCES = {
 }
 # What to write instead of a text that is not read as a date, by the reason in the answer.
 ADVICE = {
-    "malformed date": N_('a date is written 1731-02-11, "11 February 1731" or "11 February 1731/2", '
-                         "with a weekday before it or without"),
-    "not the year that follows": N_("after the / comes the year that follows, in full or its last "
-                                    "digits, such as 1731/2, 1731/32 or 1731/1732"),
+    "malformed date": N_('a date is written 1731-02-11, "11 February 1731" or "11 February '
+                         '1731/2", with or without a weekday before it'),
+    "not the year that follows": N_("after the / comes the year that follows, in full or by its "
+                                    "last digits, such as 1731/2, 1731/32 or 1731/1732"),
     "no year from 0 to 10000": N_("a year is 0 to 10000"),
     "no month from 1 to 12": N_("a month is 1 to 12: in a range of years write the later year in "
                                 "full, such as 1640-1645"),
     "no day from 1 to 31": N_("a day of a month is 1 to 31"),
     "no date": N_('it says that there is no date: write a day, such as "11 February 1731"'),
-    "year of one or two digits": N_("a year of one or two digits needs its zeros, such as 0045"),
+    "year of one or two digits": N_("a year of one or two digits needs leading zeros, such as "
+                                    "0045"),
     "year with an open digit": N_("173? may be any year of a decade: write the year in four "
                                   "digits, such as 1731 or 0173"),
-    "open between day and month": N_("11/2/1731 may be 11 February or 2 November: write the month "
-                                     "by its name"),
-    "day by both calendars": N_("a day by both calendars has the two dates of one day, as 3/13 "
-                                "June 1675, and from 1 January to 24 March a double year, as 3/13 "
-                                "Feb. 1674/5"),
+    "open between day and month": N_("a date such as 11/2/1731 may be 11 February or 2 November: "
+                                     "write the month by its name"),
+    "day by both calendars": N_("a day by both calendars has the two dates of one day, such as "
+                                "3/13 June 1675, and from 1 January to 24 March a double year, "
+                                "such as 3/13 Feb. 1674/5"),
     "two days by both calendars": N_("the two dates are not one day: 3/13 June 1675 has the "
                                      "Julian date of the day and its Gregorian one"),
     "one calendar for the dates of both": N_("a day by both calendars names both of them or "
                                              "neither, such as 3 June O.S./13 June N.S. 1675"),
     "a feast, not read": N_("a feast is not read: write its day"),
-    "a Roman numeral, not read": N_("a Roman numeral is read as the day beside a month's name, as "
-                                    "xi February 1731, or as the month between two numbers, but "
-                                    "vi, xx and single letters are other words too: write it in "
-                                    "digits"),
+    "a Roman numeral, not read": N_("a Roman numeral is read as the day beside a month's name, "
+                                    "such as xi February 1731, or as the month between two "
+                                    "numbers, but vi, xx and single letters are other words too: "
+                                    "write it in digits"),
     "an open part of a date, not read": N_("early, mid, late and the halves are parts of a month, "
                                            "a year, a decade or a century, and a winter is of two "
                                            "years: write the months, such as December 1675 to "

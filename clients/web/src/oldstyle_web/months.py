@@ -50,7 +50,7 @@ class MonthFound:
             return ""
         if self.changes or len(self.styles) > 1:
             return _("A change divides it: the year reached this month more than once.")
-        return _("Years went there from %(beginning)s, which is in this month: its days are at the "
+        return _("Years ran there from %(beginning)s, which is in this month: its days are at the "
                  "beginning of the year %(year)s and at its end.",
                  beginning=_(BEGINNINGS[self.styles[0]]), year=self.year)
 

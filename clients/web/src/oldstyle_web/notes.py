@@ -15,7 +15,7 @@ STYLES = [N_("Old Style"), N_("New Style")]
 # What is said of a date that has no day, besides the days near it.
 REASONS = {
     "no date of its calendar": N_("No calendar of the place has that day of the month."),
-    "off the line": N_("The days of the register go from 1 January 1 to 31 December 9999, by the "
+    "off the line": N_("The days of the register run from 1 January 1 to 31 December 9999, by the "
                        "Gregorian calendar."),
     "first date after the last": N_("The first date is after the last one."),
     "no such feast in that year": N_("That feast did not fall in that year."),
@@ -55,10 +55,10 @@ def nearest_days(reason: str, nearest: list[dict[str, Any]]) -> Iterator[str]:
 
 
 def year_text(runs: list[dict[str, Any]]) -> str:
-    """From when to when a year went that lacks a date."""
+    """From which day to which a year ran that lacks a date."""
     if not runs:
         return _("The place had no day of that year.")
-    return _("That year went there from %(first)s to %(last)s.",
+    return _("That year ran there from %(first)s to %(last)s.",
              first=full(run_of(runs[0]).first), last=full(run_of(runs[-1]).last))
 
 
