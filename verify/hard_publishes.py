@@ -1,16 +1,17 @@
 #!/usr/bin/env python3
 """Publishes texts while output, files, the disk or memory fail, and kills the run.
 
-Standard output is full, closed, or a pipe that nobody reads; files are folders, or not there; the
-disk is full; the length of files or addresses are limited; and the run is killed (SIGKILL) at a
-random moment. Each time the journal must hold what it held, or the whole edition too, as the
-status says. After a kill a prefix of it may be left, which is counted. A text with sources, whose
-journal of version 2 is saved again as version 4, leaves none: there is the old journal or the new
-one. Then every edition that there was can still be read, and once the condition is over the text is
-published. A disk that is full is one in memory, which only root may mount.
+Standard output is full, closed, or a pipe that nobody reads; files are folders, not there, or may
+not be written; the disk is full or read-only; the length of files or addresses are limited; and the
+run is killed (SIGKILL) at a random moment. Each time the journal must hold what it held, or the
+whole edition too, as the status says. After a kill a prefix of it may be left, which is counted. A
+text with sources, whose journal of version 2 is saved again as version 4, leaves none: there is the
+old journal or the new one. Then every edition that there was can still be read, and once the
+condition is over the text is published. Such a disk is one in memory, which only root may mount.
 """
 import os
 import random
+import shutil
 import subprocess
 import tempfile
 import time
@@ -24,6 +25,8 @@ from lib.text_draws import journal_lines
 
 KEYS = "".join(f'{word} = "{value}"\n' for word, value in JULIAN.items())
 SOURCE = ', source = "24 Geo. II c. 23"'
+# Root has no right beyond its own files then.
+WITHOUT = ("setpriv", "--bounding-set=-all")
 NOT_PRINTED = (0, "oldstyle: the edition is in the journal, but its report could not be printed\n")
 
 
@@ -60,10 +63,10 @@ class Trial:
         with open(self.journal, encoding="utf-8") as file:
             return file.read()
 
-    def publish(self, journal=None, text=None, **streams):
-        """The status and standard error of a publish in these conditions."""
+    def publish(self, journal=None, text=None, before=(), **streams):
+        """The status and standard error of a publish in these conditions, by a command before."""
         streams = {"stdout": subprocess.PIPE, "stderr": subprocess.PIPE, **streams}
-        done = subprocess.run([self.program, "publish", journal or self.journal,
+        done = subprocess.run([*before, self.program, "publish", journal or self.journal,
                                text or self.text], text=True, timeout=60, check=False, **streams)
         return done.returncode, done.stderr
 
@@ -140,6 +143,36 @@ def try_full_disk(program, folder, source):
         trial.check_next("a full disk")
 
 
+def try_rights(trial, folder, without):
+    """A journal that may be read alone, and a folder in which none may be made."""
+    other = os.path.join(folder, "other.journal")
+    for journal, locked, words in ((trial.journal, trial.journal, "publish writes to it"),
+                                   (other, folder, "publish creates it in its folder")):
+        trial.begin()
+        mode = os.stat(locked).st_mode
+        os.chmod(locked, mode & 0o555)
+        expected = f"oldstyle: {journal}: permission denied: {words}\n"
+        result = trial.publish(journal, before=without)
+        os.chmod(locked, mode)
+        trial.check_whole(f"no right to write {locked}", result, (3, expected), False)
+    check("a journal was made without a right", not os.path.exists(other))
+
+
+def try_read_only_disk(program, folder, source):
+    with mounted(folder, "size=1m") as disk:
+        if disk is None:
+            print("not tried: a read-only disk, which only root may mount")
+            return
+        trial, other = Trial(program, disk, (4, 4), source), os.path.join(disk, "other.journal")
+        subprocess.run(["mount", "-o", "remount,ro", disk], check=True)
+        for journal, words in ((trial.journal, "opened for writing"), (other, "created")):
+            expected = (f"oldstyle: {journal}: it can't be {words} and locked, "
+                        "as on a read-only disk or without memory\n")
+            trial.check_whole("a read-only disk", trial.publish(journal), (3, expected), False)
+        subprocess.run(["mount", "-o", "remount,rw", disk], check=True)
+        trial.check_next("a read-only disk")
+
+
 def try_addresses(trial):
     """Few addresses: it is published, or memory is refused and nothing changes."""
     trial.begin()
@@ -190,6 +223,11 @@ def try_all(options, source):
         try_files(trial, folder)
         try_lengths(trial)
         try_full_disk(options.program, disk, source)
+        try_read_only_disk(options.program, disk, source)
+        if os.geteuid() or shutil.which("setpriv"):
+            try_rights(trial, folder, WITHOUT if os.geteuid() == 0 else ())
+        else:
+            print("not tried: rights, which root has everywhere")
         large = Trial(options.program, folder, (400, 30), source)
         is_refused = try_addresses(large)
         whole, fronts = try_kills(large, options)

@@ -7,6 +7,8 @@ use Rattle.osn_folder.specs.Folder.{CannotKeep, Changes, HasNoFile, IsFileOf, Is
 use Rattle.osn_folder.specs.Folder.{Known, Leaves, Opens, Stays, path_if}
 use Rattle.osn_folder.specs.declared.fault.KeepFault.{KeepFault}
 use Rattle.osn_folder.specs.declared.fault.KeepFault.TheVariants as faults
+use Rattle.osn_folder.specs.declared.fault.OpenFailed.{OpenFailed}
+use Rattle.osn_folder.specs.declared.fault.OpenFailed.TheVariants as opens
 use Rattle.osn_lines.specs.Streams.{Output}
 use Rattle.osn_report.specs.declared.status.Status.{Status}
 use Rattle.osn_lines.specs.Escaped.{escaped}
@@ -35,24 +37,26 @@ LooksBeside path before after =
     × (between : Option Known) × Changes (Opens (path ∷ [])) before between
     × Changes (Opens (path_if (folder_of path))) between after
 
--- why a file that no other run has is not kept
-abbrev pub FindsCause : List ℕ → Option Known → Option Known → KeepCause → Type 0
-FindsCause path before after causes.Held = ⊥
-FindsCause path before after causes.NoFile = Changes (FindsStream path) before after
-FindsCause path before after causes.Denied =
+-- why a file that no other run has is not kept, which could not be opened to be written to for a
+-- cause that the system said
+abbrev pub FindsCause : List ℕ → OpenFailed → Option Known → Option Known → KeepCause → Type 0
+FindsCause path said before after causes.Held = ⊥
+FindsCause path said before after causes.NoFile = Changes (FindsStream path) before after
+FindsCause path said before after causes.Denied =
     Changes (Opens (path ∷ [])) before after × HasNoFile before path
-FindsCause path before after causes.NotRead =
+FindsCause path said before after causes.NotRead =
     Changes (Opens (path ∷ [])) before after × HasNoFile before path
-FindsCause path before after causes.NotWritten =
-    Changes (Opens (path ∷ [])) before after
+FindsCause path said before after (causes.NotWritten why) =
+    (why ≡ said) × Changes (Opens (path ∷ [])) before after
     × (file : Option (List ℕ)) × IsFileOf before path file
-FindsCause path before after causes.NoFolder = LooksBeside path before after
-FindsCause path before after causes.NotMade = LooksBeside path before after
+FindsCause path said before after causes.NoFolder = LooksBeside path before after
+FindsCause path said before after (causes.NotMade why) =
+    (why ≡ said) × LooksBeside path before after
 
 -- the cause after a fault: that another run has the file, or what was found
 abbrev pub IsCauseOf : List ℕ → Option Known → Option Known → KeepFault → KeepCause → Type 0
 IsCauseOf path before after faults.Held cause = (cause ≡ causes.Held) × (after ≡ before)
-IsCauseOf path before after (faults.NotOpened found) cause = FindsCause path before after cause
+IsCauseOf path before after (faults.NotOpened said) cause = FindsCause path said before after cause
 
 -- ---- before a publish
 
@@ -84,16 +88,27 @@ FindsHindrance path true before after (Some cause) = CannotKeepBy path before af
 
 -- ---- what is printed
 
+-- on a file that can be read, and can't be opened to be written to
+abbrev pub write_words : OpenFailed → List ℕ
+write_words opens.PermissionDenied = codes "permission denied: publish writes to it"
+write_words cause =
+    codes "it can't be opened for writing and locked, as on a read-only disk or without memory"
+
+-- on a file that is not there, and can't be made
+abbrev pub make_words : OpenFailed → List ℕ
+make_words opens.PermissionDenied = codes "permission denied: publish creates it in its folder"
+make_words opens.NotFound = codes "no such file: it may be a link that leads nowhere"
+make_words cause =
+    codes "it can't be created and locked, as on a read-only disk or without memory"
+
 abbrev pub cause_words : KeepCause → List ℕ
 cause_words causes.Held = codes "another run of the program keeps that journal"
 cause_words causes.NoFile = codes "it is a folder or a pipe, not a file"
 cause_words causes.Denied = codes "permission denied"
 cause_words causes.NotRead = codes "read fault"
-cause_words causes.NotWritten =
-    codes "permission denied, or its disk is read-only: publish writes to it"
+cause_words (causes.NotWritten why) = write_words why
 cause_words causes.NoFolder = codes "there is no such folder"
-cause_words causes.NotMade =
-    codes "permission denied, or the disk is read-only: publish creates it in its folder"
+cause_words (causes.NotMade why) = make_words why
 
 unfoldable pub no_folder_line : List ℕ → List ℕ → List ℕ
 no_folder_line path folder = codes "oldstyle: "

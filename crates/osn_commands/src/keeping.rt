@@ -21,12 +21,12 @@ pub(crate) enum KeepCause {
     Denied,
     /// It can't be opened or read, by any other cause.
     NotRead,
-    /// It can be read, and not be written.
-    NotWritten,
+    /// It can be read, and not be opened to be written to, for this cause.
+    NotWritten(OpenFailed),
     /// It is not there, and neither is its folder.
     NoFolder,
-    /// It is not there, and can't be made.
-    NotMade,
+    /// It is not there, and can't be made, for this cause.
+    NotMade(OpenFailed),
 }
 
 /// Returns a folder that has a name: the folder of a bare name has none.
@@ -63,21 +63,21 @@ fn lacks_folder<D: Folder>(folder: &mut D, path: &str) -> bool
     }
 }
 
-/// Returns why a file that no other run has is not kept.
-fn cause_at<D: Folder>(folder: &mut D, path: &str) -> KeepCause
-    ensures { spec.FindsCause path.now (D.known folder.old) (D.known folder.new) result }
+/// Returns why a file that no other run has is not kept. The system said why when it was opened.
+fn cause_at<D: Folder>(folder: &mut D, path: &str, said: OpenFailed) -> KeepCause
+    ensures { spec.FindsCause path.now said (D.known folder.old) (D.known folder.new) result }
 {
     if folder.is_stream(path) {
         return KeepCause::NoFile;
     }
     match folder.open(path) {
-        Ok(_) => KeepCause::NotWritten,
+        Ok(_) => KeepCause::NotWritten(said),
         Err(OpenFailed::PermissionDenied) => KeepCause::Denied,
         Err(OpenFailed::NotFound) => {
             if lacks_folder(folder, path) {
                 KeepCause::NoFolder
             } else {
-                KeepCause::NotMade
+                KeepCause::NotMade(said)
             }
         }
         Err(_) => KeepCause::NotRead,
@@ -90,7 +90,7 @@ pub(crate) fn cause_of<D: Folder>(folder: &mut D, path: &str, fault: KeepFault) 
 {
     match fault {
         KeepFault::Held => KeepCause::Held,
-        KeepFault::NotOpened(_) => cause_at(folder, path),
+        KeepFault::NotOpened(said) => cause_at(folder, path, said),
     }
 }
 
@@ -118,6 +118,27 @@ fn hindrance<D: Folder>(folder: &mut D, path: &str, is_there: bool) -> Option<Ke
     }
 }
 
+/// Returns the words on why a file that can be read was not opened to be written to.
+fn write_words(cause: OpenFailed) -> &'static str
+    ensures { result.now ≡ spec.write_words cause }
+{
+    match cause {
+        OpenFailed::PermissionDenied => "permission denied: publish writes to it",
+        _ => "it can't be opened for writing and locked, as on a read-only disk or without memory",
+    }
+}
+
+/// Returns the words on why a file was not made in its folder.
+fn make_words(cause: OpenFailed) -> &'static str
+    ensures { result.now ≡ spec.make_words cause }
+{
+    match cause {
+        OpenFailed::PermissionDenied => "permission denied: publish creates it in its folder",
+        OpenFailed::NotFound => "no such file: it may be a link that leads nowhere",
+        _ => "it can't be created and locked, as on a read-only disk or without memory",
+    }
+}
+
 /// Returns the words on why a file whose folder is there is not kept.
 fn cause_words(cause: KeepCause) -> &'static str
     ensures { result.now ≡ spec.cause_words cause }
@@ -127,13 +148,9 @@ fn cause_words(cause: KeepCause) -> &'static str
         KeepCause::NoFile => "it is a folder or a pipe, not a file",
         KeepCause::Denied => "permission denied",
         KeepCause::NotRead => "read fault",
-        KeepCause::NotWritten => {
-            "permission denied, or its disk is read-only: publish writes to it"
-        }
+        KeepCause::NotWritten(why) => write_words(why),
         KeepCause::NoFolder => "there is no such folder",
-        KeepCause::NotMade => {
-            "permission denied, or the disk is read-only: publish creates it in its folder"
-        }
+        KeepCause::NotMade(why) => make_words(why),
     }
 }
 

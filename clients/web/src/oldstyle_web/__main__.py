@@ -149,7 +149,7 @@ def log_requests() -> None:
     access.propagate = False
     logging.getLogger("waitress.queue").setLevel(logging.ERROR)
     # Waitress names the path of a request whose client has gone: one that can't be read has none.
-    HTTPRequestParser.path = ""
+    setattr(HTTPRequestParser, "path", "")  # not in its stubs
 
 
 def stop(*_: object) -> NoReturn:
