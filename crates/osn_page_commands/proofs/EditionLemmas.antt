@@ -19,5 +19,5 @@ module _ (number : Option ℕ) (s : ObjectState) (Does : EditionModel → Type 0
   pub on_no_edition : (fault : EditionFault) → IsEditionFault number s fault → o.new ≡ o.old
       → ReportsEditionFault fault e status → OnEdition number s Does o e status
   on_no_edition (TooLate late newest) is same message =
-      inr (rw (is.1.1, is.0, ← is.1.0) (same, message))
+      inr (rw (is.2, is.0, ← is.1) (same, message))
   on_no_edition NoMemory is same message = inl (is, same, message)
