@@ -4,9 +4,9 @@
 # made for it; the name of its file is printed last.
 set -eu
 examples=$(dirname "$0")
-kept=$(mktemp -d)
-"$examples/../oldstyle" serve --journal "$examples/samples.journal" --save "$kept/lands.journal" \
+folder=$(mktemp -d)
+"$examples/../oldstyle" serve --journal "$examples/samples.journal" --save "$folder/lands.journal" \
     < "$examples/added.jsonl"
 echo '{"op":"read","reader":1,"code":"VE","year":1501,"month":12,"day":25}' |
-    "$examples/../oldstyle" serve --journal "$kept/lands.journal"
-echo "$kept/lands.journal"
+    "$examples/../oldstyle" serve --journal "$folder/lands.journal"
+echo "$folder/lands.journal"

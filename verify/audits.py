@@ -87,11 +87,11 @@ def long_audit(oldstyle, journal, transcript, line):
         for _ in range((128 << 20) // len(text) + 1):
             file.write(text)
     command = [oldstyle, "audit", journal, transcript]
-    done, shown = run_at_terminal(command)
+    done, screen = run_at_terminal(command)
     unseen = subprocess.run(command, capture_output=True, check=True)
     check("a terminal is sent other output", done.stdout == unseen.stdout)
     check("the audit does not agree", done.stdout.endswith(AGREE))
-    return shown.decode().splitlines(), unseen.stderr.decode().splitlines()
+    return screen.decode().splitlines(), unseen.stderr.decode().splitlines()
 
 
 def try_transcript(oldstyle, chance, journal, transcript, lines):

@@ -122,9 +122,9 @@ def left(program, folder, step):
         words = words[:-2]
     match words:
         case [b"oldstyle" | b"./oldstyle" as name, *rest, b"2>", b"/dev/tty"]:
-            done, shown = run_at_terminal([name, *rest], executable=program, input=stdin,
+            done, screen = run_at_terminal([name, *rest], executable=program, input=stdin,
                                           timeout=60, **ways)
-            return done.stdout, shown, done.returncode
+            return done.stdout, screen, done.returncode
         case [b"oldstyle" | b"./oldstyle" as name, *rest]:
             done = subprocess.run([name, *rest], executable=program, input=stdin, timeout=60,
                                   capture_output=True, check=False, **ways)

@@ -188,7 +188,7 @@ def raise_limit(*_):
     raise Limit
 
 
-def asked(register, is_one_by_one):
+def readings_of(register, is_one_by_one):
     """A thousand questions, one by one or as rows."""
     if is_one_by_one:
         return ((number, register.read("GB", text_of(number))) for number in range(1000))
@@ -209,7 +209,7 @@ def cut(program, seconds, pause, is_one_by_one):
         while time.monotonic() < until:
             try:
                 signal.setitimer(signal.ITIMER_REAL, pause * (1 + cuts % 7))
-                for number, reading in asked(register, is_one_by_one):
+                for number, reading in readings_of(register, is_one_by_one):
                     right += is_own(reading, number)
                     wrong += not is_own(reading, number)
                 signal.setitimer(signal.ITIMER_REAL, 0)

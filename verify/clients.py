@@ -68,8 +68,8 @@ PLAIN = ("approximate", "kind", "named_calendar", "named_weekday", "not_counted_
 
 
 def request(row):
-    asked = {"op": "written", "reader": 1, "code": row[0], "date": row[1]}
-    return compact({**asked, "weekday": row[2]} if row[2] else asked)
+    query = {"op": "written", "reader": 1, "code": row[0], "date": row[1]}
+    return compact({**query, "weekday": row[2]} if row[2] else query)
 
 
 def reply_of(reading):

@@ -42,27 +42,27 @@ def editions(chance):
 
 def queries(chance):
     """Some 80 queries, of territories that come early, late and never."""
-    asked = [{"op": "lands"}]
+    choices = [{"op": "lands"}]
     for place in range(LANDS + 1):
         code = f"L{place:02}"
-        asked += [{"op": "periods", "code": code},
+        choices += [{"op": "periods", "code": code},
                   {"op": "easter", "code": code, "year": 1700 + place},
                   {"op": "read", "code": code, "year": 1534, "month": 3, "day": 1 + place},
                   {"op": "read", "code": code, "year": 1533, "month": 3, "day": 15 + place},
                   {"op": "read", "code": code, "year": 1534, "month": 4, "day": 1 + place},
                   {"op": "day", "code": code, "day": 560_000 + chance.randrange(EDITIONS)}]
-    return asked
+    return choices
 
 
-def replies_of_service(oldstyle, batches, asked):
+def replies_of_service(oldstyle, batches, choices):
     """What the service replies to reader 1 for each query at each edition."""
-    lines, ask = [], [compact({**query, "reader": 1}) for query in asked]
+    lines, ask = [], [compact({**query, "reader": 1}) for query in choices]
     for batch in [[], *batches]:
         publish = [compact({"op": "publish"})] if batch else []
         lines += [compact(edit) for edit in batch] + publish + ask
     replies = [json.loads(line) for line in run(oldstyle, ["serve"], lines).stdout.splitlines()]
     replies = [reply for reply in replies if "reader" in reply]
-    pairs = zip(replies, asked * (len(batches) + 1))
+    pairs = zip(replies, choices * (len(batches) + 1))
     return {(reply["edition"], compact(query)): reply for reply, query in pairs}
 
 
@@ -91,15 +91,15 @@ def main():
     line.add_seed()
     options = line.read()
     oldstyle, chance, met = options.program, random.Random(options.seed), set()
-    batches, asked = editions(chance), queries(chance)
-    replies = replies_of_service(oldstyle, batches, asked)
+    batches, choices = editions(chance), queries(chance)
+    replies = replies_of_service(oldstyle, batches, choices)
     script = [compact({"journal": 4})]
     for batch in batches:
         script += [compact(edit) for edit in batch] + [compact({"op": "publish"})]
     with tempfile.TemporaryDirectory() as room:
         paths = [os.path.join(room, name) for name in ("script", "questions")]
         for _ in range(options.count):
-            questions = [(1 + place % READERS, chance.choice(asked))
+            questions = [(1 + place % READERS, chance.choice(choices))
                          for place in range(options.questions)]
             lines = [compact({**query, "reader": reader}) for reader, query in questions]
             for path, text in zip(paths, (script, lines)):

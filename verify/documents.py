@@ -31,18 +31,18 @@ def runs(lines, mark=RUN):
     """The words after each mark, and the lines that follow."""
     for place, line in enumerate(lines):
         if line.startswith(mark):
-            ends = lambda shown: not shown.startswith((RUN, FILE, "```"))
-            shown = itertools.takewhile(ends, lines[place + 1 :])
-            yield shlex.split(line[len(mark) :]), list(shown)
+            ends = lambda one: not one.startswith((RUN, FILE, "```"))
+            following = itertools.takewhile(ends, lines[place + 1 :])
+            yield shlex.split(line[len(mark) :]), list(following)
 
 
 def folder_of(lines, folder):
     """Makes a folder that has what is at the top, and the files that a document shows."""
     for name in os.listdir(TOP):
         os.symlink(os.path.join(TOP, name), os.path.join(folder, name))
-    for (path, _, closing), shown in runs(lines, FILE):
+    for (path, _, closing), text in runs(lines, FILE):
         with open(os.path.join(folder, path), "w", encoding="utf-8") as file:
-            for line in itertools.takewhile(closing.__ne__, shown):
+            for line in itertools.takewhile(closing.__ne__, text):
                 file.write(line + "\n")
 
 
@@ -59,9 +59,9 @@ def printed_by(program, words, folder):
 
 def differences(program, lines):
     """Each request and run of a document that has another answer than it shows."""
-    requests, shown = marked(lines, "> "), marked(lines, "< ")
+    requests, expected_replies = marked(lines, "> "), marked(lines, "< ")
     replies = run(program, lines=requests).stdout.split("\n")[:-1]
-    for request, expected, reply in itertools.zip_longest(requests, shown, replies):
+    for request, expected, reply in itertools.zip_longest(requests, expected_replies, replies):
         if expected != reply:
             yield f"{request}\n  shown {expected}\n  given  {reply}"
     with tempfile.TemporaryDirectory() as folder:

@@ -73,14 +73,14 @@ def row_differs(row, day, text, weekday):
     return "" if row["remark"] == expected else f"the remark is not {expected!r}"
 
 
-def letters_differ(program, journal, asked):
+def letters_differ(program, journal, texts):
     """Each text whose row in a table of letters hasn't the day."""
-    lines = ["place,date", *(f"XX,{text}" for _, text, _ in asked)]
+    lines = ["place,date", *(f"XX,{text}" for _, text, _ in texts)]
     done = run(program, ["letters", journal], lines)
     rows = list(csv.DictReader(done.stdout.splitlines()))
-    if done.returncode or len(rows) != len(asked) or list(rows[0])[2:] != COLUMNS:
-        yield f"status {done.returncode}, {len(rows)} of {len(asked)} rows: {done.stderr}"
-    for row, (day, text, weekday) in zip(rows, asked):
+    if done.returncode or len(rows) != len(texts) or list(rows[0])[2:] != COLUMNS:
+        yield f"status {done.returncode}, {len(rows)} of {len(texts)} rows: {done.stderr}"
+    for row, (day, text, weekday) in zip(rows, texts):
         why = row_differs(row, day, text, weekday)
         if why:
             yield f"day {day}, {text}: {why}: {row}"
@@ -99,8 +99,8 @@ def differences(program, chance, journal, count, read):
     service = write_journal(journal, journal_lines(chance, middle))
     territory = Territory(service.published["XX"])
     days = [random_day(chance, territory, middle) for _ in range(count)]
-    asked = [(day, *text) for day in days for text in all_texts(territory, day)]
-    yield from letters_differ(program, journal, asked)
+    texts = [(day, *text) for day in days for text in all_texts(territory, day)]
+    yield from letters_differ(program, journal, texts)
     for day in days[:read]:
         for text in all_texts(territory, day):
             yield from page_differs(program, journal, day, *text)

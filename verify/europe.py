@@ -55,10 +55,10 @@ def check_program(program, lands):
         done = run(program, ["publish", journal, EUROPE])
         check(f"publish: {done.returncode} {done.stderr!r}", done.returncode == 0)
         check(f"{JOURNAL} is not what publish makes", filecmp.cmp(journal, JOURNAL, shallow=False))
-        asked = [{"op": "periods", "reader": 1, "code": code} for code in lands]
-        asked += [{"op": "easter", "reader": 1, "code": code, "year": year}
+        requests = [{"op": "periods", "reader": 1, "code": code} for code in lands]
+        requests += [{"op": "easter", "reader": 1, "code": code, "year": year}
                   for code, land in lands.items() for year in land.exceptions]
-        done = run(program, ["serve", "--journal", journal], map(compact, asked))
+        done = run(program, ["serve", "--journal", journal], map(compact, requests))
     answers = [json.loads(line).get("answer") for line in done.stdout.splitlines()]
     expected = [{"periods": [
         {**dict(zip(WORDS, regime)), "first": first, "last": last, **cited(land.sources, first)}

@@ -141,11 +141,11 @@ def lines():
     return broken(one).replace(b"\n", b" "), None
 
 
-def replies(program, asked):
+def replies(program, requests):
     """The replies to lines, one after the other; None for each that has none."""
-    text = b"\n".join(asked) + b"\n"
+    text = b"\n".join(requests) + b"\n"
     stdout = subprocess.run([program], input=text, capture_output=True, check=True).stdout
-    return [*stdout.splitlines(), *[None] * len(asked)][:len(asked)]
+    return [*stdout.splitlines(), *[None] * len(requests)][:len(requests)]
 
 
 def differs_in_journal(number, *lines):

@@ -112,8 +112,8 @@ def is_loaded(program, path, lines):
     copy = path + ".copy"
     with open(copy, "w", encoding="utf-8") as file:
         file.write("".join(line + "\n" for line in lines))
-    asked = ['{"op":"lands","reader":1}', compact(land(999_999))]
-    done = run(program, ["serve", "--journal", copy], asked)
+    requests = ['{"op":"lands","reader":1}', compact(land(999_999))]
+    done = run(program, ["serve", "--journal", copy], requests)
     answer, staged = lines_of(done.stdout)
     towns = [json.loads(line) for line in published(lines)]
     expected = [{"code": town["code"], "name": town["name"]} for town in towns

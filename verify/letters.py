@@ -210,13 +210,13 @@ def differs(program, journal, form, table):
 def long_table(program, journal, *words):
     """What a table of over 128 MiB shows on a terminal, if that or its output is something else."""
     table = b"place,date\n" + b"\n" * (128 << 20)
-    done, shown = run_at_terminal([program, "letters", journal, *words], input=table)
+    done, screen = run_at_terminal([program, "letters", journal, *words], input=table)
     header = ",".join(["place", "date", *COLUMNS]) + "\n"
     lines = [f"oldstyle: {read} MiB of the letters read" for read in (64, 128)]
-    if (done.returncode, done.stdout.decode(), shown.decode().splitlines()) == (0, header, lines):
+    if (done.returncode, done.stdout.decode(), screen.decode().splitlines()) == (0, header, lines):
         return []
     return [f"{words}: a table of 128 MiB: status {done.returncode}, {done.stdout[:200]!r} and "
-            f"{shown!r}"]
+            f"{screen!r}"]
 
 
 def main():

@@ -232,13 +232,13 @@ def on_shorter_line(request, reply):
     value = json.loads(reply)
     if "answer" not in value or compact(value) != reply:
         return reply
-    asked, answer = json.loads(request), value["answer"]
+    query, answer = json.loads(request), value["answer"]
     for period in [answer, *answer.get("periods", [])]:
         if period.get("last") == NEW_HIGH:
             period["last"] = HIGH
-    if asked["op"] == "read":
+    if query["op"] == "read":
         answer["days"] = [found for found in answer["days"] if found["day"] <= HIGH]
-        if asked["year"] > LAST_FULL_YEAR:
+        if query["year"] > LAST_FULL_YEAR:
             del answer["skipped"]
     return compact(value)
 

@@ -190,12 +190,12 @@ class Asked:
     def query(self, text, span, weekday):
         """What the service answers to such a date."""
         ask = {"op": "written", "reader": 1, "code": "XX", "date": text}
-        asked = compact({**ask, "weekday": weekday} if weekday else ask)
+        query = compact({**ask, "weekday": weekday} if weekday else ask)
         answer = span_answer(self.territory.land, span, weekday)
         expected = compact({"answer": answer, "edition": self.service.edition, "reader": 1})
-        found = run(self.program, ["serve", "--journal", self.journal], [asked]).stdout
+        found = run(self.program, ["serve", "--journal", self.journal], [query]).stdout
         if found != expected + "\n":
-            yield f"{asked}:\n  wanted {expected}\n  found  {found}"
+            yield f"{query}:\n  wanted {expected}\n  found  {found}"
 
     def day(self):
         day = day_near(self.chance, self.territory, self.middle)
@@ -252,19 +252,19 @@ def main():
     line.add_count(2_000, "dates")
     line.add_seed()
     options = line.read()
-    program, chance, asked, differ = options.program, random.Random(options.seed), 0, 0
+    program, chance, count, differ = options.program, random.Random(options.seed), 0, 0
     with tempfile.TemporaryDirectory() as folder:
-        while asked < options.count:
+        while count < options.count:
             about = Asked(program, chance, os.path.join(folder, "some.journal"))
-            found = [] if asked else list(mistakes(program, about.journal))
+            found = [] if count else list(mistakes(program, about.journal))
             found += about.territories()
-            for _ in range(min(EACH, options.count - asked)):
-                asked += 1
+            for _ in range(min(EACH, options.count - count)):
+                count += 1
                 found += about.pages()
             differ += len(found)
             for difference in found:
                 print(difference, flush=True)
-    print(f"{asked} dates, {differ} pages differ")
+    print(f"{count} dates, {differ} pages differ")
     return 1 if differ else 0
 
 

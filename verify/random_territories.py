@@ -186,8 +186,8 @@ def compared(cases, answers):
 def run(program, numbers, count, labels, easters, beginnings):
     """One run of `count` territories, and what came of it."""
     territories = random_territories(numbers, count, labels, beginnings)
-    asked = set().union(*(chosen for _, _, chosen in territories.values()))
-    under = {names: days_by_label(line, asked) for names, line in labels.items()}
+    chosen_labels = set().union(*(chosen for _, _, chosen in territories.values()))
+    under = {names: days_by_label(line, chosen_labels) for names, line in labels.items()}
 
     staged, cases = [], []
     for code, (starts, exceptions, chosen) in territories.items():

@@ -23,7 +23,7 @@ from lib.checks import check, verdict
 from lib.common import CommandLine, compact, end
 from lib.keeper import HEAD_4, PUBLISH
 from reference import NEWEST, cited
-from lib.territory_texts import WORDS, TextFault, after, differences, lands_of, shown
+from lib.territory_texts import WORDS, TextFault, after, differences, lands_of, comparable
 from lib.text_draws import Draws, beginnings, journal_lines, version_for
 from lib.text_faults import spoiled_text
 from lib.text_files import LAND, Files, bytes_of, lines_of, published, refused
@@ -51,12 +51,12 @@ def check_text(what, text, lands):
 
 def answers_of(files, path, lands):
     """What `serve` returns for the territories of a journal, in the order of their codes."""
-    asked = []
+    requests = []
     for code, land in sorted(lands.items()):
-        asked.append({"op": "periods", "reader": 1, "code": code})
-        asked += [{"op": "easter", "reader": 1, "code": code, "year": year}
+        requests.append({"op": "periods", "reader": 1, "code": code})
+        requests += [{"op": "easter", "reader": 1, "code": code, "year": year}
                   for year in (*sorted(land.exceptions), 1_582, 1_999)]
-    done = files.run("serve", "--journal", path, lines=map(compact, asked))
+    done = files.run("serve", "--journal", path, lines=map(compact, requests))
     return [json.loads(line)["answer"] for line in done.stdout.split("\n")[:-1]]
 
 
@@ -135,7 +135,8 @@ def change(files, draws, number):
     check(f"{what}: publish prints {printed_lines}",
           printed_lines == publish_begin(len(edits), editions, journal) + lines
           + [publish_end(len(edits), editions)])
-    check(f"{what}: another register", shown(service.published) == shown(after(lands, expected)))
+    check(f"{what}: another register",
+          comparable(service.published) == comparable(after(lands, expected)))
     again = files.printed(what, "publish", journal, text).split("\n")[:-1]
     check(f"{what}: again {again}", again == absent + [publish_end(0, service.edition)])
     check(f"{what}: publishing again changes the journal", bytes_of(journal) == grown)

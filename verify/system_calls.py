@@ -77,8 +77,8 @@ def ways(chance):
     cut = old + PUBLISH[:chance.randint(1, len(PUBLISH) - 1)].encode()
     yield Way("keep, cut off", f"serve --keep {place}", place, cut, more, begun)
     yield Way("keep, with no head", f"serve --keep {place}", place, HEAD[:5].encode(), anew, [])
-    asked = [LANDS] * 3_000
-    yield Way("follow", f"serve --follow {place}", place, old, Session(asked, []), begun)
+    requests = [LANDS] * 3_000
+    yield Way("follow", f"serve --follow {place}", place, old, Session(requests, []), begun)
     yield Way("read", f"serve --journal {place}", place, old, more, begun)
     yield Way("read", f"territory {place}", place, old, Session([], []), begun)
 
@@ -253,8 +253,8 @@ def reported_after(steps):
 def is_look_at_change(steps):
     """Returns whether the refused call is a look at a file after a change of it was asked for."""
     place = refused_at(steps)
-    asked = any((step.kind, step.name) == ("read", "in") for step in steps[:place])
-    return asked and steps[place].kind == "look"
+    has_read = any((step.kind, step.name) == ("read", "in") for step in steps[:place])
+    return has_read and steps[place].kind == "look"
 
 
 def check_look(what, _, found, __):

@@ -232,8 +232,8 @@ def check_letters(browser, page, program):
     browser.driver.get(page.address + "/letters")
     browser.run(DROP, table, "letters.csv")
     browser.wait("the rows", lambda: "18 rows" in browser.one("#status").text)
-    shown = [row.text for row in browser.all("#rows tr[data-row]")]
-    check("each row is shown", len(shown) == 18, len(shown))
+    texts = [row.text for row in browser.all("#rows tr[data-row]")]
+    check("each row is shown", len(texts) == 18, len(texts))
     browser.one("#save").click()
     name, content = browser.saved()
     check("the saved table", (name, content) == ("letters-found.csv",

@@ -280,10 +280,10 @@ def check_typed(browser, page):
     browser.run(PAUSE)
     browser.run(RELEASE)
     browser.run(PAUSE)
-    shown = browser.driver.title, browser.one("#citation").text, browser.driver.current_url
+    page = browser.driver.title, browser.one("#citation").text, browser.driver.current_url
     check("the answer is that of the fields", field.get_attribute("value") == first
-          and not any(second[-4:] in text for text in (shown[0], shown[2]))
-          and f"“{first}”" in shown[1], shown)
+          and not any(second[-4:] in text for text in (page[0], page[2]))
+          and f"“{first}”" in page[1], page)
     field.send_keys("\u202e")
     browser.wait("a refusal", lambda: "is not printed" in browser.one("#answer").text)
     check("a refusal has no earlier title", first not in browser.driver.title, browser.driver.title)

@@ -96,16 +96,16 @@ def page_grids(html):
 
 def check_months(page, program, journal):
     """Compares months of the samples with `month`. Returns how many."""
-    asked = [("GB", year, month) for year in (1731, 1751, 1752) for month in range(1, 13)]
-    asked += [("SE", 1712, 2), ("SE", 1700, 2), ("SE", 1753, 2), ("RU", 1918, 2), ("RM", 4, 3),
+    months = [("GB", year, month) for year in (1731, 1751, 1752) for month in range(1, 13)]
+    months += [("SE", 1712, 2), ("SE", 1700, 2), ("SE", 1753, 2), ("RU", 1918, 2), ("RM", 4, 3),
               ("GB", 0, 1), ("GB", 10_000, 1), ("GB", 9_999, 12), ("RM", 1, 1)]
-    for code, year, month in asked:
+    for code, year, month in months:
         status, _, body = page.get(f"/month?code={code}&year={year}&month={month}")
         done = subprocess.run([program, "month", journal, code, str(year), str(month)],
                               capture_output=True, text=True, check=False)
         check(f"the month {code} {year}-{month}", status == 200 and month_grids(done.stdout)
               == page_grids(body.decode()), status, page_grids(body.decode()))
-    return len(asked)
+    return len(months)
 
 
 def check_new_style(page):

@@ -137,20 +137,20 @@ def differing(program, journal, seen):
     """The answers that differ from those of the journal up to their edition."""
     with open(journal, encoding="utf-8") as file:
         lines = file.read().splitlines()[1:]
-    edition, asked, requests = 0, {}, []
+    edition, by_edition, requests = 0, {}, []
     for key in seen:
-        asked.setdefault(key[0], []).append(key)
+        by_edition.setdefault(key[0], []).append(key)
     for line in lines:
         requests.append(line)
         if json.loads(line)["op"] == "publish":
             edition += 1
             requests += [compact({"op": "written", "reader": 1, "code": code, "date": date})
-                         for _, code, date in asked.get(edition, [])]
+                         for _, code, date in by_edition.get(edition, [])]
     done = subprocess.run([program, "serve"], input="\n".join(requests) + "\n", check=True,
                           capture_output=True, text=True)
     answers = iter([reply["answer"] for reply in map(json.loads, done.stdout.splitlines())
                     if "answer" in reply])
-    keys = [key for number in sorted(asked) if number <= edition for key in asked[number]]
+    keys = [key for number in sorted(by_edition) if number <= edition for key in by_edition[number]]
     return [key for key, answer in zip(keys, answers, strict=True) if seen[key] != answer]
 
 
@@ -197,8 +197,8 @@ def with_readers(options, journal):
               for key in differing(options.program, journal, seen)]
     for one in [*wrong[:10], *(errors.splitlines()[:10] if wrong else [])]:
         print(one)
-    asked, slowest = sum(reader.count for reader in readers), max(one.slowest for one in readers)
-    print(f"{options.readers} readers asked {asked} times in {options.seconds} s while editions "
+    count, slowest = sum(reader.count for reader in readers), max(one.slowest for one in readers)
+    print(f"{options.readers} readers asked {count} times in {options.seconds} s while editions "
           f"{FIRST} to {keeper.edition} came: {len(wrong)} refused or wrong, {len(seen)} answers "
           f"held, the slowest {slowest:.2f} s, {len(left)} processes left")
     return 1 if wrong or left or not seen else 0

@@ -1,6 +1,6 @@
 # shellcheck shell=bash  # part of `oldstyle`
 # Writes one line on a terminal over and over.
-shown=""
+has_text=""
 
 # Returns whether standard error is a terminal on which a line can be written over. No other control
 # character than a carriage return is written, and none if colours are not wanted.
@@ -13,14 +13,14 @@ write_line() {
     size=${size##* }
     size=$((${size:-0} > 1 ? size - 1 : 79))
     printf '\r%-*.*s' "$size" "$size" "$*" >&2
-    shown=yes
+    has_text=yes
 }
 
 clear_line() {
-    [ -n "$shown" ] || return 0
+    [ -n "$has_text" ] || return 0
     write_line ""
     printf '\r' >&2
-    shown=""
+    has_text=""
 }
 
 clock() { printf '%d:%02d' $(((SECONDS - $1) / 60)) $(((SECONDS - $1) % 60)); }

@@ -157,8 +157,8 @@ def keep_rules(trace, way):
     place, folder = way.place, os.path.dirname(way.place) or "."
     opens = trace.at("open", name=place)
     locks = trace.at("lock", name=place, where=lambda step: "LOCK_EX" in step.flags)
-    read, asked = trace.at("read", name=place), trace.at("read", name="in")
-    synced, ready = trace.at("sync", name=place), between([], trace.at("sync", name=place), asked)
+    read, inputs = trace.at("read", name=place), trace.at("read", name="in")
+    synced, ready = trace.at("sync", name=place), between([], trace.at("sync", name=place), inputs)
     looks = trace.at("look", name=place, where=lambda step: step.file == 0)
     yield "each call of the folder is of a kind that the rules speak of", trace.is_known()
     yield "a file that is kept is opened once, to append alone", len(opens) == 1 and (
@@ -167,16 +167,16 @@ def keep_rules(trace, way):
     yield "it is locked before it is read", precede(locks, read)
     yield "once it is locked, its path is looked at again", bool(between(locks, looks, read))
     yield "it stays locked to the end", not between(
-        [], trace.at("close", "unlock", name=place), asked + trace.replies())
+        [], trace.at("close", "unlock", name=place), inputs + trace.replies())
     yield "what it held and its name are on the disk before it is read", precede(
         locks, trace.at("sync", name=folder)) and precede(trace.at("sync", name=folder), read) and (
         bool(between(locks, synced, read)))
     yield "all that it holds is on the disk before a request is read", bool(ready) and not between(
-        ready[-1:], trace.at("write", "cut", name=place), asked)
+        ready[-1:], trace.at("write", "cut", name=place), inputs)
     yield "it is cut only where its last line was not finished, before any append", len(
         trace.at("cut", name=place)) == (way.old is not None and is_unfinished(way.old)) and (
         not trace.at("cut") or precede(trace.at("cut"), trace.at("write", name=place)))
-    yield from change_rules(trace, way, between(asked[:1], trace.at("write", name=place), [LATE]))
+    yield from change_rules(trace, way, between(inputs[:1], trace.at("write", name=place), [LATE]))
     yield "no other file is changed", {trace.steps[at].name for at in trace.changes()} == {place}
     # (its length, which file is at its path, and which one is open)
     yield "each sync after that is followed by a look at length and path", all(

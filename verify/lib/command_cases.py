@@ -185,13 +185,13 @@ def is_refused(words, status, errors):
 
 def is_transcript(program, output):
     """Returns whether a desk gave each question its reply, at an edition of the script."""
-    asked = sorted(map(json.loads, QUESTIONS), key=lambda ask: ask["reader"])
+    questions = sorted(map(json.loads, QUESTIONS), key=lambda ask: ask["reader"])
     try:
-        if [json.loads(line)["ask"] for line in output.splitlines()] != asked:
+        if [json.loads(line)["ask"] for line in output.splitlines()] != questions:
             return False
     except ValueError:
         return False
     with filled({"a.transcript": output.splitlines()}) as folder:
         command = [program, "audit", "a.script", "a.transcript"]
         audit = subprocess.run(command, cwd=folder, capture_output=True, text=True, timeout=60)
-    return audit.stdout == f"audit: {len(asked)} replies agree\n"
+    return audit.stdout == f"audit: {len(questions)} replies agree\n"

@@ -34,11 +34,11 @@ def run_at_terminal(command, **streams):
     done = subprocess.run(command, stdout=subprocess.PIPE, stderr=errors, check=False, **streams)
     os.close(errors)
     try:
-        shown = os.read(terminal, 4_096)
+        screen = os.read(terminal, 4_096)
     except OSError:  # it was closed, and nothing was written
-        shown = b""
+        screen = b""
     os.close(terminal)
-    return done, shown.replace(b"\r\n", b"\n")
+    return done, screen.replace(b"\r\n", b"\n")
 
 
 def replies(program, lines):

@@ -44,7 +44,7 @@ WORDS = [text for text in SAMPLES if text.isalpha() or text.isdigit()] + [
     b"Friday "]
 
 
-class Asked:
+class Question:
     """A date in a place, with a weekday or without."""
 
     def __init__(self, chance):
@@ -118,19 +118,19 @@ class Dates:
         self.program = program
 
     def round(self, chance):
-        asked = [Asked(chance) for _ in range(AT_ONCE)]
-        stdin = "".join(one.line() + "\n" for one in asked).encode()
+        dates = [Question(chance) for _ in range(AT_ONCE)]
+        stdin = "".join(one.line() + "\n" for one in dates).encode()
         done = Run([self.program, "serve", "--journal", JOURNAL], stdin)
         replies = done.out.splitlines()
-        if done.why_wrong() or done.status or len(replies) != len(asked):
-            return len(asked), [(f"{len(replies)} replies, status {done.status}, {done.stderr!r}",
+        if done.why_wrong() or done.status or len(replies) != len(dates):
+            return len(dates), [(f"{len(replies)} replies, status {done.status}, {done.stderr!r}",
                                  "serve", stdin)]
-        found = [(why, one.code, one.text.encode()) for one, reply in zip(asked, replies)
+        found = [(why, one.code, one.text.encode()) for one, reply in zip(dates, replies)
                  if (why := self.why_wrong(one, reply))]
-        found += self.by_letters(asked, replies)
-        for place in chance.sample(range(len(asked)), READ):
-            found += self.by_read(asked[place], replies[place])
-        return len(asked), found
+        found += self.by_letters(dates, replies)
+        for place in chance.sample(range(len(dates)), READ):
+            found += self.by_read(dates[place], replies[place])
+        return len(dates), found
 
     def why_wrong(self, one, reply):
         """What is wrong with the answer to a date."""
@@ -141,9 +141,9 @@ class Dates:
             return f"{reply!r}, wanted {compact(expected)}"
         return ""
 
-    def by_letters(self, asked, replies):
+    def by_letters(self, dates, replies):
         """Each date of which `letters` says something else."""
-        pairs = [(one, json.loads(reply)["answer"]) for one, reply in zip(asked, replies)
+        pairs = [(one, json.loads(reply)["answer"]) for one, reply in zip(dates, replies)
                  if one.is_plain() and not why_no_answer(reply)]
         table = io.StringIO()
         rows = csv.writer(table, lineterminator="\n")

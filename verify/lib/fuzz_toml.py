@@ -16,7 +16,7 @@ import tomllib
 from lib.common import TOP
 from lib.keeper import HEAD_4
 from lib.mutations import Run, mutated
-from lib.territory_texts import TextFault, lands_of, shown
+from lib.territory_texts import TextFault, lands_of, comparable
 from lib.text_pages import fault_words
 
 NOTHING = b"nothing to change\n"
@@ -222,6 +222,6 @@ class Registers(Program):
         second = self.run("text", "second")
         self.is_right("another text of its own text", second and second.out == first.out)
         if lands is not None:
-            found = shown(lands_of(first.out.decode()))
-            self.is_right(f"read back as {found}, wanted {shown(lands)}",
-                          found == shown(dict(sorted(lands.items()))))
+            found = comparable(lands_of(first.out.decode()))
+            self.is_right(f"read back as {found}, wanted {comparable(lands)}",
+                          found == comparable(dict(sorted(lands.items()))))

@@ -149,13 +149,13 @@ class Web:
 
     def why_other_dates(self, dates):
         """Each date that the page answers otherwise than the query."""
-        asked = [(request, date, json.loads(response[HEAD.match(response).end():]))
+        answered = [(request, date, json.loads(response[HEAD.match(response).end():]))
                  for request, date, response in dates if HEAD.match(response)[1] == b"200"]
-        asked = [one for one in asked if "written" in one[2]]
+        answered = [one for one in answered if "written" in one[2]]
         lines = [compact({"op": "written", "reader": 1, "code": date["code"],
                           "date": date["date"].strip(),
                           **({"weekday": date["weekday"]} if date.get("weekday") else {})})
-                 for _, date, _ in asked]
+                 for _, date, _ in answered]
         done = Run([self.program, "serve", "--journal", JOURNAL],
                    "".join(line + "\n" for line in lines).encode())
         replies = done.out.splitlines()
@@ -163,7 +163,7 @@ class Web:
             return [(f"{len(replies)} replies: {done.stderr!r}", "serve",
                      "\n".join(lines).encode())]
         return [(f"{answer['written']}, but the query {reply!r}", "a date", request)
-                for (request, _, answer), reply in zip(asked, replies)
+                for (request, _, answer), reply in zip(answered, replies)
                 if answer["written"] != json.loads(reply).get("answer")]
 
     def why_broken(self):

@@ -221,7 +221,7 @@ def after(lands, expected):
     return {**lands, **expected}
 
 
-def shown(lands):
+def comparable(lands):
     """A register as a value that can be compared, with its order."""
     return [(code, land.name, sorted(land.starts.items()), sorted(land.exceptions.items()),
              sorted(land.sources.items()), sorted(land.easter_sources.items()))

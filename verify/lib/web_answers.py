@@ -129,9 +129,9 @@ def as_shown(line):
 
 def days_shown(fragment):
     """The days that a fragment shows, or its runs, in the form of what is reported."""
-    shown = [dict(facts) for facts in fragment.facts]
-    if any("As dated there" in facts for facts in shown):
-        return [{name: facts[name] for name in DAY_FACTS} for facts in shown]
+    tables = [dict(facts) for facts in fragment.facts]
+    if any("As dated there" in facts for facts in tables):
+        return [{name: facts[name] for name in DAY_FACTS} for facts in tables]
     return [pair for facts in fragment.facts for pair in facts]
 
 

@@ -38,15 +38,15 @@ def service() -> Iterator[Callable[..., Service]]:
 @pytest.mark.parametrize("ahead", [1, 2, 3, 7, 1000])
 def test_replies_are_in_order_and_few_rows_are_taken(service: Callable[..., Service],
                                                      ahead: int) -> None:
-    taken: List[int] = []
+    numbers: List[int] = []
     found: List[int] = []
 
     def rows() -> Iterator[int]:
         for number in range(3000):
-            taken.append(number)
+            numbers.append(number)
             yield number
     for row, reply in service("cat").ask_many(rows(), line_of, ahead):
-        assert reply == b"%d" % row and len(taken) <= len(found) + ahead
+        assert reply == b"%d" % row and len(numbers) <= len(found) + ahead
         found.append(row)
     assert found == list(range(3000))
 

@@ -8,16 +8,16 @@ oldstyle_read <- function(journal, code, date, weekday = NA, program = NULL) {
     stop("code and weekday are as long as date, or one for all", call. = FALSE)
   }
   text <- function(given) enc2utf8(as.character(rep_len(given, count)))
-  asked <- data.frame(code = text(code), date = text(date), weekday = text(weekday),
+  questions <- data.frame(code = text(code), date = text(date), weekday = text(weekday),
                       stringsAsFactors = FALSE)
-  asked$code[is.na(asked$code)] <- ""
-  asked$date[is.na(asked$date)] <- ""
-  asked$weekday[!nzchar(asked$weekday)] <- NA
+  questions$code[is.na(questions$code)] <- ""
+  questions$date[is.na(questions$date)] <- ""
+  questions$weekday[!nzchar(questions$weekday)] <- NA
   if (count == 0) {
-    return(cbind(asked, .oldstyle_columns(list())))
+    return(cbind(questions, .oldstyle_columns(list())))
   }
-  requests <- data.frame(op = "written", reader = 1L, asked, stringsAsFactors = FALSE)
-  cbind(asked, .oldstyle_columns(.oldstyle_ask(journal, requests, program)))
+  requests <- data.frame(op = "written", reader = 1L, questions, stringsAsFactors = FALSE)
+  cbind(questions, .oldstyle_columns(.oldstyle_ask(journal, requests, program)))
 }
 
 # The territories of a journal: a data frame of code and name.

@@ -131,8 +131,8 @@ def test_pages_of_other_hosts_may_read_a_public_register(page_of: Callable[..., 
         private = local.get(f"/api/v1/{path}")
         assert "Access-Control-Allow-Origin" not in private.headers
         assert private.headers["Cross-Origin-Resource-Policy"] == "same-origin"
-    asked = public.options("/api/v1/periods", headers={"Origin": "https://example.org"})
-    assert "GET" in asked.headers["Access-Control-Allow-Methods"]
+    reply = public.options("/api/v1/periods", headers={"Origin": "https://example.org"})
+    assert "GET" in reply.headers["Access-Control-Allow-Methods"]
     assert "Access-Control-Allow-Origin" not in public.get("/").headers
 
 

@@ -50,13 +50,13 @@ def test_each_citation_has_the_sources_of_its_page(page_of: Callable[..., Page],
                      "source": "An act"}
     del change["name"]
     client = page_of(program, journal_of(land, change)).test_client()
-    for asked in ("/?code=AA&date=October+1582", "/month?code=AA&year=1582&month=10",
+    for address in ("/?code=AA&date=October+1582", "/month?code=AA&year=1582&month=10",
                   "/year?code=AA&year=1582", "/place?code=AA",
                   "/compare?code=AA&other=AA&date=October+1582"):
-        text = client.get(asked).text
+        text = client.get(address).text
         before, _, cited = text.partition('class="citation"')
         for part in (before, cited.partition("</p>")[0]):
-            assert "The &lt;first&gt; source; An act" in part, asked
+            assert "The &lt;first&gt; source; An act" in part, address
         assert "\x85" not in text and "A&lt;U+0085&gt;B" in text
     html = client.get("/edition?edition=1&code=AA").text
     assert "source: The &lt;first&gt; source" in html and "(source: An act)" in html

@@ -29,15 +29,15 @@ def test_the_tables_are_those_of_the_document() -> None:
 
 
 def test_each_example_is_read_as_its_table_says(program: str) -> None:
-    asked = [(text, table.title) for table in forms_read() for text in examples(table.title)]
+    forms = [(text, table.title) for table in forms_read() for text in examples(table.title)]
     lines = [json.dumps({"op": "written", "reader": 1, "code": "GB", "date": text})
-             for text, _ in asked]
+             for text, _ in forms]
     done = subprocess.run([program, "serve", "--journal", SAMPLES, "--read-only"], text=True,
                           input="\n".join(lines) + "\n", capture_output=True, check=True)
     kinds = [json.loads(line)["answer"]["kind"] for line in done.stdout.splitlines()]
-    wrong = [text for (text, title), kind in zip(asked, kinds)
+    wrong = [text for (text, title), kind in zip(forms, kinds)
              if (kind == "none") != (title == REFUSED)]
-    assert len(asked) > 100 and not wrong
+    assert len(forms) > 100 and not wrong
 
 
 def test_each_example_leads_to_its_answer(client: Any) -> None:

@@ -18,13 +18,13 @@ def text_of(client: Any, path: str) -> str:
     return " ".join(unescape(re.sub(r"<[^>]*>", " ", main)).split())
 
 
-@pytest.mark.parametrize("asked, expected", [
+@pytest.mark.parametrize("query, expected", [
     ("GB&year=1731&month=3", ["month 3 of 1730", "month 4 of 1731", "month 2 of 1731",
                               "month 3 of 1732"]),
     ("GB&year=1731&month=12", ["month 11 of 1731", "month 1 of 1731"]),
     ("GB&year=9999&month=12", ["month 11 of 9999"])])
-def test_the_months_before_and_after(client: Any, asked: str, expected: list[str]) -> None:
-    text = client.get(f"/month?code={asked}").text
+def test_the_months_before_and_after(client: Any, query: str, expected: list[str]) -> None:
+    text = client.get(f"/month?code={query}").text
     parts = re.findall(r'aria-label="The months before and after">(.*?)</nav>', text, re.S)
     links = re.findall(r"year=(\d+)&amp;month=(\d+)", " ".join(parts))
     assert [f"month {month} of {year}" for year, month in links] == expected
@@ -38,14 +38,14 @@ def test_a_month_has_its_gregorian_days(client: Any) -> None:
     assert "<small" not in text and "Gregorian day" not in text
 
 
-@pytest.mark.parametrize("asked, sentence", [
+@pytest.mark.parametrize("query, sentence", [
     ("GB&year=1731&month=3", "Years ran there from 25 March, which is in this month: its days are "
      "at the beginning of the year 1731 and at its end."),
     ("GB&year=1752&month=9", "Wednesday 2 September 1752 was followed by Thursday 14 September "
      "1752. 11 dates left out."),
     ("GB&year=1751&month=1", "The year\u2019s beginning changed: until then years from 25 March")])
-def test_why_a_month_is_as_it_is(client: Any, asked: str, sentence: str) -> None:
-    assert sentence.replace("\u2019", "'") in text_of(client, f"/month?code={asked}")
+def test_why_a_month_is_as_it_is(client: Any, query: str, sentence: str) -> None:
+    assert sentence.replace("\u2019", "'") in text_of(client, f"/month?code={query}")
 
 
 @pytest.mark.parametrize("left_out, twice, sentence", [

@@ -63,8 +63,8 @@ def test_a_workbook_is_answered_as_its_table(client: Any, book_of: Any) -> None:
     rows = [row[:3] for row in ROWS if row]
     table = TABLE.replace(",more", "").encode()
     expected = client.post("/letters", data=table, content_type="text/csv", buffered=True)
-    asked = {"table": (io.BytesIO(book_of(rows)), "my.xlsx"), "separator": "semicolon"}
-    found = client.post("/letters", data=asked, content_type="multipart/form-data", buffered=True)
+    form = {"table": (io.BytesIO(book_of(rows)), "my.xlsx"), "separator": "semicolon"}
+    found = client.post("/letters", data=form, content_type="multipart/form-data", buffered=True)
     assert (found.status_code, found.data) == (200, expected.data)
     assert 'filename="my-found.csv"' in found.headers["Content-Disposition"]
     bare = client.post("/letters", data=book_of(rows), content_type="text/csv", buffered=True)
@@ -119,9 +119,9 @@ def test_a_cell_that_is_repeated_too_often_is_refused() -> None:
 def test_rows_are_pasted(client: Any) -> None:
     rows = "letter\tplace\tdate\r\n1\tGB\t11 February 1731\r\n"
     expected = client.post("/letters", data=rows.encode(), content_type="text/csv", buffered=True)
-    asked = {"table": (io.BytesIO(b""), ""), "pasted": rows}
-    found = client.post("/letters", data=asked, content_type="multipart/form-data", buffered=True)
+    form = {"table": (io.BytesIO(b""), ""), "pasted": rows}
+    found = client.post("/letters", data=form, content_type="multipart/form-data", buffered=True)
     assert found.status_code == 200 and found.data == expected.data and b"\tFriday\t" in found.data
-    asked = {"table": (io.BytesIO(b""), ""), "pasted": " \r\n"}
-    reply = client.post("/letters", data=asked, content_type="multipart/form-data")
+    form = {"table": (io.BytesIO(b""), ""), "pasted": " \r\n"}
+    reply = client.post("/letters", data=form, content_type="multipart/form-data")
     assert reply.status_code == 400 and "paste its rows" in reply.text

@@ -85,19 +85,19 @@ class Service:
         waiting: Deque[Tuple[List[Row], Batch]] = collections.deque()
         failed, is_over = None, False
         while not is_over:
-            taken: List[Row] = []
+            chunk: List[Row] = []
             lines: List[bytes] = []
             try:
                 for row in itertools.islice(rows, half):
                     lines.append(line_of(row))
-                    taken.append(row)
+                    chunk.append(row)
             except Exception as why:  # the caller's own rows failed: those before have replies
                 failed = why
-            waiting.append((taken, connection.send(lines[: len(taken)])))
-            is_over = len(taken) < half
+            waiting.append((chunk, connection.send(lines[: len(chunk)])))
+            is_over = len(chunk) < half
             while len(waiting) > (1 if ahead > half and not is_over else 0):
-                taken, batch = waiting.popleft()
-                yield from zip(taken, self._replies(connection, batch))
+                chunk, batch = waiting.popleft()
+                yield from zip(chunk, self._replies(connection, batch))
         if failed is not None:
             raise failed
 

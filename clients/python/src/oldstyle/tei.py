@@ -35,11 +35,12 @@ def fill(data: bytes, context: Context, _: argparse.Namespace) -> bytes:
     finder = Finder(data)
     if not finder.is_tei:
         context.report(1, "no element of TEI's namespace http://www.tei-c.org/ns/1.0 is here")
-    asked = [(date, code) for date in finder.dates if (code := code_of(date, context))]
-    readings = context.register.read_many(((code, date.text) for date, code in asked), refused=True)
+    questions = [(date, code) for date in finder.dates if (code := code_of(date, context))]
+    rows = ((code, date.text) for date, code in questions)
+    readings = context.register.read_many(rows, refused=True)
     pointers = Pointers(finder.calendars)
     pieces, done = [], 0
-    for (date, code), reading in zip(asked, readings):
+    for (date, code), reading in zip(questions, readings):
         if added := attributes_of(date, code, reading, context, pointers):
             if (at := tag_end(data, date.at)) is None:
                 context.report(date.line,

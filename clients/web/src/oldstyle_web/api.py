@@ -14,7 +14,7 @@ from .context import page
 from .problems import Problem
 from .register import BAD_CODE, UNKNOWN_LAND
 from .replies import tagged, word
-from .words import shown
+from .words import quoted
 
 blueprint = Blueprint("api", __name__, url_prefix="/api/v1")
 LONGEST_WORD = 1000
@@ -33,14 +33,14 @@ def text(member: str) -> Callable[[str, str], dict[str, Any]]:
 def number(name: str, value: str) -> dict[str, Any]:
     """Reads a whole number."""
     if not (value.isascii() and value.isdigit() and len(value) <= 15):
-        raise Problem(400, f"{shown(value)} is not a {name}: write a whole number.")
+        raise Problem(400, f"{quoted(value)} is not a {name}: write a whole number.")
     return {name: int(value)}
 
 
 def label(_name: str, value: str) -> dict[str, Any]:
     """Reads a date as the place counted it."""
     if not (parts := DATE.fullmatch(value)):
-        raise Problem(400, f"{shown(value)} is not a date of this form: write year, month and day "
+        raise Problem(400, f"{quoted(value)} is not a date of this form: write year, month and day "
                       "as 1731-02-11, or ask /api/v1/written, which reads dates as people write "
                       "them.")
     return dict(zip(("year", "month", "day"), map(int, parts.groups())))
@@ -75,7 +75,7 @@ QUERIES = {
 def answer(name: str) -> Response:
     """The reply of the service to a query."""
     if (query := QUERIES.get(name)) is None:
-        raise Problem(404, f"There is no {shown(name)} here: ask one of "
+        raise Problem(404, f"There is no {quoted(name)} here: ask one of "
                       f"{', '.join(QUERIES)}, as openapi.json describes them.")
     question = {"op": query.op, **members_of(query)}
     edition, (line, reply) = page().register.of_one_edition(
@@ -92,7 +92,7 @@ def members_of(query: Query) -> dict[str, Any]:
     for name in request.args:
         if name not in query.words:
             known = ", ".join(query.words) or "none"
-            raise Problem(400, f"{shown(name)} is not a word of this address: it takes {known}.")
+            raise Problem(400, f"{quoted(name)} is not a word of this address: it takes {known}.")
     members: dict[str, Any] = {}
     for name, read in query.words.items():
         value = word(name)

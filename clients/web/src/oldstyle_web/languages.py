@@ -45,8 +45,8 @@ def language() -> str:
         return "en"
     if (named := request.args.get("lang", "")) in LANGUAGES:
         return named
-    asked = (tag.partition("-")[0].lower() for tag, quality in request.accept_languages if quality)
-    return next((tag for tag in asked if tag in LANGUAGES), "en")
+    tags = (tag.partition("-")[0].lower() for tag, quality in request.accept_languages if quality)
+    return next((tag for tag in tags if tag in LANGUAGES), "en")
 
 
 def gettext(message: str, **parts: Any) -> str:

@@ -205,13 +205,13 @@ def messages_script() -> Response:
 
 def problem(status: int, sentence: str) -> str:
     """The page of what can't be answered: the form again if its words were wrong, or a link."""
-    shown: dict[str, Any] = {"title": _("No answer"), "sentence": sentence,
+    values: dict[str, Any] = {"title": _("No answer"), "sentence": sentence,
                              "page": request.path[1:]}
     if request.path[1:] in ("", "month", "place", "year", "day") and status in (400, 404):
         try:
-            shown["lands"] = page().register.of_one_edition(Asking.lands)[1]
+            values["lands"] = page().register.of_one_edition(Asking.lands)[1]
             names = ("code", "date", "weekday", "order", "year", "month")
-            shown["question"] = {name: word(name) for name in names}
+            values["question"] = {name: word(name) for name in names}
         except Problem:
             pass
-    return render_template("problem.html", **shown)
+    return render_template("problem.html", **values)

@@ -79,7 +79,7 @@ class Printer:
             return page
         if NO_LAND in stderr:
             raise no_place(words[1])
-        raise unavailable(self.settings.shown(stderr.partition("\n")[0]))
+        raise unavailable(self.settings.public_report(stderr.partition("\n")[0]))
 
     def run(self, words: tuple[str, ...], journal: str = "") -> tuple[int, str, str]:
         """The status of a command over the journal or another one, and what it wrote on both

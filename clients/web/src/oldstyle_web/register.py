@@ -81,7 +81,7 @@ class Register:
         except ProgramSlow:
             raise unavailable("no answer in time") from None
         except ProgramEnded as why:
-            raise unavailable(self.settings.shown(why.stderr.partition("\n")[0])) from None
+            raise unavailable(self.settings.public_report(why.stderr.partition("\n")[0])) from None
         except ProgramFailed:
             raise unavailable("it can't be started") from None
 
@@ -107,11 +107,11 @@ class Asking:
 
     def answers(self, questions: Iterable[dict[str, Any]]) -> list[dict[str, Any]]:
         """The answers to questions."""
-        asked = list(questions)
-        if not asked:
+        queries = list(questions)
+        if not queries:
             return []
-        lines = self.register.replies(self.register.pool, [line_of(one) for one in asked])
-        return [self.answer_of(one, json.loads(line)) for one, line in zip(asked, lines)]
+        lines = self.register.replies(self.register.pool, [line_of(one) for one in queries])
+        return [self.answer_of(one, json.loads(line)) for one, line in zip(queries, lines)]
 
     def answer_of(self, question: dict[str, Any], reply: dict[str, Any]) -> dict[str, Any]:
         if "edition" in reply:

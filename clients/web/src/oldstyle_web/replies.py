@@ -29,6 +29,6 @@ def tagged(response: Response, edition: int) -> Response:
     return response
 
 
-def written(template: str, edition: int, **shown: Any) -> Response:
+def written(template: str, edition: int, **values: Any) -> Response:
     """A page of an edition."""
-    return tagged(Response(render_template(template, edition=edition, **shown)), edition)
+    return tagged(Response(render_template(template, edition=edition, **values)), edition)

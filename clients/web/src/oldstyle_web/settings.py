@@ -43,7 +43,7 @@ class Settings:
         """Returns whether the page is for this machine alone."""
         return bool(self.hosts) and all(map(is_loopback, self.hosts))
 
-    def shown(self, report: str) -> str:
+    def public_report(self, report: str) -> str:
         """What the program printed, without its own name and the folder of the journal."""
         return report.strip().removeprefix("oldstyle: ").replace(self.journal, self.journal_name)
 

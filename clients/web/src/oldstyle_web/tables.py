@@ -144,7 +144,7 @@ class Tables:
             return End(-1, "the table took too long, and was ended")
         except OSError as why:
             return End(-1, reason_of(why))
-        message = self.settings.shown(errors.decode(errors="replace"))
+        message = self.settings.public_report(errors.decode(errors="replace"))
         message = PLACES_FILE.sub("the table of places", message)
         if process.returncode < 0 and not message:
             message = "the program was ended before the table did"

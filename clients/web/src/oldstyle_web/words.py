@@ -50,7 +50,7 @@ def written_out(value: Any) -> Any:
 def code_of(text: str) -> str:
     """The code of the chosen territory, or an empty text without a choice."""
     if text and not CODE.fullmatch(text):
-        raise Problem(400, f"{shown(text)} is not a code of a territory: a code is 2 to 8 capital "
+        raise Problem(400, f"{quoted(text)} is not a code of a territory: a code is 2 to 8 capital "
                       "letters or digits, the first a letter. Choose one of the list.")
     return text
 
@@ -68,7 +68,7 @@ def date_of(text: str) -> str:
 def weekday_of(text: str) -> str:
     """The English name of a weekday, or nothing."""
     if text and text.capitalize() not in WEEKDAYS:
-        raise Problem(400, f"{shown(text)} is not a weekday: write its English name, such as "
+        raise Problem(400, f"{quoted(text)} is not a weekday: write its English name, such as "
                       "Friday.")
     return text.capitalize()
 
@@ -76,7 +76,7 @@ def weekday_of(text: str) -> str:
 def order_of(text: str) -> str:
     """The order of day and month in numbers, or nothing."""
     if text and text not in ORDERS:
-        raise Problem(400, f"{shown(text)} is not an order: it is dmy, for 11/2/1731 as 11 "
+        raise Problem(400, f"{quoted(text)} is not an order: it is dmy, for 11/2/1731 as 11 "
                       "February, or mdy, for 2/11/1731.")
     return text
 
@@ -87,7 +87,7 @@ def number_of(name: str, text: str, least: int, most: int) -> int | None:
     if not text:
         return None
     if not (text.isascii() and text.isdigit() and len(text) <= 9 and least <= int(text) <= most):
-        raise Problem(400, f"{shown(text)} is no {name}: write a whole number from {least} to "
+        raise Problem(400, f"{quoted(text)} is no {name}: write a whole number from {least} to "
                       f"{most}.")
     return int(text)
 
@@ -97,12 +97,12 @@ def month_of(text: str) -> int | None:
     if (name := text.strip().capitalize()) in MONTHS:
         return MONTHS.index(name) + 1
     if text.strip() and not (text.strip().isascii() and text.strip().isdigit()):
-        raise Problem(400, f"{shown(text)} is not a month: write its English name, or 1 to 12.")
+        raise Problem(400, f"{quoted(text)} is not a month: write its English name, or 1 to 12.")
     return number_of("month", text, 1, 12)
 
 
-def shown(text: str) -> str:
-    """A word of a reader, as it is shown in a sentence."""
+def quoted(text: str) -> str:
+    """A word of a reader in quotes, shortened, for a sentence."""
     return f"“{text[:60]}{'…' if len(text) > 60 else ''}”"
 
 

@@ -12,7 +12,7 @@ const record = (date, remark) => ["GB", date, "letter", ...ADDED.slice(0, -1), r
 
 // A sheet with two rows outside the page, its corrections, and the questions that they ask.
 function opened(words = {}) {
-    const sheet = {separator: ",", columns: ["place", "date", "note", ...ADDED], shown: [],
+    const sheet = {separator: ",", columns: ["place", "date", "note", ...ADDED], visible: [],
         records: [record("1 May 1700", "skipped"), record("2 May 1700", "")],
         remarks: ["skipped", ""], editing: new Map(), corrected: new Map(), drawn: new Map(),
         renew: () => null};

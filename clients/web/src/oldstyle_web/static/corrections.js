@@ -48,7 +48,7 @@ export class Corrections {
     open(row, drawn, typed) {
         const cells = [...drawn.children].slice(2);
         for (const place of this.places()) {
-            const cell = cells[this.sheet.shown.indexOf(place)];
+            const cell = cells[this.sheet.visible.indexOf(place)];
             if (cell) cell.replaceChildren(this.input(row, place, typed));
         }
         drawn.children[1].replaceChildren(

@@ -9,7 +9,7 @@ const announcement = document.getElementById("announcement");
 const WAIT = 180;
 let timer = 0;
 let asking = null;
-let shown = questionOf((field) => field.defaultValue ?? chosenFirst(field));
+let current = questionOf((field) => field.defaultValue ?? chosenFirst(field));
 
 // The question by the fields' words, in the form of an address.
 function questionOf(word) {
@@ -35,7 +35,7 @@ function later() {
 async function ask() {
     asking?.abort();
     const question = questionOf((field) => field.value);
-    if (question === shown) return;
+    if (question === current) return;
     asking = new AbortController();
     try {
         const reply = await fetch(`${form.dataset.answer}?${question}`,
@@ -53,7 +53,7 @@ async function ask() {
 }
 
 function show(found, question) {
-    shown = question;
+    current = question;
     answer.innerHTML = found.html;
     announcement.textContent = found.announcement ?? "";
     document.title = found.title;
@@ -67,7 +67,7 @@ function show(found, question) {
 }
 
 function showProblem(sentence, question) {
-    shown = null;
+    current = null;
     document.title = form.dataset.title;
     history.replaceState(null, "", `${form.action}?${question}`);
     const line = document.createElement("p");

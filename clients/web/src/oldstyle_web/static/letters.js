@@ -147,7 +147,7 @@ function progress(total) {
         announce(_("%(count)s rows are answered.", {count: number(sheet.records.length)}));
     }
     progress.last = tenth;
-    if (!sheet.shown.length) setColumns();
+    if (!sheet.visible.length) setColumns();
     sheet.later();
 }
 
@@ -197,10 +197,10 @@ function countRemarks(row = null) {
 }
 
 function choose() {
-    const wanted = named("remark").value;
-    if (!wanted) return sheet.choose(null);
-    const has = wanted === "*" ? (remark) => remark
-        : (remark) => remark.split("; ").includes(wanted);
+    const choice = named("remark").value;
+    if (!choice) return sheet.choose(null);
+    const has = choice === "*" ? (remark) => remark
+        : (remark) => remark.split("; ").includes(choice);
     const chosen = [];
     sheet.remarks.forEach((remark, row) => {
         if (has(remark) || sheet.editing.has(row)) chosen.push(row);
@@ -212,8 +212,8 @@ function setColumns() {
     const all = sheet.columns.map((_, place) => place);
     const read = corrections.places();
     const first = FIRST.map((name) => sheet.columns.lastIndexOf(name));
-    const shown = named("wide").checked ? all : [...read, ...first];
-    sheet.show(shown);
+    const visible = named("wide").checked ? all : [...read, ...first];
+    sheet.show(visible);
 }
 
 function save() {

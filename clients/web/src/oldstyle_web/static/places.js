@@ -2,8 +2,8 @@
 const field = document.querySelector("[data-filter]");
 
 field?.addEventListener("input", () => {
-    const wanted = field.value.trim().toLowerCase();
+    const text = field.value.trim().toLowerCase();
     for (const row of document.querySelectorAll("[data-place]")) {
-        row.hidden = !row.textContent.toLowerCase().includes(wanted);
+        row.hidden = !row.textContent.toLowerCase().includes(text);
     }
 });

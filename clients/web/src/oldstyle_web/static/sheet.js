@@ -29,20 +29,20 @@ export class Sheet {
         for (const typed of this.editing.values()) typed.asking?.abort();
         this.editing.clear();
         this.columns = [];
-        this.shown = [];
+        this.visible = [];
         this.drawn = new Map();
         this.height = 0;
         this.body.replaceChildren();
     }
 
-    // Begins a table: all its columns, and which of them are shown, by their places.
-    begin(columns, shown, separator) {
-        Object.assign(this, {columns, shown, separator});
+    // Begins a table: all its columns, and which of them are visible, by their places.
+    begin(columns, visible, separator) {
+        Object.assign(this, {columns, visible, separator});
         this.drawHead();
     }
 
-    show(shown) {
-        this.shown = shown;
+    show(visible) {
+        this.visible = visible;
         this.drawHead();
         this.redraw();
     }
@@ -58,7 +58,7 @@ export class Sheet {
     }
 
     drawHead() {
-        const names = this.shown.map((place) => this.columns[place]);
+        const names = this.visible.map((place) => this.columns[place]);
         const cells = [_("Row"), "", ...names].map((name) => {
             const cell = document.createElement("th");
             cell.scope = "col";
@@ -75,7 +75,7 @@ export class Sheet {
     setWidths(cells) {
         const samples = this.records.slice(0, 200).map((one) => fieldsOf(one, this.separator));
         cells.forEach((cell, order) => {
-            const place = this.shown[order - 2];
+            const place = this.visible[order - 2];
             const longest = Math.max(cell.textContent.length,
                 ...samples.map((fields) => (fields[place] ?? "").length));
             const width = order < 2 ? 8 + 8 * order
@@ -166,7 +166,7 @@ export class Sheet {
         number.textContent = (row + 1).toLocaleString(document.documentElement.lang);
         const fields = fieldsOf(this.records[row], this.separator);
         const remark = this.columns.length - 1;
-        const cells = this.shown.map((place) => {
+        const cells = this.visible.map((place) => {
             const cell = document.createElement("td");
             cell.textContent = fields[place] ?? "";
             cell.title = fields[place] ?? "";
