@@ -47,8 +47,8 @@ class Step:
         """Adds a line of what the command is expected to leave."""
         if not line:
             self.blanks += 1
-        elif found := STATUS.fullmatch(line):
-            self.status, self.blanks = int(found[1]), 0
+        elif match := STATUS.fullmatch(line):
+            self.status, self.blanks = int(match[1]), 0
         elif line == b"!" or line.startswith(b"! "):
             self.errors, self.blanks = self.errors + bytes_of(line[2:]), 0
         else:

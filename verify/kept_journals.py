@@ -151,11 +151,11 @@ def read_beside(program, path, running, counts):
     while running.process.poll() is None:
         before = sum(reply.get("ok") == "published" for reply in running.replies)
         done = run(program, ["territory", path])
-        found = re.match(r"Territories, edition (\d+)\n", done.stdout)
-        if found:
+        match = re.match(r"Territories, edition (\d+)\n", done.stdout)
+        if match:
             counts["read"] += 1
-            check(f"edition {found[1]} is read after {before} was reported",
-                  int(found[1]) >= before)
+            check(f"edition {match[1]} is read after {before} was reported",
+                  int(match[1]) >= before)
         else:
             counts["refused"] += 1
             check(f"a reader prints {done.stderr!r}", re.fullmatch(

@@ -212,10 +212,10 @@ def tried(crates):
 
 def part(text):
     """The numbers K and N of a text K/N, of which K is from 1 to N."""
-    found = re.fullmatch(r"([0-9]+)/([0-9]+)", text)
-    if not found or not 1 <= int(found[1]) <= int(found[2]):
+    match = re.fullmatch(r"([0-9]+)/([0-9]+)", text)
+    if not match or not 1 <= int(match[1]) <= int(match[2]):
         raise argparse.ArgumentTypeError(f"{text} is not a part K/N: name one such as 3/7")
-    return int(found[1]), int(found[2])
+    return int(match[1]), int(match[2])
 
 
 def main():

@@ -134,11 +134,11 @@ def finds(path, text, forms, allowed):
     reader = reader_of(path, text)
     for begin, block in reader(text) if reader else ():
         for form, better in forms:
-            for found in form.finditer(block.replace("\n", " ")):
-                line = block[block.rfind("\n", 0, found.start()) + 1:].split("\n")[0]
+            for match in form.finditer(block.replace("\n", " ")):
+                line = block[block.rfind("\n", 0, match.start()) + 1:].split("\n")[0]
                 if not any(it in line for it in allowed[path]):
-                    at = int(begin + 0.5) + block.count("\n", 0, found.start())
-                    yield at, " ".join(found[0].split()), better
+                    at = int(begin + 0.5) + block.count("\n", 0, match.start())
+                    yield at, " ".join(match[0].split()), better
 
 
 def anchors(text):

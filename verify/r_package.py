@@ -32,8 +32,8 @@ def tests_of(folder):
     """How many tests of a check failed, warned, were skipped and passed."""
     with open(os.path.join(folder, "oldstyle.Rcheck", "tests", "testthat.Rout"),
               encoding="utf-8") as file:
-        found = re.search(r"FAIL (\d+) \| WARN (\d+) \| SKIP (\d+) \| PASS (\d+)", file.read())
-    return tuple(map(int, found.groups()))
+        match = re.search(r"FAIL (\d+) \| WARN (\d+) \| SKIP (\d+) \| PASS (\d+)", file.read())
+    return tuple(map(int, match.groups()))
 
 
 def checked(folder, name, variables):

@@ -107,12 +107,12 @@ def range_of(first, count):
 
 def years_of(text):
     """The range of a decade or a century, None if the text is neither."""
-    if found := re.fullmatch(DECADE, text, re.I):
-        return range_of(10 * int(found[1] or found[2]), 10)
-    if found := re.fullmatch(HUNDRED, text, re.I):
-        return range_of(100 * int(found[1]), 100)
-    if found := re.fullmatch(CENTURY, text, re.I):
-        return range_of(100 * int(found[1]) - 99, 100)
+    if match := re.fullmatch(DECADE, text, re.I):
+        return range_of(10 * int(match[1] or match[2]), 10)
+    if match := re.fullmatch(HUNDRED, text, re.I):
+        return range_of(100 * int(match[1]), 100)
+    if match := re.fullmatch(CENTURY, text, re.I):
+        return range_of(100 * int(match[1]) - 99, 100)
     return None
 
 
@@ -125,11 +125,11 @@ SEASONS = {"spring": 3, "21": 3, "summer": 6, "22": 6, "autumn": 9, "23": 9,
 def part_in(text):
     """The part of a time that a text is, None if it has no such form."""
     for form, portion in PARTS:
-        if found := re.fullmatch(form, text, re.I):
-            if years := years_of(found[1]):
+        if match := re.fullmatch(form, text, re.I):
+            if years := years_of(match[1]):
                 first, last = part_of(years.first.year, years.last.year, portion)
                 return Span("range", Simple(first), Simple(last))
-            date = date_of(found[1])
+            date = date_of(match[1])
             if date.day is not None:
                 raise Unread(text)
             return in_part(date, portion)
@@ -138,10 +138,10 @@ def part_in(text):
 
 def season_in(text):
     """The months of a season or a quarter, None if the text is neither."""
-    if found := re.fullmatch(r"(spring|summer|autumn) (\d{4})", text, re.I):
-        year, month = int(found[2]), SEASONS[found[1].lower()]
-    elif (found := re.fullmatch(r"(\d{4})-(2[123]|3[3-6])", text)) and found[1][2:] >= found[2]:
-        year, month = int(found[1]), SEASONS[found[2]]
+    if match := re.fullmatch(r"(spring|summer|autumn) (\d{4})", text, re.I):
+        year, month = int(match[2]), SEASONS[match[1].lower()]
+    elif (match := re.fullmatch(r"(\d{4})-(2[123]|3[3-6])", text)) and match[1][2:] >= match[2]:
+        year, month = int(match[1]), SEASONS[match[2]]
     else:
         return None
     return Span("range", Simple(year, False, month), Simple(year, False, month + 2))
@@ -149,11 +149,11 @@ def season_in(text):
 
 def years_by_signs(text):
     """The same of digits and signs alone, which may be in brackets and in doubt."""
-    found = re.fullmatch(BY_SIGNS, text)
-    if not found or bool(found[1]) != bool(found[6]):
+    match = re.fullmatch(BY_SIGNS, text)
+    if not match or bool(match[1]) != bool(match[6]):
         return None
-    years = range_of(10 * int(found[2]), 10) if found[2] else range_of(100 * int(found[4]), 100)
-    return years._replace(uncertain=bool(found[3] or found[5]), supplied=bool(found[1]))
+    years = range_of(10 * int(match[2]), 10) if match[2] else range_of(100 * int(match[4]), 100)
+    return years._replace(uncertain=bool(match[3] or match[5]), supplied=bool(match[1]))
 
 
 def extent_of(text):
@@ -164,13 +164,13 @@ def extent_of(text):
         return Span("on", simple_of(parts, text))
     if parts := matched([rf"{FEAST} {YEARS}"], text):
         return Span("feast", simple_of(parts, text), feast=NAMED[parts["feast"].lower()])
-    if found := re.fullmatch(BOUND, text, re.I):
-        word = found[1].lower()
-        return Span("not after" if word == "by" else word, date_of(found[2]))
+    if match := re.fullmatch(BOUND, text, re.I):
+        word = match[1].lower()
+        return Span("not after" if word == "by" else word, date_of(match[2]))
     for form in RANGES:
-        if found := re.fullmatch(form, text, re.I):
-            last = date_of(found[2])
-            return Span("range", front_of(found[1], last), last)
+        if match := re.fullmatch(form, text, re.I):
+            last = date_of(match[2])
+            return Span("range", front_of(match[1], last), last)
     raise Unread(text)
 
 
@@ -202,8 +202,8 @@ def why_none(text):
 
 def without(form, text):
     """The part of a text outside a form, and whether it has that form."""
-    found = re.fullmatch(form, text, re.I)
-    return (next(filter(None, found.groups()), ""), True) if found else (text, False)
+    match = re.fullmatch(form, text, re.I)
+    return (next(filter(None, match.groups()), ""), True) if match else (text, False)
 
 
 def set_of(text):

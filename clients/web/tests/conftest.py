@@ -35,9 +35,9 @@ class Served:
             text=True, stdout=subprocess.PIPE, stderr=subprocess.PIPE)
         assert self.process.stdout
         self.first_line = self.process.stdout.readline()
-        found = re.search(r"http://(.*):(\d+)/", self.first_line)
-        assert found, self.process.communicate()
-        self.host, self.port = found[1].strip("[]"), int(found[2])
+        match = re.search(r"http://(.*):(\d+)/", self.first_line)
+        assert match, self.process.communicate()
+        self.host, self.port = match[1].strip("[]"), int(match[2])
 
     def connect(self, data: bytes = b"") -> socket.socket:
         connection = socket.create_connection((self.host, self.port), 30)

@@ -198,8 +198,8 @@ def date_of_line(version: int, line: Line, phrase: Optional[Line]) -> EventDate:
         if phrase:
             return EventDate(line, phrase.payload, payload, True)
         return EventDate(line, payload)
-    if found := INTERPRETED.fullmatch(payload):
-        return EventDate(line, found["phrase"], found["date"], True)
+    if match := INTERPRETED.fullmatch(payload):
+        return EventDate(line, match["phrase"], match["date"], True)
     if payload.startswith("(") and payload.endswith(")"):
         return EventDate(line, payload[1:-1], "", True)
     return EventDate(line, payload)

@@ -76,8 +76,8 @@ def is_asked(piece: str) -> bool:
 
     A year alone stays as it is, whatever day it began on.
     """
-    found = SIMPLE.fullmatch(piece)
-    return bool(found and found["month"] and not found["epoch"])
+    match = SIMPLE.fullmatch(piece)
+    return bool(match and match["month"] and not match["epoch"])
 
 
 @dataclass(frozen=True)

@@ -197,5 +197,5 @@ class Finder:
 
 def tag_end(data: bytes, at: int) -> Optional[int]:
     """The end of the name and the attributes of a start tag, or None if no tag is at the byte."""
-    found = TAG.match(data, at)
-    return found.end() if found else None
+    match = TAG.match(data, at)
+    return match.end() if match else None
