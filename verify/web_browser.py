@@ -185,7 +185,7 @@ def check_month(browser, page):
 
 
 def check_place_and_year(browser, page, program):
-    """The line of time compared with `territory`, and the year with `year`."""
+    """The timeline compared with `territory`, and the year with `year`."""
     for code in ("GB", "SE", "RU", "RM"):
         browser.driver.get(f"{page.address}/place?code={code}")
         lines = subprocess.run([program, "territory", SAMPLES, code], check=True, text=True,

@@ -81,7 +81,7 @@ def days_printed(lines):
             agrees = (agrees or "").strip()
             text = weekday
             if agrees == "ok":
-                text += ", as it is said"
+                text += ", as stated"
             elif agrees:
                 text += f", {agrees}"
             found.append(dict(zip(DAY_FACTS, (dual, text, gregorian, julian, number, jdn))))

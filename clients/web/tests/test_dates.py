@@ -24,9 +24,9 @@ def found(reason: str | None, kind: str = "none", weekday: str = "", **members: 
 
 
 @pytest.mark.parametrize("named, given, text", [
-    (None, "", "Friday"), ("Friday", "", "Friday, as it is said"),
-    (None, "Friday", "Friday, as it is said"), ("Monday", "Friday", "Friday, not Monday"),
-    ("Friday", "Sunday", "Friday, not Sunday"), ("Friday", "Friday", "Friday, as it is said")])
+    (None, "", "Friday"), ("Friday", "", "Friday, as stated"),
+    (None, "Friday", "Friday, as stated"), ("Monday", "Friday", "Friday, not Monday"),
+    ("Friday", "Sunday", "Friday, not Sunday"), ("Friday", "Friday", "Friday, as stated")])
 def test_whether_a_day_is_of_the_weekdays_that_are_given(named: str | None, given: str,
                                                          text: str) -> None:
     day = Day(1, "", "", 1, "", "", "Friday")
@@ -111,7 +111,7 @@ def test_days_and_their_weekdays_are_those_of_the_printed_page(
         line.partition("    day ")[2].split("    JDN ") for line in lines)]
     assert [day.found.day for day in found.days] == [number for number, _ in verdicts]
     for day, (_, verdict) in zip(found.days, verdicts):
-        expected = verdict.partition(" ")[2].replace("ok", "as it is said")
+        expected = verdict.partition(" ")[2].replace("ok", "as stated")
         assert found.agreement(day.found) == f"{day.found.weekday}, {expected}"
 
 

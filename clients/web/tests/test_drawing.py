@@ -1,4 +1,4 @@
-"""The drawing of a line of time."""
+"""The drawing of a timeline."""
 from __future__ import annotations
 
 import random

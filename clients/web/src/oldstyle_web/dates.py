@@ -132,7 +132,7 @@ class DateFound:
         for other in self.weekdays:
             if day.weekday != other:
                 return _("%(day)s, not %(other)s", day=_(day.weekday), other=_(other))
-        return _("%(day)s, as it is said", day=_(day.weekday)) if self.weekdays else _(day.weekday)
+        return _("%(day)s, as stated", day=_(day.weekday)) if self.weekdays else _(day.weekday)
 
     @property
     def flags(self) -> str:

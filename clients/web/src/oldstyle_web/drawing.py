@@ -1,4 +1,4 @@
-"""The positions of the parts in a drawing of a place's line of time."""
+"""The positions of the parts in a drawing of a place's timeline."""
 from __future__ import annotations
 
 from dataclasses import dataclass

@@ -1,4 +1,4 @@
-"""The month as it was lived: its days, and the changes that it meets."""
+"""The month as it was dated: its days, and the changes that it meets."""
 from __future__ import annotations
 
 from dataclasses import dataclass

@@ -140,7 +140,7 @@ def month() -> Response:
 
 @blueprint.get("/place")
 def place() -> Response:
-    """A place's line of time, or the list of places."""
+    """A place's timeline, or the list of places."""
     named, code = named_edition(), code_of(word("code"))
 
     def work(asking: Asking) -> tuple[list[Land], Any]:

@@ -1,4 +1,4 @@
-"""A place's line of time: its periods and changes, and the years about each change."""
+"""A place's timeline: its periods and changes, and the years about each change."""
 from __future__ import annotations
 
 from dataclasses import dataclass
