@@ -64,7 +64,7 @@ def compare(condition, words, got, expected):
     tried, right = counts.get(condition, (0, 0))
     counts[condition] = (tried + 1, right + (got == expected))
     check(f"{condition}: oldstyle {words}", got == expected,
-          f"\n  wanted {expected}\n  got    {got}")
+          f"\n  expected {expected}\n  got      {got}")
 
 
 def run(folder, words, text="", **streams):

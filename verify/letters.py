@@ -202,8 +202,8 @@ def differs(program, journal, form, table):
     pairs = enumerate(zip(found[1], expected[1]))
     places = [place for place, (one, other) in pairs if one != other]
     at = places[0] if places else min(len(found[1]), len(expected[1]))
-    return [f"{words}, the table in {table_path}: status and fault {found[0]} {found[2]!r}, wanted "
-            f"{expected[0]} {expected[2]!r}; at {at} {found[1][at - 60:at + 90]!r}, wanted "
+    return [f"{words}, the table in {table_path}: status and fault {found[0]} {found[2]!r}, expected "
+            f"{expected[0]} {expected[2]!r}; at {at} {found[1][at - 60:at + 90]!r}, expected "
             f"{expected[1][at - 60:at + 90]!r}"]
 
 

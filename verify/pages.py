@@ -108,7 +108,7 @@ def differs(program, words, expected, status=0, faults=()):
     yield from untrimmed(words, done.stdout)
     found = done.returncode, done.stdout.splitlines(), done.stderr.splitlines()
     if found != (status, expected, list(faults)):
-        yield f"{words}:\n  wanted {expected} {faults}\n  found  {found}"
+        yield f"{words}:\n  expected {expected} {faults}\n  found    {found}"
 
 
 def mistakes(program, journal):
@@ -195,7 +195,7 @@ class Asked:
         expected = compact({"answer": answer, "edition": self.service.edition, "reader": 1})
         found = run(self.program, ["serve", "--journal", self.journal], [query]).stdout
         if found != expected + "\n":
-            yield f"{query}:\n  wanted {expected}\n  found  {found}"
+            yield f"{query}:\n  expected {expected}\n  found    {found}"
 
     def day(self):
         day = day_near(self.chance, self.territory, self.middle)

@@ -8,13 +8,13 @@ needed_lines() {
     awk -F: '
         /^[a-z]/ { line[++lines] = $0; name[lines] = $1; below[lines] = $2 }
         END {
-            wanted["oldstyle"]
+            needed["oldstyle"]
             for (at = lines; at >= 1; at--)
-                if (name[at] in wanted) {
+                if (name[at] in needed) {
                     count = split(below[at], names, " ")
-                    for (i = 1; i <= count; i++) wanted[names[i]]
+                    for (i = 1; i <= count; i++) needed[names[i]]
                 }
-            for (at = 1; at <= lines; at++) if (name[at] in wanted) print line[at]
+            for (at = 1; at <= lines; at++) if (name[at] in needed) print line[at]
         }' crates.txt
 }
 

@@ -3,7 +3,7 @@
 has_text=""
 
 # Returns whether standard error is a terminal on which a line can be written over. No other control
-# character than a carriage return is written, and none if colours are not wanted.
+# character than a carriage return is written, and none if colours are switched off.
 has_line() { [ -t 2 ] && [ "${TERM:-dumb}" != dumb ] && [ -z "${NO_COLOR:-}" ]; }
 
 # Leaves the last column free, since a terminal may begin a line there.

@@ -138,7 +138,7 @@ class Dates:
             return why
         expected = one.known()
         if expected is not None and expected != json.loads(reply)["answer"]:
-            return f"{reply!r}, wanted {compact(expected)}"
+            return f"{reply!r}, expected {compact(expected)}"
         return ""
 
     def by_letters(self, dates, replies):

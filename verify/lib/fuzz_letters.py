@@ -173,12 +173,12 @@ def why_other(out, rows):
         if more is not None:
             row = row_written([*fields, *more], separator)
             if out[at:at + len(row)] != row:
-                return f"a row {out[at:at + len(row)]!r}, wanted {row!r}"
+                return f"a row {out[at:at + len(row)]!r}, expected {row!r}"
             at += len(row)
             continue
         front = row_written(fields, separator)[:-1] + separator
         if not out.startswith(front, at):
-            return f"a row that begins {out[at:at + len(front)]!r}, wanted {front!r}"
+            return f"a row that begins {out[at:at + len(front)]!r}, expected {front!r}"
         found, end, _, why = record_at(out, at + len(front), separator)
         if why or len(found) != len(COLUMNS) or found[-2] != str(register()[2]).encode():
             return f"the fields {found!r}, {why}"
@@ -206,5 +206,5 @@ class Letters:
         rows, fault = expected_lines(table, SEPARATORS[word].encode() if word else None)
         why = done.why_wrong() or why_other(done.out, rows)
         if not why and (done.status, done.stderr) != (1 if fault else 0, fault):
-            why = f"status {done.status} and {done.stderr!r}, wanted {fault!r}"
+            why = f"status {done.status} and {done.stderr!r}, expected {fault!r}"
         return 1, [(why, words, table)] if why else []

@@ -182,7 +182,7 @@ class Registers(Program):
         if planned and planned.status:
             self.check_fault(planned, lands, fault)
         elif planned:
-            self.is_right(f"it is taken, wanted {fault}", fault is None)
+            self.is_right(f"it is taken, expected {fault}", fault is None)
             self.check_taken(planned, lands)
         return 1, [(self.why, "plan", text)] if self.why else []
 
@@ -194,7 +194,7 @@ class Registers(Program):
         self.is_right(f"it printed {planned.out!r}", planned.out == b"")
         if fault is not None:
             expected = f"oldstyle: {self.path('a.toml')}: {fault}\n".encode()
-            self.is_right(f"printed {stderr!r}, wanted {expected!r}", stderr == expected)
+            self.is_right(f"printed {stderr!r}, expected {expected!r}", stderr == expected)
         self.is_right(f"printed {stderr!r}, with control characters",
                       is_later or not CONTROL.search(stderr[:-1]))
         done = self.run("publish", "empty", "a.toml")
@@ -223,5 +223,5 @@ class Registers(Program):
         self.is_right("another text of its own text", second and second.out == first.out)
         if lands is not None:
             found = comparable(lands_of(first.out.decode()))
-            self.is_right(f"read back as {found}, wanted {comparable(lands)}",
+            self.is_right(f"read back as {found}, expected {comparable(lands)}",
                           found == comparable(dict(sorted(lands.items()))))

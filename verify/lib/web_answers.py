@@ -141,12 +141,12 @@ def differences(html, program, journal, code, date, weekday="", order=""):
     lines, stderr = read_page(program, journal, code, date, weekday, order)
     found, expected = days_shown(fragment), days_printed(lines) or runs_printed(lines)
     is_right = found == expected or TWO_WEEKDAYS in stderr
-    wrong = [] if is_right else [f"days {found}, wanted {expected}"]
+    wrong = [] if is_right else [f"days {found}, expected {expected}"]
     notes = [bare(note) for note in fragment.notes if not note.startswith("The date is ")]
     expected = list(dict.fromkeys(map(as_shown, notes_printed(lines, stderr))))
     # (`read` has this for one day alone)
     notes = [note for note in notes if note in expected or note != NOT_DOUBLE]
     is_true = notes == expected if lines else any(map(expected[0].endswith, notes))
     if not is_true:
-        wrong.append(f"notes {notes}, wanted {expected}")
+        wrong.append(f"notes {notes}, expected {expected}")
     return [f"{code} {date!r} {weekday} {order}: {what}" for what in wrong]

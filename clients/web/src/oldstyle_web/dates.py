@@ -172,9 +172,9 @@ def as_sentence(note: str) -> str:
     return note if note.endswith(".") else f"{note}."
 
 
-def cited_day(found: Day) -> str:
-    return _("%(day)s, %(gregorian)s Gregorian, %(julian)s Julian, JDN %(jdn)s", day=full(found),
-             gregorian=in_words(found.gregorian), julian=in_words(found.julian), jdn=found.jdn)
+def cited_day(day: Day) -> str:
+    return _("%(day)s, %(gregorian)s Gregorian, %(julian)s Julian, JDN %(jdn)s", day=full(day),
+             gregorian=in_words(day.gregorian), julian=in_words(day.julian), jdn=day.jdn)
 
 
 def date_found(asking: Asking, code: str, name: str, date: str, weekday: str,
@@ -186,12 +186,13 @@ def date_found(asking: Asking, code: str, name: str, date: str, weekday: str,
     changes = asking.changes_on(code, written["skipped"])
     sources = sources_of(asking.periods(code), shown_runs(written["kind"], runs))
     sources += [change.source for change in changes if change.source]
-    found = DateFound(code, name, date, weekday, order, written, runs, sources,
-                      notes_of(name, written, changes, weekday))
+    content = DateFound(code, name, date, weekday, order, written, runs, sources,
+                        notes_of(name, written, changes, weekday))
     if written["kind"] == "day":
-        found.days = asking.dated_days(code, [run.first.day for run in runs][:MOST_DAYS])
-        found.days.sort(key=lambda day: any(day.found.weekday != other for other in found.weekdays))
-    return found
+        content.days = asking.dated_days(code, [run.first.day for run in runs][:MOST_DAYS])
+        content.days.sort(
+            key=lambda day: any(day.found.weekday != other for other in content.weekdays))
+    return content
 
 
 def in_order(date: str, order: str) -> str:

@@ -99,14 +99,14 @@ def across(first: int, last: int, left: int = MARGIN, right: int = WIDTH - MARGI
     return lambda day: round(left + scale * (min(max(day, first), last + 1) - first), 1)
 
 
-def line_of_time(found: PlaceFound) -> LineOfTime:
-    place = across(*found.window)
-    description = " ".join(map(change_text, found.changes)) or \
-        _("One period, always: %(regime)s.", regime=regime_text(found.periods[0]))
-    boxes = [period_box(number, period, place) for number, period in enumerate(found.periods, 1)]
+def line_of_time(content: PlaceFound) -> LineOfTime:
+    place = across(*content.window)
+    description = " ".join(map(change_text, content.changes)) or \
+        _("One period, always: %(regime)s.", regime=regime_text(content.periods[0]))
+    boxes = [period_box(number, period, place) for number, period in enumerate(content.periods, 1)]
     ticks = [Tick(year, place(day), min(max(place(day), TICK), WIDTH - TICK))
-             for year, day in found.marks]
-    return LineOfTime(found.name, description, boxes, change_marks(found.changes, place), ticks)
+             for year, day in content.marks]
+    return LineOfTime(content.name, description, boxes, change_marks(content.changes, place), ticks)
 
 
 def period_box(number: int, period: Period, place: Place) -> Box:

@@ -21,14 +21,14 @@ class Forms:
 def forms_read() -> list[Forms]:
     """The tables whose first column is what is written."""
     text = files(__package__).joinpath("forms.txt").read_text(encoding="utf-8")
-    found: list[Forms] = []
+    forms: list[Forms] = []
     for section in text.split("\n## ")[1:]:
         title, _, rest = section.partition("\n")
         lines = [line for line in rest.split("\n") if line.startswith("|")]
         if lines and lines[0].startswith(FIRST):
             head, _, *rows = [line.strip("| ").split(" | ") for line in lines]
-            found.append(Forms(title, head, [[cell_of(cell) for cell in row] for row in rows]))
-    return found
+            forms.append(Forms(title, head, [[cell_of(cell) for cell in row] for row in rows]))
+    return forms
 
 
 def cell_of(text: str) -> Cell:

@@ -90,7 +90,7 @@ def month_found(asking: Asking, code: str, name: str, year: int, month: int) -> 
     days = [run_of(run) for run in written["runs"]]
     runs = [run_found(asking, code, run) for run in days]
     periods = asking.periods(code)
-    numbers = {found.day for run in runs for found in run.days}
+    numbers = {day.day for run in runs for day in run.days}
     met = [change for change in asking.changes(code)
            if numbers & {change.before.day, change.found.day}]
     reasons = notes_of(name, written, asking.changes_on(code, written["skipped"]))
@@ -115,9 +115,9 @@ def styles_of(periods: list[Period], days: set[int]) -> list[str]:
 def weeks_of(days: list[Day]) -> list[Week]:
     """Days that follow one another, in weeks from Sunday; None if a week has no day of them."""
     weeks: list[Week] = []
-    for found in days:
-        place = WEEKDAYS.index(found.weekday)
+    for day in days:
+        place = WEEKDAYS.index(day.weekday)
         if not weeks or place == 0:
             weeks.append([None] * 7)
-        weeks[-1][place] = found
+        weeks[-1][place] = day
     return weeks

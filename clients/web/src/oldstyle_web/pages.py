@@ -40,8 +40,8 @@ def date_of_question() -> tuple[Question, int, list[Land], DateFound | None]:
     """The question, the edition, the territories, and what was asked, if it is enough for an
     answer."""
     question = question_of_words()
-    edition, lands, found = dates_found(question, [question.code])
-    return question, edition, lands, found[0] if found else None
+    edition, lands, content = dates_found(question, [question.code])
+    return question, edition, lands, content[0] if content else None
 
 
 def question_of_words() -> Question:
@@ -59,19 +59,19 @@ def dates_found(question: Question, codes: list[str]) -> tuple[int, list[Land], 
             return lands, []
         return lands, [date_found(asking, code, names[code], question.date, question.weekday,
                                   question.order) for code in codes]
-    edition, (lands, found) = page().register.of_one_edition(work)
-    return edition, lands, found
+    edition, (lands, content) = page().register.of_one_edition(work)
+    return edition, lands, content
 
 
 @blueprint.get("/")
 def date() -> Response:
     """One date: the question and its answer."""
     named = named_edition()
-    question, edition, lands, found = date_of_question()
-    title = _("%(date)s in %(name)s", date=question.date, name=found.name) if found else \
+    question, edition, lands, content = date_of_question()
+    title = _("%(date)s in %(name)s", date=question.date, name=content.name) if content else \
         _("One date")
     return written("date.html", edition, title=title, here="date", code=question.code,
-                   named_edition=named, question=question, lands=lands, found=found)
+                   named_edition=named, question=question, lands=lands, content=content)
 
 
 @blueprint.get("/compare")
@@ -80,7 +80,7 @@ def compare() -> Response:
     named, question, other = named_edition(), question_of_words(), code_of(word("other"))
     edition, lands, both = dates_found(question, [question.code, other])
     title = _("%(date)s in %(name)s", date=question.date, name=" / ".join(
-        found.name for found in both)) if both else _("Two places")
+        content.name for content in both)) if both else _("Two places")
     return written("compare.html", edition, title=title, here="compare", code=question.code,
                    other=other, named_edition=named, question=question, lands=lands, both=both)
 
@@ -90,16 +90,16 @@ def answer_json() -> Response:
     """The answer as it is typed: its fragment of the page, its title, its address, and the text
     for screen readers."""
     named_edition()
-    question, edition, lands, found = date_of_question()
-    title = visible(_("%(date)s in %(name)s", date=question.date, name=found.name)
-                    + f" – {_(NAME)}") if found else _(NAME)
+    question, edition, lands, content = date_of_question()
+    title = visible(_("%(date)s in %(name)s", date=question.date, name=content.name)
+                    + f" – {_(NAME)}") if content else _(NAME)
     answer = {"edition": edition, "title": title,
               "html": render_template("answer.html", question=question, edition=edition,
-                                      lands=lands, found=found),
+                                      lands=lands, content=content),
               "address": url_for("pages.date", **{
                   name: text for name, text in vars(question).items() if text})}
-    if found:
-        answer |= {"written": found.written, "announcement": visible(f"{found.cited}.")}
+    if content:
+        answer |= {"written": content.written, "announcement": visible(f"{content.cited}.")}
     return tagged(jsonify(answer), edition)
 
 
@@ -113,15 +113,15 @@ def day() -> Response:
 
     def work(asking: Asking) -> tuple[str, DatedDay]:
         return name_in(asking.lands(), code), asking.dated_days(code, [number])[0]
-    edition, (name, found) = page().register.of_one_edition(work)
+    edition, (name, content) = page().register.of_one_edition(work)
     return written("day.html", edition, title=_("Day %(number)s in %(name)s", number=number,
                                                   name=name), code=code, name=name,
-                   day=found, named_edition=named)
+                   day=content, named_edition=named)
 
 
 @blueprint.get("/month")
 def month() -> Response:
-    """A month as it was lived."""
+    """A month as it was dated."""
     named, code = named_edition(), code_of(word("code"))
     year_asked = number_of("year", word("year"), 0, 10_000)
     month_asked = month_of(word("month")) or 1
@@ -132,10 +132,10 @@ def month() -> Response:
             return lands, "", None
         name = name_in(lands, code)
         return lands, name, month_found(asking, code, name, year_asked, month_asked)
-    edition, (lands, name, found) = page().register.of_one_edition(work)
-    return written("month.html", edition, title=found.title(name) if found else _("A month"),
+    edition, (lands, name, content) = page().register.of_one_edition(work)
+    return written("month.html", edition, title=content.title(name) if content else _("A month"),
                    here="month", code=code, name=name, year=year_asked, month=month_asked,
-                   lands=lands, found=found, named_edition=named)
+                   lands=lands, content=content, named_edition=named)
 
 
 @blueprint.get("/place")
@@ -148,11 +148,12 @@ def place() -> Response:
         if not code:
             return lands, None
         return lands, place_found(asking, code, name_in(lands, code))
-    edition, (lands, found) = page().register.of_one_edition(work)
-    drawn = {"line": line_of_time(found), "details": [(detail, years_of(detail))
-                                                      for detail in found.details]} if found else {}
-    return written("place.html", edition, title=found.name if found else _("Places"), here="place",
-                   code=code, name=word("name").strip()[:60], lands=lands, found=found,
+    edition, (lands, content) = page().register.of_one_edition(work)
+    drawn = {"line": line_of_time(content), "details": [
+        (detail, years_of(detail)) for detail in content.details]} if content else {}
+    title = content.name if content else _("Places")
+    return written("place.html", edition, title=title, here="place",
+                   code=code, name=word("name").strip()[:60], lands=lands, content=content,
                    named_edition=named, **drawn)
 
 
@@ -168,11 +169,11 @@ def year() -> Response:
             return lands, "", None
         name = name_in(lands, code)
         return lands, name, year_found(page().printer, asking, code, year_asked)
-    edition, (lands, name, found) = page().register.of_one_edition(work)
+    edition, (lands, name, content) = page().register.of_one_edition(work)
     return written("year.html", edition, here="year", code=code, name=name, year=year_asked,
-                   title=_("The year %(year)s in %(name)s", year=year_asked, name=name) if found
+                   title=_("The year %(year)s in %(name)s", year=year_asked, name=name) if content
                    else _("A year"), lands=lands,
-                   found=found, named_edition=named)
+                   content=content, named_edition=named)
 
 
 @blueprint.get("/edition")
@@ -186,7 +187,7 @@ def edition() -> Response:
     title = _("Edition %(number)s of %(journal)s", number=number,
               journal=page().settings.journal_name)
     return written("edition.html", newest, title=f"{title}: {code}" if code else title, code=code,
-                   found=edition_found(page().printer, number, code))
+                   content=edition_found(page().printer, number, code))
 
 
 @blueprint.get("/forms")

@@ -112,8 +112,8 @@ def marks_in(asking: Asking, code: str, first: int, last: int) -> list[tuple[int
     low, high = (year_in(end.gregorian) for end in asking.days(code, (first, last)))
     step = next((step for step in STEPS if (high - low) // step < MOST_MARKS), STEPS[-1])
     years = [year for year in range(low - low % step + step, high + 1, step) if 1 <= year <= 9999]
-    found = asking.runs(code, (f"1 January {year:04} N.S." for year in years))
-    return [(year, runs[0].first.day) for year, runs in zip(years, found) if runs]
+    runs_of_years = asking.runs(code, (f"1 January {year:04} N.S." for year in years))
+    return [(year, runs[0].first.day) for year, runs in zip(years, runs_of_years) if runs]
 
 
 def groups(changes: list[Change]) -> list[list[Change]]:
@@ -133,7 +133,7 @@ def rows_about(asking: Asking, code: str, group: list[Change]) -> list[YearRow]:
     first = min(year_in(start.before.label), year_in(start.found.label)) - 1
     last = max(year_in(end.found.label), year_in(end.before.label)) + 1
     years = [year for year in range(first, last + 1)[:12] if 0 <= year <= 9999]
-    found = asking.runs(code, (date for year in years
-                               for date in (f"{year:04}", f"{year:04}/{year + 1:04}")))
+    runs_of_years = asking.runs(code, (date for year in years
+                                       for date in (f"{year:04}", f"{year:04}/{year + 1:04}")))
     return [YearRow(year, runs, [run for run in double if "/" in run.first.dual])
-            for year, runs, double in zip(years, found[::2], found[1::2])]
+            for year, runs, double in zip(years, runs_of_years[::2], runs_of_years[1::2])]

@@ -52,13 +52,13 @@ class Register:
         for _ in range(TRIES):
             asking = Asking(self)
             try:
-                found = work(asking)
+                result = work(asking)
             except Problem:
                 if self.may_answer(asking, least):
                     raise
             else:
                 if self.may_answer(asking, least):
-                    return next(iter(asking.editions), 0), found
+                    return next(iter(asking.editions), 0), result
             time.sleep(0.02)
         raise Problem(503, "The register's edition changes just now, or its journal has fewer "
                       f"editions than before. {AGAIN}", Retry_After="2")

@@ -52,14 +52,14 @@ async function ask() {
     }
 }
 
-function show(found, question) {
+function show(reply, question) {
     current = question;
-    answer.innerHTML = found.html;
-    announcement.textContent = found.announcement ?? "";
-    document.title = found.title;
-    history.replaceState(null, "", found.address);
+    answer.innerHTML = reply.html;
+    announcement.textContent = reply.announcement ?? "";
+    document.title = reply.title;
+    history.replaceState(null, "", reply.address);
     for (const link of document.querySelectorAll("[hreflang]")) {
-        const address = new URL(found.address, location.href);
+        const address = new URL(reply.address, location.href);
         address.searchParams.set("lang", link.hreflang);
         link.href = address;
     }
