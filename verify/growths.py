@@ -16,9 +16,10 @@ its last: of a refused one nothing is saved, and a service has given the replies
 
 What is committed is cloned, and the programs are proved and built there, which takes some ten
 minutes if `rt check` has built the libraries in this checkout, and otherwise proves them again; the
-runs take some two minutes, two at a time. A save that finds no memory to sync the folder has saved,
-and says so: it counts as refused, and is not made again. A publish that finds no memory to open the
-journal reports a read fault.
+runs take some two minutes, two at a time. A save that finds no memory to sync the folder, or for
+the note on the journal that it replaced, has saved: it counts as refused, and is not made again. A
+publish that finds no memory to open the journal says that it can't be opened, and a plan says so
+below its edits. A note that finds no memory is left out.
 growths/growths.c refuses the growths, and requires a C compiler: `cc`, or what CC names.
 """
 import json
@@ -31,7 +32,7 @@ from concurrent.futures import ThreadPoolExecutor
 
 from lib.command_cases import (BEGUN, COMMANDS, EDITS, LEFT, PUBLISH, PUBLISHING, QUERIES,
                                QUESTIONS, SCRIPT)
-from lib.command_cases import SESSION, SETUP, STEPS, TRANSCRIPT
+from lib.command_cases import NO_MEMORY, SESSION, SETUP, STEPS, TRANSCRIPT
 from lib.command_cases import filled, contents_of, is_refused, is_transcript, text_of
 from lib.common import TOP, CommandLine, end, need
 from clone import add_program, built_program, cloned
@@ -52,7 +53,7 @@ LACKS = {"NoMemory\n", "NoPlace\n", "Err(NoMemory)\n", "Err(NoPlace)\n", "Err(Al
 LACKS_AFTER = re.compile(r"Err\(Interrupted \{ lines: (\d+), cause: NoMemory \}\)\n")
 
 NOT_SYNCED = (3, "oldstyle: the journal is saved, but may not be on the disk yet\n")
-NOT_KEPT = (3, "oldstyle: read fault\n")
+NOT_OPENED = "it can't be opened for writing and locked, as on a read-only disk or without memory"
 
 Run = namedtuple("Run", "status output errors growths")
 Row = namedtuple("Row", "growths same again wrong")
@@ -207,41 +208,88 @@ def editions_row(program):
 
 def is_not_kept(words, got):
     """Returns whether a command could not open the journal that it keeps, for lack of memory."""
-    return words.startswith("publish") and got[::2] == NOT_KEPT
+    command, *paths = words.split() or [""]
+    status = {"publish": 3, "plan": 0}.get(command)
+    return got[::2] == (status, f"oldstyle: {(paths or [''])[0]}: {NOT_OPENED}\n")
+
+
+def without_notes(errors):
+    """What was written to standard error, with no note."""
+    return "".join(line for line in errors.splitlines(True) if not line.startswith("note: "))
+
+
+def run_in(command, stdin, refused, folder):
+    """Such a run in a folder, whose name its lines on standard error don't have."""
+    made = run(command, stdin, refused, folder)
+    return made._replace(errors=made.errors.replace(folder, "FOLDER"))
+
+
+class Command:
+    """A command with its input, and what it does with ample memory."""
+
+    def __init__(self, program, words, lines):
+        self.program, self.words, self.stdin = program, words, text_of(lines)
+        with filled() as folder:
+            self.before = contents_of(folder)
+            self.ample = self.run(0, folder)
+            self.after = contents_of(folder)
+
+    def run(self, refused, folder):
+        return run_in([self.program, *self.words.split()], self.stdin, refused, folder)
+
+    def is_whole(self, got):
+        """Returns whether the output is that with ample memory."""
+        return (is_transcript(self.program, got.output) if self.words.startswith("desk")
+                else got.output == self.ample.output)
+
+    def is_right(self, got, folder):
+        return (self.is_whole(got) and got[::2] == self.ample[::2]
+                and contents_of(folder) == self.after)
+
+    def is_saved(self, got):
+        """Returns whether the command says that it has saved, and is not sure or can't say how.
+        Then a publish prints nothing."""
+        is_publish = self.words.startswith("publish")
+        if got[::2] == NOT_SYNCED:
+            return not got.output if is_publish else self.is_whole(got)
+        return got[::2] == NO_MEMORY and self.is_whole(got) and " --save " in self.words
+
+    def is_noted(self, got):
+        """Returns whether only notes are not as with ample memory, below a plan or elsewhere."""
+        without = (self.ample.status, without_notes(self.ample.errors))
+        is_plan = self.words.startswith("plan") and self.ample.status == 0
+        return self.is_whole(got) and (
+            got[::2] == without or is_plan and (got[::2] == NO_MEMORY
+                                                or is_not_kept(self.words, got)))
+
+    def is_front(self, got):
+        """Returns whether the output is that to the first lines of the input."""
+        lines = got.output.splitlines(True) if self.stdin else []
+        return got.output == "".join(self.ample.output.splitlines(True)[: len(lines)])
+
+    def is_refused(self, got):
+        is_publish = self.words.startswith("publish")
+        ends = (is_refused(self.words, *got[::2]) or is_publish and is_not_kept(self.words, got))
+        return ends and self.is_front(got) or self.is_noted(got)
+
+    def outcome(self, number):
+        """What came of a run that was refused a growth, and was made again in its folder."""
+        with filled() as folder:
+            got = self.run(number, folder)
+            if self.is_right(got, folder):
+                return "same"
+            left = contents_of(folder)
+            if left == self.after != self.before and self.is_saved(got):
+                return "saved"
+            if left == self.before and self.is_refused(got):
+                return "again" if self.is_right(self.run(0, folder), folder) else "lost"
+            return got
 
 
 def command_row(program, words, lines):
-    """The row of a command. It is made again in the folder that the refused one left."""
-    command, stdin = [program, *words.split()], text_of(lines)
-    with filled() as folder:
-        before = contents_of(folder)
-        ample = run(command, stdin, 0, folder)
-        after = contents_of(folder)
-
-    def is_right(got, folder):
-        is_desk = words.startswith("desk")
-        is_same_output = (is_transcript(program, got.output) if is_desk
-                          else got.output == ample.output)
-        return is_same_output and got[::2] == ample[::2] and contents_of(folder) == after
-
-    def is_front(output):
-        lines = output.splitlines(True) if stdin else []
-        return output == "".join(ample.output.splitlines(True)[: len(lines)])
-
-    def outcome(number):
-        with filled() as folder:
-            got = run(command, stdin, number, folder)
-            if is_right(got, folder):
-                return "same"
-            is_saved = got[::2] == NOT_SYNCED and got.output == ample.output
-            if is_saved and contents_of(folder) == after:
-                return "saved"
-            ends = is_refused(words, *got[::2]) or is_not_kept(words, got)
-            if ends and is_front(got.output) and contents_of(folder) == before:
-                return "again" if is_right(run(command, stdin, 0, folder), folder) else "lost"
-            return got
-
-    return each_refused(ample.growths, outcome)
+    """The row of a command."""
+    command = Command(program, words, lines)
+    return each_refused(command.ample.growths, command.outcome)
 
 
 # ---- all rows
