@@ -15,6 +15,7 @@ DAY_FACTS = ["As dated there", "Weekday", "Gregorian", "Julian", "Day number",
 TWO_WEEKDAYS = ": the date names "
 OPEN = {"from any earlier day": ("From", "any earlier day"),
         "to   any later day": ("To", "any later day")}
+FEAST = "The date is a feast"
 # What the page has in place of a line of `read`, without a capital letter and a full stop.
 NOT_DOUBLE = "not counted double there: the place wrote only the later year"
 LINE = "the days of the register run from 1 January 1 to 31 December 9999, by the Gregorian calendar"
@@ -103,6 +104,14 @@ def runs_printed(lines):
     return found
 
 
+def found_printed(lines, is_feast):
+    """The days or runs that `read` prints. It prints a feast as a day, which the page has as runs
+    of one day."""
+    if is_feast:
+        return [pair for day in runs_printed(lines) for pair in (day, ("Days", "1"))]
+    return days_printed(lines) or runs_printed(lines)
+
+
 def notes_printed(lines, stderr):
     """The lines of `read` that the page has as notes, each with the source that follows it."""
     if not lines:
@@ -139,7 +148,7 @@ def differences(html, program, journal, code, date, weekday="", order=""):
     """What a fragment says otherwise than `read` prints."""
     fragment = Fragment(html)
     lines, stderr = read_page(program, journal, code, date, weekday, order)
-    found, expected = days_shown(fragment), days_printed(lines) or runs_printed(lines)
+    found, expected = days_shown(fragment), found_printed(lines, FEAST in html)
     is_right = found == expected or TWO_WEEKDAYS in stderr
     wrong = [] if is_right else [f"days {found}, expected {expected}"]
     notes = [bare(note) for note in fragment.notes if not note.startswith("The date is ")]
