@@ -12,7 +12,7 @@ import re
 from lib.common import TOP, CommandLine, end, run
 
 DAY = r"\d+ [A-Z][a-z]+ \d+(?:/\d)?(?: N\.S\.)?"
-NOT_ONE_DAY = "a month, a year or a range is not one day"
+NOT_ONE_DAY = "the date is not written as a day"
 
 
 def rows(document, title):

@@ -275,7 +275,7 @@ def span_page(place, span, weekday=None):
     lines += sureness(span)
     lines += calendar_lines(place, span.reckoning, runs, found(place.territory, span))
     if weekday:
-        lines.append(f"{weekday} is not compared: the date is not one day")
+        lines.append(f"{weekday} is not compared: the date is not written as a day")
     return [f"{span.words()} in {place.heading()}", *lines]
 
 

@@ -17,7 +17,7 @@ SKIPPED = ["Tuesday 31 December 1751 was followed by Wednesday 1 January 1752.",
            "1 January.", "Nearest: Thursday 10 January 1750/1.", "Nearest: Friday 10 January 1752."]
 YEAR = "That year ran there from Monday 25 March 1700 to Monday 24 March 1700/1."
 READ_AS = "Read as New Style, as the date says."
-NOT_SOUGHT = "Friday is not compared: the date is not one day."
+NOT_SOUGHT = "Friday is not compared: the date is not written as a day."
 
 
 @pytest.fixture(scope="module")

@@ -111,7 +111,7 @@ calendar_line p name t w (Some reckoning) =
 unfoldable pub not_sought_line : Option Weekday → List ℕ
 not_sought_line None = []
 not_sought_line (Some weekday) =
-    weekday_name weekday ++ codes " is not compared: the date is not one day\n"
+    weekday_name weekday ++ codes " is not compared: the date is not written as a day\n"
 
 abbrev pub weekday_line : Option Weekday → Option WrittenDate → List ℕ
 weekday_line weekday (Some day) = []

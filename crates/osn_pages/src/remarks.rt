@@ -173,13 +173,13 @@ pub(crate) fn push_not_sought(out: &mut String, weekday: Option<Weekday>) -> Res
         None => Ok(()),
         Some(weekday) => writeln!(
             out,
-            "{} is not compared: the date is not one day",
+            "{} is not compared: the date is not written as a day",
             weekday.name()
         ),
     }
 }
 
-/// Appends that the weekday is not compared, if the date is not one day.
+/// Appends that the weekday is not compared, if the date is not written as a day.
 fn push_weekday(
     out: &mut String,
     weekday: Option<Weekday>,

@@ -38,7 +38,7 @@ usual_text faults.Day = codes "a day of a month is 1 to 31"
 usual_text faults.NoDate = codes
     "it says that there is no date: write a day, such as \"11 February 1731\""
 usual_text faults.NotOneDay = codes
-    "a month, a year or a range is not one day: write the day, such as \"11 February 1731\""
+    "the date is not written as a day: write it as in \"11 February 1731\""
 usual_text faults.Qualifier = codes
     "about, ?, [ ], O.S. and the like say more than the day: write only the day"
 usual_text faults.ShortYear =

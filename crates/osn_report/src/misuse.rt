@@ -80,7 +80,7 @@ such as 1640-1645"
             "it says that there is no date: write a day, such as \"11 February 1731\""
         }
         DateFault::NotOneDay => {
-            "a month, a year or a range is not one day: write the day, such as \"11 February 1731\""
+            "the date is not written as a day: write it as in \"11 February 1731\""
         }
         DateFault::Qualifier => {
             "about, ?, [ ], O.S. and the like say more than the day: write only the day"

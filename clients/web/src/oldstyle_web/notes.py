@@ -91,7 +91,7 @@ def remarks_of(name: str, written: dict[str, Any], weekday: str) -> Iterator[str
         yield f"{text} {own_dates(name, written)}"
     if written["kind"] not in ("day", "none"):
         if sought := named or weekday:
-            yield _("%(day)s is not compared: the date is not one day.", day=_(sought))
+            yield _("%(day)s is not compared: the date is not written as a day.", day=_(sought))
 
 
 def own_dates(name: str, written: dict[str, Any]) -> str:
