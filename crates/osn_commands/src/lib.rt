@@ -1,8 +1,8 @@
 //! `run`, which does what a command line asks for over the files of a folder, and the commands of
 //! the register as a text: `text` prints it, `plan` prints the edits that change a journal into
 //! what a text says, and `publish` makes them one edition. What the crate promises to the program
-//! above: the command that the arguments ask for was run, under the limits and with the files that
-//! they name. Or the fault of the arguments was shown. A publish leaves the file of the journal
+//! above: the command that the arguments ask for is run, under the limits and with the files that
+//! they name, or the fault of the arguments is reported. A publish leaves the file of the journal
 //! with the whole edition, or as it was, also if the journal is new or is rewritten. A command that
 //! ends early reports why in one line on standard error.
 #![tactic(auto)]

@@ -1,10 +1,9 @@
-//! The sequential object over the register, and the machine that readers and one editor step over
-//! two copies of it. What the crate promises to those above: over every list of steps, the editor
-//! and the readers get what the sequential object gives them. Each query is answered as at the
-//! place where its reader entered. The editions of a journal that are looked at. The crate
-//! guarantees that an edition that is asked for by its number has the register of the first
-//! batches, as many as that number, and no pending edit. Without a number it is the newest one. A
-//! number that is greater than that of the newest edition is refused.
+//! The sequential object over the register, an edition of it that is looked at, and the machine
+//! that readers and one editor step over two copies of it. What the crate promises to those above:
+//! over every list of steps, the editor and the readers get what the sequential object gives them,
+//! and each query is answered as at the place where its reader entered. An edition that is asked
+//! for by its number has the register of the first batches, as many as that number, and no pending
+//! edit; without a number it is the newest one. A number beyond the newest edition is refused.
 #![tactic(auto)]
 
 mod batch;

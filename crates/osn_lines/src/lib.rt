@@ -1,9 +1,9 @@
-//! Lines of bytes: what they are read from and written to, how they are cut, and the loop that
-//! gives each line to what takes lines; and how a line of a message has the text of a user. The
-//! crate guarantees that `take_lines` gives exactly the lines of the input, in order, in whatever
-//! pieces the bytes come. If it ends early, it returns the number of lines and why. `read_all` has
-//! all bytes of an input in memory. `Shown` escapes what a terminal acts on, and `is_near` decides
-//! which name a mistyped word may be meant for.
+//! Lines of bytes: what they are read from and written to, how they are cut, the loop that gives
+//! each line to what takes lines, and how a message quotes the text of a user. The crate guarantees
+//! that `take_lines` gives exactly the lines of the input, in order, in whatever pieces the bytes
+//! come. If it ends early, it returns the number of lines and why. `read_all` has all bytes of an
+//! input in memory. `Escaped` escapes what a terminal acts on, and `is_near` decides which name a
+//! mistyped word may be meant for.
 #![tactic(auto)]
 
 mod bytes;

@@ -97,7 +97,7 @@ abbrev pub last_day : ℕ → List ℕ → ℕ
 last_day d [] = d
 last_day d (next ∷ ds) = last_day next ds
 
--- from which day to which the year went
+-- from which day to which the year ran
 unfoldable pub year_ends_line : ℕ → DatedDay → DatedDay → List ℕ
 year_ends_line year first last =
     codes "no such date in that year: " ++ (year_ends year first last ++ codes "\n")

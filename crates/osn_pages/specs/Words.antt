@@ -32,7 +32,7 @@ named_day x = weekday_words x.day ++ (codes " " ++ dated_text x)
 unfoldable pub numbered_day : DatedDay → List ℕ
 numbered_day x = named_day x ++ (codes " (day " ++ (decimal x.day ++ codes ")"))
 
--- from which day to which a year went: the year 1731 ran there from .. to ..
+-- from which day to which a year ran: the year 1731 ran there from .. to ..
 unfoldable pub year_ends : ℕ → DatedDay → DatedDay → List ℕ
 year_ends year first last =
     codes "the year "

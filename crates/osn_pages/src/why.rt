@@ -204,7 +204,7 @@ fn push_skips(
     Ok(())
 }
 
-/// Appends from which day to which a year went.
+/// Appends from which day to which a year ran.
 #[tactic(auto, unfolding(crate::specs::Why::year_ends_line))]
 fn push_year_ends(
     out: &mut String,
@@ -231,7 +231,7 @@ fn push_no_year(out: &mut String, year: u16) -> Result<(), AllocError>
     push_empty_year(out, year as u32)
 }
 
-/// Appends from which day to which a year went, of which these are the runs of days.
+/// Appends from which day to which a year ran, of which these are the runs of days.
 fn push_year(
     out: &mut String,
     territory: &Territory,
@@ -255,7 +255,7 @@ fn push_year(
     )
 }
 
-/// Appends from which day to which the date's year went, and the nearest days.
+/// Appends from which day to which the date's year ran, and the nearest days.
 fn push_not_in_year(
     alloc: Global,
     out: &mut String,

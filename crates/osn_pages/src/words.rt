@@ -64,7 +64,7 @@ impl fmt::Display for NumberedDay {
     }
 }
 
-/// From which day to which a year went.
+/// From which day to which a year ran.
 #[derive(Clone, Copy, Debug, PartialEq, Eq)]
 pub struct YearEnds {
     /// The year as the territory counted it.

@@ -218,7 +218,7 @@ fn push_all(out: &mut String, year: Year, days: &[DatedDay]) -> Result<(), Alloc
     push_pieces(out, Part::Month, year, days)
 }
 
-/// Appends from which day to which the year went, and its months.
+/// Appends from which day to which the year ran, and its months.
 pub(crate) fn push_days(
     alloc: Global,
     out: &mut String,

@@ -56,7 +56,7 @@ impl<F> From<AllocError> for StoreFault<F> {
     }
 }
 
-/// A sequential object, which may keep its changes. The words `kept` and `not_kept` are its own.
+/// A sequential object, which may keep its changes. What `has_kept` and `has_lost` say is its own.
 pub trait Store {
     /// Why a change could not be kept.
     type Fault: Drop;
