@@ -13,6 +13,7 @@ pub mod LaterFacts
 pub mod LawFacts
 pub mod LetterFacts
 pub mod MarkFacts
+pub mod NameFacts
 pub mod PartFacts
 pub mod PassFacts
 pub mod PlaceFacts

@@ -1,6 +1,7 @@
 pub mod Faults
 pub mod PlaceEntries
 pub mod RowFields
+pub mod TerritoryNames
 pub mod Span
 pub mod Edtf
 pub mod EdtfLaw

@@ -9,12 +9,12 @@ use crate::added_fields::Summary;
 use crate::edtf::{edtf_of_days, edtf_of_span, sign};
 use crate::places::Places;
 use crate::remark::{PossibleRemark, Remark, applying, remarks_beside, remarks_on_days};
-use crate::row_field::{date_of_field, is_malformed_weekday, territory_in, weekday_in};
+use crate::row_field::{date_of_field, is_malformed_weekday, weekday_in};
 use crate::set::fields_of_set;
 use crate::span::{NO_SPAN, span_of_days, span_of_runs};
+use crate::territory_finder::TerritoryFinder;
 use osn_days::Weekday;
 use osn_grammar::{DateOrder, Written};
-use osn_register::Register;
 use osn_territory::{DatedDay, Run, Territory};
 use osn_written::{
     AnyDate, DateFault, Kind, NoDay, WrittenDate, absence_of, by_reckoning, dated_by, days_meant,
@@ -314,7 +314,7 @@ fn fields_without_date(
 #[tactic(auto, using(crate::proofs::EdtfFacts::runs_read, crate::proofs::EdtfFacts::days_read))]
 pub fn row_fields(
     alloc: Global,
-    register: &Register,
+    territories: &mut TerritoryFinder<'_>,
     edition: usize,
     order: DateOrder,
     places: Option<&Places>,
@@ -323,14 +323,15 @@ pub fn row_fields(
     weekday: Option<&[u8]>,
 ) -> Result<LetterFields, AllocError>
     ensures value { IfOk result (λ made. spec.fields_and_remarks made
-        ≡ spec.row_fields newest_rules register.now.territories edition order
+        ≡ spec.row_fields newest_rules territories.old edition order
         (unwrap_or (option_map (λ places. places.now) places.entry) []) place.now date.now
         (option_map (λ w. w.now) weekday.entry)) }
+    ensures kept { territories.new ≡ territories.old }
     // as laws: what `edtf` has of several runs or days is read as the set of these
     ensures runs { AreRunsRead newest_rules }
     ensures days { AreDaysRead newest_rules }
 {
-    let territory = territory_in(register, places, place);
+    let territory = territories.find(alloc, places, place)?;
     let lacks_place = territory.is_none();
     match date_of_field(alloc, order, date)? {
         Ok(Written::Date(date)) => fields_of_date(alloc, edition, territory, date, weekday),

@@ -18,6 +18,7 @@ use crate::settings::TableSettings;
 use crate::start::{ByteOrderMark, MARK};
 use crate::table::Table;
 use crate::tally::Tally;
+use crate::territory_finder::TerritoryFinder;
 use osn_register::Register;
 use std::alloc::Global;
 
@@ -52,7 +53,7 @@ impl<'a> Letters<'a> {
             parser: RecordParser::new(alloc, settings.separator),
             table: Table {
                 alloc,
-                register,
+                territories: TerritoryFinder::new(register),
                 edition,
                 settings,
                 rows: None,

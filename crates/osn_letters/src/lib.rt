@@ -33,6 +33,7 @@ mod start;
 mod stream;
 mod table;
 mod tally;
+mod territory_finder;
 
 pub use added_column::AddedColumn;
 pub use columns::{ColumnNames, Columns, DateColumns, DateNames, WeekdayName, find_columns};
@@ -46,3 +47,4 @@ pub use separator::Separator;
 pub use settings::TableSettings;
 pub use stream::write_letters;
 pub use tally::Tally;
+pub use territory_finder::TerritoryFinder;

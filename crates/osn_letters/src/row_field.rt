@@ -1,13 +1,9 @@
-//! What the fields of a row say: the date, the territory and the weekday.
-ghost use Rattle.std.specs.Prelude.{◌≡◌, [], option_map, unwrap_or, IfOk};
-ghost use Rattle.osn_letters.specs.PlaceEntries as entries;
+//! What the fields of a row say: the date and the weekday.
+ghost use Rattle.std.specs.Prelude.{◌≡◌, option_map, IfOk};
 ghost use Rattle.osn_letters.specs.RowFields as spec;
 
-use crate::places::Places;
 use osn_days::Weekday;
 use osn_grammar::{DateOrder, Written, members_of, read_date};
-use osn_register::Register;
-use osn_territory::Territory;
 use osn_written::{AnyDate, DateFault, weekday_named};
 use std::alloc::{AllocError, Global};
 use std::str;
@@ -47,50 +43,6 @@ pub(crate) fn members_in(alloc: Global, field: &[u8]) -> Result<Vec<AnyDate>, Al
     match text_in_field(field) {
         Some(text) => members_of(alloc, text),
         None => Ok(Vec::new(alloc)),
-    }
-}
-
-/// Returns the territory of a code, if some territory has it.
-fn territory_of_code<'a>(register: &'a Register, code: &str) -> Option<&'a Territory>
-    ensures { option_map (λ t. t.now) result
-        ≡ spec.territory_of_code register.now.territories code.now }
-{
-    let (_, territory) = register.territory(code).ok()?;
-    Some(territory)
-}
-
-/// Returns the territory of a code, or else the first one of a name.
-fn territory_of_text<'a>(register: &'a Register, text: &str) -> Option<&'a Territory>
-    ensures { option_map (λ t. t.now) result
-        ≡ spec.territory_of_text register.now.territories text.now }
-{
-    match territory_of_code(register, text) {
-        Some(territory) => Some(territory),
-        None => register.territory_named(text),
-    }
-}
-
-/// Returns the code that a table of places has for a text.
-fn code_of<'a>(places: Option<&'a Places>, text: &str) -> Option<&'a str>
-    ensures { option_map (λ code. code.now) result ≡ entries.code_of text.now
-        (unwrap_or (option_map (λ places. places.now) places.entry) []) }
-{
-    places?.code_of(text)
-}
-
-/// Returns the territory of a field.
-pub(crate) fn territory_in<'a>(
-    register: &'a Register,
-    places: Option<&Places>,
-    place: &[u8],
-) -> Option<&'a Territory>
-    ensures { option_map (λ t. t.now) result ≡ spec.territory_in register.now.territories
-        (unwrap_or (option_map (λ places. places.now) places.entry) []) place.now }
-{
-    let text = text_in_field(place)?;
-    match code_of(places, text) {
-        Some(code) => territory_of_code(register, code),
-        None => territory_of_text(register, text),
     }
 }
 

@@ -18,8 +18,8 @@ use crate::letter::{LetterFields, row_fields};
 use crate::separator::Separator;
 use crate::settings::TableSettings;
 use crate::tally::Tally;
+use crate::territory_finder::TerritoryFinder;
 use csv::ByteRecord;
-use osn_register::Register;
 use std::alloc::{AllocError, Global};
 use std::mem;
 
@@ -36,7 +36,7 @@ pub(crate) struct Rows {
 #[derive(Drop)]
 pub(crate) struct Table<'a> {
     pub(crate) alloc: Global,
-    pub(crate) register: &'a Register,
+    pub(crate) territories: TerritoryFinder<'a>,
     pub(crate) edition: usize,
     pub(crate) settings: TableSettings<'a>,
     pub(crate) rows: Option<Rows>,
@@ -102,17 +102,18 @@ impl Table<'_> {
 
     /// Returns the twelve fields of a record, with the text of its date, and its remarks.
     fn letter_with_date(
-        &self,
+        &mut self,
         columns: Columns,
         row: &ByteRecord,
         date: &[u8],
     ) -> Result<LetterFields, AllocError>
-        ensures { IfOk result (λ made. fields_and_remarks made ≡ spec.letter_with_date
-            (inside.source_of self.now) columns (fields_of row.now) date.now) }
+        ensures value { IfOk result (λ made. fields_and_remarks made ≡ spec.letter_with_date
+            (inside.source_of self.old) columns (fields_of row.now) date.now) }
+        ensures kept { self.new ≡ self.old }
     {
         row_fields(
             self.alloc,
-            self.register,
+            &mut self.territories,
             self.edition,
             self.settings.order,
             self.settings.places,
@@ -123,9 +124,10 @@ impl Table<'_> {
     }
 
     /// Returns the twelve fields of a record, and its remarks.
-    fn letter_of(&self, columns: Columns, row: &ByteRecord) -> Result<LetterFields, AllocError>
-        ensures { IfOk result (λ made. fields_and_remarks made ≡ spec.letter_of
-            (inside.source_of self.now) columns (fields_of row.now)) }
+    fn letter_of(&mut self, columns: Columns, row: &ByteRecord) -> Result<LetterFields, AllocError>
+        ensures value { IfOk result (λ made. fields_and_remarks made ≡ spec.letter_of
+            (inside.source_of self.old) columns (fields_of row.now)) }
+        ensures kept { self.new ≡ self.old }
     {
         match columns.date {
             DateColumns::Whole(index) => self.letter_with_date(columns, row, field_at(row, index)),
