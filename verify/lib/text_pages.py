@@ -182,7 +182,8 @@ def edit_words(lands, expected, edit):
 
 
 def absent_lines(lands, expected):
-    return [f"{code}: not in the text, stays as it is" for code in lands if code not in expected]
+    absent = [code for code in lands if code not in expected]
+    return ["not in the text, so unchanged: " + " ".join(absent)] if absent else []
 
 
 def plan_end(count, editions):

@@ -53,12 +53,12 @@ value_help words =
 abbrev pub words_taken : Text → ℕ
 words_taken command =
     if bytes_eq command (codes "serve") then 0
-    else (if bytes_eq command (codes "letters") || (bytes_eq command (codes "replay")
-    || (bytes_eq command (codes "editions") || bytes_eq command (codes "completions"))) then 1
-    else (if bytes_eq command (codes "convert") || (bytes_eq command (codes "territory")
-    || (bytes_eq command (codes "text") || (bytes_eq command (codes "plan")
-    || (bytes_eq command (codes "publish") || (bytes_eq command (codes "audit")
-    || bytes_eq command (codes "desk")))))) then 2
+    else (if bytes_eq command (codes "replay") || (bytes_eq command (codes "editions")
+    || (bytes_eq command (codes "completions") || bytes_eq command (codes "check"))) then 1
+    else (if bytes_eq command (codes "letters") || (bytes_eq command (codes "convert")
+    || (bytes_eq command (codes "territory") || (bytes_eq command (codes "text")
+    || (bytes_eq command (codes "plan") || (bytes_eq command (codes "publish")
+    || (bytes_eq command (codes "audit") || bytes_eq command (codes "desk"))))))) then 2
     else (if bytes_eq command (codes "month") then 4
     else 3)))
 
@@ -94,18 +94,15 @@ abbrev pub is_named_twice : List Text → Bool
 is_named_twice words =
     has_journal_option words && plain_count words == words_taken (command_in words)
 
--- a table or a journal that is given otherwise, or a text that is not in quotes
+-- a journal that is given otherwise, or a text that is not in quotes
 abbrev pub surplus_help : Text → Text
 surplus_help command =
     if bytes_eq command (codes "serve")
     then codes "help: name the journal by an option: oldstyle serve --journal FILE\n"
-    else (if bytes_eq command (codes "letters")
-    then codes "help: the table is read from standard input: oldstyle letters JOURNAL < TABLE\n"
     else (if takes_date command || bytes_eq command (codes "territory")
     then codes "help: put a date or a name of several words in quotes: \"11 February 1731\"\n"
     else codes
-    "help: put a path that has spaces in quotes: oldstyle help COMMAND lists the arguments\n"
-    ))
+    "help: put a path that has spaces in quotes: oldstyle help COMMAND lists the arguments\n")
 
 abbrev pub has_surplus : List Text → Bool
 has_surplus words = nat_lt (words_taken (command_in words)) (plain_count words)

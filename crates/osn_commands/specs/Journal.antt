@@ -21,10 +21,11 @@ words_without command =
     else (if bytes_eq command (codes "editions") then Some 0
     else (if bytes_eq command (codes "read") then Some 2
     else (if bytes_eq command (codes "day") then Some 2
+    else (if bytes_eq command (codes "diff") then Some 2
     else (if bytes_eq command (codes "year") then Some 2
     else (if bytes_eq command (codes "almanac") then Some 2
     else (if bytes_eq command (codes "month") then Some 3
-    else None))))))))
+    else None)))))))))
 
 -- the words leave out the file of the journal
 abbrev pub leaves_out_journal : List Text → Bool

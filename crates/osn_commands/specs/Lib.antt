@@ -4,6 +4,9 @@ pub mod PlanWords
 pub mod Note
 pub mod PlanFault
 pub mod Plan
+pub mod Check
+pub mod DiffWords
+pub mod Diff
 pub mod Edition
 pub mod Since
 pub mod Publish
@@ -11,6 +14,7 @@ pub mod PublishInside
 pub mod Keeping
 pub mod InFolder
 pub mod PublishFolder
+pub mod LettersTable
 pub mod Completions
 pub mod Limits
 pub mod Run

@@ -12,7 +12,8 @@ use Rattle.osn_invocation.specs.Grammar.{command_line}
 use Rattle.osn_invocation.specs.Invocation.{CommandModel, InvocationModel}
 use Rattle.osn_invocation.specs.Invocation.{serving, replaying, working, printing}
 use Rattle.osn_invocation.specs.Invocation.{auditing, converting, completing, reading_letters}
-use Rattle.osn_invocation.specs.Invocation.{listing, planning, publishing, writing_text}
+use Rattle.osn_invocation.specs.Invocation.{listing, comparing, checking, planning, publishing}
+use Rattle.osn_invocation.specs.Invocation.{writing_text}
 use Rattle.osn_invocation.specs.Invocation.{invocation_in}
 use Rattle.osn_lines.specs.Streams.{Input, Output}
 use Rattle.osn_file_commands.specs.Audit.{Audits, AuditFails}
@@ -20,7 +21,6 @@ use Rattle.osn_file_commands.specs.Replay.{Replays, ReplayFails}
 use Rattle.osn_file_commands.specs.Transcript.{Transcribes, TranscribesNot}
 use Rattle.osn_page_commands.specs.Conversion.{PrintsConversion}
 use Rattle.osn_page_commands.specs.EditionList.{PrintsEditions}
-use Rattle.osn_page_commands.specs.LettersFiles.{RunsLetters}
 use Rattle.osn_page_commands.specs.Page.{PageFails, RunsPage}
 use Rattle.osn_report.specs.Folders.{Folders, ReadsOne, ReadsTwo}
 use Rattle.osn_report.specs.Failure.{FailsOnOne, FailsOnTwo, IsNotRead}
@@ -32,11 +32,14 @@ use Rattle.osn_report.specs.declared.status.Status.{Status}
 use Rattle.osn_report.specs.declared.status.Status.TheVariants as statuses
 use Rattle.osn_serve_commands.specs.InFolder.{RunsServing, opened_by}
 use Rattle.osn_serve_commands.specs.Mode.{mode_by}
+use Rattle.osn_commands.specs.Check.{PrintsCheck}
+use Rattle.osn_commands.specs.Diff.{RunsDiff}
 use Rattle.osn_commands.specs.InFolder.{PlansInFolder, RunsText}
 use Rattle.osn_commands.specs.PublishFolder.{PublishesInFolder}
 use Rattle.osn_commands.specs.Completions.{PrintsCompletions}
 use Rattle.osn_commands.specs.Help.{help_on}
 use Rattle.osn_commands.specs.Journal.{with_journal}
+use Rattle.osn_commands.specs.LettersTable.{RunsTable}
 use Rattle.osn_commands.specs.Limits.{limits_of_words}
 
 -- ---- each command
@@ -66,12 +69,16 @@ Runs limits (converting calendar date) CanFail CanStay d i o e status =
     (d.after ≡ d.before) × PrintsConversion calendar date o e status
 Runs limits (completing shell) CanFail CanStay d i o e status =
     (d.after ≡ d.before) × PrintsCompletions shell o e status
-Runs limits (reading_letters journal asked) CanFail CanStay d i o e status =
-    RunsLetters limits journal asked CanFail d i o e status
+Runs limits (reading_letters journal table asked) CanFail CanStay d i o e status =
+    RunsTable limits journal table asked CanFail d i o e status
 Runs limits (listing journal) CanFail CanStay d i o e status =
     ReadsOne journal CanFail d (λ file. PrintsEditions limits journal file o e status)
+Runs limits (comparing journal from to) CanFail CanStay d i o e status =
+    RunsDiff limits journal from to CanFail d o e status
 Runs limits (writing_text journal edition code) CanFail CanStay d i o e status =
     RunsText limits journal edition code CanFail d o e status
+Runs limits (checking text) CanFail CanStay d i o e status =
+    ReadsOne text CanFail d (λ file. PrintsCheck limits text file o e status)
 Runs limits (planning journal text) CanFail CanStay d i o e status =
     PlansInFolder limits journal text CanFail d o e status
 Runs limits (publishing journal text onto_newest) CanFail CanStay d i o e status =
@@ -101,11 +108,13 @@ Fails limits (auditing journal transcript) CanFail d path fault =
     FailsOnTwo journal transcript CanFail d (AuditFails limits) path fault
 Fails limits (converting calendar date) CanFail d path fault = ⊥
 Fails limits (completing shell) CanFail d path fault = ⊥
-Fails limits (reading_letters journal asked) CanFail d path fault =
+Fails limits (reading_letters journal table asked) CanFail d path fault =
     IsOpenFailure journal d path fault
 Fails limits (listing journal) CanFail d path fault = IsOpenFailure journal d path fault
+Fails limits (comparing journal from to) CanFail d path fault = IsOpenFailure journal d path fault
 Fails limits (writing_text journal edition code) CanFail d path fault =
     IsOpenFailure journal d path fault
+Fails limits (checking text) CanFail d path fault = IsOpenFailure text d path fault
 Fails limits (planning journal text) CanFail d path fault = IsOpenFailure journal d path fault
 Fails limits (publishing journal text onto_newest) CanFail d path fault =
     IsOpenFailure text d path fault

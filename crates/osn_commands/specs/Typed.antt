@@ -19,8 +19,9 @@ begins_with_journal command =
     || (bytes_eq command (codes "month") || (bytes_eq command (codes "year")
     || (bytes_eq command (codes "territory") || (bytes_eq command (codes "letters")
     || (bytes_eq command (codes "text") || (bytes_eq command (codes "editions")
-    || (bytes_eq command (codes "plan") || (bytes_eq command (codes "publish")
-    || (bytes_eq command (codes "almanac") || bytes_eq command (codes "audit")))))))))))
+    || (bytes_eq command (codes "diff") || (bytes_eq command (codes "plan")
+    || (bytes_eq command (codes "publish") || (bytes_eq command (codes "almanac")
+    || bytes_eq command (codes "audit"))))))))))))
 
 -- the options without a value
 abbrev pub is_flag : Text → Bool

@@ -34,9 +34,6 @@ const JSON: &str =
 
 const SERVED: &str = "help: name the journal by an option: oldstyle serve --journal FILE\n";
 
-const TABLE: &str =
-    "help: the table is read from standard input: oldstyle letters JOURNAL < TABLE\n";
-
 const QUOTES: &str =
     "help: put a date or a name of several words in quotes: \"11 February 1731\"\n";
 
@@ -86,8 +83,8 @@ fn words_taken(command: &str) -> usize
 {
     match command {
         "serve" => 0,
-        "letters" | "replay" | "editions" | "completions" => 1,
-        "convert" | "territory" | "text" | "plan" | "publish" | "audit" | "desk" => 2,
+        "replay" | "editions" | "completions" | "check" => 1,
+        "letters" | "convert" | "territory" | "text" | "plan" | "publish" | "audit" | "desk" => 2,
         "month" => 4,
         _ => 3,
     }
@@ -183,7 +180,6 @@ fn surplus_help(command: &str) -> &'static str
 {
     match command {
         "serve" => SERVED,
-        "letters" => TABLE,
         "territory" => QUOTES,
         _ if takes_date(command) => QUOTES,
         _ => PATH,

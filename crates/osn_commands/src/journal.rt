@@ -21,6 +21,7 @@ pub(crate) fn words_without(command: &str) -> Option<usize>
         "editions" => Some(0),
         "read" => Some(2),
         "day" => Some(2),
+        "diff" => Some(2),
         "year" => Some(2),
         "almanac" => Some(2),
         "month" => Some(3),

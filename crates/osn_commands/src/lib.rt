@@ -7,7 +7,11 @@
 //! ends early reports why in one line on standard error.
 #![tactic(auto)]
 
+mod check;
 mod completing;
+mod diff;
+mod diff_folder;
+mod diff_words;
 mod display;
 mod edition;
 mod help;
@@ -15,6 +19,7 @@ mod in_folder;
 mod journal;
 mod keeping;
 mod kept_journal;
+mod letters_table;
 mod limits;
 mod note;
 mod plan;
@@ -28,10 +33,14 @@ mod text;
 mod text_file;
 mod typed;
 
+pub use check::{check_command, check_in_folder};
+pub use diff::diff_command;
+pub use diff_folder::diff_in_folder;
 pub use display::report_no_words;
 pub use edition::WholeEdition;
 pub use in_folder::{plan_in_folder, text_in_folder};
 pub use kept_journal::publish_in_folder;
+pub use letters_table::table_in_folder;
 pub use plan::plan_command;
 pub use program::run;
 pub use publish::publish_command;

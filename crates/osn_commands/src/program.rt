@@ -12,18 +12,21 @@ ghost use Rattle.osn_report.specs.declared.fault.CommandFault.{CommandFault};
 ghost use Rattle.osn_commands.specs.PublishInside.{CanStay};
 ghost use Rattle.osn_commands.specs.Run.{Fails, Runs, RunsArgs, RunsInvocation, RunsWords};
 
+use crate::check::check_in_folder;
 use crate::completing::completions_command;
+use crate::diff_folder::diff_in_folder;
 use crate::display::show;
 use crate::help::help_on;
 use crate::in_folder::{plan_in_folder, text_in_folder};
 use crate::journal::with_journal;
 use crate::kept_journal::publish_in_folder;
+use crate::letters_table::table_in_folder;
 use crate::limits::limits_of_words;
 use osn_file_commands::{audit_in_folder, desk_in_folder, replay_in_folder};
 use osn_folder::{Folder, OpenFailed};
 use osn_invocation::{CommandWords, Invocation, parse_args};
 use osn_lines::{Sink, Source};
-use osn_page_commands::{convert_command, editions_in_folder, letters_in_folder, page_in_folder};
+use osn_page_commands::{convert_command, editions_in_folder, page_in_folder};
 use osn_register::Limits;
 use osn_report::{
     CommandFault, Failure, Status, print_or_report, report_at, report_misuse, report_no_memory,
@@ -230,14 +233,22 @@ where
             let made = audit_in_folder(alloc, limits, folder, journal, transcript, terminal);
             printed(made, output, errors)
         }
-        CommandWords::Letters { journal, options } => {
-            let done = letters_in_folder(
-                alloc, limits, folder, journal, options, input, output, errors, terminal,
+        CommandWords::Letters {
+            journal,
+            table,
+            options,
+        } => {
+            let done = table_in_folder(
+                alloc, limits, folder, journal, table, options, input, output, errors, terminal,
             );
             opened(journal, done)
         }
         CommandWords::Editions { journal } => {
             let done = editions_in_folder(alloc, limits, folder, journal, output, errors);
+            opened(journal, done)
+        }
+        CommandWords::Diff { journal, from, to } => {
+            let done = diff_in_folder(alloc, limits, folder, journal, from, to, output, errors);
             opened(journal, done)
         }
         CommandWords::Text {
@@ -249,6 +260,10 @@ where
                 alloc, limits, folder, journal, edition, code, output, errors,
             );
             opened(journal, done)
+        }
+        CommandWords::Check { text } => {
+            let done = check_in_folder(alloc, limits, folder, text, output, errors);
+            opened(text, done)
         }
         CommandWords::Plan { journal, text } => {
             let done = plan_in_folder(alloc, limits, folder, journal, text, output, errors);

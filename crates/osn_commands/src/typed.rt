@@ -40,6 +40,7 @@ pub(crate) fn begins_with_journal(command: &str) -> bool
             | "letters"
             | "text"
             | "editions"
+            | "diff"
             | "plan"
             | "publish"
             | "almanac"

@@ -28,7 +28,7 @@ abbrev pub is_file : Text → Bool
 is_file id = list_any (bytes_eq id)
     (codes "journal" ∷ codes "journal-file" ∷ codes "save" ∷ codes "keep" ∷ codes "follow"
     ∷ codes "schedule" ∷ codes "script" ∷ codes "questions" ∷ codes "transcript" ∷ codes "text"
-    ∷ codes "places" ∷ [])
+    ∷ codes "table" ∷ codes "places" ∷ [])
 
 -- what the value of the argument of this name may be: FILE is the path of a file, TEXT any text,
 -- and otherwise it is one of these words

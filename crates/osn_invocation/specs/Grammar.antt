@@ -122,13 +122,14 @@ abbrev pub territory_grammar : App
 territory_grammar = command_with (codes "territory") (journal_arg ∷ optional_arg (codes "code")
     ∷ json_option ∷ edition_option ∷ journal_option ∷ limits_option ∷ [])
 
--- `letters JOURNAL [--place NAME] [--date NAME] [--year NAME] [--month NAME] [--day NAME]
+-- `letters JOURNAL [TABLE] [--place NAME] [--date NAME] [--year NAME] [--month NAME] [--day NAME]
 -- [--weekday NAME] [--places FILE] [--separator NAME] [--order ORDER] [--strict] [--summary]
 -- [--edition N] [--journal FILE] [--limits LIMITS]`
 abbrev pub letters_grammar : App
-letters_grammar = command_with (codes "letters") (journal_arg ∷ value_option (codes "place")
-    ∷ value_option (codes "date") ∷ value_option (codes "year") ∷ value_option (codes "month")
-    ∷ value_option (codes "day") ∷ value_option (codes "weekday") ∷ value_option (codes "places")
+letters_grammar = command_with (codes "letters") (journal_arg ∷ optional_arg (codes "table")
+    ∷ value_option (codes "place") ∷ value_option (codes "date") ∷ value_option (codes "year")
+    ∷ value_option (codes "month") ∷ value_option (codes "day") ∷ value_option (codes "weekday")
+    ∷ value_option (codes "places")
     ∷ value_option (codes "separator") ∷ value_option (codes "order")
     ∷ flag_option (codes "strict") ∷ flag_option (codes "summary") ∷ edition_option
     ∷ journal_option ∷ limits_option ∷ [])
@@ -146,6 +147,10 @@ abbrev pub text_grammar : App
 text_grammar = command_with (codes "text") (journal_arg ∷ optional_arg (codes "code")
     ∷ edition_option ∷ journal_option ∷ limits_option ∷ [])
 
+-- `check TEXT [--limits LIMITS]`
+abbrev pub check_grammar : App
+check_grammar = command_with (codes "check") (required_arg (codes "text") ∷ limits_option ∷ [])
+
 -- `plan JOURNAL TEXT [--journal FILE] [--limits LIMITS]`
 abbrev pub plan_grammar : App
 plan_grammar = command_with (codes "plan")
@@ -160,6 +165,11 @@ publish_grammar = command_with (codes "publish") (journal_arg ∷ required_arg (
 abbrev pub editions_grammar : App
 editions_grammar =
     command_with (codes "editions") (journal_arg ∷ journal_option ∷ limits_option ∷ [])
+
+-- `diff JOURNAL FROM TO [--journal FILE] [--limits LIMITS]`
+abbrev pub diff_grammar : App
+diff_grammar = command_with (codes "diff") (journal_arg ∷ required_arg (codes "from")
+    ∷ required_arg (codes "to") ∷ journal_option ∷ limits_option ∷ [])
 
 -- `replay --readers N SCHEDULE [--limits LIMITS]`
 abbrev pub replay_grammar : App
@@ -212,13 +222,14 @@ date_commands =
 -- those for tables, the service and the register as a text
 abbrev pub table_commands : List App
 table_commands =
-    letters_grammar ∷ serve_grammar ∷ text_grammar ∷ plan_grammar ∷ publish_grammar ∷ []
+    letters_grammar ∷ serve_grammar ∷ text_grammar ∷ check_grammar ∷ plan_grammar
+    ∷ publish_grammar ∷ []
 
 -- the others
 abbrev pub other_commands : List App
 other_commands =
-    editions_grammar ∷ replay_grammar ∷ desk_grammar ∷ almanac_grammar ∷ audit_grammar
-    ∷ completions_grammar ∷ []
+    editions_grammar ∷ diff_grammar ∷ replay_grammar ∷ desk_grammar ∷ almanac_grammar
+    ∷ audit_grammar ∷ completions_grammar ∷ []
 
 -- a program with these commands added
 abbrev pub with_all : App → List App → App

@@ -12,8 +12,8 @@ use Rattle.osn_invocation.specs.declared.invocation.CommandWords.{CommandWords}
 use Rattle.osn_invocation.specs.declared.invocation.CommandWords.TheVariants.{Serve, Replay, Desk}
 use Rattle.osn_invocation.specs.declared.invocation.CommandWords.TheVariants.{Page, Audit, Convert}
 use Rattle.osn_invocation.specs.declared.invocation.CommandWords.TheVariants.{Letters, Completions}
-use Rattle.osn_invocation.specs.declared.invocation.CommandWords.TheVariants.{Editions, Plan}
-use Rattle.osn_invocation.specs.declared.invocation.CommandWords.TheVariants.{Publish}
+use Rattle.osn_invocation.specs.declared.invocation.CommandWords.TheVariants.{Editions, Diff, Plan}
+use Rattle.osn_invocation.specs.declared.invocation.CommandWords.TheVariants.{Check, Publish}
 use Rattle.osn_invocation.specs.declared.invocation.CommandWords.TheVariants as commands
 use Rattle.osn_invocation.specs.declared.invocation.Invocation.{Invocation}
 use Rattle.osn_invocation.specs.declared.letters.DateOptions.{DateOptions}
@@ -71,10 +71,12 @@ pub record LettersModel : Type 0 where
 -- what a command is asked for. The service has a journal, where to save it, where to keep it, which
 -- one it follows, and the rest. A replay has readers and a schedule, a desk a script and questions.
 -- A page has a journal, the edition if one is named, and says which page. An audit has a journal and
--- a transcript. A conversion has a calendar and a date, letters have a journal and the rest, and
--- completions have a shell. The text of a register has a journal, the edition if one is named, and
--- the code of its one territory if one is named. A plan and the edition that it makes have a journal
--- and a text, and the list of editions has a journal. Files are named by their paths
+-- a transcript. A conversion has a calendar and a date. Letters have a journal, the file of the
+-- table if one is named, and the rest, and completions have a shell. The text of a register has a
+-- journal, the edition if one is named, and the code of its one territory if one is named. A plan
+-- and the edition that it makes have a journal and a text, a check has a text, and the list of
+-- editions has a journal. A difference has a journal and the words of two editions. Files are named
+-- by their paths
 pub data CommandModel : Type 0 where
   serving : Option Text → Option Text → Option Text → Option Text → ServiceModel → CommandModel
   replaying : ℕ → Text → CommandModel
@@ -82,10 +84,12 @@ pub data CommandModel : Type 0 where
   printing : Text → Option Text → PageRequestModel → CommandModel
   auditing : Text → Text → CommandModel
   converting : Text → Text → CommandModel
-  reading_letters : Text → LettersModel → CommandModel
+  reading_letters : Text → Option Text → LettersModel → CommandModel
   completing : Text → CommandModel
   listing : Text → CommandModel
+  comparing : Text → Text → Text → CommandModel
   writing_text : Text → Option Text → Option Text → CommandModel
+  checking : Text → CommandModel
   planning : Text → Text → CommandModel
   publishing : Text → Text → Bool → CommandModel
 
@@ -149,10 +153,18 @@ completions_command given = completing (text_of (codes "shell") given)
 abbrev pub editions_command : List Row → CommandModel
 editions_command given = listing (text_of (codes "journal") given)
 
+abbrev pub diff_command : List Row → CommandModel
+diff_command given =
+    comparing (text_of (codes "journal") given) (text_of (codes "from") given)
+    (text_of (codes "to") given)
+
 abbrev pub text_command : List Row → CommandModel
 text_command given =
     writing_text (text_of (codes "journal") given) (first_of (codes "edition") given)
     (first_of (codes "code") given)
+
+abbrev pub check_command : List Row → CommandModel
+check_command given = checking (text_of (codes "text") given)
 
 abbrev pub plan_command : List Row → CommandModel
 plan_command given = planning (text_of (codes "journal") given) (text_of (codes "text") given)
@@ -176,17 +188,18 @@ date_options given = record {
 }
 
 abbrev pub letters_command : List Row → CommandModel
-letters_command given = reading_letters (text_of (codes "journal") given) (record {
-  place = column_of (codes "place") given;
-  date = date_options given;
-  weekday = first_of (codes "weekday") given;
-  places = first_of (codes "places") given;
-  separator = first_of (codes "separator") given;
-  order = first_of (codes "order") given;
-  edition = first_of (codes "edition") given;
-  strict = is_given (codes "strict") given;
-  summary = is_given (codes "summary") given;
-})
+letters_command given = reading_letters (text_of (codes "journal") given)
+    (first_of (codes "table") given) (record {
+      place = column_of (codes "place") given;
+      date = date_options given;
+      weekday = first_of (codes "weekday") given;
+      places = first_of (codes "places") given;
+      separator = first_of (codes "separator") given;
+      order = first_of (codes "order") given;
+      edition = first_of (codes "edition") given;
+      strict = is_given (codes "strict") given;
+      summary = is_given (codes "summary") given;
+    })
 
 -- a command that prints a page of a journal
 abbrev pub page_command : List Row → PageRequestModel → CommandModel
@@ -233,10 +246,12 @@ page_or_serve name given =
 abbrev pub text_or_page : Text → List Row → CommandModel
 text_or_page name given =
     if bytes_eq name (codes "editions") then editions_command given
+    else (if bytes_eq name (codes "diff") then diff_command given
     else (if bytes_eq name (codes "text") then text_command given
+    else (if bytes_eq name (codes "check") then check_command given
     else (if bytes_eq name (codes "plan") then plan_command given
     else (if bytes_eq name (codes "publish") then publish_command given
-    else page_or_serve name given)))
+    else page_or_serve name given)))))
 
 -- what a command asks for, by its name
 abbrev pub command_by : Text → List Row → CommandModel
@@ -315,11 +330,14 @@ command_model (Page journal edition page) =
 command_model (Audit journal transcript) = auditing journal.now transcript.now
 command_model (Convert calendar date) = converting calendar.now date.now
 command_model (Completions shell) = completing shell.now
-command_model (Letters journal options) = reading_letters journal.now (letters_model options)
+command_model (Letters journal table options) =
+    reading_letters journal.now (option_map (λ path. path.now) table) (letters_model options)
 command_model (Editions journal) = listing journal.now
+command_model (Diff journal from to) = comparing journal.now from.now to.now
 command_model (commands.Text journal edition code) =
     writing_text journal.now (option_map (λ word. word.now) edition)
     (option_map (λ code. code.now) code)
+command_model (Check text) = checking text.now
 command_model (Plan journal text) = planning journal.now text.now
 command_model (Publish journal text onto_newest) = publishing journal.now text.now onto_newest
 

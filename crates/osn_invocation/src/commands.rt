@@ -163,12 +163,12 @@ dated in it. The figures are those of the year from 1 January, as the page says.
 ];
 
 /// The commands for tables, the service and the register as a text.
-pub(crate) const TABLES: [CommandRow; 5] = [
+pub(crate) const TABLES: [CommandRow; 6] = [
     CommandRow {
         name: "letters",
-        about: "Adds the days that each date means to a table of letters on standard input",
+        about: "Adds the days that each date means to a table of letters",
         examples: "Examples:
-  ./oldstyle letters examples/samples.journal < examples/letters.csv
+  ./oldstyle letters examples/samples.journal examples/letters.csv
   ./oldstyle letters examples/samples.journal --places examples/places.csv --summary \\
     < examples/transcribed.csv
 
@@ -177,6 +177,11 @@ its own: days, gregorian, julian, dual, weekday_found, jdn, earliest, latest, ki
 and remark.",
         arguments: &[
             JOURNAL,
+            Optional(
+                "table",
+                "TABLE",
+                "The file of the table; without it, or as -, it is standard input",
+            ),
             Valued(
                 "place",
                 "NAME",
@@ -294,6 +299,16 @@ edition that it was made from.",
         ],
     },
     CommandRow {
+        name: "check",
+        about: "Says whether a text has a fault, by itself and without a journal",
+        examples: "Example:
+  ./oldstyle check territories.toml
+
+TEXT has the form that the command text prints. It is only read. A fault ends with status 1. The
+command plan says whether a journal can take what TEXT says.",
+        arguments: &[TEXT, LIMITS],
+    },
+    CommandRow {
         name: "plan",
         about: "Prints the edits that make the territories of a journal what a text says they are",
         examples: "Example:
@@ -325,13 +340,32 @@ Nor does a text that would undo what an edition later than its own has changed."
 ];
 
 /// The other commands.
-pub(crate) const OTHERS: [CommandRow; 6] = [
+pub(crate) const OTHERS: [CommandRow; 7] = [
     CommandRow {
         name: "editions",
         about: "Lists the editions of a journal, with their edits and territories",
         examples: "Example:
   ./oldstyle editions examples/samples.journal",
         arguments: &[JOURNAL, DEFAULT_JOURNAL, LIMITS],
+    },
+    CommandRow {
+        name: "diff",
+        about: "Prints what changed from one edition of a journal to a later one",
+        examples: "Example:
+  ./oldstyle diff examples/samples.journal 1 2
+
+Each change is a line, in the words of the command plan. What later editions undid is left out.",
+        arguments: &[
+            JOURNAL,
+            Required(
+                "from",
+                "FROM",
+                "The number of the earlier edition; 0 is before the first one",
+            ),
+            Required("to", "TO", "The number of the later edition"),
+            DEFAULT_JOURNAL,
+            LIMITS,
+        ],
     },
     CommandRow {
         name: "replay",

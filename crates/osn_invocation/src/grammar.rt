@@ -22,9 +22,9 @@ const STATUSES: &str = "Statuses:
 If the status is not 0, standard error says what was refused or failed.
 
 JOURNAL may be left out of a command that begins with it: --journal FILE then names the file. The
-commands read, day, month, year, territory, almanac, letters, text and editions have a default: the
-file that OLDSTYLE_JOURNAL names, or else the user's own journal, if there is one, which is
-oldstyle/register.journal in XDG_DATA_HOME or ~/.local/share.";
+commands read, day, month, year, territory, almanac, letters, text, editions and diff have a
+default: the file that OLDSTYLE_JOURNAL names, or else the user's own journal, if there is one,
+which is oldstyle/register.journal in XDG_DATA_HOME or ~/.local/share.";
 
 /// Returns a command with these arguments added.
 fn with_arguments<'a>(

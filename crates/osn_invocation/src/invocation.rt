@@ -17,7 +17,7 @@ use crate::file_words::{audit_of, desk_of, replay_of};
 use crate::given::{is_given, number_of, text_of, value_of};
 use crate::grammar::command_line;
 use crate::letters::{LettersOptions, letters_of};
-use crate::register_text::{editions_of, plan_of, publish_of, register_text_of};
+use crate::register_text::{check_of, diff_of, editions_of, plan_of, publish_of, register_text_of};
 use clap::{ArgMatches, Error};
 use std::alloc::Global;
 use std::convert::AsStr;
@@ -144,6 +144,8 @@ pub enum CommandWords<'a> {
     Letters {
         /// The file of the journal.
         journal: &'a str,
+        /// The file of the table, if one is named.
+        table: Option<&'a str>,
         /// Which columns, and how they are read.
         options: LettersOptions<'a>,
     },
@@ -159,6 +161,15 @@ pub enum CommandWords<'a> {
         /// The file of the journal.
         journal: &'a str,
     },
+    /// To print what changed from one edition of a journal to a later one.
+    Diff {
+        /// The file of the journal.
+        journal: &'a str,
+        /// The word of the earlier edition.
+        from: &'a str,
+        /// The word of the later edition.
+        to: &'a str,
+    },
     /// To print the territories that a journal published as a text.
     Text {
         /// The file of the journal.
@@ -167,6 +178,11 @@ pub enum CommandWords<'a> {
         edition: Option<&'a str>,
         /// The code of the only territory to print, if one is named.
         code: Option<&'a str>,
+    },
+    /// To say whether a text has a fault.
+    Check {
+        /// The file of the text.
+        text: &'a str,
     },
     /// To print the edits that change what a journal published into what a text says.
     Plan {
@@ -260,7 +276,9 @@ fn command_of<'a>(name: &str, given: &ArgMatches<'a>) -> CommandWords<'a>
         "letters" => letters_of(given),
         "completions" => completions_of(given),
         "editions" => editions_of(given),
+        "diff" => diff_of(given),
         "text" => register_text_of(given),
+        "check" => check_of(given),
         "plan" => plan_of(given),
         "publish" => publish_of(given),
         "almanac" => page_of(given, almanac_of(given)),

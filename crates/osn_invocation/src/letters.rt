@@ -64,6 +64,7 @@ pub(crate) fn letters_of<'a>(given: &ArgMatches<'a>) -> CommandWords<'a>
 {
     CommandWords::Letters {
         journal: text_of(given, "journal"),
+        table: value_of(given, "table"),
         options: LettersOptions {
             place: value_of(given, "place").unwrap_or("place"),
             date: date_options_of(given),

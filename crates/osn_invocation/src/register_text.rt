@@ -2,7 +2,8 @@
 
 ghost use Rattle.std.specs.Prelude.{◌≡◌};
 ghost use Rattle.clap.specs.Words.{found_of, rows_of};
-ghost use Rattle.osn_invocation.specs.Invocation.{command_model, editions_command, plan_command};
+ghost use Rattle.osn_invocation.specs.Invocation.{check_command, command_model, diff_command};
+ghost use Rattle.osn_invocation.specs.Invocation.{editions_command, plan_command};
 ghost use Rattle.osn_invocation.specs.Invocation.{publish_command, text_command};
 
 use crate::given::{is_given, text_of, value_of};
@@ -18,6 +19,17 @@ pub(crate) fn editions_of<'a>(given: &ArgMatches<'a>) -> CommandWords<'a>
     }
 }
 
+/// Returns what the arguments of `diff` ask for.
+pub(crate) fn diff_of<'a>(given: &ArgMatches<'a>) -> CommandWords<'a>
+    ensures { command_model result ≡ diff_command (rows_of (found_of given.now)) }
+{
+    CommandWords::Diff {
+        journal: text_of(given, "journal"),
+        from: text_of(given, "from"),
+        to: text_of(given, "to"),
+    }
+}
+
 /// Returns what the arguments of `text` ask for.
 pub(crate) fn register_text_of<'a>(given: &ArgMatches<'a>) -> CommandWords<'a>
     ensures { command_model result ≡ text_command (rows_of (found_of given.now)) }
@@ -26,6 +38,15 @@ pub(crate) fn register_text_of<'a>(given: &ArgMatches<'a>) -> CommandWords<'a>
         journal: text_of(given, "journal"),
         edition: value_of(given, "edition"),
         code: value_of(given, "code"),
+    }
+}
+
+/// Returns what the argument of `check` asks for.
+pub(crate) fn check_of<'a>(given: &ArgMatches<'a>) -> CommandWords<'a>
+    ensures { command_model result ≡ check_command (rows_of (found_of given.now)) }
+{
+    CommandWords::Check {
+        text: text_of(given, "text"),
     }
 }
 

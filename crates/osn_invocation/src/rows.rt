@@ -41,6 +41,7 @@ fn values_named(id: &str) -> &'static str
         | "questions"
         | "transcript"
         | "text"
+        | "table"
         | "places" => " FILE",
         "order" => " dmy mdy",
         "separator" => " comma semicolon tab",

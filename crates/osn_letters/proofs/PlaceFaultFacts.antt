@@ -10,7 +10,7 @@ use Rattle.osn_letters.specs.declared.places_fault.PlacesFault.{PlacesFault}
 use Rattle.osn_letters.specs.declared.places_fault.PlacesFault.TheVariants as faults
 use Rattle.osn_letters.specs.declared.places_fault.PlacesColumn.TheVariants as column
 use Rattle.osn_grammar.specs.Simple.{◌>>=◌}
-use Rattle.osn_letters.specs.Columns.{index_of}
+use Rattle.osn_letters.specs.Columns.{column_named}
 use Rattle.osn_letters.specs.Faults.{EndsStream}
 use Rattle.osn_letters.specs.PlaceEntries.{PlaceEntry, code_of}
 use Rattle.osn_letters.specs.Places.{columns_in, entry_at, entry_of, lacks, with_code}
@@ -56,8 +56,8 @@ columns_by line header (Some place) (Some code) = record { other = tt }
 
 unread_columns : (line : ℕ) (header : List (List ℕ)) → Unread (columns_in line header)
 unread_columns line header =
-    columns_by line header (index_of (column_name column.Place) header)
-    (index_of (column_name column.Code) header)
+    columns_by line header (column_named (column_name column.Place) header)
+    (column_named (column_name column.Code) header)
 
 entry_by : (line : ℕ) (is_wide : Bool) (place code : Option (List ℕ))
     → Unread (if is_wide then entry_of line place code else Err (faults.BadRecord line))

@@ -3,7 +3,8 @@ use Rattle.std.specs.Prelude.{ℕ, Bool, true, false, ◌&&◌, if◌then◌else
 use Rattle.std.specs.Prelude.{◌++◌, length, get_or, Option, Some, None, option_map, is_none}
 use Rattle.std.specs.Prelude.{is_some, ok_or, Result, Ok, Err, codes}
 use Rattle.std.specs.List.{find, flat_map, range_with_len}
-use Rattle.std.specs.Str.{bytes_eq}
+use Rattle.std.specs.Option.{option_or}
+use Rattle.std.specs.Str.{bytes_eq, str_eq_ignore_ascii_case}
 use Rattle.std.specs.Str.Lossy.{utf8_lossy}
 use Rattle.osn_letters.specs.declared.added_column.AddedColumn.{AddedColumn}
 use Rattle.osn_letters.specs.declared.columns.ColumnNames.{ColumnNames}
@@ -19,6 +20,7 @@ use Rattle.osn_letters.specs.declared.fault.Column.TheVariants as column
 use Rattle.osn_letters.specs.declared.fault.LettersFault.{LettersFault}
 use Rattle.osn_letters.specs.declared.fault.LettersFault.TheVariants.{LacksColumn, HasColumn}
 use Rattle.osn_letters.specs.AddedColumns.{added_columns, added_name}
+use Rattle.osn_letters.specs.RowFields.{trimmed}
 use Rattle.osn_grammar.specs.Simple.{◌>>=◌}
 
 -- the name of the column of the weekdays, and whether it has to be there
@@ -64,6 +66,19 @@ is_at name fields index = bytes_eq (get_or fields index []) name
 abbrev pub index_of : List ℕ → List (List ℕ) → Option ℕ
 index_of name fields = find (is_at name fields) (range_with_len 0 (length fields))
 
+-- the field of the index is the name, in capital or small letters, and with white space around it
+-- or not
+abbrev pub is_like : List ℕ → List (List ℕ) → ℕ → Bool
+is_like name fields index = str_eq_ignore_ascii_case (trimmed (get_or fields index [])) name
+
+-- the index of the first such field
+abbrev pub index_like : List ℕ → List (List ℕ) → Option ℕ
+index_like name fields = find (is_like name fields) (range_with_len 0 (length fields))
+
+-- the index of the column of a name: the first field that equals it, or else the first one like it
+abbrev pub column_named : List ℕ → List (List ℕ) → Option ℕ
+column_named name fields = option_or (index_of name fields) (index_like name fields)
+
 -- the names of a header, with a comma and a space between two
 abbrev pub after_comma : List ℕ → List ℕ
 after_comma name = codes ", " ++ name
@@ -78,7 +93,7 @@ lacks line header column = LacksColumn column line (utf8_lossy (names_text heade
 
 -- the index of a column in a header on that line, which must have it
 abbrev pub column_in : ℕ → List (List ℕ) → Column → List ℕ → Result ℕ LettersFault
-column_in line header column name = ok_or (index_of name header) (lacks line header column)
+column_in line header column name = ok_or (column_named name header) (lacks line header column)
 
 -- the same of a column that may not be named
 abbrev pub part_column_in : ℕ → List (List ℕ) → Column → Option (List ℕ)
@@ -107,7 +122,7 @@ abbrev pub columns_at : NameTexts → ℕ → List (List ℕ) → Result Columns
 columns_at names line header =
     column_in line header column.Place names.place
     >>= λ place. date_columns_in line header names.date
-    >>= λ date. weekday_at line header names.needs_weekday (index_of names.weekday header)
+    >>= λ date. weekday_at line header names.needs_weekday (column_named names.weekday header)
     >>= λ weekday. Ok (record { place = place; date = date; weekday = weekday })
 
 -- a header has a column of that name

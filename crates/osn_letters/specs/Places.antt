@@ -12,7 +12,7 @@ use Rattle.osn_letters.specs.declared.places_fault.PlacesFault.TheVariants.{NoHe
 use Rattle.osn_letters.specs.declared.places_fault.PlacesFault.TheVariants.{BadRecord, NotUtf8}
 use Rattle.osn_letters.specs.declared.places_fault.PlacesFault.TheVariants.{TwoCodes}
 use Rattle.osn_grammar.specs.Simple.{◌>>=◌}
-use Rattle.osn_letters.specs.Columns.{index_of, names_text}
+use Rattle.osn_letters.specs.Columns.{column_named, names_text}
 use Rattle.osn_letters.specs.PlaceEntries.{PlaceEntry, code_of}
 use Rattle.osn_letters.specs.PlacesFaults.{column_name, of_record}
 use Rattle.osn_letters.specs.Records.{PlacedRecord, records_of}
@@ -27,7 +27,7 @@ lacks line header column = LacksColumn column line (utf8_lossy (names_text heade
 -- the index of a column
 abbrev pub column_in : ℕ → List (List ℕ) → PlacesColumn → Result ℕ PlacesFault
 column_in line header column =
-    ok_or (index_of (column_name column) header) (lacks line header column)
+    ok_or (column_named (column_name column) header) (lacks line header column)
 
 -- both columns, and how many fields there are
 abbrev pub columns_in : ℕ → List (List ℕ) → Result PlaceColumns PlacesFault

@@ -9,6 +9,7 @@ ghost use Rattle.osn_letters.specs.declared.fault.LettersFault.TheVariants.{NoMe
 
 use crate::added_column::{ADDED_COLUMNS, AddedColumn};
 use crate::fault::{Column, LettersFault};
+use crate::row_field::trimmed;
 use csv::ByteRecord;
 use osn_register::Text;
 use std::alloc::{AllocError, Global};
@@ -82,10 +83,36 @@ fn is_at(header: &ByteRecord, name: &str, index: usize) -> bool
 }
 
 /// Returns the index of the first field that equals the name.
-pub(crate) fn index_of(header: &ByteRecord, name: &str) -> Option<usize>
+fn index_of(header: &ByteRecord, name: &str) -> Option<usize>
     ensures { result ≡ spec.index_of name.now (fields_of header.now) }
 {
     (0..header.len()).find(|index| is_at(header, name, *index))
+}
+
+/// Returns whether the field of the index is the name, in capital or small letters, and with white
+/// space around it or not.
+fn is_like(header: &ByteRecord, name: &str, index: usize) -> bool
+    ensures { result ≡ spec.is_like name.now (fields_of header.now) index }
+{
+    trimmed(field_at(header, index)).eq_ignore_ascii_case(name.as_bytes())
+}
+
+/// Returns the index of the first field that is like the name.
+fn index_like(header: &ByteRecord, name: &str) -> Option<usize>
+    ensures { result ≡ spec.index_like name.now (fields_of header.now) }
+{
+    (0..header.len()).find(|index| is_like(header, name, *index))
+}
+
+/// Returns the index of the column of a name: the first field that equals it, or else the first one
+/// that is like it.
+pub(crate) fn column_named(header: &ByteRecord, name: &str) -> Option<usize>
+    ensures { result ≡ spec.column_named name.now (fields_of header.now) }
+{
+    match index_of(header, name) {
+        Some(index) => Some(index),
+        None => index_like(header, name),
+    }
 }
 
 impl<'a> WeekdayName<'a> {
@@ -174,7 +201,7 @@ fn find_column(
         → spec.column_in line (fields_of header.now) column name.now ≡ Err fault) }
     ensures inner { IfErr result (λ fault. is_of_stream fault ≡ false) }
 {
-    match index_of(header, name) {
+    match column_named(header, name) {
         Some(index) => Ok(index),
         None => Err(lacks(alloc, header, line, column)?),
     }
@@ -230,8 +257,8 @@ fn find_date_columns(
 }
 
 /// Returns the columns of these names in a header, which begins on the line. If several columns
-/// have a name, the first one counts. Names are compared byte by byte, spaces and capitals
-/// included.
+/// have a name, the first one counts. If none has it, the first one counts that has it in other
+/// capital or small letters, or with white space around it.
 ///
 /// # Errors
 ///
@@ -257,7 +284,7 @@ pub fn find_columns(
     }
     let place = find_column(alloc, header, line, Column::Place, names.place)?;
     let date = find_date_columns(alloc, header, line, names.date)?;
-    let weekday = index_of(header, names.weekday.name());
+    let weekday = column_named(header, names.weekday.name());
     if names.weekday.is_required() && weekday.is_none() {
         return Err(lacks(alloc, header, line, Column::Weekday)?);
     }

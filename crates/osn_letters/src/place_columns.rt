@@ -4,7 +4,7 @@ ghost use Rattle.csv.specs.Records.{fields_of};
 ghost use Rattle.osn_letters.specs.Places as spec;
 ghost use Rattle.osn_letters.specs.declared.places_fault.PlacesFault.TheVariants.{NoMemory};
 
-use crate::columns::{index_of, names_found};
+use crate::columns::{column_named, names_found};
 use crate::places_fault::{PlacesColumn, PlacesFault};
 use csv::ByteRecord;
 use std::alloc::{AllocError, Global};
@@ -45,7 +45,7 @@ fn find_column(
     ensures fault { IfErr result (λ fault. (fault ≢ NoMemory)
         → spec.column_in line (fields_of header.now) column ≡ Err fault) }
 {
-    match index_of(header, column.name()) {
+    match column_named(header, column.name()) {
         Some(index) => Ok(index),
         None => Err(lacks(alloc, header, line, column)?),
     }

@@ -7,7 +7,7 @@ use Rattle.std.proofs.lemmas.Option.{get_or_from_slice_get, slice_get_within}
 use Rattle.osn_territory.specs.Territory.{TerritoryModel}
 use Rattle.osn_register.specs.Named.{listing_of}
 use Rattle.osn_register.specs.Plain.{EntryModel}
-use Rattle.osn_register_text.specs.PlanPage.{absent_line, absent_lines}
+use Rattle.osn_register_text.specs.PlanPage.{absent_code, absent_codes}
 
 -- the one at the place, and those after it
 left_at : (territories : List EntryModel) (place : ℕ) (l : EntryModel) → slice_get territories place
@@ -24,29 +24,29 @@ abbrev code_in : Listed → List ℕ
 code_in None = []
 code_in (Some listed) = listed.0
 
--- the line of the one at the place was written, if it has one
+-- the code of the one at the place was written, if it has one
 next_written_of : (wanted territories : List EntryModel) (place : ℕ) (found : Option EntryModel)
     (code name : List ℕ) (t : TerritoryModel) (all old new : List ℕ)
     → slice_get territories place ≡ found → option_map listing_of found ≡ Some (code, name, t)
-    → all ≡ old ++ absent_lines wanted (drop place territories)
-    → new ≡ old ++ absent_line wanted code
-    → all ≡ new ++ absent_lines wanted (drop (place + 1) territories)
+    → all ≡ old ++ absent_codes wanted (drop place territories)
+    → new ≡ old ++ absent_code wanted code
+    → all ≡ new ++ absent_codes wanted (drop (place + 1) territories)
 next_written_of wanted territories place None code name t all old new there is before written =
     absurd (cc)
 next_written_of wanted territories place (Some l) code name t all old new there is before written =
-    let rest = absent_lines wanted (drop (place + 1) territories) in
+    let rest = absent_codes wanted (drop (place + 1) territories) in
     before
-    ∙ ap (λ xs. old ++ absent_lines wanted xs) (left_at territories place l there)
-    ∙ sym (append_assoc old (absent_line wanted l.code) rest)
-    ∙ ap (λ (listed : Listed). (old ++ absent_line wanted (code_in listed)) ++ rest) is
+    ∙ ap (λ xs. old ++ absent_codes wanted xs) (left_at territories place l there)
+    ∙ sym (append_assoc old (absent_code wanted l.code) rest)
+    ∙ ap (λ (listed : Listed). (old ++ absent_code wanted (code_in listed)) ++ rest) is
     ∙ ap (λ text. text ++ rest) (sym written)
 
 pub next_written : (wanted territories : List EntryModel) (place : ℕ) (code name : List ℕ)
     (t : TerritoryModel) (all old new : List ℕ)
     → option_map listing_of (slice_get territories place) ≡ Some (code, name, t)
-    → all ≡ old ++ absent_lines wanted (drop place territories)
-    → new ≡ old ++ absent_line wanted code
-    → all ≡ new ++ absent_lines wanted (drop (place + 1) territories)
+    → all ≡ old ++ absent_codes wanted (drop place territories)
+    → new ≡ old ++ absent_code wanted code
+    → all ≡ new ++ absent_codes wanted (drop (place + 1) territories)
 next_written wanted territories place code name t all old new =
     next_written_of wanted territories place (slice_get territories place) code name t all old new
     refl
@@ -60,14 +60,14 @@ none_left (l ∷ territories) (suc place) none = none_left territories place non
 
 all_written_of : (wanted territories : List EntryModel) (place : ℕ) (found : Option EntryModel)
     (all old : List ℕ) → slice_get territories place ≡ found → option_map listing_of found ≡ None
-    → all ≡ old ++ absent_lines wanted (drop place territories) → old ≡ all
+    → all ≡ old ++ absent_codes wanted (drop place territories) → old ≡ all
 all_written_of wanted territories place None all old there is before =
-    sym (before ∙ ap (λ xs. old ++ absent_lines wanted xs) (none_left territories place there)
+    sym (before ∙ ap (λ xs. old ++ absent_codes wanted xs) (none_left territories place there)
     ∙ append-nil old)
 all_written_of wanted territories place (Some l) all old there is before = absurd (cc)
 
 pub all_written : (wanted territories : List EntryModel) (place : ℕ) (all old : List ℕ)
     → option_map listing_of (slice_get territories place) ≡ None
-    → all ≡ old ++ absent_lines wanted (drop place territories) → old ≡ all
+    → all ≡ old ++ absent_codes wanted (drop place territories) → old ≡ all
 all_written wanted territories place all old =
     all_written_of wanted territories place (slice_get territories place) all old refl

@@ -28,39 +28,51 @@ fn push_edits(
     Ok(())
 }
 
-/// Appends the line of a territory that a wanted register lacks.
-#[tactic(auto, unfolding(crate::specs::PlanPage::absent_line))]
-fn push_absent_line(out: &mut String, wanted: &Register, code: &str) -> Result<(), AllocError>
+/// Appends a blank and the code of a territory, if a wanted register lacks it.
+#[tactic(auto, unfolding(crate::specs::PlanPage::absent_code))]
+fn push_absent_code(out: &mut String, wanted: &Register, code: &str) -> Result<(), AllocError>
     ensures { OnOk result (string_bytes out.new
-        ≡ string_bytes out.old ++ spec.absent_line wanted.now.territories code.now) }
+        ≡ string_bytes out.old ++ spec.absent_code wanted.now.territories code.now) }
 {
     if wanted.find_territory(code).is_some() {
         return Ok(());
     }
-    writeln!(out, "{code}: not in the text, stays as it is")
+    write!(out, " {code}")
 }
 
-/// Appends the lines of the territories that a wanted register lacks.
-fn push_absent_lines(
+/// Appends the codes of the territories that a wanted register lacks.
+fn push_absent_codes(
     out: &mut String,
     register: &Register,
     wanted: &Register,
 ) -> Result<(), AllocError>
     ensures { OnOk result (string_bytes out.new ≡ string_bytes out.old
-        ++ spec.absent_lines wanted.now.territories register.now.territories) }
+        ++ spec.absent_codes wanted.now.territories register.now.territories) }
 {
     for place in 0..register.limits().lands as usize {
         let Some((code, _, _)) = register.territory_at(place) else {
             return Ok(());
         };
-        push_absent_line(out, wanted, code)?;
+        push_absent_code(out, wanted, code)?;
     }
     Ok(())
 }
 
+/// Appends the line of territories that a wanted register lacks, unless there are none.
+#[tactic(auto, unfolding(crate::specs::PlanPage::absent_line))]
+fn push_absent_line(out: &mut String, codes: &str) -> Result<(), AllocError>
+    ensures { OnOk result
+        (string_bytes out.new ≡ string_bytes out.old ++ spec.absent_line codes.now) }
+{
+    if codes.is_empty() {
+        return Ok(());
+    }
+    writeln!(out, "not in the text, so unchanged:{codes}")
+}
+
 /// Returns the text of edits that change a register towards a wanted one. Each edit is a line, in
-/// their order; then there is one for each territory that the wanted register lacks. If there are
-/// neither, the text is empty.
+/// their order; then there is one line with the territories that the wanted register lacks, if it
+/// lacks any. If there are neither, the text is empty.
 ///
 /// # Errors
 ///
@@ -76,6 +88,8 @@ pub fn plan_page(
 {
     let mut text = String::new(alloc);
     push_edits(alloc, &mut text, register, wanted, edits)?;
-    push_absent_lines(&mut text, register, wanted)?;
+    let mut absent = String::new(alloc);
+    push_absent_codes(&mut absent, register, wanted)?;
+    push_absent_line(&mut text, absent.as_str())?;
     Ok(text)
 }

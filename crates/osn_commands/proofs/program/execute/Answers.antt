@@ -107,15 +107,15 @@ pub returns-in-Letters-clause-ok : goal.returns-in-Letters-clause-ok
 returns-in-Letters-clause-ok g c =
     IfOk-weaker c.opened.result _ _
     (λ status h. ran c.args.limits c.args.command _ _ _ _ _ _ _ status c.in-Letters.is
-    (if_done c.letters_in_folder-done.result status _ h c.letters_in_folder-done.ensures.ok))
+    (if_done c.table_in_folder-done.result status _ h c.table_in_folder-done.ensures.ok))
     c.opened.ensures.ok
 
 pub returns-in-Letters-clause-err : goal.returns-in-Letters-clause-err
 returns-in-Letters-clause-err g c =
     IfErr-weaker c.opened.result _ _
     (λ failure h.
-    let why = not_done c.letters_in_folder-done.result h.0 _ h.1
-    c.letters_in_folder-done.ensures.err in (
+    let why = not_done c.table_in_folder-done.result h.0 _ h.1
+    c.table_in_folder-done.ensures.err in (
       failed c.args.limits c.args.command _ _ _ _ _ c.in-Letters.is (h.2, (h.0, h.3), why.0),
       why.1,
       why.2,
@@ -139,6 +139,23 @@ returns-in-Editions-clause-err g c =
       why.2,
     )) c.opened-in-Editions.ensures.err
 
+pub returns-in-Diff-clause-ok : goal.returns-in-Diff-clause-ok
+returns-in-Diff-clause-ok g c =
+    IfOk-weaker c.opened-in-Diff.result _ _
+    (λ status h. ran c.args.limits c.args.command _ _ _ _ _ _ _ status c.in-Diff.is
+    (if_done c.diff_in_folder-done.result status _ h c.diff_in_folder-done.ensures.ok))
+    c.opened-in-Diff.ensures.ok
+
+pub returns-in-Diff-clause-err : goal.returns-in-Diff-clause-err
+returns-in-Diff-clause-err g c =
+    IfErr-weaker c.opened-in-Diff.result _ _
+    (λ failure h.
+    let why = not_done c.diff_in_folder-done.result h.0 _ h.1 c.diff_in_folder-done.ensures.err in (
+      failed c.args.limits c.args.command _ _ _ _ _ c.in-Diff.is (h.2, (h.0, h.3), why.0),
+      why.1,
+      why.2,
+    )) c.opened-in-Diff.ensures.err
+
 pub returns-in-Text-clause-ok : goal.returns-in-Text-clause-ok
 returns-in-Text-clause-ok g c =
     IfOk-weaker c.opened-in-Text.result _ _
@@ -155,6 +172,23 @@ returns-in-Text-clause-err g c =
       why.1,
       why.2,
     )) c.opened-in-Text.ensures.err
+
+pub returns-in-Check-clause-ok : goal.returns-in-Check-clause-ok
+returns-in-Check-clause-ok g c =
+    IfOk-weaker c.opened-in-Check.result _ _
+    (λ status h. ran c.args.limits c.args.command _ _ _ _ _ _ _ status c.in-Check.is
+    (if_done c.check_in_folder-done.result status _ h c.check_in_folder-done.ensures.ok))
+    c.opened-in-Check.ensures.ok
+
+pub returns-in-Check-clause-err : goal.returns-in-Check-clause-err
+returns-in-Check-clause-err g c =
+    IfErr-weaker c.opened-in-Check.result _ _
+    (λ failure h.
+    let why = not_done c.check_in_folder-done.result h.0 _ h.1 c.check_in_folder-done.ensures.err in (
+      failed c.args.limits c.args.command _ _ _ _ _ c.in-Check.is (h.2, (h.0, h.3), why.0),
+      why.1,
+      why.2,
+    )) c.opened-in-Check.ensures.err
 
 pub returns-in-Plan-clause-ok : goal.returns-in-Plan-clause-ok
 returns-in-Plan-clause-ok g c =

@@ -1,6 +1,6 @@
 use Rattle.std.proofs.Common.{sym, string_bytes}
 use Rattle.osn_register_text.proofs.PlaceFacts.{all_written, next_written}
-use Rattle.osn_register_text.proofs.page.push_absent_lines.Goals as goal
+use Rattle.osn_register_text.proofs.page.push_absent_codes.Goals as goal
 
 pub returns-in_default : goal.returns-in_default
 returns-in_default c =
@@ -11,4 +11,4 @@ pub loop-place-preserved : goal.loop-place-preserved
 loop-place-preserved c =
     next_written c.args.wanted.now.territories c.args.register.now.territories c.loop-place.place _
     _ _ _ (string_bytes c.loop-place.out) _ (sym c.in-Some.ensures.value) c.loop-place.invariant
-    c.in_ok-push_absent_line.ensures
+    c.in_ok-push_absent_code.ensures

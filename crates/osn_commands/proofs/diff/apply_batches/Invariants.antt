@@ -1,0 +1,16 @@
+use Rattle.std.proofs.Common.{◌≡◌, drop}
+use Rattle.osn_days.specs.Rules.{newest_rules}
+use Rattle.osn_register.specs.Plain.{applied_all}
+use Rattle.osn_core.specs.Sequential.{joined}
+use Rattle.osn_commands.proofs.diff.apply_batches.Given as goal
+
+-- the batches that are left lead to the same territories
+abbrev pub invariant-loop-batch : goal.invariant-loop-batch
+invariant-loop-batch l = record {
+  limits : l.register.limits ≡ l.initial.register.limits;
+  territories :
+      applied_all newest_rules l.initial.register.limits l.register.territories
+      (joined (drop l.batch-index l.batches))
+      ≡ applied_all newest_rules l.initial.register.limits l.initial.register.territories
+      (joined l.batches);
+}

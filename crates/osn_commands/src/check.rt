@@ -1,0 +1,82 @@
+//! The command `check`: whether a text has a fault, by itself and without a journal.
+ghost use Rattle.std.specs.Prelude.{◌≡◌, ◌∷◌, [], IfOk, OnErr, length, string_bytes};
+ghost use Rattle.osn_folder.specs.Folder.{CannotOpen, MayFail};
+ghost use Rattle.osn_lines.specs.Streams.{input_of, output_of};
+ghost use Rattle.osn_report.specs.Folders.{ReadsOne, folders_of};
+ghost use Rattle.osn_commands.specs.Check as spec;
+
+use crate::text_file::{read_said, report_text_file};
+use osn_folder::{Folder, OpenFailed, open_file};
+use osn_lines::{Sink, Source};
+use osn_register::{Limits, Register};
+use osn_report::{Status, print};
+use std::alloc::{AllocError, Global};
+
+/// Returns the line on a text of this many territories without a fault.
+#[tactic(auto, unfolding(crate::specs::Check::checked_line))]
+fn checked_line(alloc: Global, territories: usize) -> Result<String, AllocError>
+    ensures { IfOk result (λ line. string_bytes line ≡ spec.checked_line territories) }
+{
+    match territories {
+        1 => String::from_str(alloc, "no fault: 1 territory\n"),
+        _ => format!(in alloc; "no fault: {territories} territories\n"),
+    }
+}
+
+/// Returns the line on a text that says this register.
+fn register_line(alloc: Global, register: &Register) -> Result<String, AllocError>
+    ensures { IfOk result (λ line.
+        string_bytes line ≡ spec.checked_line (length register.now.territories)) }
+{
+    let territories = register.listed()?;
+    checked_line(alloc, territories.len())
+}
+
+/// Runs the command `check`: prints how many territories the text of this path says under these
+/// limits. The text is read whole before anything is printed.
+///
+/// If the text has a fault, standard error reports the first one, and the status says so.
+pub fn check_command<T: Source, W: Sink, E: Sink>(
+    alloc: Global,
+    limits: Limits,
+    path: &str,
+    text: &mut T,
+    output: &mut W,
+    errors: &mut E,
+) -> Status
+    ensures { spec.PrintsCheck limits path.now
+        (input_of T.remaining T.has_failed text.old text.new)
+        (output_of W.contents W.has_failed W.holds_back output.old output.new)
+        (output_of E.contents E.has_failed E.holds_back errors.old errors.new) result }
+{
+    match read_said(alloc, limits, text) {
+        Ok(said) => print(register_line(alloc, &said.register), output, errors),
+        Err(fault) => report_text_file(alloc, errors, path, &fault),
+    }
+}
+
+/// Opens the text of a path, and does what `check_command` does.
+///
+/// # Errors
+///
+/// Why the text could not be opened. Nothing was written then.
+pub fn check_in_folder<D: Folder, W: Sink, E: Sink>(
+    alloc: Global,
+    limits: Limits,
+    folder: &mut D,
+    text: &str,
+    output: &mut W,
+    errors: &mut E,
+) -> Result<Status, OpenFailed>
+    ensures ok { IfOk result (λ status. ReadsOne text.now (MayFail D.File.has_failed)
+        (folders_of D.known folder.old folder.new)
+        (λ file. spec.PrintsCheck limits text.now file
+        (output_of W.contents W.has_failed W.holds_back output.old output.new)
+        (output_of E.contents E.has_failed E.holds_back errors.old errors.new) status)) }
+    ensures err { OnErr result (CannotOpen (text.now ∷ [])
+        (D.known folder.old) (D.known folder.new)
+        × (output.new ≡ output.old) × (errors.new ≡ errors.old)) }
+{
+    let mut file = open_file(folder, text)?;
+    Ok(check_command(alloc, limits, text, &mut file, output, errors))
+}

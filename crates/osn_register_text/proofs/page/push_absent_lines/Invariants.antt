@@ -1,9 +1,0 @@
-use Rattle.std.proofs.Common.{◌≡◌, ◌++◌, drop, string_bytes}
-use Rattle.osn_register_text.specs.PlanPage.{absent_lines}
-use Rattle.osn_register_text.proofs.page.push_absent_lines.Given as goal
-
--- the lines of the territories that are left are still to come
-abbrev pub invariant-loop-place : goal.invariant-loop-place
-invariant-loop-place l =
-    string_bytes l.initial.out ++ absent_lines l.wanted.territories l.register.territories
-    ≡ string_bytes l.out ++ absent_lines l.wanted.territories (drop l.place l.register.territories)
