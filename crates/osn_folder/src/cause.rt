@@ -24,8 +24,8 @@ pub(crate) fn make_cause(error: &io::Error) -> OpenFailed {
 }
 
 /// Returns why what is at a path is not opened, if it is not a file.
-pub(crate) fn cause_of_kind(found: &Metadata) -> OpenFailed {
-    if found.is_dir() {
+pub(crate) fn cause_of_kind(metadata: &Metadata) -> OpenFailed {
+    if metadata.is_dir() {
         OpenFailed::IsDirectory
     } else {
         OpenFailed::Other

@@ -45,7 +45,7 @@ impl<'a, R: Files<File = File> + AllocGlobal> Folder for Disk<'a, R> {
             Ok(file) => file,
             Err(error) => return Err(open_cause(&error)),
         };
-        if file.metadata().is_ok_and(|found| found.is_dir()) {
+        if file.metadata().is_ok_and(|metadata| metadata.is_dir()) {
             return Err(OpenFailed::IsDirectory);
         }
         Ok(Plain::new(file))
@@ -68,7 +68,7 @@ impl<'a, R: Files<File = File> + AllocGlobal> Folder for Disk<'a, R> {
     }
 
     fn place(&mut self, alloc: Global, path: &str) -> Result<String, SaveFault> {
-        if fs::symlink_metadata(self.files, path).is_ok_and(|found| found.is_file()) {
+        if fs::symlink_metadata(self.files, path).is_ok_and(|metadata| metadata.is_file()) {
             return Ok(String::from_str(alloc, path)?);
         }
         match fs::canonicalize(self.files, path) {
@@ -82,7 +82,7 @@ impl<'a, R: Files<File = File> + AllocGlobal> Folder for Disk<'a, R> {
     }
 
     fn is_stream(&self, path: &str) -> bool {
-        fs::metadata(self.files, path).is_ok_and(|found| !found.is_file())
+        fs::metadata(self.files, path).is_ok_and(|metadata| !metadata.is_file())
     }
 
     fn write_stream(&mut self, path: &str, text: &str) -> Result<(), ChangeFailed> {
@@ -136,12 +136,12 @@ fn place_fault(error: &io::Error) -> SaveFault {
 /// Checks that a path which has no place of its own, such as that of an open pipe, is not a link
 /// that leads nowhere.
 fn leads_somewhere(files: &impl Files, path: &str) -> Result<(), SaveFault> {
-    let found = match fs::symlink_metadata(files, path) {
+    let metadata = match fs::symlink_metadata(files, path) {
         Ok(_) => fs::metadata(files, path),
         Err(error) if error.kind() == ErrorKind::NotFound => return Ok(()),
         Err(error) => Err(error),
     };
-    match found {
+    match metadata {
         Ok(_) => Ok(()),
         Err(error) => Err(place_fault(&error)),
     }

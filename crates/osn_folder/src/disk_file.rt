@@ -40,7 +40,7 @@ impl<R: Files> DiskFile<'_, R> {
     /// Checks that nobody else has cut the file or added to it.
     fn check_length(&self) -> Result<(), KeptFileFault> {
         match self.file.metadata() {
-            Ok(found) if found.len() == self.length => Ok(()),
+            Ok(metadata) if metadata.len() == self.length => Ok(()),
             Ok(_) => Err(KeptFileFault::Replaced),
             Err(error) => Err(KeptFileFault::ChangeFailed(change_cause(&error))),
         }
@@ -87,7 +87,7 @@ impl<R: Files> DiskFile<'_, R> {
     /// Cuts the file to its first bytes, if it has them.
     fn shorten(&self, length: u64) -> Result<(), ChangeFailed> {
         match self.file.metadata() {
-            Ok(found) if found.len() >= length => {
+            Ok(metadata) if metadata.len() >= length => {
                 self.file.set_len(length).map_err(|_| ChangeFailed)
             }
             _ => Err(ChangeFailed),
@@ -163,11 +163,11 @@ pub(crate) fn keep_file<'a, R: Files<File = File> + AllocGlobal>(
 /// nowhere is not.
 fn has_no_file(files: &impl Files, path: &str) -> Result<bool, KeepFault> {
     match fs::metadata(files, path) {
-        Ok(found) if found.is_file() => Ok(false),
-        Ok(found) => Err(KeepFault::NotOpened(cause_of_kind(&found))),
-        Err(_) => match has_nothing(files, path) {
+        Ok(metadata) if metadata.is_file() => Ok(false),
+        Ok(metadata) => Err(KeepFault::NotOpened(cause_of_kind(&metadata))),
+        Err(error) => match has_nothing(files, path) {
             Ok(true) => Ok(true),
-            Ok(false) => Err(KeepFault::NotOpened(OpenFailed::NotFound)),
+            Ok(false) => Err(KeepFault::NotOpened(open_cause(&error))),
             Err(error) => Err(KeepFault::NotOpened(open_cause(&error))),
         },
     }
@@ -254,7 +254,7 @@ fn settle_locked<R: Files<File = File> + AllocGlobal>(
 
 /// Removes a file that was made, if it is the one at its path and is empty.
 fn remove_made(files: &impl Files, path: &str, file: &File) {
-    let is_empty = file.metadata().is_ok_and(|found| found.len() == 0);
+    let is_empty = file.metadata().is_ok_and(|metadata| metadata.len() == 0);
     if is_empty && matches!(is_at(files, path, file), Ok(true)) {
         let _ = fs::remove_file(files, path);
     }

@@ -2,7 +2,7 @@
 
 use crate::cause::open_cause;
 use crate::disk_names::{has_nothing, is_same};
-use crate::fault::{ChangeFailed, KeepFault, MoveFault, OpenFailed};
+use crate::fault::{ChangeFailed, KeepFault, MoveFault};
 use std::fs::{File, OpenOptions, TryLockError};
 use std::io::ErrorKind;
 use std::os::unix::fs::FileExt;
@@ -34,11 +34,11 @@ pub(crate) fn lock_file<R: Files<File = File>>(
     path: &str,
 ) -> Result<DiskLock, KeepFault> {
     match fs::metadata(files, path) {
-        Ok(found) if found.is_file() => lock_found(files, path),
+        Ok(metadata) if metadata.is_file() => lock_found(files, path),
         Ok(_) => Ok(DiskLock { file: None }),
-        Err(_) => match has_nothing(files, path) {
+        Err(error) => match has_nothing(files, path) {
             Ok(true) => Ok(DiskLock { file: None }),
-            Ok(false) => Err(KeepFault::NotOpened(OpenFailed::NotFound)),
+            Ok(false) => Err(KeepFault::NotOpened(open_cause(&error))),
             Err(error) => Err(KeepFault::NotOpened(open_cause(&error))),
         },
     }
@@ -69,7 +69,7 @@ fn open_to_lock<R: Files<File = File>>(files: &R, path: &str) -> io::Result<File
 /// Returns whether a path, through links, still names an open file.
 pub(crate) fn is_at(files: &impl Files, path: &str, file: &File) -> io::Result<bool> {
     match fs::metadata(files, path) {
-        Ok(found) => is_same(file, &found),
+        Ok(metadata) => is_same(file, &metadata),
         Err(error) if error.kind() == ErrorKind::NotFound => Ok(false),
         Err(error) => Err(error),
     }

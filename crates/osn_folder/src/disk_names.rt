@@ -22,9 +22,9 @@ pub(crate) fn has_nothing(files: &impl Files, path: &str) -> io::Result<bool> {
 }
 
 /// Returns whether an open file is this one.
-pub(crate) fn is_same(file: &File, found: &Metadata) -> io::Result<bool> {
+pub(crate) fn is_same(file: &File, metadata: &Metadata) -> io::Result<bool> {
     let opened = file.metadata()?;
-    Ok(opened.dev() == found.dev() && opened.ino() == found.ino())
+    Ok(opened.dev() == metadata.dev() && opened.ino() == metadata.ino())
 }
 
 /// Makes sure that the names in the folder of a file are on the disk.

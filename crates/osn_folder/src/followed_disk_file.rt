@@ -86,9 +86,9 @@ impl<'a, R: Files<File = File>> FollowedDiskFile<'a, R> {
     /// Returns how long the file is that is at the path, once one is.
     fn find(&mut self) -> Result<Option<u64>, FollowFault> {
         match fs::metadata(self.files, self.path.as_str()) {
-            Ok(found) => {
-                self.check(&found)?;
-                Ok(Some(found.len()))
+            Ok(metadata) => {
+                self.check(&metadata)?;
+                Ok(Some(metadata.len()))
             }
             Err(error) if error.kind() == ErrorKind::NotFound && self.current.is_none() => Ok(None),
             Err(error) => Err(read_fault(&error)),
@@ -96,15 +96,15 @@ impl<'a, R: Files<File = File>> FollowedDiskFile<'a, R> {
     }
 
     /// Checks that what is at the path is the file that was found first, and has grown if anything.
-    fn check(&mut self, found: &Metadata) -> Result<(), FollowFault> {
-        if !found.is_file() {
-            return Err(FollowFault::NotRead(cause_of_kind(found)));
+    fn check(&mut self, metadata: &Metadata) -> Result<(), FollowFault> {
+        if !metadata.is_file() {
+            return Err(FollowFault::NotRead(cause_of_kind(metadata)));
         }
         match &self.current {
-            Some(file) if file.device != found.dev() || file.inode != found.ino() => {
+            Some(file) if file.device != metadata.dev() || file.inode != metadata.ino() => {
                 Err(FollowFault::Replaced)
             }
-            Some(_) if found.len() < self.length => Err(FollowFault::Shorter),
+            Some(_) if metadata.len() < self.length => Err(FollowFault::Shorter),
             Some(_) => Ok(()),
             None => match self.open() {
                 Ok(file) => {

@@ -96,8 +96,8 @@ abbrev pub reckoned : Option Reckoning → Extent → ReckonedExtent
 reckoned reckoning e = record { extent = e; reckoning = reckoning; is_part = false }
 
 -- a part of a time is approximate
-abbrev pub told_part : Option Reckoning → Extent → ReckonedExtent
-told_part reckoning e = record { extent = e; reckoning = reckoning; is_part = true }
+abbrev pub part_as_extent : Option Reckoning → Extent → ReckonedExtent
+part_as_extent reckoning e = record { extent = e; reckoning = reckoning; is_part = true }
 
 -- a day by both calendars is that of the new one. No calendar may be named beside it
 abbrev pub extent_by_both : Option Reckoning → DateFault → Result PartialDate DateFault
@@ -128,7 +128,7 @@ abbrev pub extent_by : List Token → List Token → Option Reckoning → DateFa
 extent_by tokens timed reckoning fault (Ok e) years period roman = Ok (reckoned reckoning e)
 extent_by tokens timed reckoning fault (Err other) (Some years) period roman =
     Ok (reckoned reckoning (range_of years))
-extent_by tokens timed reckoning fault (Err other) None (Some e) roman = Ok (told_part reckoning e)
+extent_by tokens timed reckoning fault (Err other) None (Some e) roman = Ok (part_as_extent reckoning e)
 extent_by tokens timed reckoning fault (Err other) None None (Ok d) =
     Ok (reckoned reckoning (extent.On d))
 extent_by tokens timed reckoning fault (Err other) None None (Err another) =

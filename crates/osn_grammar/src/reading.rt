@@ -24,13 +24,13 @@ use osn_written::{AnyDate, DateFault, Extent, PartialDate, Reckoning};
 use std::alloc::{AllocError, Global};
 
 /// Returns the weekday so far, with that of one more part. No two may be named.
-fn with_weekday(found: Option<Weekday>, token: Token) -> Result<Option<Weekday>, DateFault>
-    ensures { result ≡ spec.with_weekday found token }
+fn with_weekday(before: Option<Weekday>, token: Token) -> Result<Option<Weekday>, DateFault>
+    ensures { result ≡ spec.with_weekday before token }
 {
-    match (found, token) {
+    match (before, token) {
         (Some(_), Token::Weekday(_)) => Err(DateFault::Malformed),
         (None, Token::Weekday(weekday)) => Ok(Some(weekday)),
-        _ => Ok(found),
+        _ => Ok(before),
     }
 }
 
@@ -38,21 +38,21 @@ fn with_weekday(found: Option<Weekday>, token: Token) -> Result<Option<Weekday>,
 pub fn weekday_of(tokens: &[Token]) -> Result<Option<Weekday>, DateFault>
     ensures { result ≡ spec.weekday_after None tokens.now }
 {
-    let mut found = None;
+    let mut weekday = None;
     for token in tokens {
-        found = with_weekday(found, *token)?;
+        weekday = with_weekday(weekday, *token)?;
     }
-    Ok(found)
+    Ok(weekday)
 }
 
 /// Returns the calendar so far, with that of one more part. No two may be named.
-fn with_reckoning(found: Option<Reckoning>, token: Token) -> Result<Option<Reckoning>, DateFault>
-    ensures { result ≡ spec.with_reckoning found token }
+fn with_reckoning(before: Option<Reckoning>, token: Token) -> Result<Option<Reckoning>, DateFault>
+    ensures { result ≡ spec.with_reckoning before token }
 {
-    match (found, token) {
+    match (before, token) {
         (Some(_), Token::Reckoning(_)) => Err(DateFault::Malformed),
         (None, Token::Reckoning(reckoning)) => Ok(Some(reckoning)),
-        _ => Ok(found),
+        _ => Ok(before),
     }
 }
 
@@ -60,11 +60,11 @@ fn with_reckoning(found: Option<Reckoning>, token: Token) -> Result<Option<Recko
 pub fn reckoning_of(tokens: &[Token]) -> Result<Option<Reckoning>, DateFault>
     ensures { result ≡ spec.reckoning_after None tokens.now }
 {
-    let mut found = None;
+    let mut reckoning = None;
     for token in tokens {
-        found = with_reckoning(found, *token)?;
+        reckoning = with_reckoning(reckoning, *token)?;
     }
-    Ok(found)
+    Ok(reckoning)
 }
 
 /// Returns whether a part says that a date is approximate.

@@ -74,7 +74,7 @@ fn start_field(separator: Separator, byte: u8) -> Step
 {
     match byte {
         b'"' => to(ParserState::InQuoted, Effect::Skip),
-        _ => in_field(separator, byte),
+        _ => in_field(current, byte),
     }
 }
 
@@ -85,26 +85,26 @@ fn start_record(separator: Separator, byte: u8) -> Step
 {
     match byte {
         b'\r' | b'\n' => to(ParserState::StartRecord, Effect::Skip),
-        _ => start_field(separator, byte),
+        _ => start_field(current, byte),
     }
 }
 
 impl ParserState {
     /// Returns how the next byte is read, given the separator that was found.
     #[tactic(auto, unfolding(crate::specs::Records::read_byte))]
-    pub(crate) fn read_byte(self, found: Option<Separator>, byte: u8) -> Step
+    pub(crate) fn read_byte(self, separator: Option<Separator>, byte: u8) -> Step
         ensures { (state_of result.state, action_of result.effect)
-            ≡ spec.read_byte found (state_of self) byte }
+            ≡ spec.read_byte separator (state_of self) byte }
     {
-        let separator = separator_at(found, byte);
+        let current = separator_at(separator, byte);
         match self {
-            ParserState::StartRecord | ParserState::AfterReturn => start_record(separator, byte),
-            ParserState::StartField => start_field(separator, byte),
-            ParserState::InField => in_field(separator, byte),
+            ParserState::StartRecord | ParserState::AfterReturn => start_record(current, byte),
+            ParserState::StartField => start_field(current, byte),
+            ParserState::InField => in_field(current, byte),
             ParserState::InQuoted if byte == b'"' => to(ParserState::AfterQuote, Effect::Skip),
             ParserState::InQuoted => to(ParserState::InQuoted, Effect::Copy),
             ParserState::AfterQuote if byte == b'"' => to(ParserState::InQuoted, Effect::Copy),
-            ParserState::AfterQuote => in_field(separator, byte),
+            ParserState::AfterQuote => in_field(current, byte),
         }
     }
 

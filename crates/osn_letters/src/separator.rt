@@ -39,31 +39,31 @@ impl Separator {
 }
 
 /// Returns the separator that was found, or the comma if there is no such separator.
-pub(crate) fn or_comma(found: Option<Separator>) -> Separator
-    ensures { result ≡ spec.or_comma found }
+pub(crate) fn or_comma(separator: Option<Separator>) -> Separator
+    ensures { result ≡ spec.or_comma separator }
 {
-    found.unwrap_or(Separator::Comma)
+    separator.unwrap_or(Separator::Comma)
 }
 
 /// Returns the separator by which a byte is read: the one that was found. If there is none yet, it
 /// is the byte itself, or the comma if the byte is not a separator.
-pub(crate) fn separator_at(found: Option<Separator>, byte: u8) -> Separator
-    ensures { result ≡ spec.separator_at found byte }
+pub(crate) fn separator_at(separator: Option<Separator>, byte: u8) -> Separator
+    ensures { result ≡ spec.separator_at separator byte }
 {
-    or_comma(found.or(Separator::of(byte)))
+    or_comma(separator.or(Separator::of(byte)))
 }
 
 /// Returns the separator that was found after a byte that does that to the current record.
 pub(crate) fn separator_after(
-    found: Option<Separator>,
+    separator: Option<Separator>,
     byte: u8,
     effect: Effect,
 ) -> Option<Separator>
-    ensures { result ≡ spec.separator_after found byte (action_of effect) }
+    ensures { result ≡ spec.separator_after separator byte (action_of effect) }
 {
-    match (found, effect) {
+    match (separator, effect) {
         (None, Effect::EndField) => Separator::of(byte),
         (None, Effect::EndRecord) => Some(Separator::Comma),
-        _ => found,
+        _ => separator,
     }
 }

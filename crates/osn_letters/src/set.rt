@@ -55,13 +55,13 @@ fn fields_of_found_set(
     alloc: Global,
     edition: usize,
     members: &[AnyDate],
-    found: Result<Vec<Run>, AbsentMember>,
+    outcome: Result<Vec<Run>, AbsentMember>,
     beside: &[PossibleRemark],
 ) -> Result<LetterFields, AllocError>
     ensures { IfOk result (λ made. spec.fields_and_remarks made
-        ≡ spec.fields_of_found_set edition members.now beside.now (set_list_of found)) }
+        ≡ spec.fields_of_found_set edition members.now beside.now (set_list_of outcome)) }
 {
-    match found {
+    match outcome {
         Ok(runs) => fields_of_set_runs(alloc, edition, members, &runs, beside),
         Err(absent) => fields_of_no_set(alloc, edition, Remark::NoDay(absent.reason), beside),
     }
@@ -81,8 +81,8 @@ fn fields_of_members(
 {
     match territory {
         Some(territory) => {
-            let found = find_set(alloc, territory, members)?;
-            fields_of_found_set(alloc, edition, members, found, beside)
+            let outcome = find_set(alloc, territory, members)?;
+            fields_of_found_set(alloc, edition, members, outcome, beside)
         }
         None => fields_of_no_set(alloc, edition, Remark::UnknownPlace, beside),
     }

@@ -124,9 +124,9 @@ impl<'a> TerritoryFinder<'a> {
         ensures kept { self.new ≡ self.old }
     {
         let names = self.take_names(alloc)?;
-        let found = names.get(name).copied();
+        let territory = names.get(name).copied();
         self.names = Some(names);
-        Ok(found)
+        Ok(territory)
     }
 
     /// Returns the territory of a code, or else the first one of a name.

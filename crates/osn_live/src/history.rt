@@ -125,10 +125,10 @@ impl History {
         >(batch);
         let mut pen = seen.no_pen();
         let count = known.count as u64;
-        let found = self
+        let before = self
             .head
             .compare_exchange::<Add, Nothing>(count, count + 1, &mut seen, &mut offer, &mut pen);
-        if found == count {
+        if before == count {
             Some(Certificate {
                 count: known.count + 1,
                 seen,

@@ -128,12 +128,12 @@ fn push_own_dates(
     out: &mut String,
     name: &str,
     territory: &Territory,
-    found: &Result<Vec<Run>, NoDay>,
+    outcome: &Result<Vec<Run>, NoDay>,
 ) -> Result<(), AllocError>
     ensures { OnOk result (string_bytes out.new ≡ string_bytes out.old
-        ++ spec.own_dates newest_rules name.now territory.now (list_of found.now)) }
+        ++ spec.own_dates newest_rules name.now territory.now (list_of outcome.now)) }
 {
-    match found {
+    match outcome {
         Ok(runs) => push_own_days(out, name, territory, only_day(runs.as_slice())),
         Err(_) => writeln!(out, "by its own reckoning {name} has that date"),
     }
@@ -158,9 +158,9 @@ fn push_calendar(
         return Ok(());
     }
     let reckoned = by_reckoning(alloc, territory, reckoning)?;
-    let found = find_runs(alloc, &reckoned, date.extent)?;
+    let outcome = find_runs(alloc, &reckoned, date.extent)?;
     write!(out, "read as {}, as the date says; ", style_name(reckoning))?;
-    push_own_dates(out, name, territory, &found)
+    push_own_dates(out, name, territory, &outcome)
 }
 
 /// Appends that the weekday of a date is not compared, if it has one.

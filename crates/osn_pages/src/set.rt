@@ -40,12 +40,12 @@ fn push_found_set(
     out: &mut String,
     territory: &Territory,
     sources: &TerritorySources<'_>,
-    found: Result<Vec<Run>, AbsentMember>,
+    outcome: Result<Vec<Run>, AbsentMember>,
 ) -> Result<(), AllocError>
     ensures { OnOk result (string_bytes out.new ≡ string_bytes out.old
-        ++ spec.found_set_lines newest_rules territory.now sources.now (set_list_of found)) }
+        ++ spec.found_set_lines newest_rules territory.now sources.now (set_list_of outcome)) }
 {
-    match found {
+    match outcome {
         Ok(runs) => push_runs(out, territory, Kind::Set, runs.as_slice()),
         Err(absent) => push_no_day(alloc, out, territory, sources, absent.extent, absent.reason),
     }
@@ -64,8 +64,8 @@ fn push_set(
     ensures { OnOk result (string_bytes out.new ≡ string_bytes out.old
         ++ spec.set_lines newest_rules territory.now sources.now members.now given) }
 {
-    let found = find_set(alloc, territory, members)?;
-    push_found_set(alloc, out, territory, sources, found)?;
+    let outcome = find_set(alloc, territory, members)?;
+    push_found_set(alloc, out, territory, sources, outcome)?;
     out.push_str(set_sureness(is_set_approximate(members), is_set_uncertain(members)))?;
     push_not_sought(out, given)
 }

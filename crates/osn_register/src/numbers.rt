@@ -32,7 +32,7 @@ pub(crate) fn year_in_range(number: i64) -> Result<Year, Refusal>
 }
 
 /// Returns the label of a date that is asked for, if it may be one.
-pub(crate) fn asked_label(year: i64, month: i64, day: i64) -> Result<Label, Refusal>
+pub(crate) fn label_of_numbers(year: i64, month: i64, day: i64) -> Result<Label, Refusal>
     ensures test { IsCheckOf (date_refusal newest_rules year month day) result }
     ensures value { IfOk result (λ l. l ≡ label_from year month day) }
 {

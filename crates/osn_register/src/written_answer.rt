@@ -48,23 +48,23 @@ pub(crate) fn found_runs(
 fn runs_and_reason(
     alloc: Global,
     territory: &Territory,
-    found: Result<Vec<Run>, NoDay>,
+    outcome: Result<Vec<Run>, NoDay>,
 ) -> Result<(Vec<FoundRun>, Option<Reason>), AllocError>
     ensures runs { IfOk result (λ pair. pair.0.items
-        ≡ map (spec.found_run newest_rules territory.now) (remark.runs_in (finding.list_of found))) }
-    ensures reason { IfOk result (λ pair. pair.1 ≡ remark.reason_in (finding.list_of found)) }
+        ≡ map (spec.found_run newest_rules territory.now) (remark.runs_in (finding.list_of outcome))) }
+    ensures reason { IfOk result (λ pair. pair.1 ≡ remark.reason_in (finding.list_of outcome)) }
 {
-    match found {
+    match outcome {
         Ok(runs) => Ok((found_runs(alloc, territory, runs.as_slice())?, None)),
         Err(no_day) => Ok((Vec::new(alloc), Some(Reason::NoDay(no_day)))),
     }
 }
 
 /// Returns the date whose day is missing, if that is why no day is meant.
-fn missing_in(extent: Extent, found: &Result<Vec<Run>, NoDay>) -> Option<Missing>
-    ensures { result ≡ remark.missing_in extent (finding.list_of found.now) }
+fn missing_in(extent: Extent, outcome: &Result<Vec<Run>, NoDay>) -> Option<Missing>
+    ensures { result ≡ remark.missing_in extent (finding.list_of outcome.now) }
 {
-    match found {
+    match outcome {
         Ok(_) => None,
         Err(reason) => missing_day(extent, *reason),
     }
@@ -114,9 +114,9 @@ fn answer_by(
     requires { reckoned.now ≡ finding.reckoned territory.now date.reckoning }
     ensures { IfOk result (λ a. a ≡ spec.date_answer newest_rules territory.now date given) }
 {
-    let found = find_runs(alloc, reckoned, date.extent)?;
-    let missing = missing_in(date.extent, &found);
-    let (runs, reason) = runs_and_reason(alloc, territory, found)?;
+    let outcome = find_runs(alloc, reckoned, date.extent)?;
+    let missing = missing_in(date.extent, &outcome);
+    let (runs, reason) = runs_and_reason(alloc, territory, outcome)?;
     Ok(WrittenAnswer {
         kind: Some(kind_of(date.extent)),
         is_approximate: date.is_approximate,
@@ -153,23 +153,23 @@ fn date_answer(
 fn set_runs_and_reason(
     alloc: Global,
     territory: &Territory,
-    found: Result<Vec<Run>, AbsentMember>,
+    outcome: Result<Vec<Run>, AbsentMember>,
 ) -> Result<(Vec<FoundRun>, Option<Reason>), AllocError>
     ensures runs { IfOk result (λ pair. pair.0.items
-        ≡ map (spec.found_run newest_rules territory.now) (remark.set_runs_in (set_list_of found))) }
-    ensures reason { IfOk result (λ pair. pair.1 ≡ remark.set_reason_in (set_list_of found)) }
+        ≡ map (spec.found_run newest_rules territory.now) (remark.set_runs_in (set_list_of outcome))) }
+    ensures reason { IfOk result (λ pair. pair.1 ≡ remark.set_reason_in (set_list_of outcome)) }
 {
-    match found {
+    match outcome {
         Ok(runs) => Ok((found_runs(alloc, territory, runs.as_slice())?, None)),
         Err(absent) => Ok((Vec::new(alloc), Some(Reason::NoDay(absent.reason)))),
     }
 }
 
 /// Returns the date of a set whose day is missing, if that is why no day is meant.
-fn missing_in_set(found: &Result<Vec<Run>, AbsentMember>) -> Option<Missing>
-    ensures { result ≡ remark.missing_in_set (set_list_of found.now) }
+fn missing_in_set(outcome: &Result<Vec<Run>, AbsentMember>) -> Option<Missing>
+    ensures { result ≡ remark.missing_in_set (set_list_of outcome.now) }
 {
-    match found {
+    match outcome {
         Ok(_) => None,
         Err(absent) => missing_day(absent.extent, absent.reason),
     }
@@ -183,9 +183,9 @@ fn set_answer(
 ) -> Result<WrittenAnswer, AllocError>
     ensures { IfOk result (λ a. a ≡ spec.set_answer newest_rules territory.now members.now) }
 {
-    let found = find_set(alloc, territory, members)?;
-    let missing = missing_in_set(&found);
-    let (runs, reason) = set_runs_and_reason(alloc, territory, found)?;
+    let outcome = find_set(alloc, territory, members)?;
+    let missing = missing_in_set(&outcome);
+    let (runs, reason) = set_runs_and_reason(alloc, territory, outcome)?;
     Ok(WrittenAnswer {
         kind: Some(Kind::Set),
         is_approximate: is_set_approximate(members),

@@ -70,12 +70,12 @@ fn used_days(
 }
 
 /// Returns the day that was found in a year, if the regime's style counts its date as the label's.
-fn day_of_label_year(found: Option<Day>, regime: Regime, label: Label, year: i64) -> Option<Day>
-    requires { option_to_list found
+fn day_of_label_year(candidate: Option<Day>, regime: Regime, label: Label, year: i64) -> Option<Day>
+    requires { option_to_list candidate
         ≡ days_with_date newest_rules regime.calendar (date_in year label) }
     ensures { option_to_list result ≡ days_in_year newest_rules regime label year }
 {
-    let day = found?;
+    let day = candidate?;
     let date = date_in_year(label, year)?;
     if year_of(regime, date) == label.year {
         Some(day)

@@ -23,33 +23,37 @@ pub(crate) struct Candidates {
 }
 
 /// Returns whether a day was found, and is the day or after it.
-fn is_from(found: Option<Day>, day: Day) -> bool
-    ensures { result ≡ list_any (λ d. nat_le day d) (option_to_list found) }
+fn is_from(candidate: Option<Day>, day: Day) -> bool
+    ensures { result ≡ list_any (λ d. nat_le day d) (option_to_list candidate) }
 {
-    found.is_some_and(|found| day <= found)
+    candidate.is_some_and(|candidate| day <= candidate)
 }
 
 /// Returns whether a day was found, and is before the day.
-fn is_before(found: Option<Day>, day: Day) -> bool
-    ensures { result ≡ list_any (λ d. nat_lt d day) (option_to_list found) }
+fn is_before(candidate: Option<Day>, day: Day) -> bool
+    ensures { result ≡ list_any (λ d. nat_lt d day) (option_to_list candidate) }
 {
-    found.is_some_and(|found| found < day)
+    candidate.is_some_and(|candidate| candidate < day)
 }
 
 /// Returns whether a day was found, and is in the period.
-fn is_in(found: Option<Day>, period: &Period) -> bool
-    ensures { result ≡ list_any (is_held period.now) (option_to_list found) }
+fn is_in(candidate: Option<Day>, period: &Period) -> bool
+    ensures { result ≡ list_any (is_held period.now) (option_to_list candidate) }
 {
-    found.is_some_and(|found| period.holds(found))
+    candidate.is_some_and(|candidate| period.holds(candidate))
 }
 
 /// Appends the day to those found so far, if one was found and is in the period.
-fn push_if_in(found: Option<Day>, period: &Period, days: &mut Vec<Day>) -> Result<(), AllocError>
+fn push_if_in(
+    candidate: Option<Day>,
+    period: &Period,
+    days: &mut Vec<Day>,
+) -> Result<(), AllocError>
     ensures { OnOk result (days.new.items ≡ days.old.items
-        ++ filter (is_held period.now) (option_to_list found)) }
+        ++ filter (is_held period.now) (option_to_list candidate)) }
 {
-    match found {
-        Some(found) if period.holds(found) => Ok(days.push(found)?),
+    match candidate {
+        Some(candidate) if period.holds(candidate) => Ok(days.push(candidate)?),
         _ => Ok(()),
     }
 }

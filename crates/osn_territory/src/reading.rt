@@ -30,8 +30,8 @@ pub(crate) fn read_period(
     if !search.overlaps(period) {
         return Ok(0);
     }
-    let (found, tested) = search.days(period.regime);
-    found.push_in(period, days)?;
+    let (candidates, tested) = search.days(period.regime);
+    candidates.push_in(period, days)?;
     Ok(tested)
 }
 

@@ -52,8 +52,8 @@ fn push_days_by_easter(
         return Ok(());
     };
     let easters = territory.easters(year)?;
-    let found = days_by(alloc, feast, easters.as_slice())?;
-    days.extend_from_slice(found.as_slice())
+    let more = days_by(alloc, feast, easters.as_slice())?;
+    days.extend_from_slice(more.as_slice())
 }
 
 /// Returns the days of a feast by the Easters of the year, of the one before it and of the one

@@ -42,7 +42,7 @@ fn members_meant(
     let mut runs = Vec::new(alloc);
     for member in members {
         match find_runs(alloc, territory, member.extent)? {
-            Ok(found) => runs.extend_from_slice(found.as_slice())?,
+            Ok(more) => runs.extend_from_slice(more.as_slice())?,
             Err(reason) => {
                 let extent = member.extent;
                 return Ok(Err(AbsentMember { extent, reason }));

@@ -12,7 +12,7 @@ use crate::answer::{Answer, Land};
 use crate::borrowed_query::BorrowedQuery;
 use crate::change_answer::changes;
 use crate::figures::figures;
-use crate::numbers::{asked_label, day_on_line, year_in_range};
+use crate::numbers::{day_on_line, label_of_numbers, year_in_range};
 use crate::query::Query;
 use crate::refusal::Refusal;
 use crate::register::Register;
@@ -119,7 +119,7 @@ impl Register {
             (spec.read_answer newest_rules self.now.territories code.now year month day) result }
     {
         let territory = self.known_territory(code)?;
-        let label = asked_label(year, month, day)?;
+        let label = label_of_numbers(year, month, day)?;
         Ok(reading(self.alloc, territory, label)?)
     }
 

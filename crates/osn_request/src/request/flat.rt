@@ -48,8 +48,8 @@ impl<'a> FlatObject<'a> {
         let mut before = members.len();
         while before > 0 {
             before -= 1;
-            let (found, value) = members[before];
-            if found == name {
+            let (member, value) = members[before];
+            if member == name {
                 return Some(value);
             }
         }

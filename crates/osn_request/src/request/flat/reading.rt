@@ -122,11 +122,11 @@ pub(crate) fn flat_object_of<'a>(
     ensures full { OnErr result (room scratch.old < length text.now) }
 {
     let mut reader = Reader::new(text, scratch)?;
-    let Some(found) = flat_object_in(&mut reader) else {
+    let Some(object) = flat_object_in(&mut reader) else {
         return Ok(None);
     };
     if reader.next().is_some() {
         return Ok(None);
     }
-    Ok(Some(found))
+    Ok(Some(object))
 }

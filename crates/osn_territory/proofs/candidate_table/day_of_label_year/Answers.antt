@@ -11,7 +11,7 @@ use Rattle.osn_territory.proofs.candidate_table.day_of_label_year.Goals as goal
 pub returns-in_err-day : goal.returns-in_err-day
 returns-in_err-day c =
     ap option_to_list c.from_residual.ensures ∙ none_counted newest_rules c.args.regime c.args.label
-    c.args.year c.args.found c.in_err-day.was c.requires
+    c.args.year c.args.candidate c.in_err-day.was c.requires
 
 pub returns-in_err-date : goal.returns-in_err-date
 returns-in_err-date c =

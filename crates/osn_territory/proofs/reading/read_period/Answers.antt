@@ -21,7 +21,7 @@ returns-clause-value c =
     let p = c.args.period.now in
     c.in_ok-push_in.ensures
     ∙ ap (λ found. c.args.days.now.items ++ filter (is_held p) found)
-    c.days-found.ensures.value
+    c.days-candidates.ensures.value
     ∙ ap (λ found. c.args.days.now.items ++ found)
     (held_days newest_rules c.args.search.now.label p c.requires.line.0 c.requires.line.1
     c.requires.line.2)

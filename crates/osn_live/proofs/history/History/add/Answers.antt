@@ -2,8 +2,8 @@ use Rattle.std.proofs.Common.{◌≡◌, ap, sym, ◌∙◌, length}
 use Rattle.osn_live.proofs.Adding.{add_moves}
 use Rattle.osn_live.proofs.history.History.add.Goals as goal
 
-pub compare_exchange-found-requires : goal.compare_exchange-found-requires
-compare_exchange-found-requires c =
+pub compare_exchange-before-requires : goal.compare_exchange-before-requires
+compare_exchange-before-requires c =
     let h = c.self.invariant in
     let offer = c.plain-offer.ensures in
     let pen = c.no_pen-pen.ensures in
