@@ -45,8 +45,8 @@ const BESIDE: [(Calendar, Rule, u32, (i32, u8, u8)); 7] = [
 
 fn have_labels(rt: &impl Abort, rows: &[(Calendar, Rule, u32, (i32, u8, u8))]) {
     for (calendar, rule, number, ymd) in rows {
-        let found = label_of(from_easter(*calendar, *rule), day_of(*number));
-        same(rt, found, label(*ymd));
+        let actual = label_of(from_easter(*calendar, *rule), day_of(*number));
+        same(rt, actual, label(*ymd));
     }
 }
 
@@ -67,9 +67,9 @@ const DAYS: [Days; 3] = [
 fn have_days(rt: &impl Abort, rows: &[Days]) {
     for (ymd, days) in rows {
         let regime = from_easter(Calendar::Gregorian, Rule::Julian);
-        let found = day_of_label(regime, label(*ymd));
-        let wanted = [days[0].map(day_of), days[1].map(day_of)];
-        same(rt, (ymd, found), (ymd, wanted));
+        let actual = day_of_label(regime, label(*ymd));
+        let expected = [days[0].map(day_of), days[1].map(day_of)];
+        same(rt, (ymd, actual), (ymd, expected));
     }
 }
 

@@ -110,8 +110,8 @@ const PERIODS: [(u32, u32, Regime); 3] = [
 /// Returns a territory after some calls, each of which returns this.
 fn changed(rt: &impl Abort, alloc: Global, calls: &[(Call, Result<(), LandFault>)]) -> Territory {
     let mut territory = Territory::new(alloc, JULIAN).expect(rt, "it is opened");
-    for (call, wanted) in calls {
-        same(rt, made(&mut territory, *call), *wanted);
+    for (call, expected) in calls {
+        same(rt, made(&mut territory, *call), *expected);
     }
     territory
 }
@@ -119,13 +119,13 @@ fn changed(rt: &impl Abort, alloc: Global, calls: &[(Call, Result<(), LandFault>
 /// Checks that a territory has some periods.
 fn has_periods(rt: &impl Abort, territory: &Territory, periods: &[(u32, u32, Regime)]) {
     same(rt, territory.periods().len(), periods.len());
-    for (found, (first, last, regime)) in territory.periods().iter().zip(periods) {
-        let wanted = Period {
+    for (actual, (first, last, regime)) in territory.periods().iter().zip(periods) {
+        let expected = Period {
             first: day_of(*first),
             last: day_of(*last),
             regime: *regime,
         };
-        same(rt, *found, wanted);
+        same(rt, *actual, expected);
     }
 }
 

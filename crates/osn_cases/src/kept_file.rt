@@ -19,13 +19,13 @@ impl MemoryFile {
         ensures { IfOk result (λ both. (both.0.contents.items ≡ both.1.items)
             × (both.0.synced.items ≡ both.1.items) × (both.0.fault ≡ None)) }
     {
-        let kept = MemoryFile {
+        let keeper = MemoryFile {
             alloc,
             contents: Vec::from_slice(alloc, bytes)?,
             synced: Vec::from_slice(alloc, bytes)?,
             fault: None,
         };
-        Ok((kept, Vec::from_slice(alloc, bytes)?))
+        Ok((keeper, Vec::from_slice(alloc, bytes)?))
     }
 
     /// Returns the contents of the file.

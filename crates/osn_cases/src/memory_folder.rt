@@ -115,8 +115,8 @@ impl Folder for MemoryFolder {
         }
     }
 
-    fn release(&mut self, path: &str, kept: MemoryFile) {
-        let _ = self.write(path, kept.contents());
+    fn release(&mut self, path: &str, keeper: MemoryFile) {
+        let _ = self.write(path, keeper.contents());
     }
 
     fn follow(&mut self, alloc: Global, path: &str) -> Result<MemoryFollowed, AllocError> {

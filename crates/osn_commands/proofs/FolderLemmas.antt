@@ -19,14 +19,14 @@ part_read None bytes part read whole = tt
 part_read (Some held) bytes part read whole = subst (IsCountedPrefix part) read whole
 
 -- the journal that held these bytes is the one that was given
-pub edition_of_older : (limits : Limits) (asked : RequestModel) (wanted : RegisterModel)
+pub edition_of_older : (limits : Limits) (request : RequestModel) (target : RegisterModel)
     (given : Option (List ℕ))
     (held bytes journal text : List ℕ) (cut : Option (List ℕ)) (part : CountedPrefix)
     (version : Version) (s : ObjectState) → AreReadOf given held
     → IsHeldIn limits held part version s
-    → IsOlderPlan asked held part version s wanted bytes journal text cut
-    → IsRewriteNeeded limits asked wanted given bytes journal text cut
-edition_of_older limits asked wanted given held bytes journal text cut part version s read holds h =
+    → IsOlderPlan request held part version s target bytes journal text cut
+    → IsRewriteNeeded limits request target given bytes journal text cut
+edition_of_older limits request target given held bytes journal text cut part version s read holds h =
     let older = h.older in
     let same = sym older.same in record {
       read = subst (AreReadOf given) same read;

@@ -69,19 +69,19 @@ reports_memory None e status h = inr h
 reports_memory (Some line) e status h = inr h
 
 -- that a publish refuses edits was, or that memory ran out
-pub reports_refused : (path : List ℕ) (refusal : Refusal) (wanted : Note) (e : Output)
-    (status : Status) → IsNoteOf wanted (notes.Refused refusal) → ReportsRefused refusal e status
-    → ReportsNote (note_line path wanted) e status
-reports_refused path refusals.NoMemory wanted e status found h =
-    reports_memory (note_line path wanted) e status h
-reports_refused path refusal wanted e status (inl found) h =
+pub reports_refused : (path : List ℕ) (refusal : Refusal) (target : Note) (e : Output)
+    (status : Status) → IsNoteOf target (notes.Refused refusal) → ReportsRefused refusal e status
+    → ReportsNote (note_line path target) e status
+reports_refused path refusals.NoMemory target e status found h =
+    reports_memory (note_line path target) e status h
+reports_refused path refusal target e status (inl found) h =
     subst (λ n. ReportsNote (note_line path n) e status) found (other refusal h)
   where
     other : (f : Refusal) → ReportsRefused f e status
         → ReportsNote (Some (refused_edits_line f)) e status
     other refusals.NoMemory h = inr h
     other f h = h
-reports_refused path refusal wanted e status (inr none) h = absurd (cc)
+reports_refused path refusal target e status (inr none) h = absurd (cc)
 
 -- a refusal other than NoMemory was
 pub reports_other : (refusal : Refusal) (e : Output) (status : Status)

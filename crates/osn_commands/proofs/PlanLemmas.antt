@@ -16,13 +16,13 @@ use Rattle.osn_serve_commands.specs.Serve.{input_if}
 use Rattle.osn_commands.specs.InFolder.{IsOpened, ReportsHindranceAfter}
 use Rattle.osn_commands.specs.Text.{published}
 
-pub same_plan : (s : ObjectState) (limits : Limits) (territories wanted : List EntryModel)
+pub same_plan : (s : ObjectState) (limits : Limits) (territories target : List EntryModel)
     (made edits : List Edit) → limits ≡ s.limits → territories ≡ published s → made ≡ edits
-    → IsPlan limits wanted territories made → IsPlan s.limits wanted (published s) edits
-same_plan s limits territories wanted made edits is same all h =
-    subst (λ es. IsPlan s.limits wanted (published s) es) all
-    (subst (λ ls. IsPlan s.limits wanted ls made) same
-    (subst (λ l. IsPlan l wanted territories made) is h))
+    → IsPlan limits target territories made → IsPlan s.limits target (published s) edits
+same_plan s limits territories target made edits is same all h =
+    subst (λ es. IsPlan s.limits target (published s) es) all
+    (subst (λ ls. IsPlan s.limits target ls made) same
+    (subst (λ l. IsPlan l target territories made) is h))
 
 module _ {S : Type 0} (remaining : S → Option (List ℕ)) (has_failed : S → Bool)
     (old new : Option S) where

@@ -37,8 +37,8 @@ pub shows_help : (kind given : ErrorKind) (more : List ℕ) (o e : Output) (stat
     → given ≡ kind → IsHelp given → PrintsIfMade text o e status
     → ShowsOrEnds kind more o e status
 shows_help kind given more o e status text is help (inl printed) =
-    let asked = subst IsHelp is help in
-    inr (help_is_no_fault kind asked, (text, inl (asked, printed)))
+    let request = subst IsHelp is help in
+    inr (help_is_no_fault kind request, (text, inl (request, printed)))
 shows_help kind given more o e status text is help (inr memory) = inl memory
 
 -- what the grammar refuses was shown

@@ -20,5 +20,5 @@ checked_line territories =
 abbrev pub PrintsCheck : Limits → List ℕ → Input → Output → Output → Status → Type 0
 PrintsCheck limits path text o e status =
     RefusesText limits path text o e status
-    ⊎ ((edition : Option ℕ) × (wanted : RegisterModel) × Says limits text.bytes edition wanted
-    × PrintsIfMade (checked_line (length wanted.territories)) o e status)
+    ⊎ ((edition : Option ℕ) × (target : RegisterModel) × Says limits text.bytes edition target
+    × PrintsIfMade (checked_line (length target.territories)) o e status)

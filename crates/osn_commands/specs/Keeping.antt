@@ -40,23 +40,23 @@ LooksBeside path before after =
 -- why a file that no other run has is not kept, which could not be opened to be written to for a
 -- cause that the system said
 abbrev pub FindsCause : List ℕ → OpenFailed → Option Known → Option Known → KeepCause → Type 0
-FindsCause path said before after causes.Held = ⊥
-FindsCause path said before after causes.NoFile = Changes (FindsStream path) before after
-FindsCause path said before after causes.Denied =
+FindsCause path failure before after causes.Held = ⊥
+FindsCause path failure before after causes.NoFile = Changes (FindsStream path) before after
+FindsCause path failure before after causes.Denied =
     Changes (Opens (path ∷ [])) before after × HasNoFile before path
-FindsCause path said before after causes.NotRead =
+FindsCause path failure before after causes.NotRead =
     Changes (Opens (path ∷ [])) before after × HasNoFile before path
-FindsCause path said before after (causes.NotWritten why) =
-    (why ≡ said) × Changes (Opens (path ∷ [])) before after
+FindsCause path failure before after (causes.NotWritten why) =
+    (why ≡ failure) × Changes (Opens (path ∷ [])) before after
     × (file : Option (List ℕ)) × IsFileOf before path file
-FindsCause path said before after causes.NoFolder = LooksBeside path before after
-FindsCause path said before after (causes.NotMade why) =
-    (why ≡ said) × LooksBeside path before after
+FindsCause path failure before after causes.NoFolder = LooksBeside path before after
+FindsCause path failure before after (causes.NotMade why) =
+    (why ≡ failure) × LooksBeside path before after
 
 -- the cause after a fault: that another run has the file, or what was found
 abbrev pub IsCauseOf : List ℕ → Option Known → Option Known → KeepFault → KeepCause → Type 0
 IsCauseOf path before after faults.Held cause = (cause ≡ causes.Held) × (after ≡ before)
-IsCauseOf path before after (faults.NotOpened said) cause = FindsCause path said before after cause
+IsCauseOf path before after (faults.NotOpened failure) cause = FindsCause path failure before after cause
 
 -- ---- before a publish
 

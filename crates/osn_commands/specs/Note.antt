@@ -53,7 +53,7 @@ note_of is_there version s edits = pending_or s.pending (edits_note is_there ver
 
 -- a note was found; or memory ran out
 abbrev pub IsNoteOf : Note → Note → Type 0
-IsNoteOf wanted found = (found ≡ wanted) ⊎ (found ≡ notes.Refused refusals.NoMemory)
+IsNoteOf expected note = (note ≡ expected) ⊎ (note ≡ notes.Refused refusals.NoMemory)
 
 -- ---- its line
 

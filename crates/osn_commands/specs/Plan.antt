@@ -32,8 +32,8 @@ use Rattle.osn_commands.specs.declared.text_file.TextFileFault.{TextFileFault}
 
 -- the lines of a plan, which would be the next edition of an object
 abbrev pub plan_text : ObjectState → RegisterModel → List Edit → List ℕ
-plan_text s wanted edits =
-    plan_page newest_rules (published s) wanted.territories edits
+plan_text s target edits =
+    plan_page newest_rules (published s) target.territories edits
     ++ plan_end (length edits) (length s.batches + 1)
 
 -- ---- what is written beside a plan
@@ -70,21 +70,21 @@ edits_line journal text is_there version s edition edits =
     behind_or journal text s (behind edition s.batches edits)
     (note_line journal (note_of is_there version s edits))
 
--- there is no plan from the published register to the wanted one, which was reported with the path
+-- there is no plan from the published register to the target one, which was reported with the path
 -- of the text
 abbrev pub RefusesPlan : ObjectState → List ℕ → RegisterModel → Output → Output → Status → Type 0
-RefusesPlan s path wanted o e status =
-    (fault : PlanFault) × IsFault s.limits wanted.territories (published s) fault × (o.new ≡ o.old)
+RefusesPlan s path target o e status =
+    (fault : PlanFault) × IsFault s.limits target.territories (published s) fault × (o.new ≡ o.old)
     × ReportsPlanFault path e fault status
 
--- the plan from what an object has published to the register that is wanted was printed, and then
+-- the plan from what an object has published to the target register was printed, and then
 -- lines on its edits were written, if there are some; or there is no plan
 abbrev pub PrintsPlanTo : ObjectState → List ℕ → RegisterModel → (List Edit → Option (List ℕ))
     → Output → Output → Status → Type 0
-PrintsPlanTo s path wanted note o e status =
-    RefusesPlan s path wanted o e status
-    ⊎ ((edits : List Edit) × IsPlan s.limits wanted.territories (published s) edits
-    × PrintsNoted (plan_text s wanted edits) (note edits) o e status)
+PrintsPlanTo s path target note o e status =
+    RefusesPlan s path target o e status
+    ⊎ ((edits : List Edit) × IsPlan s.limits target.territories (published s) edits
+    × PrintsNoted (plan_text s target edits) (note edits) o e status)
 
 -- the file of this path says no register, which was reported
 abbrev pub RefusesText : Limits → List ℕ → Input → Output → Output → Status → Type 0
@@ -95,9 +95,9 @@ RefusesText limits path text o e status =
 -- that, unless the text is of an edition that the journal lacks, which was reported
 abbrev pub PrintsUnlessLater : Option ℕ → ObjectState → List ℕ → List ℕ → RegisterModel
     → (List Edit → Option (List ℕ)) → Output → Output → Status → Type 0
-PrintsUnlessLater None s journal path wanted note o e status =
-    PrintsPlanTo s path wanted note o e status
-PrintsUnlessLater (Some edition) s journal path wanted note o e status =
+PrintsUnlessLater None s journal path target note o e status =
+    PrintsPlanTo s path target note o e status
+PrintsUnlessLater (Some edition) s journal path target note o e status =
     (o.new ≡ o.old)
     × ReportsIfMade e statuses.Refused (later_lines path journal edition (length s.batches)) status
 
@@ -106,8 +106,8 @@ abbrev pub PrintsPlanOf : Limits → ObjectState → List ℕ → List ℕ → I
     → (Option ℕ → List Edit → Option (List ℕ)) → Output → Output → Status → Type 0
 PrintsPlanOf limits s journal path text note o e status =
     RefusesText limits path text o e status
-    ⊎ ((edition : Option ℕ) × (wanted : RegisterModel) × Says limits text.bytes edition wanted
-    × PrintsUnlessLater (later_than edition (length s.batches)) s journal path wanted
+    ⊎ ((edition : Option ℕ) × (target : RegisterModel) × Says limits text.bytes edition target
+    × PrintsUnlessLater (later_than edition (length s.batches)) s journal path target
     (note edition) o e status)
 
 -- a journal is of this version, by its head, if it is there

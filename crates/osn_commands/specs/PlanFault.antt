@@ -15,20 +15,20 @@ use Rattle.osn_lines.specs.Escaped.{escaped}
 
 -- what to do about a name that the text changes
 unfoldable pub renamed_help : List ℕ → List ℕ → List ℕ
-renamed_help name wanted = codes "\nhelp: write "
+renamed_help name new_name = codes "\nhelp: write "
     ++ (escaped name ++ (codes " again, or give "
-    ++ (escaped wanted ++ codes " a code of its own\n")))
+    ++ (escaped new_name ++ codes " a code of its own\n")))
 
 -- the lines on a name that the text of this path changes: the code of the territory, its name and
 -- the one that the text has
 abbrev pub renamed_line : List ℕ → List ℕ → List ℕ → List ℕ → List ℕ
-renamed_line path code name wanted = codes "oldstyle: "
+renamed_line path code name new_name = codes "oldstyle: "
     ++ (escaped path
     ++ (codes ": "
     ++ (escaped code
     ++ (codes ": a name can't be changed: it is "
     ++ (escaped name
-    ++ (codes ", and the text has " ++ (escaped wanted ++ renamed_help name wanted)))))))
+    ++ (codes ", and the text has " ++ (escaped new_name ++ renamed_help name new_name)))))))
 
 -- the line on an edit that is refused, of the territory of this code that the text of this path
 -- has, and how more is allowed if that is at a limit
@@ -42,8 +42,8 @@ refused_line path code refusal = codes "oldstyle: "
 
 -- it was reported why there is no plan to what the text of this path says
 abbrev pub ReportsPlanFault : List ℕ → Output → PlanFault → Status → Type 0
-ReportsPlanFault path e (faults.Renamed code name wanted) status =
-    ReportsIfMade e statuses.Refused (renamed_line path code name wanted) status
+ReportsPlanFault path e (faults.Renamed code name new_name) status =
+    ReportsIfMade e statuses.Refused (renamed_line path code name new_name) status
 ReportsPlanFault path e (faults.Refused code refusal) status =
     ReportsIfMade e statuses.Refused (refused_line path code refusal) status
 ReportsPlanFault path e faults.NoMemory status = EndsBy e command_faults.NoMemory status

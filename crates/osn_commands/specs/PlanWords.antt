@@ -31,8 +31,8 @@ abbrev pub published_line : ℕ → List ℕ
 published_line edition = codes "published as edition " ++ (decimal edition ++ codes "\n")
 
 -- the line on a publish of no edits, after this many editions
-abbrev pub standing_line : ℕ → List ℕ
-standing_line editions =
+abbrev pub no_change_line : ℕ → List ℕ
+no_change_line editions =
     codes "nothing to change: edition " ++ (decimal editions ++ codes " is the newest\n")
 
 -- ---- what is written to standard error

@@ -32,7 +32,7 @@ use Rattle.osn_commands.specs.Edition.{IsNoMemoryOr, appended_text, edition_refu
 use Rattle.osn_commands.specs.Edition.{edition_text, needs_sources, with_batch}
 use Rattle.osn_commands.specs.Plan.{RefusesPlan}
 use Rattle.osn_commands.specs.PlanWords.{new_journal_line, not_kept_line, pending_line}
-use Rattle.osn_commands.specs.PlanWords.{published_line, standing_line}
+use Rattle.osn_commands.specs.PlanWords.{published_line, no_change_line}
 use Rattle.osn_commands.specs.Since.{RequestModel, behind_lines, hindered, later_lines}
 use Rattle.osn_commands.specs.Since.{later_than}
 use Rattle.osn_commands.specs.Text.{published}
@@ -41,19 +41,19 @@ use Rattle.osn_commands.specs.Text.{published}
 
 -- that the journal of a path is new, if it is, and the lines of a plan
 abbrev pub begun_text : List ℕ → ObjectState → RegisterModel → List Edit → List ℕ
-begun_text path s wanted edits =
+begun_text path s target edits =
     new_journal_line path (length s.batches)
-    ++ plan_page newest_rules (published s) wanted.territories edits
+    ++ plan_page newest_rules (published s) target.territories edits
 
 -- these, and the line on the edition that was made
 abbrev pub published_text : List ℕ → ObjectState → RegisterModel → List Edit → List ℕ
-published_text path s wanted edits =
-    begun_text path s wanted edits ++ published_line (length s.batches + 1)
+published_text path s target edits =
+    begun_text path s target edits ++ published_line (length s.batches + 1)
 
 -- the lines of a plan without edits, and the line that there is nothing to change
-abbrev pub standing_text : ObjectState → RegisterModel → List ℕ
-standing_text s wanted =
-    plan_page newest_rules (published s) wanted.territories [] ++ standing_line (length s.batches)
+abbrev pub no_change_text : ObjectState → RegisterModel → List ℕ
+no_change_text s target =
+    plan_page newest_rules (published s) target.territories [] ++ no_change_line (length s.batches)
 
 -- the line on an edition whose report could not be printed
 abbrev pub unprinted_line : List ℕ
@@ -120,72 +120,72 @@ RefusesBy line old file o e status =
 -- Each source that one gives may be given
 abbrev pub AppendsEdits : Type 0 → List ℕ → ObjectState → RegisterModel → FileState → FileState
     → Option (List ℕ) → List Edit → Output → Output → Status → Type 0
-AppendsEdits CanStay path s wanted old file given [] o e status =
-    (file ≡ old) × PrintsIfMade (standing_text s wanted) o e status
-AppendsEdits CanStay path s wanted old file given (edit ∷ edits) o e status =
+AppendsEdits CanStay path s target old file given [] o e status =
+    (file ≡ old) × PrintsIfMade (no_change_text s target) o e status
+AppendsEdits CanStay path s target old file given (edit ∷ edits) o e status =
     Refuses (Refused refusals.NoMemory) old file o e status
     ⊎ MatchOption (edition_refusal s (edit ∷ edits))
     (All HasLawfulSource (edit ∷ edits)
     × WritesEdition CanStay path old file given (edit ∷ edits)
-    (published_text path s wanted (edit ∷ edits)) o e status)
+    (published_text path s target (edit ∷ edits)) o e status)
     (λ refusal. Refuses (Refused refusal) old file o e status)
 
 -- that, if a journal of this version is kept; or it is not, which was reported with the path of the
 -- journal
 abbrev pub AppendsIfKept : Bool → Type 0 → List ℕ → Version → ObjectState → RegisterModel
     → FileState → FileState → Option (List ℕ) → List Edit → Output → Output → Status → Type 0
-AppendsIfKept true CanStay path version s wanted old file given edits o e status =
-    AppendsEdits CanStay path s wanted old file given edits o e status
-AppendsIfKept false CanStay path version s wanted old file given edits o e status =
+AppendsIfKept true CanStay path version s target old file given edits o e status =
+    AppendsEdits CanStay path s target old file given edits o e status
+AppendsIfKept false CanStay path version s target old file given edits o e status =
     RefusesBy (not_kept_line path version) old file o e status
 
 -- if edits need sources that the version lacks, one of them is refused, or memory ran out;
 -- otherwise that was done
 abbrev pub PublishesEdits : Bool → Type 0 → List ℕ → Version → ObjectState → RegisterModel
     → FileState → FileState → Option (List ℕ) → List Edit → Output → Output → Status → Type 0
-PublishesEdits true CanStay path version s wanted old file given edits o e status =
+PublishesEdits true CanStay path version s target old file given edits o e status =
     (refusal : Refusal) × IsNoMemoryOr (edition_refusal s edits) refusal
     × Refuses (Refused refusal) old file o e status
-PublishesEdits false CanStay path version s wanted old file given edits o e status =
-    AppendsIfKept (is_kept version) CanStay path version s wanted old file given edits o e status
+PublishesEdits false CanStay path version s target old file given edits o e status =
+    AppendsIfKept (is_kept version) CanStay path version s target old file given edits o e status
 
 -- that, unless the text is behind an edition, which was reported
 abbrev pub PublishesUnlessBehind : Option ℕ → Type 0 → RequestModel → Version → ObjectState
     → RegisterModel → FileState → FileState → Option (List ℕ) → List Edit → Output → Output
     → Status → Type 0
-PublishesUnlessBehind None CanStay asked version s wanted old file given edits o e status =
-    PublishesEdits (needs_sources version edits) CanStay asked.journal version s wanted old file
+PublishesUnlessBehind None CanStay request version s target old file given edits o e status =
+    PublishesEdits (needs_sources version edits) CanStay request.journal version s target old file
     given edits o e status
-PublishesUnlessBehind (Some edition) CanStay asked version s wanted old file given edits o e
+PublishesUnlessBehind (Some edition) CanStay request version s target old file given edits o e
     status =
-    RefusesBy (behind_lines asked.text asked.journal edition (published s) s.batches) old file o e
+    RefusesBy (behind_lines request.text request.journal edition (published s) s.batches) old file o e
     status
 
--- from what an object has published to the register that is wanted: there is no plan; or the edits
+-- from what an object has published to the target register: there is no plan; or the edits
 -- of one were published
 abbrev pub PublishesPlan : Type 0 → Version → ObjectState → RequestModel → RegisterModel
     → FileState → FileState → Option (List ℕ) → Output → Output → Status → Type 0
-PublishesPlan CanStay version s asked wanted old file given o e status =
-    ((file ≡ old) × RefusesPlan s asked.text wanted o e status)
-    ⊎ ((edits : List Edit) × IsPlan s.limits wanted.territories (published s) edits
-    × PublishesUnlessBehind (hindered asked s.batches edits) CanStay asked version s wanted old
+PublishesPlan CanStay version s request target old file given o e status =
+    ((file ≡ old) × RefusesPlan s request.text target o e status)
+    ⊎ ((edits : List Edit) × IsPlan s.limits target.territories (published s) edits
+    × PublishesUnlessBehind (hindered request s.batches edits) CanStay request version s target old
     file given edits o e status)
 
 -- that, unless the text is of an edition that the journal lacks, which was reported
 abbrev pub PublishesUnlessLater : Option ℕ → Type 0 → Version → ObjectState → RequestModel
     → RegisterModel → FileState → FileState → Option (List ℕ) → Output → Output → Status → Type 0
-PublishesUnlessLater None CanStay version s asked wanted old file given o e status =
-    PublishesPlan CanStay version s asked wanted old file given o e status
-PublishesUnlessLater (Some edition) CanStay version s asked wanted old file given o e status =
-    RefusesBy (later_lines asked.text asked.journal edition (length s.batches)) old file o e status
+PublishesUnlessLater None CanStay version s request target old file given o e status =
+    PublishesPlan CanStay version s request target old file given o e status
+PublishesUnlessLater (Some edition) CanStay version s request target old file given o e status =
+    RefusesBy (later_lines request.text request.journal edition (length s.batches)) old file o e status
 
 -- that, unless edits are pending, which was reported
 abbrev pub PublishesUnlessPending : Type 0 → Version → ObjectState → List Edit → RequestModel
     → RegisterModel → FileState → FileState → Option (List ℕ) → Output → Output → Status → Type 0
-PublishesUnlessPending CanStay version s [] asked wanted old file given o e status =
-    PublishesUnlessLater (later_than asked.edition (length s.batches)) CanStay version s asked
-    wanted old file given o e status
-PublishesUnlessPending CanStay version s (edit ∷ edits) asked wanted old file given o e status =
+PublishesUnlessPending CanStay version s [] request target old file given o e status =
+    PublishesUnlessLater (later_than request.edition (length s.batches)) CanStay version s request
+    target old file given o e status
+PublishesUnlessPending CanStay version s (edit ∷ edits) request target old file given o e status =
     RefusesBy (pending_line (length (edit ∷ edits))) old file o e status
 
 -- How a publish ends over a file that was `old` and is `file` then, and which a source gave. It
@@ -193,12 +193,12 @@ PublishesUnlessPending CanStay version s (edit ∷ edits) asked wanted old file 
 -- was done.
 abbrev pub EndsPublish : Type 0 → Limits → RequestModel → RegisterModel → FileState → FileState
     → Input → Output → Output → Status → Type 0
-EndsPublish CanStay limits asked wanted old file given o e status =
-    ((fault : CommandFault) × (file ≡ old) × PrintsNoneAt asked.journal fault o e status
+EndsPublish CanStay limits request target old file given o e status =
+    ((fault : CommandFault) × (file ≡ old) × PrintsNoneAt request.journal fault o e status
     × IfHeld old given.bytes (λ held. HoldsNoObject limits held given.unread fault))
     ⊎ ((version : Version) × (s : ObjectState)
     × IfHeld old given.bytes (λ held. HoldsObject limits held version s)
-    × PublishesUnlessPending CanStay version s s.pending asked wanted old file given.bytes o e
+    × PublishesUnlessPending CanStay version s s.pending request target old file given.bytes o e
     status)
 
 -- ---- an edition that the file can't take
@@ -206,7 +206,7 @@ EndsPublish CanStay limits asked wanted old file given o e status =
 -- A source gave these bytes, of a journal with nothing pending whose version has no sources, and
 -- edits of a plan need them. The rewritten journal has them as its next edition. And there are the
 -- text that is printed then, and the one on a last line that was not finished.
-pub record IsRewriteNeeded (limits : Limits) (asked : RequestModel) (wanted : RegisterModel)
+pub record IsRewriteNeeded (limits : Limits) (request : RequestModel) (target : RegisterModel)
     (given : Option (List ℕ)) (bytes journal text : List ℕ) (cut : Option (List ℕ)) : Type 0 where
   pub read : IfSome given (λ held. bytes ≡ held)
   pub version : Version
@@ -214,12 +214,12 @@ pub record IsRewriteNeeded (limits : Limits) (asked : RequestModel) (wanted : Re
   pub holds : HoldsObject limits bytes version object
   pub pending : object.pending ≡ []
   pub edits : List Edit
-  pub had : later_than asked.edition (length object.batches) ≡ None
-  pub plans : IsPlan object.limits wanted.territories (published object) edits
-  pub free : hindered asked object.batches edits ≡ None
+  pub had : later_than request.edition (length object.batches) ≡ None
+  pub plans : IsPlan object.limits target.territories (published object) edits
+  pub free : hindered request object.batches edits ≡ None
   pub needs : needs_sources version edits ≡ true
   pub lawful : edition_refusal object edits ≡ None
   pub sources : All HasLawfulSource edits
   pub anew : journal ≡ journal_text (with_batch object edits)
-  pub printed : text ≡ published_text asked.journal object wanted edits
+  pub printed : text ≡ published_text request.journal object target edits
   pub message : cut ≡ cut_text (unfinished_line bytes)

@@ -46,26 +46,26 @@ SavesEdition path loaded journal text cut d o e status =
 -- place, if its version lacks the sources of an edit
 abbrev pub PublishesKept : Limits → RequestModel → RegisterModel → Type 0 → FileState → Input
     → Folders → Output → Output → Status → Type 0
-PublishesKept limits asked wanted CanStay begun given d o e status =
-    ((file : FileState) × EndsPublish CanStay limits asked wanted begun file given o e status
-    × Changes (Leaves asked.journal file.contents) d.before d.after)
+PublishesKept limits request target CanStay begun given d o e status =
+    ((file : FileState) × EndsPublish CanStay limits request target begun file given o e status
+    × Changes (Leaves request.journal file.contents) d.before d.after)
     ⊎ ((bytes : List ℕ) × (journal : List ℕ) × (text : List ℕ) × (cut : Option (List ℕ))
-    × IsRewriteNeeded limits asked wanted given.bytes bytes journal text cut
-    × (released : Option Known) × Changes (Leaves asked.journal begun.contents) d.before released
-    × SavesEdition asked.journal bytes journal text cut
+    × IsRewriteNeeded limits request target given.bytes bytes journal text cut
+    × (released : Option Known) × Changes (Leaves request.journal begun.contents) d.before released
+    × SavesEdition request.journal bytes journal text cut
     (record { before = released; after = d.after }) o e status)
 
 -- the file of the journal could not be kept, which was reported; or it is, no change of it had
 -- failed before, and what the text says was published there
 abbrev pub KeepsAndPublishes : Limits → RequestModel → RegisterModel → (Bool → Type 0) → Type 0
     → Folders → Output → Output → Status → Type 0
-KeepsAndPublishes limits asked wanted CanFail CanStay d o e status =
-    ((cause : KeepCause) × CannotKeepBy asked.journal d.before d.after cause × (o.new ≡ o.old)
-    × ReportsIfMade e statuses.ReadFault (unkept_line asked.journal cause) status)
-    ⊎ ((held : Option Known) × Changes (Keeps asked.journal) d.before held
-    × (begun : FileState) × IsKeptAt d.before asked.journal begun.contents × (begun.fault ≡ None)
+KeepsAndPublishes limits request target CanFail CanStay d o e status =
+    ((cause : KeepCause) × CannotKeepBy request.journal d.before d.after cause × (o.new ≡ o.old)
+    × ReportsIfMade e statuses.ReadFault (unkept_line request.journal cause) status)
+    ⊎ ((held : Option Known) × Changes (Keeps request.journal) d.before held
+    × (begun : FileState) × IsKeptAt d.before request.journal begun.contents × (begun.fault ≡ None)
     × (given : Input) × (given.bytes ≡ begun.contents) × CanFail given.unread
-    × PublishesKept limits asked wanted CanStay begun given
+    × PublishesKept limits request target CanStay begun given
     (record { before = held; after = d.after }) o e status)
 
 -- ---- the command
@@ -80,11 +80,11 @@ pub record PublishesInFolder (limits : Limits) (path text_path : List ℕ) (onto
   pub text : Input
   pub reads : IsReadOf d text_path CanFail text
   pub ended : ((d.after ≡ opened) × RefusesText limits text_path text o e status)
-      ⊎ ((edition : Option ℕ) × (wanted : RegisterModel) × Says limits text.bytes edition wanted
+      ⊎ ((edition : Option ℕ) × (target : RegisterModel) × Says limits text.bytes edition target
       × KeepsAndPublishes limits (record {
         journal = path;
         text = text_path;
         edition = edition;
         onto_newest = onto_newest;
-      }) wanted CanFail CanStay
+      }) target CanFail CanStay
       (record { before = opened; after = d.after }) o e status)

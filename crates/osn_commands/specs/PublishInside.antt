@@ -58,24 +58,24 @@ IsCutOf part cut =
 
 -- The journal of a path that held these bytes is rewritten with these edits as its next edition.
 pub record IsOlderOf (path held : List ℕ) (part : CountedPrefix) (version : Version)
-    (s : ObjectState) (wanted : RegisterModel) (edits : List Edit) (bytes journal text : List ℕ)
+    (s : ObjectState) (target : RegisterModel) (edits : List Edit) (bytes journal text : List ℕ)
     (cut : Option (List ℕ)) : Type 0 where
   pub same : bytes ≡ held
   pub needs : needs_sources version edits ≡ true
   pub lawful : edition_refusal s edits ≡ None
   pub sources : All HasLawfulSource edits
   pub anew : journal ≡ journal_text (with_batch s edits)
-  pub printed : text ≡ published_text path s wanted edits
+  pub printed : text ≡ published_text path s target edits
   pub message : IsCutOf part cut
 
 -- The same of a journal with nothing pending that has the edition of the text, with the edits of a
 -- plan that no later edition hinders.
-pub record IsOlderPlan (asked : RequestModel) (held : List ℕ) (part : CountedPrefix)
-    (version : Version) (s : ObjectState) (wanted : RegisterModel) (bytes journal text : List ℕ)
+pub record IsOlderPlan (request : RequestModel) (held : List ℕ) (part : CountedPrefix)
+    (version : Version) (s : ObjectState) (target : RegisterModel) (bytes journal text : List ℕ)
     (cut : Option (List ℕ)) : Type 0 where
   pub pending : s.pending ≡ []
-  pub had : later_than asked.edition (length s.batches) ≡ None
+  pub had : later_than request.edition (length s.batches) ≡ None
   pub edits : List Edit
-  pub plans : IsPlan s.limits wanted.territories (published s) edits
-  pub free : hindered asked s.batches edits ≡ None
-  pub older : IsOlderOf asked.journal held part version s wanted edits bytes journal text cut
+  pub plans : IsPlan s.limits target.territories (published s) edits
+  pub free : hindered request s.batches edits ≡ None
+  pub older : IsOlderOf request.journal held part version s target edits bytes journal text cut

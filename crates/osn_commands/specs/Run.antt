@@ -69,8 +69,8 @@ Runs limits (converting calendar date) CanFail CanStay d i o e status =
     (d.after ≡ d.before) × PrintsConversion calendar date o e status
 Runs limits (completing shell) CanFail CanStay d i o e status =
     (d.after ≡ d.before) × PrintsCompletions shell o e status
-Runs limits (reading_letters journal table asked) CanFail CanStay d i o e status =
-    RunsTable limits journal table asked CanFail d i o e status
+Runs limits (reading_letters journal table request) CanFail CanStay d i o e status =
+    RunsTable limits journal table request CanFail d i o e status
 Runs limits (listing journal) CanFail CanStay d i o e status =
     ReadsOne journal CanFail d (λ file. PrintsEditions limits journal file o e status)
 Runs limits (comparing journal from to) CanFail CanStay d i o e status =
@@ -108,7 +108,7 @@ Fails limits (auditing journal transcript) CanFail d path fault =
     FailsOnTwo journal transcript CanFail d (AuditFails limits) path fault
 Fails limits (converting calendar date) CanFail d path fault = ⊥
 Fails limits (completing shell) CanFail d path fault = ⊥
-Fails limits (reading_letters journal table asked) CanFail d path fault =
+Fails limits (reading_letters journal table request) CanFail d path fault =
     IsOpenFailure journal d path fault
 Fails limits (listing journal) CanFail d path fault = IsOpenFailure journal d path fault
 Fails limits (comparing journal from to) CanFail d path fault = IsOpenFailure journal d path fault
@@ -153,10 +153,10 @@ RunsUnder limits command CanFail CanStay d i o e status =
 -- that, or the words of the limits are not limits
 abbrev pub RunsInvocation : InvocationModel → (Bool → Type 0) → Type 0 → Folders → Input → Output
     → Output → Status → Type 0
-RunsInvocation asked CanFail CanStay d i o e status = MatchResult (limits_of_words asked.limits)
-    (λ limits. RunsUnder limits asked.command CanFail CanStay d i o e status)
+RunsInvocation request CanFail CanStay d i o e status = MatchResult (limits_of_words request.limits)
+    (λ limits. RunsUnder limits request.command CanFail CanStay d i o e status)
     (λ misuse. (d.after ≡ d.before) × (o.new ≡ o.old)
-    × ReportsMisuse e misuse (unwrap_or asked.limits []) status)
+    × ReportsMisuse e misuse (unwrap_or request.limits []) status)
 
 -- what a run does with these words, which mean the typed ones. If the grammar takes them it does what
 -- they ask for. Otherwise it shows what is wrong, with the help for a common mistake, or help that

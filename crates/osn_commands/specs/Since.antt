@@ -28,11 +28,11 @@ pub record RequestModel : Type 0 where
   pub onto_newest : Bool
 
 abbrev pub request_of : PublishRequest → RequestModel
-request_of asked = record {
-  journal = asked.journal.now;
-  text = asked.text.now;
-  edition = asked.edition;
-  onto_newest = asked.onto_newest;
+request_of request = record {
+  journal = request.journal.now;
+  text = request.text.now;
+  edition = request.edition;
+  onto_newest = request.onto_newest;
 }
 
 -- ---- what edits change
@@ -76,8 +76,8 @@ behind (Some edition) batches edits =
 
 -- the same, if that hinders a publish
 abbrev pub hindered : RequestModel → List (List Edit) → List Edit → Option ℕ
-hindered asked batches edits =
-    if asked.onto_newest then None else behind asked.edition batches edits
+hindered request batches edits =
+    if request.onto_newest then None else behind request.edition batches edits
 
 -- ---- what is printed
 

@@ -14,7 +14,7 @@ use Rattle.osn_report.specs.declared.fault.CommandFault.TheVariants as command_f
 use Rattle.osn_report.specs.declared.status.Status.{Status}
 use Rattle.osn_report.specs.declared.status.Status.TheVariants as statuses
 use Rattle.osn_lines.specs.Escaped.{escaped}
-use Rattle.osn_register_text.specs.Text.{IsFaultOf, said_by}
+use Rattle.osn_register_text.specs.Text.{IsFaultOf, text_of_table}
 use Rattle.osn_register_text.specs.Words.{text_fault_text}
 use Rattle.osn_register_text.specs.declared.fault.TextFault.{TextFault}
 use Rattle.osn_register_text.specs.declared.fault.TextFault.TheVariants as text_faults
@@ -29,7 +29,7 @@ by_read read_faults.ReadFault = faults.ReadFault
 -- these bytes say this register under these limits, and of which edition it was made, if they do
 abbrev pub BytesSay : Limits → List ℕ → Option ℕ → RegisterModel → Type 0
 BytesSay limits bytes edition r =
-    (r.limits ≡ limits) × IsUtf8 bytes × (said_by limits bytes ≡ Some (Ok (edition, r.territories)))
+    (r.limits ≡ limits) × IsUtf8 bytes × (text_of_table limits bytes ≡ Some (Ok (edition, r.territories)))
 
 -- they say no register, by this fault
 abbrev pub BytesSayNone : Limits → List ℕ → TextFileFault → Type 0
@@ -37,7 +37,7 @@ BytesSayNone limits bytes faults.NoMemory = ⊤
 BytesSayNone limits bytes faults.ReadFault = ⊥
 BytesSayNone limits bytes faults.NotUtf8 = ¬ IsUtf8 bytes
 BytesSayNone limits bytes (faults.Text why) =
-    IsUtf8 bytes × IsFaultOf (said_by limits bytes) why
+    IsUtf8 bytes × IsFaultOf (text_of_table limits bytes) why
 
 -- a file of these bytes says this edition and this register
 abbrev pub Says : Limits → Option (List ℕ) → Option ℕ → RegisterModel → Type 0
@@ -53,7 +53,7 @@ IsTextFileFault limits text fault =
 
 -- the line on a text of this path
 abbrev pub text_line : List ℕ → List ℕ → List ℕ
-text_line path said = codes "oldstyle: " ++ (escaped path ++ (codes ": " ++ (said ++ codes "\n")))
+text_line path message = codes "oldstyle: " ++ (escaped path ++ (codes ": " ++ (message ++ codes "\n")))
 
 -- it was reported what a text says wrongly, or that memory ran out
 abbrev pub ReportsText : List ℕ → Output → TextFault → Status → Type 0

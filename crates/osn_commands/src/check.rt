@@ -5,7 +5,7 @@ ghost use Rattle.osn_lines.specs.Streams.{input_of, output_of};
 ghost use Rattle.osn_report.specs.Folders.{ReadsOne, folders_of};
 ghost use Rattle.osn_commands.specs.Check as spec;
 
-use crate::text_file::{read_said, report_text_file};
+use crate::text_file::{read_register_text, report_text_file};
 use osn_folder::{Folder, OpenFailed, open_file};
 use osn_lines::{Sink, Source};
 use osn_register::{Limits, Register};
@@ -49,8 +49,12 @@ pub fn check_command<T: Source, W: Sink, E: Sink>(
         (output_of W.contents W.has_failed W.holds_back output.old output.new)
         (output_of E.contents E.has_failed E.holds_back errors.old errors.new) result }
 {
-    match read_said(alloc, limits, text) {
-        Ok(said) => print(register_line(alloc, &said.register), output, errors),
+    match read_register_text(alloc, limits, text) {
+        Ok(register_text) => print(
+            register_line(alloc, &register_text.register),
+            output,
+            errors,
+        ),
         Err(fault) => report_text_file(alloc, errors, path, &fault),
     }
 }

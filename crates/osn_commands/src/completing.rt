@@ -22,7 +22,7 @@ pub(crate) fn completions_command<W: Sink, E: Sink>(
         (output_of E.contents E.has_failed E.holds_back errors.old errors.new) result }
 {
     match shell_named(shell) {
-        Some(found) => print(completions(alloc, found), output, errors),
+        Some(shell) => print(completions(alloc, shell), output, errors),
         None => report_misuse(alloc, errors, Misuse::Shell, shell),
     }
 }

@@ -65,15 +65,15 @@ fn begun_text(
     alloc: Global,
     path: &str,
     object: &Object,
-    wanted: &Register,
+    target: &Register,
     edits: &[Edit],
 ) -> Result<String, AllocError>
     ensures { IfOk result (λ text.
-        string_bytes text ≡ spec.begun_text path.now object.now wanted.now edits.now) }
+        string_bytes text ≡ spec.begun_text path.now object.now target.now edits.now) }
 {
     let mut text = String::new(alloc);
     push_new_journal(&mut text, path, object.batches().len())?;
-    let page = plan_page(alloc, object.register(), wanted, edits)?;
+    let page = plan_page(alloc, object.register(), target, edits)?;
     text.push_str(page.as_str())?;
     Ok(text)
 }
@@ -98,7 +98,7 @@ pub(crate) fn edition_of(
     path: &str,
     part: CountedPrefix,
     object: &mut Object,
-    wanted: &Register,
+    target: &Register,
     edits: Vec<Edit>,
 ) -> Result<Edition, Refusal>
     ensures lawful { OnOk result (edition_refusal object.old edits.items ≡ None) }
@@ -106,12 +106,12 @@ pub(crate) fn edition_of(
     ensures lines { IfOk result
         (λ edition. inside.AreLinesOf part edits.items edition.lines.items) }
     ensures text { IfOk result (λ edition.
-        string_bytes edition.text ≡ published_text path.now object.old wanted.now edits.items) }
+        string_bytes edition.text ≡ published_text path.now object.old target.now edits.items) }
     ensures refused { IfErr result
         (IsNoMemoryOr (edition_refusal object.old edits.items)) }
 {
     let lines = edition_lines(alloc, part, &edits)?;
-    let mut text = begun_text(alloc, path, object, wanted, &edits)?;
+    let mut text = begun_text(alloc, path, object, target, &edits)?;
     let number = make_edition(object, edits)?;
     push_published(&mut text, number)?;
     Ok(Edition { lines, text })
@@ -136,7 +136,7 @@ pub(crate) fn whole_edition_of(
     alloc: Global,
     path: &str,
     object: &mut Object,
-    wanted: &Register,
+    target: &Register,
     edits: Vec<Edit>,
 ) -> Result<WholeEdition, Refusal>
     requires { object.old.pending ≡ [] }
@@ -145,11 +145,11 @@ pub(crate) fn whole_edition_of(
     ensures journal { IfOk result (λ edition.
         string_bytes edition.journal ≡ journal_text (with_batch object.old edits.items)) }
     ensures text { IfOk result (λ edition.
-        string_bytes edition.text ≡ published_text path.now object.old wanted.now edits.items) }
+        string_bytes edition.text ≡ published_text path.now object.old target.now edits.items) }
     ensures refused { IfErr result
         (IsNoMemoryOr (edition_refusal object.old edits.items)) }
 {
-    let mut text = begun_text(alloc, path, object, wanted, &edits)?;
+    let mut text = begun_text(alloc, path, object, target, &edits)?;
     let next = make_edition(object, edits)?;
     push_published(&mut text, next)?;
     let journal = journal_text(alloc, object)?;

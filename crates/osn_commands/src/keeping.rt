@@ -64,20 +64,20 @@ fn lacks_folder<D: Folder>(folder: &mut D, path: &str) -> bool
 }
 
 /// Returns why a file that no other run has is not kept. The system said why when it was opened.
-fn cause_at<D: Folder>(folder: &mut D, path: &str, said: OpenFailed) -> KeepCause
-    ensures { spec.FindsCause path.now said (D.known folder.old) (D.known folder.new) result }
+fn cause_at<D: Folder>(folder: &mut D, path: &str, failure: OpenFailed) -> KeepCause
+    ensures { spec.FindsCause path.now failure (D.known folder.old) (D.known folder.new) result }
 {
     if folder.is_stream(path) {
         return KeepCause::NoFile;
     }
     match folder.open(path) {
-        Ok(_) => KeepCause::NotWritten(said),
+        Ok(_) => KeepCause::NotWritten(failure),
         Err(OpenFailed::PermissionDenied) => KeepCause::Denied,
         Err(OpenFailed::NotFound) => {
             if lacks_folder(folder, path) {
                 KeepCause::NoFolder
             } else {
-                KeepCause::NotMade(said)
+                KeepCause::NotMade(failure)
             }
         }
         Err(_) => KeepCause::NotRead,
@@ -90,7 +90,7 @@ pub(crate) fn cause_of<D: Folder>(folder: &mut D, path: &str, fault: KeepFault) 
 {
     match fault {
         KeepFault::Held => KeepCause::Held,
-        KeepFault::NotOpened(said) => cause_at(folder, path, said),
+        KeepFault::NotOpened(failure) => cause_at(folder, path, failure),
     }
 }
 

@@ -13,7 +13,7 @@ use crate::keeping::{cause_of, unkept_line};
 use crate::publish::publish_command;
 use crate::publish_edits::print_report;
 use crate::since::PublishRequest;
-use crate::text_file::{read_said, report_text_file};
+use crate::text_file::{read_register_text, report_text_file};
 use osn_folder::{Folder, OpenFailed, open_file};
 use osn_lines::Sink;
 use osn_register::{Limits, Register};
@@ -55,20 +55,20 @@ fn keep_and_publish<D: Folder, W: Sink, E: Sink>(
     alloc: Global,
     limits: Limits,
     folder: &mut D,
-    asked: PublishRequest<'_>,
-    wanted: &Register,
+    request: PublishRequest<'_>,
+    target: &Register,
     output: &mut W,
     errors: &mut E,
 ) -> Status
-    ensures { spec.KeepsAndPublishes limits (request_of asked.entry) wanted.now
+    ensures { spec.KeepsAndPublishes limits (request_of request.entry) target.now
         (MayFail D.File.has_failed) (CanStay D.Keeper.cut_back_may_fail)
         (folders_of D.known folder.old folder.new)
         (output_of W.contents W.has_failed W.holds_back output.old output.new)
         (output_of E.contents E.has_failed E.holds_back errors.old errors.new) result }
 {
-    let path = asked.journal;
-    let (mut kept, mut journal) = match folder.keep(path) {
-        Ok(found) => found,
+    let path = request.journal;
+    let (mut keeper, mut journal) = match folder.keep(path) {
+        Ok(file) => file,
         Err(fault) => {
             let cause = cause_of(folder, path, fault);
             return report_line(errors, Status::ReadFault, unkept_line(alloc, path, cause));
@@ -77,16 +77,16 @@ fn keep_and_publish<D: Folder, W: Sink, E: Sink>(
     let published = publish_command(
         alloc,
         limits,
-        &mut kept,
+        &mut keeper,
         &mut journal,
-        asked,
-        wanted,
+        request,
+        target,
         output,
         errors,
     );
     // What reads the file has its lock too.
     drop(journal);
-    folder.release(path, kept);
+    folder.release(path, keeper);
     match published {
         Ok(status) => status,
         Err(older) => save_edition(
@@ -134,16 +134,16 @@ pub fn publish_in_folder<D: Folder, W: Sink, E: Sink>(
         × (output.new ≡ output.old) × (errors.new ≡ errors.old)) }
 {
     let mut file = open_file(folder, text)?;
-    match read_said(alloc, limits, &mut file) {
-        Ok(said) => {
-            let asked = PublishRequest {
+    match read_register_text(alloc, limits, &mut file) {
+        Ok(register_text) => {
+            let request = PublishRequest {
                 journal,
                 text,
-                edition: said.edition,
+                edition: register_text.edition,
                 onto_newest,
             };
-            let wanted = &said.register;
-            Ok(keep_and_publish(alloc, limits, folder, asked, wanted, output, errors))
+            let target = &register_text.register;
+            Ok(keep_and_publish(alloc, limits, folder, request, target, output, errors))
         }
         Err(fault) => Ok(report_text_file(alloc, errors, text, &fault)),
     }

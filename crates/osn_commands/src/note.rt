@@ -12,7 +12,7 @@ use osn_lines::Sink;
 use osn_register::{Edit, Refusal};
 use osn_report::{Status, report_line, report_no_memory};
 use osn_request::Version;
-use osn_serve_commands::check_kept;
+use osn_serve_commands::check_version_to_keep;
 use std::alloc::Global;
 
 /// The note beside a plan.
@@ -60,7 +60,7 @@ fn version_note(version: Version, object: &mut Object, edits: Vec<Edit>) -> Note
     if needs_sources(version, &edits) {
         return refusal_or(object, edits, Note::Anew(version));
     }
-    match check_kept(version) {
+    match check_version_to_keep(version) {
         Ok(()) => edits_or(object, edits, Note::Nothing),
         Err(_) => Note::NotKept(version),
     }
@@ -102,8 +102,8 @@ fn report_refused<E: Sink>(alloc: Global, errors: &mut E, refusal: Refusal) -> S
 /// Writes a note on the journal of this path to standard error. Returns the status.
 pub(crate) fn report_note<E: Sink>(alloc: Global, errors: &mut E, path: &str, note: Note) -> Status
     // Whatever note was to be found.
-    ensures { (wanted : Note) → spec.IsNoteOf wanted note
-        → spec.ReportsNote (spec.note_line path.now wanted)
+    ensures { (expected : Note) → spec.IsNoteOf expected note
+        → spec.ReportsNote (spec.note_line path.now expected)
         (output_of E.contents E.has_failed E.holds_back errors.old errors.new) result }
 {
     match note {

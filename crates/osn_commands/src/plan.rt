@@ -11,7 +11,7 @@ use crate::note::{note_of, report_note};
 use crate::plan_fault::report_plan_fault;
 use crate::plan_words::push_plan_end;
 use crate::since::{PublishRequest, behind, behind_lines, later_lines, later_than};
-use crate::text_file::{read_said, report_text_file};
+use crate::text_file::{read_register_text, report_text_file};
 use osn_core::Object;
 use osn_files::{FileFault, load_with_version};
 use osn_lines::{Sink, Source};
@@ -25,13 +25,13 @@ use std::alloc::{AllocError, Global};
 fn plan_text(
     alloc: Global,
     object: &Object,
-    wanted: &Register,
+    target: &Register,
     edits: &[Edit],
 ) -> Result<String, AllocError>
     ensures { IfOk result (λ text.
-        string_bytes text ≡ spec.plan_text object.now wanted.now edits.now) }
+        string_bytes text ≡ spec.plan_text object.now target.now edits.now) }
 {
-    let mut text = plan_page(alloc, object.register(), wanted, edits)?;
+    let mut text = plan_page(alloc, object.register(), target, edits)?;
     push_plan_end(&mut text, edits.len(), object.batches().len() + 1)?;
     Ok(text)
 }
@@ -40,25 +40,25 @@ fn plan_text(
 /// its edits for the journal of this version. Returns the status.
 fn report_edits<E: Sink>(
     alloc: Global,
-    asked: PublishRequest<'_>,
+    request: PublishRequest<'_>,
     is_there: bool,
     version: Version,
     object: &mut Object,
     edits: Vec<Edit>,
     errors: &mut E,
 ) -> Status
-    ensures { ReportsNote (spec.edits_line asked.entry.journal.now asked.entry.text.now is_there
-        version object.old asked.entry.edition edits.items)
+    ensures { ReportsNote (spec.edits_line request.entry.journal.now request.entry.text.now is_there
+        version object.old request.entry.edition edits.items)
         (output_of E.contents E.has_failed E.holds_back errors.old errors.new) result }
 {
-    match behind(asked.edition, object.batches(), &edits) {
+    match behind(request.edition, object.batches(), &edits) {
         Some(edition) => {
-            let lines = behind_lines(alloc, asked, edition, object);
+            let lines = behind_lines(alloc, request, edition, object);
             report_line(errors, Status::Done, lines)
         }
         None => {
             let note = note_of(is_there, version, object, edits);
-            report_note(alloc, errors, asked.journal, note)
+            report_note(alloc, errors, request.journal, note)
         }
     }
 }
@@ -66,23 +66,23 @@ fn report_edits<E: Sink>(
 /// Prints a plan, and then reports on its edits if all was printed.
 fn print_edits<W: Sink, E: Sink>(
     alloc: Global,
-    asked: PublishRequest<'_>,
+    request: PublishRequest<'_>,
     is_there: bool,
     version: Version,
     object: &mut Object,
-    wanted: &Register,
+    target: &Register,
     edits: Vec<Edit>,
     output: &mut W,
     errors: &mut E,
 ) -> Status
-    ensures { spec.PrintsNoted (spec.plan_text object.old wanted.now edits.items)
-        (spec.edits_line asked.entry.journal.now asked.entry.text.now is_there version object.old
-        asked.entry.edition edits.items)
+    ensures { spec.PrintsNoted (spec.plan_text object.old target.now edits.items)
+        (spec.edits_line request.entry.journal.now request.entry.text.now is_there version object.old
+        request.entry.edition edits.items)
         (output_of W.contents W.has_failed W.holds_back output.old output.new)
         (output_of E.contents E.has_failed E.holds_back errors.old errors.new) result }
 {
-    match print(plan_text(alloc, object, wanted, &edits), output, errors) {
-        Status::Done => report_edits(alloc, asked, is_there, version, object, edits, errors),
+    match print(plan_text(alloc, object, target, &edits), output, errors) {
+        Status::Done => report_edits(alloc, request, is_there, version, object, edits, errors),
         failed => failed,
     }
 }
@@ -91,32 +91,32 @@ fn print_edits<W: Sink, E: Sink>(
 /// text is of an edition that the object lacks.
 fn print_plan<W: Sink, E: Sink>(
     alloc: Global,
-    asked: PublishRequest<'_>,
+    request: PublishRequest<'_>,
     is_there: bool,
     version: Version,
     object: &mut Object,
-    wanted: &Register,
+    target: &Register,
     output: &mut W,
     errors: &mut E,
 ) -> Status
     ensures { spec.PrintsUnlessLater
-        (later_than asked.entry.edition (length object.old.batches))
-        object.old asked.entry.journal.now asked.entry.text.now wanted.now
-        (spec.edits_line asked.entry.journal.now asked.entry.text.now is_there version object.old
-        asked.entry.edition)
+        (later_than request.entry.edition (length object.old.batches))
+        object.old request.entry.journal.now request.entry.text.now target.now
+        (spec.edits_line request.entry.journal.now request.entry.text.now is_there version object.old
+        request.entry.edition)
         (output_of W.contents W.has_failed W.holds_back output.old output.new)
         (output_of E.contents E.has_failed E.holds_back errors.old errors.new) result }
 {
     let editions = object.batches().len();
-    if let Some(edition) = later_than(asked.edition, editions) {
-        let lines = later_lines(alloc, asked.text, asked.journal, edition, editions);
+    if let Some(edition) = later_than(request.edition, editions) {
+        let lines = later_lines(alloc, request.text, request.journal, edition, editions);
         return report_line(errors, Status::Refused, lines);
     }
-    match plan(alloc, object.register(), wanted) {
+    match plan(alloc, object.register(), target) {
         Ok(edits) => print_edits(
-            alloc, asked, is_there, version, object, wanted, edits, output, errors,
+            alloc, request, is_there, version, object, target, edits, output, errors,
         ),
-        Err(fault) => report_plan_fault(alloc, errors, asked.text, &fault),
+        Err(fault) => report_plan_fault(alloc, errors, request.text, &fault),
     }
 }
 
@@ -139,17 +139,17 @@ fn plan_text_file<T: Source, W: Sink, E: Sink>(
         (output_of W.contents W.has_failed W.holds_back output.old output.new)
         (output_of E.contents E.has_failed E.holds_back errors.old errors.new) result }
 {
-    match read_said(alloc, limits, text) {
-        Ok(said) => {
-            let asked = PublishRequest {
+    match read_register_text(alloc, limits, text) {
+        Ok(register_text) => {
+            let request = PublishRequest {
                 journal: path,
                 text: text_path,
-                edition: said.edition,
+                edition: register_text.edition,
                 onto_newest: false,
             };
-            let wanted = &said.register;
+            let target = &register_text.register;
             print_plan(
-                alloc, asked, is_there, version, object, wanted, output, errors,
+                alloc, request, is_there, version, object, target, output, errors,
             )
         }
         Err(fault) => report_text_file(alloc, errors, text_path, &fault),

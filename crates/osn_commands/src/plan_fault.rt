@@ -11,12 +11,12 @@ use std::alloc::{AllocError, Global};
 
 /// Returns what to do about a name that a text changes.
 #[tactic(auto, unfolding(crate::specs::PlanFault::renamed_help))]
-fn renamed_help(alloc: Global, name: &str, wanted: &str) -> Result<String, AllocError>
-    ensures { IfOk result (λ help. string_bytes help ≡ spec.renamed_help name.now wanted.now) }
+fn renamed_help(alloc: Global, name: &str, new_name: &str) -> Result<String, AllocError>
+    ensures { IfOk result (λ help. string_bytes help ≡ spec.renamed_help name.now new_name.now) }
 {
     let name = Escaped(name);
-    let wanted = Escaped(wanted);
-    format!(in alloc; "\nhelp: write {name} again, or give {wanted} a code of its own\n")
+    let new_name = Escaped(new_name);
+    format!(in alloc; "\nhelp: write {name} again, or give {new_name} a code of its own\n")
 }
 
 /// Returns the lines on a name that the text of this path changes.
@@ -25,18 +25,18 @@ fn renamed_line(
     path: &str,
     code: &str,
     name: &str,
-    wanted: &str,
+    new_name: &str,
 ) -> Result<String, AllocError>
     ensures { IfOk result (λ line. string_bytes line
-        ≡ spec.renamed_line path.now code.now name.now wanted.now) }
+        ≡ spec.renamed_line path.now code.now name.now new_name.now) }
 {
-    let help = renamed_help(alloc, name, wanted)?;
+    let help = renamed_help(alloc, name, new_name)?;
     format!(in alloc;
         "oldstyle: {}: {}: a name can't be changed: it is {}, and the text has {}{help}",
         Escaped(path),
         Escaped(code),
         Escaped(name),
-        Escaped(wanted)
+        Escaped(new_name)
     )
 }
 
@@ -71,8 +71,12 @@ pub(crate) fn report_plan_fault<E: Sink>(
         (output_of E.contents E.has_failed E.holds_back errors.old errors.new) fault.now result }
 {
     match fault {
-        PlanFault::Renamed { code, name, wanted } => {
-            let line = renamed_line(alloc, path, code.as_str(), name.as_str(), wanted.as_str());
+        PlanFault::Renamed {
+            code,
+            name,
+            new_name,
+        } => {
+            let line = renamed_line(alloc, path, code.as_str(), name.as_str(), new_name.as_str());
             report_line(errors, Status::Refused, line)
         }
         PlanFault::Refused { code, refusal } => {

@@ -48,7 +48,7 @@ pub(crate) fn push_published(out: &mut String, edition: u32) -> Result<(), Alloc
 /// Appends the last line of a publish of no edits, after this many editions.
 pub(crate) fn push_standing(out: &mut String, editions: usize) -> Result<(), AllocError>
     ensures { OnOk result
-        (string_bytes out.new ≡ string_bytes out.old ++ spec.standing_line editions) }
+        (string_bytes out.new ≡ string_bytes out.old ++ spec.no_change_line editions) }
 {
     writeln!(out, "nothing to change: edition {editions} is the newest")
 }

@@ -17,7 +17,7 @@ use osn_lines::{Sink, Source};
 use osn_register::{Edit, Limits, Register};
 use osn_register_text::plan;
 use osn_report::{Status, report_at, report_line};
-use osn_serve_commands::{LoadedJournal, read_kept};
+use osn_serve_commands::{LoadedJournal, read_journal_to_keep};
 use std::alloc::Global;
 
 /// Publishes the edits of a plan, unless they change again what editions after that of the text
@@ -30,8 +30,8 @@ fn publish_unless_behind<K: KeptFile, W: Sink, E: Sink>(
     alloc: Global,
     keeper: &mut K,
     held: LoadedJournal,
-    asked: PublishRequest<'_>,
-    wanted: &Register,
+    request: PublishRequest<'_>,
+    target: &Register,
     edits: Vec<Edit>,
     output: &mut W,
     errors: &mut E,
@@ -42,32 +42,32 @@ fn publish_unless_behind<K: KeptFile, W: Sink, E: Sink>(
     ensures ok { IfOk result (λ status. (given : Option (List ℕ))
         → inside.IsPartOf held.part given
         → spec.PublishesUnlessBehind
-        (hindered (request_of asked.entry) held.object.batches edits.items)
-        (inside.CanStay K.cut_back_may_fail) (request_of asked.entry) held.version held.object
-        wanted.now
+        (hindered (request_of request.entry) held.object.batches edits.items)
+        (inside.CanStay K.cut_back_may_fail) (request_of request.entry) held.version held.object
+        target.now
         (file_of K.contents K.synced K.fault keeper.old)
         (file_of K.contents K.synced K.fault keeper.new) given edits.items
         (output_of W.contents W.has_failed W.holds_back output.old output.new)
         (output_of E.contents E.has_failed E.holds_back errors.old errors.new) status) }
     ensures older { IfErr result (λ older.
-        (hindered (request_of asked.entry) held.object.batches edits.items ≡ None)
-        × inside.IsOlderOf asked.entry.journal.now held.bytes.items held.part held.version
-        held.object wanted.now edits.items older.bytes.items (string_bytes older.edition.journal)
+        (hindered (request_of request.entry) held.object.batches edits.items ≡ None)
+        × inside.IsOlderOf request.entry.journal.now held.bytes.items held.part held.version
+        held.object target.now edits.items older.bytes.items (string_bytes older.edition.journal)
         (string_bytes older.edition.text) (option_map string_bytes older.cut)) }
     ensures quiet { OnErr result ((keeper.new ≡ keeper.old) × (output.new ≡ output.old)
         × (errors.new ≡ errors.old)) }
 {
-    match hindered(asked, held.object.batches(), &edits) {
+    match hindered(request, held.object.batches(), &edits) {
         Some(edition) => {
-            let lines = behind_lines(alloc, asked, edition, &held.object);
+            let lines = behind_lines(alloc, request, edition, &held.object);
             Ok(report_line(errors, Status::Refused, lines))
         }
         None => publish_edits(
             alloc,
-            asked.journal,
+            request.journal,
             keeper,
             held,
-            wanted,
+            target,
             edits,
             output,
             errors,
@@ -75,7 +75,7 @@ fn publish_unless_behind<K: KeptFile, W: Sink, E: Sink>(
     }
 }
 
-/// Publishes what changes the published register of a journal into the register that is wanted,
+/// Publishes what changes the published register of a journal into the target register,
 /// unless edits are pending, or the text is of an edition that the journal lacks.
 ///
 /// # Errors
@@ -85,8 +85,8 @@ fn publish_held<K: KeptFile, W: Sink, E: Sink>(
     alloc: Global,
     keeper: &mut K,
     held: LoadedJournal,
-    asked: PublishRequest<'_>,
-    wanted: &Register,
+    request: PublishRequest<'_>,
+    target: &Register,
     output: &mut W,
     errors: &mut E,
 ) -> Result<Status, NeedsRewrite>
@@ -95,13 +95,13 @@ fn publish_held<K: KeptFile, W: Sink, E: Sink>(
     ensures ok { IfOk result (λ status. (given : Option (List ℕ))
         → inside.IsPartOf held.part given
         → spec.PublishesUnlessPending (inside.CanStay K.cut_back_may_fail) held.version held.object
-        held.object.pending (request_of asked.entry) wanted.now
+        held.object.pending (request_of request.entry) target.now
         (file_of K.contents K.synced K.fault keeper.old)
         (file_of K.contents K.synced K.fault keeper.new) given
         (output_of W.contents W.has_failed W.holds_back output.old output.new)
         (output_of E.contents E.has_failed E.holds_back errors.old errors.new) status) }
-    ensures older { IfErr result (λ older. inside.IsOlderPlan (request_of asked.entry)
-        held.bytes.items held.part held.version held.object wanted.now older.bytes.items
+    ensures older { IfErr result (λ older. inside.IsOlderPlan (request_of request.entry)
+        held.bytes.items held.part held.version held.object target.now older.bytes.items
         (string_bytes older.edition.journal)
         (string_bytes older.edition.text) (option_map string_bytes older.cut)) }
     ensures quiet { OnErr result ((keeper.new ≡ keeper.old) × (output.new ≡ output.old)
@@ -112,20 +112,20 @@ fn publish_held<K: KeptFile, W: Sink, E: Sink>(
         return Ok(report_line(errors, Status::Refused, line));
     }
     let editions = held.object.batches().len();
-    if let Some(edition) = later_than(asked.edition, editions) {
-        let lines = later_lines(alloc, asked.text, asked.journal, edition, editions);
+    if let Some(edition) = later_than(request.edition, editions) {
+        let lines = later_lines(alloc, request.text, request.journal, edition, editions);
         return Ok(report_line(errors, Status::Refused, lines));
     }
-    match plan(alloc, held.object.register(), wanted) {
+    match plan(alloc, held.object.register(), target) {
         Ok(edits) => {
-            publish_unless_behind(alloc, keeper, held, asked, wanted, edits, output, errors)
+            publish_unless_behind(alloc, keeper, held, request, target, edits, output, errors)
         }
-        Err(fault) => Ok(report_plan_fault(alloc, errors, asked.text, &fault)),
+        Err(fault) => Ok(report_plan_fault(alloc, errors, request.text, &fault)),
     }
 }
 
 /// Runs the command `publish`: makes the edits that change what a journal published into a register
-/// that is wanted one edition of the journal, under these limits. The request names the paths of
+/// that is target one edition of the journal, under these limits. The request names the paths of
 /// the journal and of the text that says the register, and the edition that the text was made of.
 /// The source gives the bytes of the journal's file.
 ///
@@ -147,28 +147,28 @@ pub fn publish_command<K: KeptFile, J: Source, W: Sink, E: Sink>(
     limits: Limits,
     keeper: &mut K,
     journal: &mut J,
-    asked: PublishRequest<'_>,
-    wanted: &Register,
+    request: PublishRequest<'_>,
+    target: &Register,
     output: &mut W,
     errors: &mut E,
 ) -> Result<Status, NeedsRewrite>
     ensures ended { IfOk result (spec.EndsPublish (inside.CanStay K.cut_back_may_fail) limits
-        (request_of asked.entry) wanted.now
+        (request_of request.entry) target.now
         (file_of K.contents K.synced K.fault keeper.old)
         (file_of K.contents K.synced K.fault keeper.new)
         (input_of J.remaining J.has_failed journal.old journal.new)
         (output_of W.contents W.has_failed W.holds_back output.old output.new)
         (output_of E.contents E.has_failed E.holds_back errors.old errors.new)) }
-    ensures older { IfErr result (λ older. spec.IsRewriteNeeded limits (request_of asked.entry)
-        wanted.now (J.remaining journal.old) older.bytes.items (string_bytes older.edition.journal)
+    ensures older { IfErr result (λ older. spec.IsRewriteNeeded limits (request_of request.entry)
+        target.now (J.remaining journal.old) older.bytes.items (string_bytes older.edition.journal)
         (string_bytes older.edition.text) (option_map string_bytes older.cut)) }
     ensures quiet { OnErr result ((keeper.new ≡ keeper.old) × (output.new ≡ output.old)
         × (errors.new ≡ errors.old)) }
     // as a law: what the file contains after an edition is loaded as the object with that edition
     ensures loads { IsEachEditionLoaded }
 {
-    match read_kept(alloc, limits, journal) {
-        Ok(held) => publish_held(alloc, keeper, held, asked, wanted, output, errors),
-        Err(fault) => Ok(report_at(alloc, errors, asked.journal, fault)),
+    match read_journal_to_keep(alloc, limits, journal) {
+        Ok(held) => publish_held(alloc, keeper, held, request, target, output, errors),
+        Err(fault) => Ok(report_at(alloc, errors, request.journal, fault)),
     }
 }

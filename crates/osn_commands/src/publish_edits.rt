@@ -23,19 +23,19 @@ use osn_register::{Edit, Refusal, Register};
 use osn_register_text::plan_page;
 use osn_report::{CommandFault, Status, print, report, report_at, report_line, write_line};
 use osn_request::Version;
-use osn_serve_commands::{LoadedJournal, check_kept, cut_text_of};
+use osn_serve_commands::{LoadedJournal, check_version_to_keep, cut_text_of};
 use std::alloc::{AllocError, Global};
 
 /// Returns the lines of a plan without edits, and the line that there is nothing to change.
-pub(crate) fn standing_text(
+pub(crate) fn no_change_text(
     alloc: Global,
     object: &Object,
-    wanted: &Register,
+    target: &Register,
 ) -> Result<String, AllocError>
     ensures { IfOk result (λ text.
-        string_bytes text ≡ spec.standing_text object.now wanted.now) }
+        string_bytes text ≡ spec.no_change_text object.now target.now) }
 {
-    let mut text = plan_page(alloc, object.register(), wanted, &[])?;
+    let mut text = plan_page(alloc, object.register(), target, &[])?;
     push_standing(&mut text, object.batches().len())?;
     Ok(text)
 }
@@ -93,7 +93,7 @@ fn append_edits<K: KeptFile, W: Sink, E: Sink>(
     part: CountedPrefix,
     keeper: &mut K,
     object: &mut Object,
-    wanted: &Register,
+    target: &Register,
     edits: Vec<Edit>,
     output: &mut W,
     errors: &mut E,
@@ -101,16 +101,16 @@ fn append_edits<K: KeptFile, W: Sink, E: Sink>(
     requires { part.lines < 2 ^ 63 }
     // Whatever a source gave of which the part counts.
     ensures { (given : Option (List ℕ)) → inside.IsPartOf part given
-        → spec.AppendsEdits (inside.CanStay K.cut_back_may_fail) path.now object.old wanted.now
+        → spec.AppendsEdits (inside.CanStay K.cut_back_may_fail) path.now object.old target.now
         (file_of K.contents K.synced K.fault keeper.old)
         (file_of K.contents K.synced K.fault keeper.new) given edits.items
         (output_of W.contents W.has_failed W.holds_back output.old output.new)
         (output_of E.contents E.has_failed E.holds_back errors.old errors.new) result }
 {
     if edits.is_empty() {
-        return print(standing_text(alloc, object, wanted), output, errors);
+        return print(no_change_text(alloc, object, target), output, errors);
     }
-    match edition_of(alloc, path, part, object, wanted, edits) {
+    match edition_of(alloc, path, part, object, target, edits) {
         Ok(edition) => publish_edition(alloc, path, part, keeper, &edition, output, errors),
         Err(refusal) => report(alloc, errors, CommandFault::Refused(refusal)),
     }
@@ -144,7 +144,7 @@ fn older_edition(
     alloc: Global,
     path: &str,
     held: LoadedJournal,
-    wanted: &Register,
+    target: &Register,
     edits: Vec<Edit>,
 ) -> Result<NeedsRewrite, Refusal>
     requires few { held.part.lines < 2 ^ 63 }
@@ -157,7 +157,7 @@ fn older_edition(
     ensures journal { IfOk result (λ older. string_bytes older.edition.journal
         ≡ journal_text (with_batch held.object edits.items)) }
     ensures text { IfOk result (λ older. string_bytes older.edition.text
-        ≡ spec.published_text path.now held.object wanted.now edits.items) }
+        ≡ spec.published_text path.now held.object target.now edits.items) }
     ensures refused { IfErr result (IsNoMemoryOr (edition_refusal held.object edits.items)) }
 {
     let LoadedJournal {
@@ -167,7 +167,7 @@ fn older_edition(
         ..
     } = held;
     let cut = cut_text_of(alloc, part)?;
-    let edition = whole_edition_of(alloc, path, &mut object, wanted, edits)?;
+    let edition = whole_edition_of(alloc, path, &mut object, target, edits)?;
     Ok(NeedsRewrite {
         bytes,
         edition,
@@ -185,7 +185,7 @@ pub(crate) fn publish_edits<K: KeptFile, W: Sink, E: Sink>(
     path: &str,
     keeper: &mut K,
     held: LoadedJournal,
-    wanted: &Register,
+    target: &Register,
     edits: Vec<Edit>,
     output: &mut W,
     errors: &mut E,
@@ -196,20 +196,20 @@ pub(crate) fn publish_edits<K: KeptFile, W: Sink, E: Sink>(
     ensures ok { IfOk result (λ status. (given : Option (List ℕ))
         → inside.IsPartOf held.part given
         → spec.PublishesEdits (needs_sources held.version edits.items)
-        (inside.CanStay K.cut_back_may_fail) path.now held.version held.object wanted.now
+        (inside.CanStay K.cut_back_may_fail) path.now held.version held.object target.now
         (file_of K.contents K.synced K.fault keeper.old)
         (file_of K.contents K.synced K.fault keeper.new) given edits.items
         (output_of W.contents W.has_failed W.holds_back output.old output.new)
         (output_of E.contents E.has_failed E.holds_back errors.old errors.new) status) }
     ensures older { IfErr result (λ older. inside.IsOlderOf path.now held.bytes.items held.part
-        held.version held.object wanted.now edits.items older.bytes.items
+        held.version held.object target.now edits.items older.bytes.items
         (string_bytes older.edition.journal)
         (string_bytes older.edition.text) (option_map string_bytes older.cut)) }
     ensures quiet { OnErr result ((keeper.new ≡ keeper.old) × (output.new ≡ output.old)
         × (errors.new ≡ errors.old)) }
 {
     if needs_sources(held.version, &edits) {
-        return match older_edition(alloc, path, held, wanted, edits) {
+        return match older_edition(alloc, path, held, target, edits) {
             Ok(older) => Err(older),
             Err(refusal) => Ok(report(alloc, errors, CommandFault::Refused(refusal))),
         };
@@ -220,14 +220,14 @@ pub(crate) fn publish_edits<K: KeptFile, W: Sink, E: Sink>(
         mut object,
         ..
     } = held;
-    match check_kept(version) {
+    match check_version_to_keep(version) {
         Ok(()) => Ok(append_edits(
             alloc,
             path,
             part,
             keeper,
             &mut object,
-            wanted,
+            target,
             edits,
             output,
             errors,

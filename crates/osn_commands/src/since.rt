@@ -119,13 +119,17 @@ pub(crate) fn behind(edition: Option<u64>, batches: &[Batch], edits: &[Edit]) ->
 }
 
 /// Returns the same, but only if that hinders a publish.
-pub(crate) fn hindered(asked: PublishRequest<'_>, batches: &[Batch], edits: &[Edit]) -> Option<u64>
-    ensures { result ≡ spec.hindered (spec.request_of asked.entry) batches.now edits.now }
+pub(crate) fn hindered(
+    request: PublishRequest<'_>,
+    batches: &[Batch],
+    edits: &[Edit],
+) -> Option<u64>
+    ensures { result ≡ spec.hindered (spec.request_of request.entry) batches.now edits.now }
 {
-    if asked.onto_newest {
+    if request.onto_newest {
         return None;
     }
-    behind(asked.edition, batches, edits)
+    behind(request.edition, batches, edits)
 }
 
 /// Returns the lines on a text of an edition that the journal lacks, which has this many.
@@ -183,12 +187,12 @@ fn push_editions(
 
 /// Appends the first line on a text of an edition.
 #[tactic(auto, unfolding(crate::specs::Since::behind_begin))]
-fn push_begin(out: &mut String, asked: PublishRequest<'_>, edition: u64) -> Result<(), AllocError>
+fn push_begin(out: &mut String, request: PublishRequest<'_>, edition: u64) -> Result<(), AllocError>
     ensures { OnOk result (string_bytes out.new ≡ string_bytes out.old
-        ++ spec.behind_begin asked.entry.text.now asked.entry.journal.now edition) }
+        ++ spec.behind_begin request.entry.text.now request.entry.journal.now edition) }
 {
-    let text = Escaped(asked.text);
-    let journal = Escaped(asked.journal);
+    let text = Escaped(request.text);
+    let journal = Escaped(request.journal);
     writeln!(
         out,
         "oldstyle: {text}: the text is of edition {edition}, and would undo or change again \
@@ -214,17 +218,17 @@ in it, if it has these edits; or publish it anyway with --onto-newest"
 /// changed.
 pub(crate) fn behind_lines(
     alloc: Global,
-    asked: PublishRequest<'_>,
+    request: PublishRequest<'_>,
     edition: u64,
     object: &Object,
 ) -> Result<String, AllocError>
     ensures { IfOk result (λ lines. string_bytes lines
-        ≡ spec.behind_lines asked.entry.text.now asked.entry.journal.now edition
+        ≡ spec.behind_lines request.entry.text.now request.entry.journal.now edition
         (published object.now) object.now.batches) }
 {
     let batches = object.batches();
     let mut lines = String::new(alloc);
-    push_begin(&mut lines, asked, edition)?;
+    push_begin(&mut lines, request, edition)?;
     push_editions(
         alloc,
         &mut lines,
@@ -232,6 +236,6 @@ pub(crate) fn behind_lines(
         edition as usize,
         batches,
     )?;
-    push_end(&mut lines, asked.journal, batches.len())?;
+    push_end(&mut lines, request.journal, batches.len())?;
     Ok(lines)
 }

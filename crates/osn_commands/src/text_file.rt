@@ -37,9 +37,9 @@ impl From<ReadAllFault> for TextFileFault {
 }
 
 /// Returns what these bytes say.
-fn said_in(alloc: Global, limits: Limits, bytes: &[u8]) -> Result<RegisterText, TextFileFault>
+fn text_in(alloc: Global, limits: Limits, bytes: &[u8]) -> Result<RegisterText, TextFileFault>
     ensures ok { IfOk result
-        (λ said. spec.BytesSay limits bytes.now said.edition said.register) }
+        (λ text. spec.BytesSay limits bytes.now text.edition text.register) }
     ensures err { IfErr result (spec.BytesSayNone limits bytes.now) }
 {
     match str::from_utf8(bytes) {
@@ -53,25 +53,25 @@ fn said_in(alloc: Global, limits: Limits, bytes: &[u8]) -> Result<RegisterText, 
 /// # Errors
 ///
 /// Why it says no register.
-pub(crate) fn read_said<T: Source>(
+pub(crate) fn read_register_text<T: Source>(
     alloc: Global,
     limits: Limits,
     text: &mut T,
 ) -> Result<RegisterText, TextFileFault>
     ensures ok { IfOk result
-        (λ said. spec.Says limits (T.remaining text.old) said.edition said.register) }
+        (λ text. spec.Says limits (T.remaining text.old) text.edition text.register) }
     ensures err { IfErr result (spec.IsTextFileFault limits
         (input_of T.remaining T.has_failed text.old text.new)) }
 {
     let bytes = read_all(alloc, text)?;
-    said_in(alloc, limits, &bytes)
+    text_in(alloc, limits, &bytes)
 }
 
 /// Returns the line on what is wrong with the text of this path.
-fn text_line(alloc: Global, path: &str, said: &str) -> Result<String, AllocError>
-    ensures { IfOk result (λ line. string_bytes line ≡ spec.text_line path.now said.now) }
+fn text_line(alloc: Global, path: &str, message: &str) -> Result<String, AllocError>
+    ensures { IfOk result (λ line. string_bytes line ≡ spec.text_line path.now message.now) }
 {
-    format!(in alloc; "oldstyle: {}: {said}\n", Escaped(path))
+    format!(in alloc; "oldstyle: {}: {message}\n", Escaped(path))
 }
 
 /// Returns the line on a fault of the text of this path.

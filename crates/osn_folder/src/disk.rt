@@ -56,7 +56,7 @@ impl<'a, R: Files<File = File> + AllocGlobal> Folder for Disk<'a, R> {
     }
 
     // The lock is released with the file.
-    fn release(&mut self, _path: &str, _kept: DiskFile<'a, R>) {}
+    fn release(&mut self, _path: &str, _keeper: DiskFile<'a, R>) {}
 
     fn follow(&mut self, alloc: Global, path: &str) -> Result<FollowedDiskFile<'a, R>, AllocError> {
         let path = String::from_str(alloc, path)?;

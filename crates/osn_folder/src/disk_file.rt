@@ -269,12 +269,12 @@ fn kept_file<'a, R: Files<File = File>>(
     ensures fault { result.0.fault ≡ None }
     ensures source { result.1 ≡ settled.source }
 {
-    let kept = DiskFile {
+    let keeper = DiskFile {
         files,
         path: settled.path,
         file,
         length: settled.length,
         fault: None,
     };
-    (kept, settled.source)
+    (keeper, settled.source)
 }

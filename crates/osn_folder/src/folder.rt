@@ -72,8 +72,8 @@ pub trait Folder {
             (λ why. Changes (CannotKeep path.now why) (known self.old) (known self.new)) };
 
     /// Releases a file that was kept, by its path: other runs may keep it from now on.
-    fn release(&mut self, path: &str, kept: Self::Keeper)
-        ensures { Changes (Leaves path.now (Self.Keeper.contents kept))
+    fn release(&mut self, path: &str, keeper: Self::Keeper)
+        ensures { Changes (Leaves path.now (Self.Keeper.contents keeper))
             (known self.old) (known self.new) };
 
     /// Returns the file of a path, to be read while another run appends to it. It need not be there

@@ -47,10 +47,10 @@ fn journal_of<'a>(alloc: Global) -> Arg<'a>
 }
 
 /// Returns an argument that is required.
-fn required_of<'a>(alloc: Global, id: &'a str, shown: &'a str) -> Arg<'a>
+fn required_of<'a>(alloc: Global, id: &'a str, value_name: &'a str) -> Arg<'a>
     ensures { IsArg (required_arg id.now) result }
 {
-    Arg::new(alloc, id).value_name(shown).required(true)
+    Arg::new(alloc, id).value_name(value_name).required(true)
 }
 
 /// Returns an argument for `clap`.
@@ -58,13 +58,18 @@ pub(crate) fn arg_of<'a>(alloc: Global, argument: Argument) -> Arg<'a>
     ensures { IsArg (rule_of_argument argument) result }
 {
     match argument {
-        Argument::Required(id, shown, help) => required_of(alloc, id, shown).help(help),
-        Argument::Optional(id, shown, help) => Arg::new(alloc, id).value_name(shown).help(help),
+        Argument::Required(id, value_name, help) => required_of(alloc, id, value_name).help(help),
+        Argument::Optional(id, value_name, help) => Arg::new(alloc, id)
+            .value_name(value_name)
+            .help(help),
         Argument::Year(help) => required_of(alloc, "year", "YEAR")
             .value_parser(value_parser!(u32))
             .help(help),
-        Argument::Valued(id, shown, help) => {
-            Arg::new(alloc, id).long(id).value_name(shown).help(help)
+        Argument::Valued(id, value_name, help) => {
+            Arg::new(alloc, id)
+                .long(id)
+                .value_name(value_name)
+                .help(help)
         }
         Argument::Journal(help) => journal_of(alloc).help(help),
         Argument::Flag(id, help) => Arg::new(alloc, id)

@@ -14,10 +14,10 @@ ghost use Rattle.osn_invocation.specs.Invocation.{read_page, serve_command};
 ghost use Rattle.osn_invocation.specs.Invocation.{territory_page, with_limits, year_page};
 
 use crate::file_words::{audit_of, desk_of, replay_of};
-use crate::given::{is_given, number_of, text_of, value_of};
 use crate::grammar::command_line;
 use crate::letters::{LettersOptions, letters_of};
 use crate::register_text::{check_of, diff_of, editions_of, plan_of, publish_of, register_text_of};
+use crate::values::{is_given, number_of, text_of, value_of};
 use clap::{ArgMatches, Error};
 use std::alloc::Global;
 use std::convert::AsStr;
@@ -238,168 +238,168 @@ pub fn parse_args<'a, S: AsStr>(alloc: Global, args: &'a [S]) -> Result<Invocati
         → kind_of e ≡ OutOfMemory) }
     ensures kinds { FailsBy (fault_of command_line (map S.text args.now)) result }
 {
-    let found = matches_in(alloc, args)?;
-    Ok(invocation_of(&found))
+    let matches = matches_in(alloc, args)?;
+    Ok(invocation_of(&matches))
 }
 
 /// Returns the invocation of what was found; without a command, that of `serve`.
-fn invocation_of<'a>(found: &ArgMatches<'a>) -> Invocation<'a>
+fn invocation_of<'a>(matches: &ArgMatches<'a>) -> Invocation<'a>
     ensures { model_of result
-        ≡ invocation_by (rows_of (found_of found.now)) (subcommand_rows_of found.now) }
+        ≡ invocation_by (rows_of (found_of matches.now)) (subcommand_rows_of matches.now) }
 {
-    match found.subcommand() {
-        Some((name, given)) => with_limits(given, command_of(name, given)),
-        None => with_limits(found, serve_of(found)),
+    match matches.subcommand() {
+        Some((name, matches)) => with_limits(matches, command_of(name, matches)),
+        None => with_limits(matches, serve_of(matches)),
     }
 }
 
 /// Returns an invocation of a command, with the text of its limits.
-fn with_limits<'a>(given: &ArgMatches<'a>, command: CommandWords<'a>) -> Invocation<'a>
+fn with_limits<'a>(matches: &ArgMatches<'a>, command: CommandWords<'a>) -> Invocation<'a>
     ensures { model_of result
-        ≡ with_limits (rows_of (found_of given.now)) (command_model command.entry) }
+        ≡ with_limits (rows_of (found_of matches.now)) (command_model command.entry) }
 {
     Invocation {
-        limits: value_of(given, "limits"),
+        limits: value_of(matches, "limits"),
         command,
     }
 }
 
 /// Returns what a command asks for, by its name and the arguments after it.
-fn command_of<'a>(name: &str, given: &ArgMatches<'a>) -> CommandWords<'a>
-    ensures { command_model result ≡ command_by name.now (rows_of (found_of given.now)) }
+fn command_of<'a>(name: &str, matches: &ArgMatches<'a>) -> CommandWords<'a>
+    ensures { command_model result ≡ command_by name.now (rows_of (found_of matches.now)) }
 {
     match name {
-        "replay" => replay_of(given),
-        "desk" => desk_of(given),
-        "audit" => audit_of(given),
-        "convert" => convert_of(given),
-        "letters" => letters_of(given),
-        "completions" => completions_of(given),
-        "editions" => editions_of(given),
-        "diff" => diff_of(given),
-        "text" => register_text_of(given),
-        "check" => check_of(given),
-        "plan" => plan_of(given),
-        "publish" => publish_of(given),
-        "almanac" => page_of(given, almanac_of(given)),
-        "read" => page_of(given, read_of(given)),
-        "day" => page_of(given, day_of(given)),
-        "month" => page_of(given, month_of(given)),
-        "year" => page_of(given, year_of(given)),
-        "territory" => page_of(given, territory_of(given)),
-        _ => serve_of(given),
+        "replay" => replay_of(matches),
+        "desk" => desk_of(matches),
+        "audit" => audit_of(matches),
+        "convert" => convert_of(matches),
+        "letters" => letters_of(matches),
+        "completions" => completions_of(matches),
+        "editions" => editions_of(matches),
+        "diff" => diff_of(matches),
+        "text" => register_text_of(matches),
+        "check" => check_of(matches),
+        "plan" => plan_of(matches),
+        "publish" => publish_of(matches),
+        "almanac" => page_of(matches, almanac_of(matches)),
+        "read" => page_of(matches, read_of(matches)),
+        "day" => page_of(matches, day_of(matches)),
+        "month" => page_of(matches, month_of(matches)),
+        "year" => page_of(matches, year_of(matches)),
+        "territory" => page_of(matches, territory_of(matches)),
+        _ => serve_of(matches),
     }
 }
 
 /// Returns what the options of `serve` ask for; without options, nothing is named.
-fn serve_of<'a>(given: &ArgMatches<'a>) -> CommandWords<'a>
-    ensures { command_model result ≡ serve_command (rows_of (found_of given.now)) }
+fn serve_of<'a>(matches: &ArgMatches<'a>) -> CommandWords<'a>
+    ensures { command_model result ≡ serve_command (rows_of (found_of matches.now)) }
 {
     CommandWords::Serve(ServeOptions {
-        journal: value_of(given, "journal"),
-        save: value_of(given, "save"),
-        keep: value_of(given, "keep"),
-        upgrade: is_given(given, "upgrade"),
-        follow: value_of(given, "follow"),
-        readers: number_of(given, "readers", READERS),
-        read_only: is_given(given, "read-only"),
-        stop_at_refusal: is_given(given, "stop-at-refusal"),
+        journal: value_of(matches, "journal"),
+        save: value_of(matches, "save"),
+        keep: value_of(matches, "keep"),
+        upgrade: is_given(matches, "upgrade"),
+        follow: value_of(matches, "follow"),
+        readers: number_of(matches, "readers", READERS),
+        read_only: is_given(matches, "read-only"),
+        stop_at_refusal: is_given(matches, "stop-at-refusal"),
     })
 }
 
 /// Returns what the arguments of `convert` ask for.
-fn convert_of<'a>(given: &ArgMatches<'a>) -> CommandWords<'a>
-    ensures { command_model result ≡ convert_command (rows_of (found_of given.now)) }
+fn convert_of<'a>(matches: &ArgMatches<'a>) -> CommandWords<'a>
+    ensures { command_model result ≡ convert_command (rows_of (found_of matches.now)) }
 {
     CommandWords::Convert {
-        calendar: text_of(given, "calendar"),
-        date: text_of(given, "date"),
+        calendar: text_of(matches, "calendar"),
+        date: text_of(matches, "date"),
     }
 }
 
 /// Returns what the argument of `completions` asks for.
-fn completions_of<'a>(given: &ArgMatches<'a>) -> CommandWords<'a>
-    ensures { command_model result ≡ completions_command (rows_of (found_of given.now)) }
+fn completions_of<'a>(matches: &ArgMatches<'a>) -> CommandWords<'a>
+    ensures { command_model result ≡ completions_command (rows_of (found_of matches.now)) }
 {
     CommandWords::Completions {
-        shell: text_of(given, "shell"),
+        shell: text_of(matches, "shell"),
     }
 }
 
 /// Returns what the arguments of a command that prints this page ask for.
-fn page_of<'a>(given: &ArgMatches<'a>, page: PageRequest<'a>) -> CommandWords<'a>
+fn page_of<'a>(matches: &ArgMatches<'a>, page: PageRequest<'a>) -> CommandWords<'a>
     ensures { command_model result
-        ≡ page_command (rows_of (found_of given.now)) (page_request page.entry) }
+        ≡ page_command (rows_of (found_of matches.now)) (page_request page.entry) }
 {
     CommandWords::Page {
-        journal: text_of(given, "journal"),
-        edition: value_of(given, "edition"),
+        journal: text_of(matches, "journal"),
+        edition: value_of(matches, "edition"),
         page,
     }
 }
 
 /// Returns which page the arguments of `almanac` ask for.
-fn almanac_of<'a>(given: &ArgMatches<'a>) -> PageRequest<'a>
-    ensures { page_request result ≡ almanac_page (rows_of (found_of given.now)) }
+fn almanac_of<'a>(matches: &ArgMatches<'a>) -> PageRequest<'a>
+    ensures { page_request result ≡ almanac_page (rows_of (found_of matches.now)) }
 {
     PageRequest::Almanac {
-        code: text_of(given, "code"),
-        year: number_of(given, "year", 0),
+        code: text_of(matches, "code"),
+        year: number_of(matches, "year", 0),
     }
 }
 
 /// Returns which page the arguments of `read` ask for.
-fn read_of<'a>(given: &ArgMatches<'a>) -> PageRequest<'a>
-    ensures { page_request result ≡ read_page (rows_of (found_of given.now)) }
+fn read_of<'a>(matches: &ArgMatches<'a>) -> PageRequest<'a>
+    ensures { page_request result ≡ read_page (rows_of (found_of matches.now)) }
 {
     PageRequest::Read {
-        code: text_of(given, "code"),
-        date: text_of(given, "date"),
-        weekday: value_of(given, "weekday"),
-        order: value_of(given, "order"),
-        strict: is_given(given, "strict"),
-        json: is_given(given, "json"),
+        code: text_of(matches, "code"),
+        date: text_of(matches, "date"),
+        weekday: value_of(matches, "weekday"),
+        order: value_of(matches, "order"),
+        strict: is_given(matches, "strict"),
+        json: is_given(matches, "json"),
     }
 }
 
 /// Returns which page the arguments of `day` ask for.
-fn day_of<'a>(given: &ArgMatches<'a>) -> PageRequest<'a>
-    ensures { page_request result ≡ day_page (rows_of (found_of given.now)) }
+fn day_of<'a>(matches: &ArgMatches<'a>) -> PageRequest<'a>
+    ensures { page_request result ≡ day_page (rows_of (found_of matches.now)) }
 {
     PageRequest::Day {
-        code: text_of(given, "code"),
-        date: text_of(given, "date"),
-        json: is_given(given, "json"),
+        code: text_of(matches, "code"),
+        date: text_of(matches, "date"),
+        json: is_given(matches, "json"),
     }
 }
 
 /// Returns which page the arguments of `month` ask for.
-fn month_of<'a>(given: &ArgMatches<'a>) -> PageRequest<'a>
-    ensures { page_request result ≡ month_page (rows_of (found_of given.now)) }
+fn month_of<'a>(matches: &ArgMatches<'a>) -> PageRequest<'a>
+    ensures { page_request result ≡ month_page (rows_of (found_of matches.now)) }
 {
     PageRequest::Month {
-        code: text_of(given, "code"),
-        year: text_of(given, "year"),
-        month: text_of(given, "month"),
+        code: text_of(matches, "code"),
+        year: text_of(matches, "year"),
+        month: text_of(matches, "month"),
     }
 }
 
 /// Returns which page the arguments of `year` ask for.
-fn year_of<'a>(given: &ArgMatches<'a>) -> PageRequest<'a>
-    ensures { page_request result ≡ year_page (rows_of (found_of given.now)) }
+fn year_of<'a>(matches: &ArgMatches<'a>) -> PageRequest<'a>
+    ensures { page_request result ≡ year_page (rows_of (found_of matches.now)) }
 {
     PageRequest::Year {
-        code: text_of(given, "code"),
-        year: text_of(given, "year"),
+        code: text_of(matches, "code"),
+        year: text_of(matches, "year"),
     }
 }
 
 /// Returns which page the arguments of `territory` ask for.
-fn territory_of<'a>(given: &ArgMatches<'a>) -> PageRequest<'a>
-    ensures { page_request result ≡ territory_page (rows_of (found_of given.now)) }
+fn territory_of<'a>(matches: &ArgMatches<'a>) -> PageRequest<'a>
+    ensures { page_request result ≡ territory_page (rows_of (found_of matches.now)) }
 {
     PageRequest::Territory {
-        code: value_of(given, "code"),
-        json: is_given(given, "json"),
+        code: value_of(matches, "code"),
+        json: is_given(matches, "json"),
     }
 }

@@ -5,8 +5,8 @@ ghost use Rattle.clap.specs.Words.{found_of, rows_of};
 ghost use Rattle.osn_invocation.specs.Invocation.{command_model, date_model, date_options};
 ghost use Rattle.osn_invocation.specs.Invocation.{letters_command};
 
-use crate::given::{is_given, text_of, value_of};
 use crate::invocation::CommandWords;
+use crate::values::{is_given, text_of, value_of};
 use clap::ArgMatches;
 
 /// The names of the columns that say the date, if they are named. The command checks which of them
@@ -47,34 +47,34 @@ pub struct LettersOptions<'a> {
 }
 
 /// Returns the names of the columns that say the date.
-fn date_options_of<'a>(given: &ArgMatches<'a>) -> DateOptions<'a>
-    ensures { date_model result ≡ date_options (rows_of (found_of given.now)) }
+fn date_options_of<'a>(matches: &ArgMatches<'a>) -> DateOptions<'a>
+    ensures { date_model result ≡ date_options (rows_of (found_of matches.now)) }
 {
     DateOptions {
-        date: value_of(given, "date"),
-        year: value_of(given, "year"),
-        month: value_of(given, "month"),
-        day: value_of(given, "day"),
+        date: value_of(matches, "date"),
+        year: value_of(matches, "year"),
+        month: value_of(matches, "month"),
+        day: value_of(matches, "day"),
     }
 }
 
 /// Returns what the arguments of `letters` ask for.
-pub(crate) fn letters_of<'a>(given: &ArgMatches<'a>) -> CommandWords<'a>
-    ensures { command_model result ≡ letters_command (rows_of (found_of given.now)) }
+pub(crate) fn letters_of<'a>(matches: &ArgMatches<'a>) -> CommandWords<'a>
+    ensures { command_model result ≡ letters_command (rows_of (found_of matches.now)) }
 {
     CommandWords::Letters {
-        journal: text_of(given, "journal"),
-        table: value_of(given, "table"),
+        journal: text_of(matches, "journal"),
+        table: value_of(matches, "table"),
         options: LettersOptions {
-            place: value_of(given, "place").unwrap_or("place"),
-            date: date_options_of(given),
-            weekday: value_of(given, "weekday"),
-            places: value_of(given, "places"),
-            separator: value_of(given, "separator"),
-            order: value_of(given, "order"),
-            edition: value_of(given, "edition"),
-            strict: is_given(given, "strict"),
-            summary: is_given(given, "summary"),
+            place: value_of(matches, "place").unwrap_or("place"),
+            date: date_options_of(matches),
+            weekday: value_of(matches, "weekday"),
+            places: value_of(matches, "places"),
+            separator: value_of(matches, "separator"),
+            order: value_of(matches, "order"),
+            edition: value_of(matches, "edition"),
+            strict: is_given(matches, "strict"),
+            summary: is_given(matches, "summary"),
         },
     }
 }

@@ -9,7 +9,6 @@ mod argument;
 mod commands;
 mod common;
 mod file_words;
-mod given;
 mod grammar;
 mod invocation;
 mod letters;
@@ -17,6 +16,7 @@ mod register_text;
 mod rows;
 mod shell;
 mod shell_texts;
+mod values;
 
 pub use grammar::command_line;
 pub use invocation::{CommandWords, Invocation, PageRequest, ServeOptions, parse_args};

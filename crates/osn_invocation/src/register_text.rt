@@ -6,67 +6,67 @@ ghost use Rattle.osn_invocation.specs.Invocation.{check_command, command_model, 
 ghost use Rattle.osn_invocation.specs.Invocation.{editions_command, plan_command};
 ghost use Rattle.osn_invocation.specs.Invocation.{publish_command, text_command};
 
-use crate::given::{is_given, text_of, value_of};
 use crate::invocation::CommandWords;
+use crate::values::{is_given, text_of, value_of};
 use clap::ArgMatches;
 
 /// Returns what the argument of `editions` asks for.
-pub(crate) fn editions_of<'a>(given: &ArgMatches<'a>) -> CommandWords<'a>
-    ensures { command_model result ≡ editions_command (rows_of (found_of given.now)) }
+pub(crate) fn editions_of<'a>(matches: &ArgMatches<'a>) -> CommandWords<'a>
+    ensures { command_model result ≡ editions_command (rows_of (found_of matches.now)) }
 {
     CommandWords::Editions {
-        journal: text_of(given, "journal"),
+        journal: text_of(matches, "journal"),
     }
 }
 
 /// Returns what the arguments of `diff` ask for.
-pub(crate) fn diff_of<'a>(given: &ArgMatches<'a>) -> CommandWords<'a>
-    ensures { command_model result ≡ diff_command (rows_of (found_of given.now)) }
+pub(crate) fn diff_of<'a>(matches: &ArgMatches<'a>) -> CommandWords<'a>
+    ensures { command_model result ≡ diff_command (rows_of (found_of matches.now)) }
 {
     CommandWords::Diff {
-        journal: text_of(given, "journal"),
-        from: text_of(given, "from"),
-        to: text_of(given, "to"),
+        journal: text_of(matches, "journal"),
+        from: text_of(matches, "from"),
+        to: text_of(matches, "to"),
     }
 }
 
 /// Returns what the arguments of `text` ask for.
-pub(crate) fn register_text_of<'a>(given: &ArgMatches<'a>) -> CommandWords<'a>
-    ensures { command_model result ≡ text_command (rows_of (found_of given.now)) }
+pub(crate) fn register_text_of<'a>(matches: &ArgMatches<'a>) -> CommandWords<'a>
+    ensures { command_model result ≡ text_command (rows_of (found_of matches.now)) }
 {
     CommandWords::Text {
-        journal: text_of(given, "journal"),
-        edition: value_of(given, "edition"),
-        code: value_of(given, "code"),
+        journal: text_of(matches, "journal"),
+        edition: value_of(matches, "edition"),
+        code: value_of(matches, "code"),
     }
 }
 
 /// Returns what the argument of `check` asks for.
-pub(crate) fn check_of<'a>(given: &ArgMatches<'a>) -> CommandWords<'a>
-    ensures { command_model result ≡ check_command (rows_of (found_of given.now)) }
+pub(crate) fn check_of<'a>(matches: &ArgMatches<'a>) -> CommandWords<'a>
+    ensures { command_model result ≡ check_command (rows_of (found_of matches.now)) }
 {
     CommandWords::Check {
-        text: text_of(given, "text"),
+        text: text_of(matches, "text"),
     }
 }
 
 /// Returns what the arguments of `plan` ask for.
-pub(crate) fn plan_of<'a>(given: &ArgMatches<'a>) -> CommandWords<'a>
-    ensures { command_model result ≡ plan_command (rows_of (found_of given.now)) }
+pub(crate) fn plan_of<'a>(matches: &ArgMatches<'a>) -> CommandWords<'a>
+    ensures { command_model result ≡ plan_command (rows_of (found_of matches.now)) }
 {
     CommandWords::Plan {
-        journal: text_of(given, "journal"),
-        text: text_of(given, "text"),
+        journal: text_of(matches, "journal"),
+        text: text_of(matches, "text"),
     }
 }
 
 /// Returns what the arguments of `publish` ask for.
-pub(crate) fn publish_of<'a>(given: &ArgMatches<'a>) -> CommandWords<'a>
-    ensures { command_model result ≡ publish_command (rows_of (found_of given.now)) }
+pub(crate) fn publish_of<'a>(matches: &ArgMatches<'a>) -> CommandWords<'a>
+    ensures { command_model result ≡ publish_command (rows_of (found_of matches.now)) }
 {
     CommandWords::Publish {
-        journal: text_of(given, "journal"),
-        text: text_of(given, "text"),
-        onto_newest: is_given(given, "onto-newest"),
+        journal: text_of(matches, "journal"),
+        text: text_of(matches, "text"),
+        onto_newest: is_given(matches, "onto-newest"),
     }
 }

@@ -28,7 +28,7 @@ use Rattle.osn_journal.specs.declared.follower.RequestLines.{RequestLines}
 use Rattle.osn_journal.specs.declared.followed_journal.FollowedJournal.{FollowedJournal}
 use Rattle.osn_journal.specs.declared.line_front.LineFront.{LineFront}
 use Rattle.osn_journal.specs.Arrivals.{Arrival, Arrive, Gained, arrival_of}
-use Rattle.osn_journal.specs.FollowerInside.{HasNoLine, IsFollowing, IsJournalOf, StandsFor}
+use Rattle.osn_journal.specs.FollowerInside.{HasNoLine, IsFollowing, IsJournalOf, IsFrontOf}
 use Rattle.osn_journal.specs.Follows.{Ends, HasNoRefusal, Follows, IsFirstRefused}
 use Rattle.osn_lines.specs.Streams.{Output}
 use Rattle.osn_journal.specs.Follows.{WritesAll, WritesFirst}
@@ -87,7 +87,7 @@ pub Round-come : (rules : ServeRules) (f m g : Follower) (before after : Option 
 Round-come rules f m g before after lines h journal requests = record {
   stand = h.stand;
   rest = λ waiting k.
-      subst (λ (front : LineFront). StandsFor (unended_bytes (waiting_after waiting h.bytes)) front)
+      subst (λ (front : LineFront). IsFrontOf (unended_bytes (waiting_after waiting h.bytes)) front)
       (sym requests) (h.rest waiting k);
   journal = λ file k.
       subst (λ (j : FollowedJournal). IsJournalOf f.journal.limits (file ++ h.gained) j)

@@ -17,7 +17,7 @@ use Rattle.osn_request.specs.Request.{object_in, request_of, value_of}
 use Rattle.osn_service.specs.Session.{allowed, line_outcome, outcome_of}
 use Rattle.osn_service.specs.declared.rules.ServeRules.{ServeRules}
 use Rattle.osn_journal.specs.declared.line_front.LineFront.{LineFront}
-use Rattle.osn_journal.specs.FollowerInside.{HasNoLine, StandsFor, StandsForLines}
+use Rattle.osn_journal.specs.FollowerInside.{HasNoLine, IsFrontOf, GivesSameLines}
 use Rattle.osn_journal.specs.Outcomes.{outcomes, with_feed, missing_feed}
 
 -- ---- bytes with no line that has ended
@@ -106,7 +106,7 @@ same_outcome rules s x y long other = too_long rules s x long ∙ sym (too_long 
 
 -- two beginnings of a line that is too long, and the same bytes after them
 record Alike (x y bytes : List ℕ) : Type 0 where
-  same_outcomes : StandsForLines (ended_bytes (x ++ bytes)) (ended_bytes (y ++ bytes))
+  same_outcomes : GivesSameLines (ended_bytes (x ++ bytes)) (ended_bytes (y ++ bytes))
   is : (unended_bytes (x ++ bytes) ≡ unended_bytes (y ++ bytes))
       ⊎ (IsLong (unended_bytes (x ++ bytes)) × IsLong (unended_bytes (y ++ bytes)))
 
@@ -158,9 +158,9 @@ alike (b ∷ bs) x y none_x none_y long_x long_y =
         λ z. append_assoc z (b ∷ []) bs in
         record {
           same_outcomes =
-              subst (λ (v : List ℕ). StandsForLines (ended_bytes v) (ended_bytes (y ++ b ∷ bs)))
+              subst (λ (v : List ℕ). GivesSameLines (ended_bytes v) (ended_bytes (y ++ b ∷ bs)))
               (cut x)
-              (subst (λ (w : List ℕ). StandsForLines (ended_bytes ((x ++ b ∷ []) ++ bs))
+              (subst (λ (w : List ℕ). GivesSameLines (ended_bytes ((x ++ b ∷ []) ++ bs))
               (ended_bytes w)) (cut y) one.same_outcomes);
           is =
               subst (λ (v : List ℕ). (unended_bytes v ≡ unended_bytes (y ++ b ∷ bs))
@@ -173,19 +173,19 @@ alike (b ∷ bs) x y none_x none_y long_x long_y =
 -- ---- the beginning of a line
 
 -- bytes were added to a beginning, and to what waits
-pub lines-add : (waiting bytes : List ℕ) (old : LineFront) → StandsFor waiting old
-    → StandsForLines (ended_bytes (old.bytes.items ++ bytes)) (ended_bytes (waiting ++ bytes))
+pub lines-add : (waiting bytes : List ℕ) (old : LineFront) → IsFrontOf waiting old
+    → GivesSameLines (ended_bytes (old.bytes.items ++ bytes)) (ended_bytes (waiting ++ bytes))
 lines-add waiting bytes old h = by_front h.is
   where
     by_front : (old.bytes.items ≡ waiting) ⊎ (IsLong old.bytes.items × IsLong waiting)
-        → StandsForLines (ended_bytes (old.bytes.items ++ bytes)) (ended_bytes (waiting ++ bytes))
+        → GivesSameLines (ended_bytes (old.bytes.items ++ bytes)) (ended_bytes (waiting ++ bytes))
     by_front (inl same) = λ rules s. ap (λ l. outcomes rules s (ended_bytes (l ++ bytes))) same
     by_front (inr long) =
         (alike bytes old.bytes.items waiting h.none_here h.none long.0 long.1).same_outcomes
 
-pub rest-add : (waiting bytes : List ℕ) (old new : LineFront) → StandsFor waiting old
+pub rest-add : (waiting bytes : List ℕ) (old new : LineFront) → IsFrontOf waiting old
     → new.bytes.items ≡ unended_bytes (old.bytes.items ++ bytes)
-    → StandsFor (unended_bytes (waiting ++ bytes)) new
+    → IsFrontOf (unended_bytes (waiting ++ bytes)) new
 rest-add waiting bytes old new h is = record {
   none = unended-none (waiting ++ bytes);
   none_here =
@@ -208,18 +208,18 @@ still_none : (waiting bytes : List ℕ) → HasNoLine waiting → HasNoLine byte
     → HasNoLine (waiting ++ bytes)
 still_none waiting bytes none more = ended-before waiting bytes more ∙ none
 
-pub no_line-pass : (waiting bytes : List ℕ) (old : LineFront) → StandsFor waiting old
-    → HasNoLine bytes → StandsForLines [] (ended_bytes (waiting ++ bytes))
+pub no_line-pass : (waiting bytes : List ℕ) (old : LineFront) → IsFrontOf waiting old
+    → HasNoLine bytes → GivesSameLines [] (ended_bytes (waiting ++ bytes))
 no_line-pass waiting bytes old h more = λ rules s.
     sym (ap (outcomes rules s)
     (none_ended (waiting ++ bytes) (still_none waiting bytes h.none more)))
 
-pub rest-pass : (waiting bytes : List ℕ) (old : LineFront) → StandsFor waiting old
+pub rest-pass : (waiting bytes : List ℕ) (old : LineFront) → IsFrontOf waiting old
     → HasNoLine bytes → longest_line < length old.bytes.items
-    → StandsFor (unended_bytes (waiting ++ bytes)) old
+    → IsFrontOf (unended_bytes (waiting ++ bytes)) old
 rest-pass waiting bytes old h more long =
     let none = still_none waiting bytes h.none more in
-    subst (λ (w : List ℕ). StandsFor w old) (sym (all_unended (waiting ++ bytes) none))
+    subst (λ (w : List ℕ). IsFrontOf w old) (sym (all_unended (waiting ++ bytes) none))
     (record {
       none = none;
       none_here = h.none_here;
@@ -236,7 +236,7 @@ some_feed : (waiting : List ℕ) → 0 < length waiting → missing_feed waiting
 some_feed [] h = absurd (omega (arith, h))
 some_feed (b ∷ bs) h = refl
 
-pub with_feed-some : (waiting : List ℕ) (old : LineFront) → StandsFor waiting old
+pub with_feed-some : (waiting : List ℕ) (old : LineFront) → IsFrontOf waiting old
     → 0 < length old.bytes.items → with_feed waiting ≡ waiting ++ 10 ∷ []
 with_feed-some waiting old h some =
     ap (λ l. waiting ++ l)
@@ -247,7 +247,7 @@ with_feed-some waiting old h some =
     waits (inl same) = subst (λ (l : List ℕ). 0 < length l) same some
     waits (inr both) = omega (arith, both.1)
 
-pub with_feed-none : (waiting : List ℕ) (old : LineFront) → StandsFor waiting old
+pub with_feed-none : (waiting : List ℕ) (old : LineFront) → IsFrontOf waiting old
     → length old.bytes.items ≡ 0 → waiting ≡ []
 with_feed-none waiting old h none = empty waiting (waits h.is)
   where

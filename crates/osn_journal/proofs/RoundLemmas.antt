@@ -25,8 +25,8 @@ use Rattle.osn_journal.specs.declared.follower_fault.FollowerFault.TheVariants.{
 use Rattle.osn_journal.specs.declared.follower.Follower.{Follower}
 use Rattle.osn_journal.specs.Arrivals.{Arrival, Ended, Gained, arrival_of}
 use Rattle.osn_journal.specs.Arrivals.{file_of}
-use Rattle.osn_journal.specs.FollowerInside.{IsFollowing, IsJournalOf, StandsFor}
-use Rattle.osn_journal.specs.FollowerInside.{StandsForLines}
+use Rattle.osn_journal.specs.FollowerInside.{IsFollowing, IsJournalOf, IsFrontOf}
+use Rattle.osn_journal.specs.FollowerInside.{GivesSameLines}
 use Rattle.osn_journal.specs.Follows.{Ends, HasNoRefusal, IsFirstRefused, IsRefused}
 use Rattle.osn_journal.specs.Follows.{WritesAll, WritesFirst, WritesInPart}
 use Rattle.osn_journal.specs.RoundInside.{Answers, ComesNot, EndsAfter}
@@ -43,10 +43,10 @@ use Rattle.osn_journal.proofs.OutcomeLemmas.{first-after, in_part-after, first_r
 pub record Round (rules : ServeRules) (f g : Follower) (bytes gained : List ℕ) (text : List ℕ) :
     Type 0
   where
-    pub stand : (waiting : List ℕ) → StandsFor waiting f.requests
-        → StandsForLines text (ended_bytes (waiting_after waiting bytes))
-    pub rest : (waiting : List ℕ) → StandsFor waiting f.requests
-        → StandsFor (unended_bytes (waiting_after waiting bytes)) g.requests
+    pub stand : (waiting : List ℕ) → IsFrontOf waiting f.requests
+        → GivesSameLines text (ended_bytes (waiting_after waiting bytes))
+    pub rest : (waiting : List ℕ) → IsFrontOf waiting f.requests
+        → IsFrontOf (unended_bytes (waiting_after waiting bytes)) g.requests
     pub journal : (file : List ℕ) → IsJournalOf f.journal.limits file f.journal
         → IsJournalOf f.journal.limits (file ++ gained) g.journal
 

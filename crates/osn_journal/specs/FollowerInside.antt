@@ -32,15 +32,15 @@ abbrev pub HasFew : LineFront → Type 0
 HasFew front = length front.bytes.items ≤ 131072
 
 -- the bytes are those that wait, or both are too long for a line. No line of them has ended
-pub record StandsFor (waiting : List ℕ) (front : LineFront) : Type 0 where
+pub record IsFrontOf (waiting : List ℕ) (front : LineFront) : Type 0 where
   pub none : HasNoLine waiting
   pub none_here : HasNoLine front.bytes.items
   pub is : (front.bytes.items ≡ waiting)
       ⊎ ((longest_line < length front.bytes.items) × (longest_line < length waiting))
 
 -- the lines of two texts get the same replies from every object
-abbrev pub StandsForLines : List ℕ → List ℕ → Type 0
-StandsForLines given text = (rules : ServeRules) (s : ObjectState) →
+abbrev pub GivesSameLines : List ℕ → List ℕ → Type 0
+GivesSameLines given text = (rules : ServeRules) (s : ObjectState) →
     outcomes rules s given ≡ outcomes rules s text
 
 -- ---- the journal
@@ -65,7 +65,7 @@ pub record IsFollowing (rules : ServeRules) (limits : Limits) (old : Option (Lis
     pub file : List ℕ
     pub waiting : List ℕ
     pub journal : IsJournalOf limits file f.journal
-    pub requests : StandsFor waiting f.requests
+    pub requests : IsFrontOf waiting f.requests
     pub goes_on : (more : List Arrival) → outcomes_of rules limits [] [] (arrivals ++ more)
         ≡ all ++ outcomes_of rules limits file waiting more
     pub file_is : file ≡ file_of arrivals

@@ -24,7 +24,7 @@ use Rattle.osn_journal.specs.Arrivals.{Arrival, Arrive, Gained, arrival_of}
 use Rattle.osn_journal.specs.Follows.{WritesAll, WritesFirst, WritesInPart, IsFirstRefused}
 use Rattle.osn_journal.specs.Follows.{IsRefused, MatchFollower, Ends}
 use Rattle.osn_journal.specs.Follows.{HasNoRefusal}
-use Rattle.osn_journal.specs.FollowerInside.{StandsFor, StandsForLines, IsJournalOf, IsFollowing}
+use Rattle.osn_journal.specs.FollowerInside.{IsFrontOf, GivesSameLines, IsJournalOf, IsFollowing}
 use Rattle.osn_journal.specs.Outcomes.{outcomes, outcomes_of, with_feed}
 
 -- ---- a read
@@ -46,10 +46,10 @@ pub record IsReadOf (old new : LineFront) (before after : Option (List Arrival))
   pub arrive : Arrive before after (arrival_of bytes ∷ [])
   pub last : lines.is_last ≡ is_end bytes
   pub few : length lines.text.items ≤ 196608
-  pub stand : (waiting : List ℕ) → StandsFor waiting old
-      → StandsForLines lines.text.items (ended_bytes (waiting_after waiting bytes))
-  pub rest : (waiting : List ℕ) → StandsFor waiting old
-      → StandsFor (unended_bytes (waiting_after waiting bytes)) new
+  pub stand : (waiting : List ℕ) → IsFrontOf waiting old
+      → GivesSameLines lines.text.items (ended_bytes (waiting_after waiting bytes))
+  pub rest : (waiting : List ℕ) → IsFrontOf waiting old
+      → IsFrontOf (unended_bytes (waiting_after waiting bytes)) new
 
 -- none have: nothing arrived, or there was no memory for what did
 abbrev pub IsUnreadOf : Option (List Arrival) → Option (List Arrival) → ServeFault → Type 0
@@ -99,10 +99,10 @@ pub record Comes (old new : Follower) (before after : Option (List Arrival))
   pub arrive : Arrive before after (arrival_of bytes ∷ Gained gained ∷ [])
   pub last : lines.is_last ≡ is_end bytes
   pub few : length lines.text.items ≤ 196608
-  pub stand : (waiting : List ℕ) → StandsFor waiting old.requests
-      → StandsForLines lines.text.items (ended_bytes (waiting_after waiting bytes))
-  pub rest : (waiting : List ℕ) → StandsFor waiting old.requests
-      → StandsFor (unended_bytes (waiting_after waiting bytes)) new.requests
+  pub stand : (waiting : List ℕ) → IsFrontOf waiting old.requests
+      → GivesSameLines lines.text.items (ended_bytes (waiting_after waiting bytes))
+  pub rest : (waiting : List ℕ) → IsFrontOf waiting old.requests
+      → IsFrontOf (unended_bytes (waiting_after waiting bytes)) new.requests
   pub limits : new.journal.limits ≡ old.journal.limits
   pub journal : (file : List ℕ) → IsJournalOf old.journal.limits file old.journal
       → IsJournalOf old.journal.limits (file ++ gained) new.journal

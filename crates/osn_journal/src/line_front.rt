@@ -1,7 +1,7 @@
 //! What has come of a request line that has not ended yet.
 ghost use Rattle.std.specs.Prelude.{◌≡◌, ◌++◌, ◌≤◌, ◌<◌, ◌+◌, ℕ, List, [], length, IfOk, OnOk};
 ghost use Rattle.osn_lines.specs.Ended.{ended_bytes, unended_bytes};
-ghost use Rattle.osn_journal.specs.FollowerInside.{HasFew, HasNoLine, StandsFor, StandsForLines};
+ghost use Rattle.osn_journal.specs.FollowerInside.{HasFew, HasNoLine, IsFrontOf, GivesSameLines};
 ghost use Rattle.osn_journal.specs.Outcomes.{with_feed};
 
 use osn_lines::{LONGEST_LINE, ended_length};
@@ -45,10 +45,10 @@ impl LineFront {
         requires front { HasFew self.old }
         ensures few { OnOk result (HasFew self.new) }
         ensures ended { IfOk result (λ ended. length ended.items ≤ 196608) }
-        ensures lines { IfOk result (λ ended. (waiting : List ℕ) → StandsFor waiting self.old →
-            StandsForLines ended.items (ended_bytes (waiting ++ more.now))) }
-        ensures rest { OnOk result ((waiting : List ℕ) → StandsFor waiting self.old →
-            StandsFor (unended_bytes (waiting ++ more.now)) self.new) }
+        ensures lines { IfOk result (λ ended. (waiting : List ℕ) → IsFrontOf waiting self.old →
+            GivesSameLines ended.items (ended_bytes (waiting ++ more.now))) }
+        ensures rest { OnOk result ((waiting : List ℕ) → IsFrontOf waiting self.old →
+            IsFrontOf (unended_bytes (waiting ++ more.now)) self.new) }
     {
         if self.bytes.len() > LONGEST_LINE && ended_length(more) == 0 {
             return Ok(Vec::new(alloc));
@@ -61,10 +61,10 @@ impl LineFront {
         requires front { HasFew self.old }
         ensures few { OnOk result (HasFew self.new) }
         ensures ended { IfOk result (λ ended. length ended.items ≤ 196608) }
-        ensures lines { IfOk result (λ ended. (waiting : List ℕ) → StandsFor waiting self.old →
-            StandsForLines ended.items (ended_bytes (with_feed waiting))) }
-        ensures rest { OnOk result ((waiting : List ℕ) → StandsFor waiting self.old →
-            StandsFor (unended_bytes (with_feed waiting)) self.new) }
+        ensures lines { IfOk result (λ ended. (waiting : List ℕ) → IsFrontOf waiting self.old →
+            GivesSameLines ended.items (ended_bytes (with_feed waiting))) }
+        ensures rest { OnOk result ((waiting : List ℕ) → IsFrontOf waiting self.old →
+            IsFrontOf (unended_bytes (with_feed waiting)) self.new) }
     {
         if self.bytes.is_empty() {
             return Ok(Vec::new(alloc));

@@ -74,7 +74,7 @@ fn start_field(separator: Separator, byte: u8) -> Step
 {
     match byte {
         b'"' => to(ParserState::InQuoted, Effect::Skip),
-        _ => in_field(current, byte),
+        _ => in_field(separator, byte),
     }
 }
 
@@ -85,7 +85,7 @@ fn start_record(separator: Separator, byte: u8) -> Step
 {
     match byte {
         b'\r' | b'\n' => to(ParserState::StartRecord, Effect::Skip),
-        _ => start_field(current, byte),
+        _ => start_field(separator, byte),
     }
 }
 

@@ -150,7 +150,7 @@ fn edits_are_published_live(rt: HostRuntime) {
 }
 
 /// Checks the queries of lines, each asked of a reader.
-fn are_asked<R: Wait + AllocGlobal + Abort>(rt: &R, lines: &[&str]) {
+fn ask_all<R: Wait + AllocGlobal + Abort>(rt: &R, lines: &[&str]) {
     for line in lines {
         let query = query_of(rt, line);
         is_sound(rt, &Call::Ask(&query));
@@ -159,5 +159,5 @@ fn are_asked<R: Wait + AllocGlobal + Abort>(rt: &R, lines: &[&str]) {
 
 #[test]
 fn a_reader_is_asked(rt: HostRuntime) {
-    are_asked(&rt, &QUERIES);
+    ask_all(&rt, &QUERIES);
 }

@@ -86,7 +86,7 @@ fn edits_are_published(rt: HostRuntime) {
 }
 
 /// Checks the queries of lines.
-fn are_asked<R: Wait + AllocGlobal + Abort>(rt: &R, lines: &[&str]) {
+fn ask_all<R: Wait + AllocGlobal + Abort>(rt: &R, lines: &[&str]) {
     for line in lines {
         let query = query_of(rt, line);
         is_sound(rt, &Call::Ask(&query));
@@ -95,5 +95,5 @@ fn are_asked<R: Wait + AllocGlobal + Abort>(rt: &R, lines: &[&str]) {
 
 #[test]
 fn a_query_is_asked(rt: HostRuntime) {
-    are_asked(&rt, &QUERIES);
+    ask_all(&rt, &QUERIES);
 }

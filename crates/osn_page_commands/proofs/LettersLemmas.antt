@@ -9,7 +9,7 @@ use Rattle.osn_letters.specs.RowRemarks.{IsTallyOf}
 use Rattle.osn_letters.specs.Tally.{TallyModel}
 use Rattle.osn_lines.specs.Streams.{Input, Output}
 use Rattle.osn_page_commands.specs.Letters.{EndsTable, EndsWhole, IsReason, SettingsModel}
-use Rattle.osn_page_commands.specs.Letters.{ReportsEnd, ReportsIfAsked, table_of}
+use Rattle.osn_page_commands.specs.Letters.{ReportsEnd, ReportsIfSummary, table_of}
 use Rattle.osn_page_commands.specs.declared.letters.TableRules.{TableRules}
 use Rattle.osn_report.specs.Messages.{ReportsIfMade, ReportsNothing}
 use Rattle.osn_report.specs.declared.status.Status.{Status}
@@ -54,11 +54,11 @@ ended_table s settings territories edition i o ended is counted early reason =
 module _ (is_asked : Bool) (text : List ℕ) (e : Output) (given : Status) where
   -- a text was written that was asked for
   pub reports_tally : (made status : Status) → is_asked ≡ true → made ≡ given
-      → ReportsIfMade e made text status → ReportsIfAsked is_asked text e given status
+      → ReportsIfMade e made text status → ReportsIfSummary is_asked text e given status
   reports_tally made status is same message =
       rw is (subst (λ s. ReportsIfMade e s text status) same message)
 
   -- nothing was written, and nothing was asked for
   pub reports_no_tally : (status : Status) → is_asked ≡ false → status ≡ given → ReportsNothing e
-      → ReportsIfAsked is_asked text e given status
+      → ReportsIfSummary is_asked text e given status
   reports_no_tally status is same quiet = rw is (same, quiet)

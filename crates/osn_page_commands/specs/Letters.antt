@@ -177,15 +177,15 @@ status_by is_strict has_remarks =
 
 -- this text was written to standard error if it was asked for, or else nothing; and the status is
 -- this one
-abbrev pub ReportsIfAsked : Bool → List ℕ → Output → Status → Status → Type 0
-ReportsIfAsked false text e given status = (status ≡ given) × ReportsNothing e
-ReportsIfAsked true text e given status = ReportsIfMade e given text status
+abbrev pub ReportsIfSummary : Bool → List ℕ → Output → Status → Status → Type 0
+ReportsIfSummary false text e given status = (status ≡ given) × ReportsNothing e
+ReportsIfSummary true text e given status = ReportsIfMade e given text status
 
 -- a table with this tally was written whole, and the tally was reported if that is asked for. The
 -- status says whether a row has a remark, if that is asked for
 abbrev pub ReportsEnd : TableRules → TallyModel → Output → Status → Type 0
 ReportsEnd rules tally e status =
-    ReportsIfAsked rules.summary (tally_text (codes "oldstyle: letters: ") tally) e
+    ReportsIfSummary rules.summary (tally_text (codes "oldstyle: letters: ") tally) e
     (status_by rules.strict (has_remarks tally)) status
 
 -- all was written, and the end reported

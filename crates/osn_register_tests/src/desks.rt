@@ -62,8 +62,8 @@ pub fn desk<R: Threads + Wait + Abort, G: Gate + Sync>(
 
 /// Checks that a reply is the one of its edition.
 fn is_possible(rt: &impl Abort, alloc: Global, reply: Reply) {
-    let wanted = if reply.edition == 0 { NONE } else { ONE };
-    same(rt, line_of(rt, alloc, reply).as_str(), wanted);
+    let expected = if reply.edition == 0 { NONE } else { ONE };
+    same(rt, line_of(rt, alloc, reply).as_str(), expected);
 }
 
 /// Checks that one reader's replies are as many as its questions and the two possible ones, and no
@@ -221,11 +221,11 @@ fn fails<R: Threads + Wait + Abort, G: Gate + Sync>(
     alloc: Global,
     gate: &G,
     readers: u32,
-    wanted: (u8, &'static str),
+    expected: (u8, &'static str),
 ) {
     let fault = desk(rt, alloc, gate, readers, 1).err();
-    let found = fault.map(|fault| (fault.number(), fault.name()));
-    same(rt, found, Some(wanted));
+    let actual = fault.map(|fault| (fault.number(), fault.name()));
+    same(rt, actual, Some(expected));
 }
 
 #[test]

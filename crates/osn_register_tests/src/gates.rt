@@ -99,11 +99,11 @@ fn is_called<R: Threads + Wait + Abort>(
     rt: &R,
     alloc: Global,
     closed: (u32, usize),
-    wanted: Option<DeskFault>,
+    expected: Option<DeskFault>,
 ) {
     let gate = Noting::new(closed);
     let fault = desk(rt, alloc, &gate, READERS, ITEMS).err();
-    same(rt, (closed, fault), (closed, wanted));
+    same(rt, (closed, fault), (closed, expected));
     for who in 0..=READERS {
         let calls = gate.of(who).counted();
         same(

@@ -30,12 +30,12 @@ const TWO: &str = r#"{"answer":{"lands":[{"code":"RM","name":"Rome"},{"code":"GB
 "#;
 
 /// Checks the line of the reply to the reader about the territories.
-fn expect_reply(rt: &impl Abort, alloc: Global, reader: &mut Reader, wanted: &str)
+fn expect_reply(rt: &impl Abort, alloc: Global, reader: &mut Reader, expected: &str)
     ensures { reader.new.origin ≡ reader.old.origin }
 {
     let reply = reader.ask(&Query::Lands).expect(rt, "memory");
-    let wanted = joined(alloc, wanted).expect(rt, "memory");
-    same(rt, line_of(rt, alloc, reply).as_str(), wanted.as_str());
+    let expected = joined(alloc, expected).expect(rt, "memory");
+    same(rt, line_of(rt, alloc, reply).as_str(), expected.as_str());
 }
 
 /// Stages the edit of a line.

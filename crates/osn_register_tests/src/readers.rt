@@ -32,19 +32,19 @@ fn are_refused<R: Wait + Abort>(rt: &R, alloc: Global, rows: &[(u32, bool)]) {
     for (readers, is_refused) in rows {
         let made = Core::new(alloc, Limits::standard(), *readers).err();
         let run = replay(alloc, Limits::standard(), *readers, &[Step::Publish]).err();
-        let wanted = if *is_refused {
+        let expected = if *is_refused {
             Some(Refusal::BadCount)
         } else {
             None
         };
-        same(rt, (readers, made, run), (readers, wanted, wanted));
+        same(rt, (readers, made, run), (readers, expected, expected));
         let opened = not_opened(rt, alloc, *readers);
-        let wanted = if *is_refused {
+        let expected = if *is_refused {
             Some(OpenFault::BadCount)
         } else {
             None
         };
-        same(rt, (readers, opened), (readers, wanted));
+        same(rt, (readers, opened), (readers, expected));
     }
 }
 

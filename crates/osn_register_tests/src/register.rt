@@ -73,10 +73,10 @@ fn answers(
     register: &Register,
     rows: &[(&'static str, &'static str)],
 ) {
-    for (line, wanted) in rows {
-        let found = answered(rt, alloc, register, line);
-        let wanted = joined(alloc, wanted).expect(rt, line);
-        same(rt, (*line, found.as_str()), (*line, wanted.as_str()));
+    for (line, expected) in rows {
+        let actual = answered(rt, alloc, register, line);
+        let expected = joined(alloc, expected).expect(rt, line);
+        same(rt, (*line, actual.as_str()), (*line, expected.as_str()));
     }
 }
 

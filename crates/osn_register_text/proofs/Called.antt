@@ -1,4 +1,4 @@
--- The names of wanted territories, tested one after another.
+-- The names of the territories of the target, tested one after another.
 use Rattle.std.proofs.Common.{◌≡◌, ℕ, ◌+◌, true, false, cond, not, List, drop, Some}
 use Rattle.std.proofs.Common.{None, option_map, sym, ap, ◌∙◌}
 use Rattle.std.specs.List.{slice_get}
@@ -11,33 +11,33 @@ use Rattle.osn_register_text.specs.Needed.{name_in}
 use Rattle.osn_register_text.specs.Fault.{has_other_name, first_renamed, IsNameFault, IsFault}
 use Rattle.osn_register_text.proofs.Places.{left_from, none_left}
 
-module _ (wanted territories : List EntryModel) (i : ℕ) where
-  pub called_more : (l : EntryModel) → slice_get wanted i ≡ Some l →
+module _ (target territories : List EntryModel) (i : ℕ) where
+  pub called_more : (l : EntryModel) → slice_get target i ≡ Some l →
       has_other_name l.name (name_in territories l.code) ≡ false →
-      first_renamed wanted territories ≡ first_renamed (drop i wanted) territories →
-      first_renamed wanted territories ≡ first_renamed (drop (i + 1) wanted) territories
+      first_renamed target territories ≡ first_renamed (drop i target) territories →
+      first_renamed target territories ≡ first_renamed (drop (i + 1) target) territories
   called_more l at named before =
-      before ∙ ap (λ ls. first_renamed ls territories) (left_from wanted i l at)
-      ∙ ap (λ b. cond b (Some l) (first_renamed (drop (i + 1) wanted) territories)) named
+      before ∙ ap (λ ls. first_renamed ls territories) (left_from target i l at)
+      ∙ ap (λ b. cond b (Some l) (first_renamed (drop (i + 1) target) territories)) named
 
-  pub called_all : slice_get wanted i ≡ None →
-      first_renamed wanted territories ≡ first_renamed (drop i wanted) territories →
-      first_renamed wanted territories ≡ None
+  pub called_all : slice_get target i ≡ None →
+      first_renamed target territories ≡ first_renamed (drop i target) territories →
+      first_renamed target territories ≡ None
   called_all none before = before
-      ∙ ap (λ ls. first_renamed ls territories) (none_left wanted i none)
+      ∙ ap (λ ls. first_renamed ls territories) (none_left target i none)
 
-  found : (l : EntryModel) → slice_get wanted i ≡ Some l →
+  found : (l : EntryModel) → slice_get target i ≡ Some l →
       has_other_name l.name (name_in territories l.code) ≡ true →
-      first_renamed wanted territories ≡ first_renamed (drop i wanted) territories →
-      first_renamed wanted territories ≡ Some l
+      first_renamed target territories ≡ first_renamed (drop i target) territories →
+      first_renamed target territories ≡ Some l
   found l at renamed before =
-      before ∙ ap (λ ls. first_renamed ls territories) (left_from wanted i l at)
-      ∙ ap (λ b. cond b (Some l) (first_renamed (drop (i + 1) wanted) territories)) renamed
+      before ∙ ap (λ ls. first_renamed ls territories) (left_from target i l at)
+      ∙ ap (λ b. cond b (Some l) (first_renamed (drop (i + 1) target) territories)) renamed
 
-  pub name_fault : (limits : Limits) (l : EntryModel) → slice_get wanted i ≡ Some l →
-      first_renamed wanted territories ≡ first_renamed (drop i wanted) territories → (f : PlanFault)
-      → IsNameFault territories l.code l.name f → IsFault limits wanted territories f
-  name_fault limits l at before (Renamed code standing name) fault =
+  pub name_fault : (limits : Limits) (l : EntryModel) → slice_get target i ≡ Some l →
+      first_renamed target territories ≡ first_renamed (drop i target) territories → (f : PlanFault)
+      → IsNameFault territories l.code l.name f → IsFault limits target territories f
+  name_fault limits l at before (Renamed code current name) fault =
       let other : has_other_name l.name (name_in territories l.code) ≡ true =
       ap (has_other_name l.name) fault.2 ∙ ap not fault.3 in
       let first = found l at other before in

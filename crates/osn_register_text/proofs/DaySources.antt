@@ -10,7 +10,7 @@ use Rattle.osn_register_text.specs.Change.{Change}
 use Rattle.osn_register_text.specs.Change.Change.{DropDay}
 use Rattle.osn_register_text.specs.Cited.{same_easter}
 use Rattle.osn_register_text.specs.Differences.{is_day, lists, day_agrees, dropped_exception}
-use Rattle.osn_register_text.specs.Differences.{added_exception, wanted_exception}
+use Rattle.osn_register_text.specs.Differences.{added_exception, target_exception}
 use Rattle.osn_register_text.proofs.Rows.{look, IsFrom, look_here, look_there, look_below, parts}
 use Rattle.osn_register_text.proofs.Rows.{some_is}
 use Rattle.osn_register_text.proofs.SourceRows.{source_here, source_apart, same_is}
@@ -89,7 +89,7 @@ day_drops_cited w old new s n (y ∷ ys) from same =
               rest.others k apart.1 ∙ source_apart k y.0 None s.easters apart.0;
         }
 
--- the wanted days: each has the wanted source
+-- the target days: each has the target source
 
 pub record DaysCited (old new s : SourcesModel) (ys : List (ℕ × ℕ)) (es : List Change) : Type 0
   where
@@ -100,7 +100,7 @@ pub record DaysCited (old new s : SourcesModel) (ys : List (ℕ × ℕ)) (es : L
     pub others : (k : ℕ) → look k ys ≡ None →
         source_of k (cited_after es s).easters ≡ source_of k s.easters
 
--- the sources with the wanted one of a year
+-- the sources with the target one of a year
 abbrev cited_for : ℕ → SourcesModel → SourcesModel → SourcesModel
 cited_for y new s = with_easter_source y (source_of y new.easters) s
 
@@ -113,11 +113,11 @@ Stand old new t n ys s = (k d : ℕ) → n ≤ k → look k ys ≡ Some d →
 
 abbrev LaterDays : SourcesModel → SourcesModel → TerritoryModel → ℕ → List (ℕ × ℕ) → Type 0
 LaterDays old new t n ys = (u : SourcesModel) → Stand old new t n ys u →
-    DaysCited old new u ys (flat_map (wanted_exception (pair_of old new) t) ys)
+    DaysCited old new u ys (flat_map (target_exception (pair_of old new) t) ys)
 
 pub days_cited : (old new s : SourcesModel) (t : TerritoryModel) (n : ℕ) (ys : List (ℕ × ℕ)) →
     IsFrom n ys → Stand old new t n ys s →
-    DaysCited old new s ys (flat_map (wanted_exception (pair_of old new) t) ys)
+    DaysCited old new s ys (flat_map (target_exception (pair_of old new) t) ys)
 days_cited old new s t n [] from same = record {
   fresh = tt;
   periods = refl;
@@ -138,7 +138,7 @@ days_cited old new s t n (y ∷ ys) from same =
     by : (b : Bool) → day_agrees (pair_of old new) t y ≡ b →
         LaterDays old new t (y.0 + 1) ys → DaysCited old new s (y ∷ ys)
         (cond b [] (added_exception (Some new) y)
-        ++ flat_map (wanted_exception (pair_of old new) t) ys)
+        ++ flat_map (target_exception (pair_of old new) t) ys)
     by true on next =
         let rest = next s still in
         let one : source_of y.0 old.easters ≡ source_of y.0 new.easters =

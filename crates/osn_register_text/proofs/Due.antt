@@ -1,4 +1,4 @@
--- Changes of one territory towards a wanted one, each of them needed in its turn.
+-- Changes of one territory towards a target one, each of them needed in its turn.
 use Rattle.std.proofs.Common.{◌≡◌, true, false, List, [], ◌∷◌, ◌++◌}
 use Rattle.std.proofs.Common.{◌<◌, length, Some, None, is_some, refl}
 use Rattle.osn_territory.specs.Territory.{TerritoryModel}
@@ -15,18 +15,18 @@ abbrev pub after : List Change → TerritoryModel → TerritoryModel
 after [] t = t
 after (e ∷ es) t = after es (territory_after e t)
 
--- the change is needed by a territory, if its sources and the wanted ones are these at first
+-- the change is needed by a territory, if its sources and the target ones are these at first
 abbrev pub IsDue : BothSources → TerritoryModel → TerritoryModel → Change → Type 0
 IsDue both w t (Add d r c) =
     (look d t.starts ≡ None) × (look d w.starts ≡ Some r)
-    × (length t.starts < length w.starts) × (c ≡ period_source both.wanted d)
+    × (length t.starts < length w.starts) × (c ≡ period_source both.target d)
 IsDue both w t (Alter d r c) =
     (is_some (look d t.starts) ≡ true) × (look d t.starts ≡ Some r → same_period both d ≡ false)
-    × (look d w.starts ≡ Some r) × (c ≡ period_source both.wanted d)
+    × (look d w.starts ≡ Some r) × (c ≡ period_source both.target d)
 IsDue both w t (Drop d) = (is_some (look d t.starts) ≡ true) × (look d w.starts ≡ None)
 IsDue both w t (ListDay y d c) =
     (look y t.exceptions ≡ None) × (look y w.exceptions ≡ Some d)
-    × (length t.exceptions < length w.exceptions) × (c ≡ easter_source both.wanted y)
+    × (length t.exceptions < length w.exceptions) × (c ≡ easter_source both.target y)
 IsDue both w t (DropDay y) =
     (is_some (look y t.exceptions) ≡ true)
     × (look y w.exceptions ≡ look y t.exceptions → same_easter both y ≡ false)

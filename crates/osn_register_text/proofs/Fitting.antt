@@ -1,4 +1,4 @@
--- The territories of registers ascend, so that edits reach the wanted ones.
+-- The territories of registers ascend, so that edits reach the target ones.
 use Rattle.std.proofs.Common.{◌≡◌, ℕ, ◌+◌, ◌≤◌, ◌==◌, Bool, true, false, cond, List, [], ◌∷◌}
 use Rattle.std.proofs.Common.{Option}
 use Rattle.std.proofs.Common.{Some, None, option_map, is_some, refl, sym, ap, subst, ◌∙◌, arith}
@@ -109,24 +109,24 @@ fits : (p : Rules) (limits : Limits) (territories : List EntryModel) (l : EntryM
     Fits p l o
 fits p limits territories l None sound known low named = tt
 fits p limits territories l (Some s) sound known low named =
-    let standing = sound_found p limits territories l.code s sound known in (
+    let current = sound_found p limits territories l.code s sound known in (
       (bytes_eq-Decides s.name l.name).0 (not-false (bytes_eq s.name l.name) named),
-      ascends p limits s.territory standing,
-      allowed p limits s.territory low standing,
+      ascends p limits s.territory current,
+      allowed p limits s.territory low current,
     )
 
-pub are_fit : (p : Rules) (room limits : Limits) (wanted territories : List EntryModel) → 1 ≤ p.high
-    → AreNamed wanted → AreSound p room wanted → AreSound p limits territories →
-    first_renamed wanted territories ≡ None → AreFit p territories wanted
-are_fit p room limits [] territories low named sound standing none = tt
-are_fit p room limits (l ∷ wanted) territories low named sound standing none =
+pub are_fit : (p : Rules) (room limits : Limits) (target territories : List EntryModel) → 1 ≤ p.high
+    → AreNamed target → AreSound p room target → AreSound p limits territories →
+    first_renamed target territories ≡ None → AreFit p territories target
+are_fit p room limits [] territories low named sound current none = tt
+are_fit p room limits (l ∷ target) territories low named sound current none =
     by (has_other_name l.name (name_in territories l.code)) refl none
-    (are_fit p room limits wanted territories low named.2 sound.1 standing)
+    (are_fit p room limits target territories low named.2 sound.1 current)
   where
     by : (b : Bool) → has_other_name l.name (name_in territories l.code) ≡ b →
-        cond b (Some l) (first_renamed wanted territories) ≡ None →
-        (first_renamed wanted territories ≡ None → AreFit p territories wanted) →
-        AreFit p territories (l ∷ wanted)
+        cond b (Some l) (first_renamed target territories) ≡ None →
+        (first_renamed target territories ≡ None → AreFit p territories target) →
+        AreFit p territories (l ∷ target)
     by true e none later = not_none none
     by false e none later = (
       record {
@@ -135,17 +135,17 @@ are_fit p room limits (l ∷ wanted) territories low named sound standing none =
         code = named.0;
         name = named.1;
         allowed = allowed p room l.territory low sound.0;
-        standing = fits p limits territories l (entry_of l.code territories) standing refl low e;
+        current = fits p limits territories l (entry_of l.code territories) current refl low e;
       },
       later none,
     )
 
--- what is present as it is wanted says the same as the wanted territory
-pub stands_same : (p : Rules) (room limits : Limits) (wanted ls : List EntryModel) (code : List ℕ)
-    (l : EntryModel) → AreSound p room wanted → AreSound p limits ls → entry_of code wanted ≡ Some l
+-- what is present as in the target says the same as the target territory
+pub stands_same : (p : Rules) (room limits : Limits) (target ls : List EntryModel) (code : List ℕ)
+    (l : EntryModel) → AreSound p room target → AreSound p limits ls → entry_of code target ≡ Some l
     → Stands l (entry_of code ls) → AreSameEntry (entry_of code ls) (Some l)
-stands_same p room limits wanted ls code l sound other found stands =
-    let up = ascends p room l.territory (sound_found p room wanted code l sound found) in
+stands_same p room limits target ls code l sound other found stands =
+    let up = ascends p room l.territory (sound_found p room target code l sound found) in
     let from = ascends p limits stands.entry.territory
     (sound_found p limits ls code stands.entry other stands.is) in
     let starts : stands.entry.territory.starts ≡ l.territory.starts =

@@ -132,52 +132,52 @@ not_apart : (a b : Option (List ℕ)) → a ≡ b → same_source a b ≡ false 
 not_apart a b e apart = false≢true (sym apart ∙ ap (same_source a) (sym e) ∙ source_itself a)
 
 -- a change that is due, and finds the source from before, is an edit that is needed
-is_needed : (wanted ls : List EntryModel) (code : List ℕ) (w : EntryModel) (old : SourcesModel)
+is_needed : (target ls : List EntryModel) (code : List ℕ) (w : EntryModel) (old : SourcesModel)
     (l : EntryModel) (e : Change) →
-    entry_of code wanted ≡ Some w → entry_of code ls ≡ Some l →
+    entry_of code target ≡ Some w → entry_of code ls ≡ Some l →
     IsDue (pair_of old w.sources) w.territory l.territory e → IsFresh old l.sources e →
-    IsNeeded wanted ls (edit_of code e)
-is_needed wanted ls code w old l (Add d r c) is known due fresh = (
+    IsNeeded target ls (edit_of code e)
+is_needed target ls code w old l (Add d r c) is known due fresh = (
   regime_found code ls l d known ∙ due.0,
-  regime_found code wanted w d is ∙ due.1,
-  due.3 ∙ sym (period_found code wanted w d is),
+  regime_found code target w d is ∙ due.1,
+  due.3 ∙ sym (period_found code target w d is),
 )
-is_needed wanted ls code w old l (Alter d r c) is known due fresh = (
+is_needed target ls code w old l (Alter d r c) is known due fresh = (
   ap is_some (regime_found code ls l d known) ∙ due.0,
   (λ same cited. not_apart (source_of d old.periods) (source_of d w.sources.periods)
       (sym fresh ∙ sym (period_found code ls l d known) ∙ cited ∙ due.3)
       (due.1 (sym (regime_found code ls l d known) ∙ same))),
-  regime_found code wanted w d is ∙ due.2,
-  due.3 ∙ sym (period_found code wanted w d is),
+  regime_found code target w d is ∙ due.2,
+  due.3 ∙ sym (period_found code target w d is),
 )
-is_needed wanted ls code w old l (Drop d) is known due fresh = (
+is_needed target ls code w old l (Drop d) is known due fresh = (
   ap is_some is,
   ap is_some (regime_found code ls l d known) ∙ due.0,
-  regime_found code wanted w d is ∙ due.1,
+  regime_found code target w d is ∙ due.1,
 )
-is_needed wanted ls code w old l (ListDay y d c) is known due fresh = (
+is_needed target ls code w old l (ListDay y d c) is known due fresh = (
   easter_found code ls l y known ∙ due.0,
-  easter_found code wanted w y is ∙ due.1,
-  due.3 ∙ sym (easter_source_found code wanted w y is),
+  easter_found code target w y is ∙ due.1,
+  due.3 ∙ sym (easter_source_found code target w y is),
 )
-is_needed wanted ls code w old l (DropDay y) is known due fresh = (
+is_needed target ls code w old l (DropDay y) is known due fresh = (
   ap is_some is,
   ap is_some (easter_found code ls l y known) ∙ due.0,
   (λ same cited. not_apart (source_of y old.easters) (source_of y w.sources.easters)
       (sym fresh ∙ sym (easter_source_found code ls l y known) ∙ sym cited
-      ∙ easter_source_found code wanted w y is)
-      (due.1 (sym (easter_found code wanted w y is) ∙ same ∙ easter_found code ls l y known))),
+      ∙ easter_source_found code target w y is)
+      (due.1 (sym (easter_found code target w y is) ∙ same ∙ easter_found code ls l y known))),
 )
 
-pub are_needed : (wanted ls : List EntryModel) (code : List ℕ) (w : EntryModel)
+pub are_needed : (target ls : List EntryModel) (code : List ℕ) (w : EntryModel)
     (old : SourcesModel) (l : EntryModel) (es : List Change) →
-    entry_of code wanted ≡ Some w → entry_of code ls ≡ Some l →
+    entry_of code target ≡ Some w → entry_of code ls ≡ Some l →
     AreDue (pair_of old w.sources) w.territory l.territory es → AreFresh old l.sources es →
-    AreNeeded wanted ls (map (edit_of code) es)
-are_needed wanted ls code w old l [] is known due fresh = tt
-are_needed wanted ls code w old l (e ∷ es) is known due fresh = (
-  is_needed wanted ls code w old l e is known due.0 fresh.0,
-  are_needed wanted (effect ls (edit_of code e)) code w old
+    AreNeeded target ls (map (edit_of code) es)
+are_needed target ls code w old l [] is known due fresh = tt
+are_needed target ls code w old l (e ∷ es) is known due fresh = (
+  is_needed target ls code w old l e is known due.0 fresh.0,
+  are_needed target (effect ls (edit_of code e)) code w old
       (changed (territory_after e) (sources_after e) l) es is (step_here code e ls l known) due.1
       fresh.1,
 )

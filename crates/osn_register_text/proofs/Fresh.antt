@@ -6,9 +6,9 @@ use Rattle.osn_register_text.specs.Change.{Change, sources_after}
 use Rattle.osn_register_text.specs.Change.Change.{Add, Alter, Drop, ListDay, DropDay}
 use Rattle.osn_register_text.specs.Cited.{BothSources}
 
--- the present sources, and the wanted ones
+-- the present sources, and the target ones
 abbrev pub pair_of : SourcesModel → SourcesModel → BothSources
-pair_of old new = record { standing = Some old; wanted = Some new }
+pair_of old new = record { current = Some old; target = Some new }
 
 -- the sources after changes in turn
 abbrev pub cited_after : List Change → SourcesModel → SourcesModel

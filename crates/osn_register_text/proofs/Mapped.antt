@@ -15,9 +15,9 @@ use Rattle.osn_register.specs.Plain.{EntryModel}
 use Rattle.osn_register.specs.Sources.{SourcesModel}
 use Rattle.osn_register_text.specs.Cited.{BothSources}
 use Rattle.osn_register_text.specs.Change.{edit_of}
-use Rattle.osn_register_text.specs.Differences.{dropped_change, added_change, wanted_change, later}
+use Rattle.osn_register_text.specs.Differences.{dropped_change, added_change, target_change, later}
 use Rattle.osn_register_text.specs.Differences.{dropped_exception, added_exception}
-use Rattle.osn_register_text.specs.Differences.{wanted_exception}
+use Rattle.osn_register_text.specs.Differences.{target_exception}
 use Rattle.osn_register_text.specs.Differences.{differences, entry_edits}
 
 module _ {A B : Type 0} (f : A → B) where
@@ -45,35 +45,35 @@ pub differences_mapped : (code : List ℕ) (both : BothSources) (t w : Territory
     (ps qs : List Period) →
     ps ≡ periods_of newest_rules t → qs ≡ periods_of newest_rules w →
     flat_map (λ (p : Period). map (edit_of code) (dropped_change w p.first)) ps
-    ++ (flat_map (λ (p : Period). map (edit_of code) (wanted_change both t (p.first, p.regime))) qs
+    ++ (flat_map (λ (p : Period). map (edit_of code) (target_change both t (p.first, p.regime))) qs
     ++ (flat_map (λ e. map (edit_of code) (dropped_exception both w e)) t.exceptions
-    ++ flat_map (λ e. map (edit_of code) (wanted_exception both t e)) w.exceptions))
+    ++ flat_map (λ e. map (edit_of code) (target_exception both t e)) w.exceptions))
     ≡ map (edit_of code) (differences both t w)
 differences_mapped code both t w ps qs is are =
     let f = edit_of code in
     let high = newest_rules.high in
     let a = flat_map (λ (s : ℕ × Regime). dropped_change w s.0) t.starts in
-    let b = flat_map (wanted_change both t) w.starts in
+    let b = flat_map (target_change both t) w.starts in
     let c = flat_map (dropped_exception both w) t.exceptions in
-    let d = flat_map (wanted_exception both t) w.exceptions in
+    let d = flat_map (target_exception both t) w.exceptions in
     let first : flat_map (λ (p : Period). map f (dropped_change w p.first)) ps ≡ map f a =
     ap (flat_map (λ (p : Period). map f (dropped_change w p.first))) is
     ∙ periods_mapped f (λ s. dropped_change w s.0) high t.starts in
-    let second : flat_map (λ (p : Period). map f (wanted_change both t (p.first, p.regime))) qs
+    let second : flat_map (λ (p : Period). map f (target_change both t (p.first, p.regime))) qs
     ≡ map f b =
-    ap (flat_map (λ (p : Period). map f (wanted_change both t (p.first, p.regime)))) are
-    ∙ periods_mapped f (wanted_change both t) high w.starts in
+    ap (flat_map (λ (p : Period). map f (target_change both t (p.first, p.regime)))) are
+    ∙ periods_mapped f (target_change both t) high w.starts in
     let third : flat_map (λ e. map f (dropped_exception both w e)) t.exceptions ≡ map f c =
     rows_mapped f (dropped_exception both w) t.exceptions in
-    let fourth : flat_map (λ e. map f (wanted_exception both t e)) w.exceptions ≡ map f d =
-    rows_mapped f (wanted_exception both t) w.exceptions in
-    ap (λ es. es ++ (flat_map (λ (p : Period). map f (wanted_change both t (p.first, p.regime))) qs
+    let fourth : flat_map (λ e. map f (target_exception both t e)) w.exceptions ≡ map f d =
+    rows_mapped f (target_exception both t) w.exceptions in
+    ap (λ es. es ++ (flat_map (λ (p : Period). map f (target_change both t (p.first, p.regime))) qs
     ++ (flat_map (λ e. map f (dropped_exception both w e)) t.exceptions
-    ++ flat_map (λ e. map f (wanted_exception both t e)) w.exceptions))) first
+    ++ flat_map (λ e. map f (target_exception both t e)) w.exceptions))) first
     ∙ ap (λ es. map f a ++ (es ++ (flat_map (λ e. map f (dropped_exception both w e)) t.exceptions
-    ++ flat_map (λ e. map f (wanted_exception both t e)) w.exceptions))) second
+    ++ flat_map (λ e. map f (target_exception both t e)) w.exceptions))) second
     ∙ ap (λ es. map f a ++ (map f b ++ (es
-    ++ flat_map (λ e. map f (wanted_exception both t e)) w.exceptions))) third
+    ++ flat_map (λ e. map f (target_exception both t e)) w.exceptions))) third
     ∙ ap (λ es. map f a ++ (map f b ++ (map f c ++ es))) fourth
     ∙ ap (λ es. map f a ++ (map f b ++ es)) (sym (map-append f c d))
     ∙ ap (λ es. map f a ++ es) (sym (map-append f b (c ++ d)))
@@ -104,14 +104,14 @@ later_mapped code cited w ps is =
     ∙ sym (map-append f a b)
 
 -- the edits of a territory by what it is listed as
-pub same_entry_edits : (wanted territories : List EntryModel) (l : EntryModel) (code name : List ℕ)
+pub same_entry_edits : (target territories : List EntryModel) (l : EntryModel) (code name : List ℕ)
     (t : TerritoryModel) → l.code ≡ code → l.name ≡ name → l.territory ≡ t →
-    entry_edits wanted territories l.code l.name l.territory
-    ≡ entry_edits wanted territories code name t
-same_entry_edits wanted territories l code name t code_is name_is territory_is =
-    ap (λ (c : List ℕ). entry_edits wanted territories c l.name l.territory) code_is
-    ∙ ap (λ (n : List ℕ). entry_edits wanted territories code n l.territory) name_is
-    ∙ ap (λ (u : TerritoryModel). entry_edits wanted territories code name u) territory_is
+    entry_edits target territories l.code l.name l.territory
+    ≡ entry_edits target territories code name t
+same_entry_edits target territories l code name t code_is name_is territory_is =
+    ap (λ (c : List ℕ). entry_edits target territories c l.name l.territory) code_is
+    ∙ ap (λ (n : List ℕ). entry_edits target territories code n l.territory) name_is
+    ∙ ap (λ (u : TerritoryModel). entry_edits target territories code name u) territory_is
 
 module _ {B : Type 0} where
   -- what four steps append

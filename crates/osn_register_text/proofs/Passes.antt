@@ -1,4 +1,4 @@
--- The two passes through the starts of two territories: those that are dropped, and those wanted.
+-- The two passes through the starts of two territories: those that are dropped, and those that are added.
 use Rattle.std.proofs.Common.{◌≡◌, ℕ, inl, inr, ◌+◌, ◌≤◌, Bool, cond, true, false, List}
 use Rattle.std.proofs.Common.{[], ◌∷◌, ◌++◌, Option, Some, None, is_some, refl, sym, ap}
 use Rattle.std.proofs.Common.{◌∙◌, ◌<◌, ◌&&◌, length, arith}
@@ -14,7 +14,7 @@ use Rattle.osn_register.specs.Answer.{period_source}
 use Rattle.osn_register_text.specs.Cited.{BothSources, same_period}
 use Rattle.osn_register_text.specs.Differences.{is_same, start_agrees, dropped_change}
 use Rattle.osn_register_text.specs.Differences.{altered_change}
-use Rattle.osn_register_text.specs.Differences.{added_change, wanted_change}
+use Rattle.osn_register_text.specs.Differences.{added_change, target_change}
 use Rattle.osn_register_text.proofs.Rows.{look, IsFrom, look_here, look_there, look_below, some_is}
 use Rattle.osn_register_text.proofs.Changed.{started, started_apart, altered, altered_apart}
 use Rattle.osn_register_text.proofs.Changed.{dropped}
@@ -109,7 +109,7 @@ drops both w t n (s ∷ ss) up from same =
           ];
         }
 
--- the wanted starts
+-- the target starts
 
 pub record Starts (both : BothSources) (w t : TerritoryModel) (ss : List (ℕ × Regime))
     (es : List Change) : Type 0 where
@@ -137,16 +137,16 @@ abbrev Later : BothSources → TerritoryModel → TerritoryModel → ℕ → Lis
 Later both w s0 n ss = (u : TerritoryModel) → IsWithin u.starts w.starts →
     ((k : ℕ) → n ≤ k → look k ss ≡ look k w.starts) →
     ((k : ℕ) → n ≤ k → is_some (look k ss) ≡ true → look k u.starts ≡ look k s0.starts) →
-    Starts both w u ss (flat_map (wanted_change both s0) ss)
+    Starts both w u ss (flat_map (target_change both s0) ss)
 
 pub starts : (both : BothSources) (w s0 t : TerritoryModel) (n : ℕ) (ss : List (ℕ × Regime)) →
     IsFrom 0 s0.starts →
     IsFrom n ss → ((k : ℕ) → n ≤ k → look k ss ≡ look k w.starts) →
     ((k : ℕ) → n ≤ k → is_some (look k ss) ≡ true → look k t.starts ≡ look k s0.starts) →
-    IsWithin t.starts w.starts → Starts both w t ss (flat_map (wanted_change both s0) ss)
-starts both w s0 t n [] up from wanted same within =
+    IsWithin t.starts w.starts → Starts both w t ss (flat_map (target_change both s0) ss)
+starts both w s0 t n [] up from target same within =
     record { due = tt; years = refl; found = λ k. refl }
-starts both w s0 t n (s ∷ ss) up from wanted same within = by (starts_on s0 s.0) refl
+starts both w s0 t n (s ∷ ss) up from target same within = by (starts_on s0 s.0) refl
     (λ u still rest here. starts both w s0 u (s.0 + 1) ss up from.1 rest here still)
   where
     later : (k : ℕ) → s.0 + 1 ≤ k → look k (s ∷ ss) ≡ look k ss
@@ -159,21 +159,21 @@ starts both w s0 t n (s ∷ ss) up from wanted same within = by (starts_on s0 s.
     now = same s.0 from.0 (ap is_some here)
 
     has : is_some (look s.0 w.starts) ≡ true
-    has = ap is_some (sym (wanted s.0 from.0) ∙ here)
+    has = ap is_some (sym (target s.0 from.0) ∙ here)
 
     rest_of : (u : TerritoryModel) → Later both w s0 (s.0 + 1) ss → IsWithin u.starts w.starts →
         ((k : ℕ) → (k ≡ s.0 → ⊥) → look k u.starts ≡ look k t.starts) →
-        Starts both w u ss (flat_map (wanted_change both s0) ss)
+        Starts both w u ss (flat_map (target_change both s0) ss)
     rest_of u next still there = next u still
-        (λ k high. sym (later k high) ∙ wanted k (omega (arith, from.0, high)))
+        (λ k high. sym (later k high) ∙ target k (omega (arith, from.0, high)))
         (λ k high some. there k (λ e. omega (arith, e, high))
         ∙ same k (omega (arith, from.0, high)) (ap is_some (later k high) ∙ some))
 
     stands : (o : Option Regime) → Later both w s0 (s.0 + 1) ss → look s.0 s0.starts ≡ o →
         is_some o ≡ true → (c : Bool) → start_agrees both (regime_at s0 s.0) s ≡ c →
         Starts both w t (s ∷ ss)
-        (cond c [] (Alter s.0 s.1 (period_source both.wanted s.0) ∷ [])
-        ++ flat_map (wanted_change both s0) ss)
+        (cond c [] (Alter s.0 s.1 (period_source both.target s.0) ∷ [])
+        ++ flat_map (target_change both s0) ss)
     stands None next is some c eq = absurd (false≢true some)
     stands (Some r) next is some true eq =
         let r_is : r ≡ s.1 = sym (found_in_force s.0 0 no_start r s0.starts up is)
@@ -183,7 +183,7 @@ starts both w s0 t n (s ∷ ss) up from wanted same within = by (starts_on s0 s.
         record {
           due = rest.due;
           years = rest.years;
-          found = more both w t t s ss (flat_map (wanted_change both s0) ss) from.1
+          found = more both w t t s ss (flat_map (target_change both s0) ss) from.1
               (now ∙ is ∙ ap (λ q. Some q) r_is) (λ k apart. refl) rest;
         }
     stands (Some r) next is some false eq =
@@ -201,20 +201,20 @@ starts both w s0 t n (s ∷ ss) up from wanted same within = by (starts_on s0 s.
               (λ h. and_second (is_same (regime_at s0 s.0) s.1) (same_period both s.0)
                   (ap (λ q. is_same q s.1) (found_in_force s.0 0 no_start r s0.starts up is
                   ∙ some_is (sym (now ∙ is) ∙ h)) ∙ regime_itself s.1) eq),
-              sym (wanted s.0 from.0) ∙ here,
+              sym (target s.0 from.0) ∙ here,
               refl,
             ),
             rest.due,
           );
           years = rest.years;
-          found = more both w t u s ss (flat_map (wanted_change both s0) ss) from.1
+          found = more both w t u s ss (flat_map (target_change both s0) ss) from.1
               (altered s.0 s.1 t.starts some_now)
               (λ k apart. altered_apart k s.0 s.1 t.starts apart) rest;
         }
 
     by : (b : Bool) → starts_on s0 s.0 ≡ b → Later both w s0 (s.0 + 1) ss → Starts both w t (s ∷ ss)
-        (cond b (altered_change both (regime_at s0 s.0) s) (added_change both.wanted s)
-        ++ flat_map (wanted_change both s0) ss)
+        (cond b (altered_change both (regime_at s0 s.0) s) (added_change both.target s)
+        ++ flat_map (target_change both s0) ss)
     by true on next = stands (look s.0 s0.starts) next refl (sym (starts_found s.0 s0.starts) ∙ on)
         (start_agrees both (regime_at s0 s.0) s) refl
     by false off next =
@@ -229,9 +229,9 @@ starts both w s0 t n (s ∷ ss) up from wanted same within = by (starts_on s0 s.
         let room : length t.starts < length w.starts =
         has_room t.starts u.starts w.starts grown (length-started s.0 s.1 t.starts) in
         record {
-          due = ((none, sym (wanted s.0 from.0) ∙ here, room, refl), rest.due);
+          due = ((none, sym (target s.0 from.0) ∙ here, room, refl), rest.due);
           years = rest.years;
-          found = more both w t u s ss (flat_map (wanted_change both s0) ss) from.1
+          found = more both w t u s ss (flat_map (target_change both s0) ss) from.1
               (started s.0 s.1 t.starts none)
               (λ k apart. started_apart k s.0 s.1 t.starts apart) rest;
         }

@@ -25,30 +25,30 @@ code_in None = []
 code_in (Some listed) = listed.0
 
 -- the code of the one at the place was written, if it has one
-next_written_of : (wanted territories : List EntryModel) (place : ℕ) (found : Option EntryModel)
+next_written_of : (target territories : List EntryModel) (place : ℕ) (found : Option EntryModel)
     (code name : List ℕ) (t : TerritoryModel) (all old new : List ℕ)
     → slice_get territories place ≡ found → option_map listing_of found ≡ Some (code, name, t)
-    → all ≡ old ++ absent_codes wanted (drop place territories)
-    → new ≡ old ++ absent_code wanted code
-    → all ≡ new ++ absent_codes wanted (drop (place + 1) territories)
-next_written_of wanted territories place None code name t all old new there is before written =
+    → all ≡ old ++ absent_codes target (drop place territories)
+    → new ≡ old ++ absent_code target code
+    → all ≡ new ++ absent_codes target (drop (place + 1) territories)
+next_written_of target territories place None code name t all old new there is before written =
     absurd (cc)
-next_written_of wanted territories place (Some l) code name t all old new there is before written =
-    let rest = absent_codes wanted (drop (place + 1) territories) in
+next_written_of target territories place (Some l) code name t all old new there is before written =
+    let rest = absent_codes target (drop (place + 1) territories) in
     before
-    ∙ ap (λ xs. old ++ absent_codes wanted xs) (left_at territories place l there)
-    ∙ sym (append_assoc old (absent_code wanted l.code) rest)
-    ∙ ap (λ (listed : Listed). (old ++ absent_code wanted (code_in listed)) ++ rest) is
+    ∙ ap (λ xs. old ++ absent_codes target xs) (left_at territories place l there)
+    ∙ sym (append_assoc old (absent_code target l.code) rest)
+    ∙ ap (λ (listed : Listed). (old ++ absent_code target (code_in listed)) ++ rest) is
     ∙ ap (λ text. text ++ rest) (sym written)
 
-pub next_written : (wanted territories : List EntryModel) (place : ℕ) (code name : List ℕ)
+pub next_written : (target territories : List EntryModel) (place : ℕ) (code name : List ℕ)
     (t : TerritoryModel) (all old new : List ℕ)
     → option_map listing_of (slice_get territories place) ≡ Some (code, name, t)
-    → all ≡ old ++ absent_codes wanted (drop place territories)
-    → new ≡ old ++ absent_code wanted code
-    → all ≡ new ++ absent_codes wanted (drop (place + 1) territories)
-next_written wanted territories place code name t all old new =
-    next_written_of wanted territories place (slice_get territories place) code name t all old new
+    → all ≡ old ++ absent_codes target (drop place territories)
+    → new ≡ old ++ absent_code target code
+    → all ≡ new ++ absent_codes target (drop (place + 1) territories)
+next_written target territories place code name t all old new =
+    next_written_of target territories place (slice_get territories place) code name t all old new
     refl
 
 -- no territory is left if there is none at the place
@@ -58,16 +58,16 @@ none_left [] place none = drop_all place [] (omega arith)
 none_left (l ∷ territories) zero none = absurd (cc)
 none_left (l ∷ territories) (suc place) none = none_left territories place none
 
-all_written_of : (wanted territories : List EntryModel) (place : ℕ) (found : Option EntryModel)
+all_written_of : (target territories : List EntryModel) (place : ℕ) (found : Option EntryModel)
     (all old : List ℕ) → slice_get territories place ≡ found → option_map listing_of found ≡ None
-    → all ≡ old ++ absent_codes wanted (drop place territories) → old ≡ all
-all_written_of wanted territories place None all old there is before =
-    sym (before ∙ ap (λ xs. old ++ absent_codes wanted xs) (none_left territories place there)
+    → all ≡ old ++ absent_codes target (drop place territories) → old ≡ all
+all_written_of target territories place None all old there is before =
+    sym (before ∙ ap (λ xs. old ++ absent_codes target xs) (none_left territories place there)
     ∙ append-nil old)
-all_written_of wanted territories place (Some l) all old there is before = absurd (cc)
+all_written_of target territories place (Some l) all old there is before = absurd (cc)
 
-pub all_written : (wanted territories : List EntryModel) (place : ℕ) (all old : List ℕ)
+pub all_written : (target territories : List EntryModel) (place : ℕ) (all old : List ℕ)
     → option_map listing_of (slice_get territories place) ≡ None
-    → all ≡ old ++ absent_codes wanted (drop place territories) → old ≡ all
-all_written wanted territories place all old =
-    all_written_of wanted territories place (slice_get territories place) all old refl
+    → all ≡ old ++ absent_codes target (drop place territories) → old ≡ all
+all_written target territories place all old =
+    all_written_of target territories place (slice_get territories place) all old refl

@@ -1,4 +1,4 @@
--- The edits of wanted territories in turn: after its edits each of them is as it is wanted.
+-- The edits of the territories of the target in turn: after its edits each of them is as in the target.
 use Rattle.std.proofs.Common.{◌≡◌, ℕ, ◌≤◌, Bool, true, false, cond, List, [], ◌∷◌, ◌++◌, fold}
 use Rattle.std.proofs.Common.{Option, Some, None, option_map, is_some, refl, sym, ap, subst, ◌∙◌}
 use Rattle.std.proofs.Common.{arith}
@@ -41,7 +41,7 @@ pub record Opens (t : TerritoryModel) : Type 0 where
   pub is : t.starts ≡ (1, opening t.starts) ∷ rest
   pub from : IsFrom 2 rest
 
--- a territory is found that has the code and the name of the wanted one, the same starts and years,
+-- a territory is found that has the code and the name of the target one, the same starts and years,
 -- and the source of each of these
 pub record Stands (l : EntryModel) (found : Option EntryModel) : Type 0 where
   pub entry : EntryModel
@@ -55,30 +55,30 @@ pub record Stands (l : EntryModel) (found : Option EntryModel) : Type 0 where
   pub easters : (k : ℕ) → is_some (look k l.territory.exceptions) ≡ true →
       source_of k entry.sources.easters ≡ source_of k l.sources.easters
 
--- one wanted territory
+-- one territory of the target
 
-record Placed (p : Rules) (limits : Limits) (wanted ls : List EntryModel) (l : EntryModel)
+record Placed (p : Rules) (limits : Limits) (target ls : List EntryModel) (l : EntryModel)
     (es : List Edit) : Type 0 where
-  needed : AreNeeded wanted ls es
-  limited : AreLimited p limits wanted ls es
+  needed : AreNeeded target ls es
+  limited : AreLimited p limits target ls es
   others : (other : List ℕ) → bytes_eq other l.code ≡ false →
       entry_of other (fold effect ls es) ≡ entry_of other ls
   stands : Stands l (entry_of l.code (fold effect ls es))
 
--- the territory of the code has the wanted name, and ascends
+-- the territory of the code has the target name, and ascends
 abbrev pub Fits : Rules → EntryModel → Option EntryModel → Type 0
 Fits p l None = Unit {0}
-Fits p l (Some standing) =
-    (standing.name ≡ l.name) × Ascends standing.territory × Allowed p standing.territory
+Fits p l (Some current) =
+    (current.name ≡ l.name) × Ascends current.territory × Allowed p current.territory
 
--- a wanted territory that the edits can reach
+-- a target territory that the edits can reach
 pub record Fit (p : Rules) (territories : List EntryModel) (l : EntryModel) : Type 0 where
   pub up : Ascends l.territory
   pub opens : Opens l.territory
   pub code : is_code l.code ≡ true
   pub name : is_name l.name ≡ true
   pub allowed : Allowed p l.territory
-  pub standing : Fits p l (entry_of l.code territories)
+  pub current : Fits p l (entry_of l.code territories)
 
 opened_allowed : (p : Rules) (r : Regime) → 1 ≤ p.high → is_style_refused p r ≡ false →
     Allowed p (opened r)
@@ -102,11 +102,11 @@ entry_limited p limits ls l r code name none style f refused =
     (skip (not (is_name l.name)) _ _ f (ap not name)
     (skip (not (is_code l.code)) _ _ f (ap not code) refused))))
 
-placed : (p : Rules) (limits : Limits) (wanted territories ls : List EntryModel) (l : EntryModel) →
-    1 ≤ p.high → entry_of l.code wanted ≡ Some l → Fit p territories l → (o : Option EntryModel) →
+placed : (p : Rules) (limits : Limits) (target territories ls : List EntryModel) (l : EntryModel) →
+    1 ≤ p.high → entry_of l.code target ≡ Some l → Fit p territories l → (o : Option EntryModel) →
     entry_of l.code ls ≡ o → Fits p l o →
-    Placed p limits wanted ls l (edits_from (Some l.sources) l.code l.name l.territory o)
-placed p limits wanted territories ls l low is fit (Some s) known fits =
+    Placed p limits target ls l (edits_from (Some l.sources) l.code l.name l.territory o)
+placed p limits target territories ls l low is fit (Some s) known fits =
     let both = pair_of s.sources l.sources in
     let es = differences both s.territory l.territory in
     let made : Reaches both l.territory s.territory es =
@@ -114,8 +114,8 @@ placed p limits wanted territories ls l low is fit (Some s) known fits =
     let cited : Cites l.territory s.sources l.sources es =
     cites l.territory s.territory s.sources l.sources fit.up fits.1 in
     record {
-      needed = are_needed wanted ls l.code l s.sources s es is known made.due cited.fresh;
-      limited = are_limited p limits wanted both l.code l is es ls s fit.code known made.due
+      needed = are_needed target ls l.code l s.sources s es is known made.due cited.fresh;
+      limited = are_limited p limits target both l.code l is es ls s fit.code known made.due
           (differences_valid p both s.territory l.territory fits.2 fit.allowed);
       others = λ other apart. edits_apart l.code other es ls apart;
       stands = record {
@@ -132,7 +132,7 @@ placed p limits wanted territories ls l low is fit (Some s) known fits =
         easters = cited.easters;
       };
     }
-placed p limits wanted territories ls l low is fit None known fits =
+placed p limits target territories ls l low is fit None known fits =
     let opens = fit.opens in
     let r = opening l.territory.starts in
     let es = later (Some l.sources) l.territory in
@@ -161,16 +161,16 @@ placed p limits wanted territories ls l low is fit None known fits =
         (
           known,
           ap (option_map (λ (k : EntryModel). k.name)) is,
-          regime_found l.code wanted l 1 is ∙ ap (look 1) opens.is,
-          sym (period_found l.code wanted l 1 is),
+          regime_found l.code target l 1 is ∙ ap (look 1) opens.is,
+          sym (period_found l.code target l 1 is),
         ),
-        are_needed wanted (ls ++ new ∷ []) l.code l first_sources new es is added made.due
+        are_needed target (ls ++ new ∷ []) l.code l first_sources new es is added made.due
             cited.fresh,
       );
       limited = (
         (λ f refused. subst (λ o. IsOver limits o f) (sym is)
             (entry_limited p limits ls l r fit.code fit.name known style f refused)),
-        are_limited p limits wanted both l.code l is es (ls ++ new ∷ []) new fit.code added made.due
+        are_limited p limits target both l.code l is es (ls ++ new ∷ []) new fit.code added made.due
             (subst (AreValid p) same (differences_valid p both (opened r) l.territory
             (opened_allowed p r low style) fit.allowed)),
       );
@@ -191,17 +191,17 @@ placed p limits wanted territories ls l low is fit None known fits =
       };
     }
 
--- the wanted sources are those of the wanted territory
-placed_by_code : (p : Rules) (limits : Limits) (wanted territories ls : List EntryModel)
-    (l : EntryModel) → 1 ≤ p.high → entry_of l.code wanted ≡ Some l → Fit p territories l →
+-- the target sources are those of the target territory
+placed_by_code : (p : Rules) (limits : Limits) (target territories ls : List EntryModel)
+    (l : EntryModel) → 1 ≤ p.high → entry_of l.code target ≡ Some l → Fit p territories l →
     entry_of l.code ls ≡ entry_of l.code territories →
-    Placed p limits wanted ls l (entry_edits wanted territories l.code l.name l.territory)
-placed_by_code p limits wanted territories ls l low is fit same =
-    subst (λ (cited : Option SourcesModel). Placed p limits wanted ls l
+    Placed p limits target ls l (entry_edits target territories l.code l.name l.territory)
+placed_by_code p limits target territories ls l low is fit same =
+    subst (λ (cited : Option SourcesModel). Placed p limits target ls l
     (edits_from cited l.code l.name l.territory (entry_of l.code territories)))
     (sym (ap (option_map (λ (k : EntryModel). k.sources)) is))
-    (placed p limits wanted territories ls l low is fit (entry_of l.code territories) same
-    fit.standing)
+    (placed p limits target territories ls l low is fit (entry_of l.code territories) same
+    fit.current)
 
 -- all in turn
 
@@ -210,28 +210,28 @@ effects-append : (es fs : List Edit) (ls : List EntryModel) →
 effects-append [] fs ls = refl
 effects-append (e ∷ es) fs ls = effects-append es fs (effect ls e)
 
-AreNeeded-append : (wanted ls : List EntryModel) (es fs : List Edit) → AreNeeded wanted ls es →
-    AreNeeded wanted (fold effect ls es) fs → AreNeeded wanted ls (es ++ fs)
-AreNeeded-append wanted ls [] fs needed after = after
-AreNeeded-append wanted ls (e ∷ es) fs needed after =
-    (needed.0, AreNeeded-append wanted (effect ls e) es fs needed.1 after)
+AreNeeded-append : (target ls : List EntryModel) (es fs : List Edit) → AreNeeded target ls es →
+    AreNeeded target (fold effect ls es) fs → AreNeeded target ls (es ++ fs)
+AreNeeded-append target ls [] fs needed after = after
+AreNeeded-append target ls (e ∷ es) fs needed after =
+    (needed.0, AreNeeded-append target (effect ls e) es fs needed.1 after)
 
-AreLimited-append : (p : Rules) (limits : Limits) (wanted ls : List EntryModel)
+AreLimited-append : (p : Rules) (limits : Limits) (target ls : List EntryModel)
     (es fs : List Edit) →
-    AreLimited p limits wanted ls es → AreLimited p limits wanted (fold effect ls es) fs →
-    AreLimited p limits wanted ls (es ++ fs)
-AreLimited-append p limits wanted ls [] fs limited after = after
-AreLimited-append p limits wanted ls (e ∷ es) fs limited after =
-    (limited.0, AreLimited-append p limits wanted (effect ls e) es fs limited.1 after)
+    AreLimited p limits target ls es → AreLimited p limits target (fold effect ls es) fs →
+    AreLimited p limits target ls (es ++ fs)
+AreLimited-append p limits target ls [] fs limited after = after
+AreLimited-append p limits target ls (e ∷ es) fs limited after =
+    (limited.0, AreLimited-append p limits target (effect ls e) es fs limited.1 after)
 
 abbrev pub AreFit : Rules → List EntryModel → List EntryModel → Type 0
 AreFit p territories [] = Unit {0}
 AreFit p territories (l ∷ ls) = Fit p territories l × AreFit p territories ls
 
-pub record AllPlaced (p : Rules) (limits : Limits) (wanted ls left : List EntryModel)
+pub record AllPlaced (p : Rules) (limits : Limits) (target ls left : List EntryModel)
     (es : List Edit) : Type 0 where
-  pub needed : AreNeeded wanted ls es
-  pub limited : AreLimited p limits wanted ls es
+  pub needed : AreNeeded target ls es
+  pub limited : AreLimited p limits target ls es
   pub others : (other : List ℕ) → entry_of other left ≡ None →
       entry_of other (fold effect ls es) ≡ entry_of other ls
   pub stands : (code : List ℕ) (l : EntryModel) → entry_of code left ≡ Some l →
@@ -251,12 +251,12 @@ apart_later code l ls none some = by (bytes_eq code l.code) refl
         (ap (λ c. entry_of c ls) ((bytes_eq-Decides code l.code).0 e) ∙ none)) ∙ some))
     by false e = refl
 
-stands_first : (p : Rules) (limits : Limits) (wanted ls : List EntryModel) (l : EntryModel)
+stands_first : (p : Rules) (limits : Limits) (target ls : List EntryModel) (l : EntryModel)
     (left : List EntryModel) (es fs : List Edit) → entry_of l.code left ≡ None →
-    Placed p limits wanted ls l es → AllPlaced p limits wanted (fold effect ls es) left fs →
+    Placed p limits target ls l es → AllPlaced p limits target (fold effect ls es) left fs →
     (code : List ℕ) (k : EntryModel) → entry_of code (l ∷ left) ≡ Some k →
     Stands k (entry_of code (fold effect ls (es ++ fs)))
-stands_first p limits wanted ls l left es fs none one rest code k found =
+stands_first p limits target ls l left es fs none one rest code k found =
     by (bytes_eq code l.code) refl found
   where
     joined : entry_of code (fold effect ls (es ++ fs))
@@ -283,42 +283,42 @@ others_first code l ls none = by (bytes_eq code l.code) refl none
     by true e h = absurd (false≢true (sym (ap is_some h)))
     by false e h = (e, h)
 
-pub all_placed : (p : Rules) (limits : Limits) (wanted territories ls left : List EntryModel) →
+pub all_placed : (p : Rules) (limits : Limits) (target territories ls left : List EntryModel) →
     1 ≤ p.high → AreDistinct left → AreFit p territories left →
     ((code : List ℕ) → is_some (entry_of code left) ≡ true → entry_of code ls
     ≡ entry_of code territories) → ((code : List ℕ) (l : EntryModel) → entry_of code left ≡ Some l →
-    entry_of code wanted ≡ Some l) →
-    AllPlaced p limits wanted ls left (edits_for wanted territories left)
-all_placed p limits wanted territories ls [] low distinct fit same within = record {
+    entry_of code target ≡ Some l) →
+    AllPlaced p limits target ls left (edits_for target territories left)
+all_placed p limits target territories ls [] low distinct fit same within = record {
   needed = tt;
   limited = tt;
   others = λ other none. refl;
   stands = λ code l found. absurd (false≢true (ap is_some found));
 }
-all_placed p limits wanted territories ls (l ∷ left) low distinct fit same within =
+all_placed p limits target territories ls (l ∷ left) low distinct fit same within =
     let here : entry_of l.code (l ∷ left) ≡ Some l =
     ap (λ b. cond b (Some l) (entry_of l.code left)) (code_itself l.code) in
-    let es = entry_edits wanted territories l.code l.name l.territory in
-    let one : Placed p limits wanted ls l es =
-    placed_by_code p limits wanted territories ls l low (within l.code l here) fit.0
+    let es = entry_edits target territories l.code l.name l.territory in
+    let one : Placed p limits target ls l es =
+    placed_by_code p limits target territories ls l low (within l.code l here) fit.0
     (same l.code (ap is_some here)) in
-    let rest : AllPlaced p limits wanted (fold effect ls es) left
-    (edits_for wanted territories left) =
-    all_placed p limits wanted territories (fold effect ls es) left low distinct.1 fit.1
+    let rest : AllPlaced p limits target (fold effect ls es) left
+    (edits_for target territories left) =
+    all_placed p limits target territories (fold effect ls es) left low distinct.1 fit.1
     (λ code some.
     let apart : bytes_eq code l.code ≡ false = apart_later code l left distinct.0 some in
     one.others code apart ∙ same code (ap is_some (there code l left apart) ∙ some))
     (λ code k found. within code k (there code l left
     (apart_later code l left distinct.0 (ap is_some found)) ∙ found)) in
     record {
-      needed = AreNeeded-append wanted ls es (edits_for wanted territories left) one.needed
+      needed = AreNeeded-append target ls es (edits_for target territories left) one.needed
           rest.needed;
-      limited = AreLimited-append p limits wanted ls es (edits_for wanted territories left)
+      limited = AreLimited-append p limits target ls es (edits_for target territories left)
           one.limited rest.limited;
       others = λ other none.
           let first = others_first other l left none in
-          ap (entry_of other) (effects-append es (edits_for wanted territories left) ls)
+          ap (entry_of other) (effects-append es (edits_for target territories left) ls)
           ∙ rest.others other first.1 ∙ one.others other first.0;
-      stands = stands_first p limits wanted ls l left es (edits_for wanted territories left)
+      stands = stands_first p limits target ls l left es (edits_for target territories left)
           distinct.0 one rest;
     }

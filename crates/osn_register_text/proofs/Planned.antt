@@ -1,4 +1,4 @@
--- The edits of all wanted territories, which are lawful in turn, are a plan.
+-- The edits of all target territories, which are lawful in turn, are a plan.
 use Rattle.std.proofs.Common.{◌≡◌, ℕ, true, List, [], ◌∷◌, ◌++◌, fold, Option, Some, None}
 use Rattle.std.proofs.Common.{option_map, is_some, refl, sym, ap, subst, ◌∙◌, arith, unsigned_abs}
 use Rattle.std.proofs.lemmas.Bool.{false≢true}
@@ -21,7 +21,7 @@ use Rattle.osn_register_text.proofs.Lawful.{applied-lawful}
 use Rattle.osn_register_text.specs.Needed.{name_in, regime_from, regime_in, easter_in, period_cited}
 use Rattle.osn_register_text.specs.Needed.{easter_cited, IsNeeded, AreNeeded}
 use Rattle.osn_register_text.specs.Fault.{first_renamed, IsOver}
-use Rattle.osn_register_text.specs.Plan.{StandAsWanted, IsPlan}
+use Rattle.osn_register_text.specs.Plan.{AgreeWithTarget, IsPlan}
 use Rattle.osn_register_text.specs.Differences.{all_edits}
 use Rattle.osn_register_text.proofs.Rows.{not_none}
 use Rattle.osn_register_text.proofs.Placed.{Stands, AllPlaced, all_placed}
@@ -39,26 +39,26 @@ effects_of limits territories (e ∷ es) lawful =
     ∙ effects_of limits (effect territories e) es lawful.1
 
 -- of edits that limits alone refuse, one is refused after lawful ones by a limit
-pub limit_at : (limits : Limits) (wanted territories : List EntryModel) (before : List Edit)
+pub limit_at : (limits : Limits) (target territories : List EntryModel) (before : List Edit)
     (e : Edit)
     (after : List Edit) (f : Refusal) → AreLawful newest_rules limits territories before →
-    AreLimited newest_rules limits wanted territories (before ++ e ∷ after) →
+    AreLimited newest_rules limits target territories (before ++ e ∷ after) →
     refusal newest_rules limits (applied_all newest_rules limits territories before) e ≡ Some f →
-    IsOver limits (entry_of (code_of e) wanted) f
-limit_at limits wanted territories [] e after f lawful limited refused = limited.0 f refused
-limit_at limits wanted territories (b ∷ before) e after f lawful limited refused =
-    limit_at limits wanted (effect territories b) before e after f lawful.1 limited.1
+    IsOver limits (entry_of (code_of e) target) f
+limit_at limits target territories [] e after f lawful limited refused = limited.0 f refused
+limit_at limits target territories (b ∷ before) e after f lawful limited refused =
+    limit_at limits target (effect territories b) before e after f lawful.1 limited.1
     (ap (λ ls. refusal newest_rules limits (applied_all newest_rules limits ls before) e)
     (sym (applied-lawful newest_rules limits territories b lawful.0)) ∙ refused)
 
 -- of edits that are needed in turn the first ones are
-pub AreNeeded-front : (wanted territories : List EntryModel) (es fs : List Edit) →
-    AreNeeded wanted territories (es ++ fs) → AreNeeded wanted territories es
-AreNeeded-front wanted territories [] fs needed = tt
-AreNeeded-front wanted territories (e ∷ es) fs needed =
-    (needed.0, AreNeeded-front wanted (effect territories e) es fs needed.1)
+pub AreNeeded-front : (target territories : List EntryModel) (es fs : List Edit) →
+    AreNeeded target territories (es ++ fs) → AreNeeded target territories es
+AreNeeded-front target territories [] fs needed = tt
+AreNeeded-front target territories (e ∷ es) fs needed =
+    (needed.0, AreNeeded-front target (effect territories e) es fs needed.1)
 
--- if all are as wanted no edit is needed
+-- if all are as in the target no edit is needed
 
 known_of : {X Y : Type 0} (f : X → Y) (o : Option X) (y : Y) → option_map f o ≡ Some y →
     is_some o ≡ true
@@ -109,42 +109,42 @@ same_easters None (Some b) y same some = absurd same
 same_easters (Some a) None y same some = absurd same
 same_easters (Some a) (Some b) y same some = same.easters y some
 
-module _ (wanted territories : List EntryModel) (already : StandAsWanted wanted territories) where
-  same_name : (code : List ℕ) → is_some (entry_of code wanted) ≡ true →
-      name_in territories code ≡ name_in wanted code
+module _ (target territories : List EntryModel) (already : AgreeWithTarget target territories) where
+  same_name : (code : List ℕ) → is_some (entry_of code target) ≡ true →
+      name_in territories code ≡ name_in target code
   same_name code some =
-      same_names (entry_of code territories) (entry_of code wanted) (already code some)
+      same_names (entry_of code territories) (entry_of code target) (already code some)
 
-  same_regime : (code : List ℕ) (d : ℕ) → is_some (entry_of code wanted) ≡ true →
-      regime_in territories code d ≡ regime_in wanted code d
+  same_regime : (code : List ℕ) (d : ℕ) → is_some (entry_of code target) ≡ true →
+      regime_in territories code d ≡ regime_in target code d
   same_regime code d some = ap (option_and_then (λ t. regime_from t d))
-      (same_territories (entry_of code territories) (entry_of code wanted) (already code some))
+      (same_territories (entry_of code territories) (entry_of code target) (already code some))
 
-  same_easter : (code : List ℕ) (y : ℕ) → is_some (entry_of code wanted) ≡ true →
-      easter_in territories code y ≡ easter_in wanted code y
+  same_easter : (code : List ℕ) (y : ℕ) → is_some (entry_of code target) ≡ true →
+      easter_in territories code y ≡ easter_in target code y
   same_easter code y some = ap (option_and_then (λ (t : TerritoryModel). exception_of t y))
-      (same_territories (entry_of code territories) (entry_of code wanted) (already code some))
+      (same_territories (entry_of code territories) (entry_of code target) (already code some))
 
-  same_period_source : (code : List ℕ) (d : ℕ) → is_some (entry_of code wanted) ≡ true →
+  same_period_source : (code : List ℕ) (d : ℕ) → is_some (entry_of code target) ≡ true →
       is_some (regime_in territories code d) ≡ true →
-      period_cited territories code d ≡ period_cited wanted code d
+      period_cited territories code d ≡ period_cited target code d
   same_period_source code d some starts = same_periods (entry_of code territories)
-      (entry_of code wanted) d (already code some) starts
+      (entry_of code target) d (already code some) starts
 
-  same_easter_source : (code : List ℕ) (y : ℕ) → is_some (entry_of code wanted) ≡ true →
+  same_easter_source : (code : List ℕ) (y : ℕ) → is_some (entry_of code target) ≡ true →
       is_some (easter_in territories code y) ≡ true →
-      easter_cited territories code y ≡ easter_cited wanted code y
+      easter_cited territories code y ≡ easter_cited target code y
   same_easter_source code y some listed = same_easters (entry_of code territories)
-      (entry_of code wanted) y (already code some) listed
+      (entry_of code target) y (already code some) listed
 
-  regime_known : (code : List ℕ) (d : ℕ) {r : _} → regime_in wanted code d ≡ Some r →
-      is_some (entry_of code wanted) ≡ true
+  regime_known : (code : List ℕ) (d : ℕ) {r : _} → regime_in target code d ≡ Some r →
+      is_some (entry_of code target) ≡ true
   regime_known code d {r} h = known_in (λ (l : EntryModel). l.territory) (λ t. regime_from t d)
-      (entry_of code wanted) r h
+      (entry_of code target) r h
 
-  not_needed : (e : Edit) → IsNeeded wanted territories e → ⊥
+  not_needed : (e : Edit) → IsNeeded target territories e → ⊥
   not_needed (AddLand code name regime source) needed =
-      let some = known_of (λ (l : EntryModel). l.name) (entry_of code wanted) name needed.1 in
+      let some = known_of (λ (l : EntryModel). l.name) (entry_of code target) name needed.1 in
       not_none (sym (same_name code some ∙ needed.1)
       ∙ ap (option_map (λ (l : EntryModel). l.name)) needed.0)
   not_needed (AddChange code day regime source) needed =
@@ -159,56 +159,56 @@ module _ (wanted territories : List EntryModel) (already : StandAsWanted wanted 
       ∙ needed.1)
   not_needed (AddException code year day source) needed =
       let some = known_in (λ (l : EntryModel). l.territory)
-      (λ (t : TerritoryModel). exception_of t (unsigned_abs year)) (entry_of code wanted)
+      (λ (t : TerritoryModel). exception_of t (unsigned_abs year)) (entry_of code target)
       (unsigned_abs day) needed.1 in
       not_none (sym (same_easter code (unsigned_abs year) some ∙ needed.1) ∙ needed.0)
   not_needed (DropException code year) needed =
       needed.2 (sym (same_easter code (unsigned_abs year) needed.0))
       (sym (same_easter_source code (unsigned_abs year) needed.0 needed.1))
 
-  none_needed : (es : List Edit) → AreNeeded wanted territories es → es ≡ []
+  none_needed : (es : List Edit) → AreNeeded target territories es → es ≡ []
   none_needed [] needed = refl
   none_needed (e ∷ es) needed = absurd (not_needed e needed.0)
 
--- the edits of all wanted territories
+-- the edits of all target territories
 
-pub placed_all : (room limits : Limits) (wanted territories : List EntryModel) → AreDistinct wanted
+pub placed_all : (room limits : Limits) (target territories : List EntryModel) → AreDistinct target
     →
-    AreNamed wanted → AreSound newest_rules room wanted → AreSound newest_rules limits territories →
-    first_renamed wanted territories ≡ None →
-    AllPlaced newest_rules limits wanted territories wanted (all_edits wanted territories)
-placed_all room limits wanted territories distinct named sound standing none =
-    all_placed newest_rules limits wanted territories territories wanted (omega arith) distinct
-    (are_fit newest_rules room limits wanted territories (omega arith) named sound standing none)
+    AreNamed target → AreSound newest_rules room target → AreSound newest_rules limits territories →
+    first_renamed target territories ≡ None →
+    AllPlaced newest_rules limits target territories target (all_edits target territories)
+placed_all room limits target territories distinct named sound current none =
+    all_placed newest_rules limits target territories territories target (omega arith) distinct
+    (are_fit newest_rules room limits target territories (omega arith) named sound current none)
     (λ code some. refl) (λ code l found. found)
 
-pub is_plan : (room limits : Limits) (wanted territories : List EntryModel) →
-    AreSound newest_rules room wanted →
-    AllPlaced newest_rules limits wanted territories wanted (all_edits wanted territories) →
-    AreLawful newest_rules limits territories (all_edits wanted territories) →
+pub is_plan : (room limits : Limits) (target territories : List EntryModel) →
+    AreSound newest_rules room target →
+    AllPlaced newest_rules limits target territories target (all_edits target territories) →
+    AreLawful newest_rules limits territories (all_edits target territories) →
     AreSound newest_rules limits
-    (applied_all newest_rules limits territories (all_edits wanted territories)) →
-    IsPlan limits wanted territories (all_edits wanted territories)
-is_plan room limits wanted territories sound made lawful after = record {
+    (applied_all newest_rules limits territories (all_edits target territories)) →
+    IsPlan limits target territories (all_edits target territories)
+is_plan room limits target territories sound made lawful after = record {
   lawful = lawful;
-  stand = λ code some. by code (entry_of code wanted) refl some
-      (effects_of limits territories (all_edits wanted territories) lawful);
+  stand = λ code some. by code (entry_of code target) refl some
+      (effects_of limits territories (all_edits target territories) lawful);
   others = λ code none.
-      ap (entry_of code) (effects_of limits territories (all_edits wanted territories) lawful)
+      ap (entry_of code) (effects_of limits territories (all_edits target territories) lawful)
       ∙ made.others code none;
   needed = made.needed;
-  idle = λ already. none_needed wanted territories already (all_edits wanted territories)
+  idle = λ already. none_needed target territories already (all_edits target territories)
       made.needed;
 }
   where
-    by : (code : List ℕ) (o : Option EntryModel) → entry_of code wanted ≡ o → is_some o ≡ true →
-        applied_all newest_rules limits territories (all_edits wanted territories)
-        ≡ fold effect territories (all_edits wanted territories) →
+    by : (code : List ℕ) (o : Option EntryModel) → entry_of code target ≡ o → is_some o ≡ true →
+        applied_all newest_rules limits territories (all_edits target territories)
+        ≡ fold effect territories (all_edits target territories) →
         AreSameEntry
-        (entry_of code (applied_all newest_rules limits territories (all_edits wanted territories)))
+        (entry_of code (applied_all newest_rules limits territories (all_edits target territories)))
         o
     by code None none some all = absurd (false≢true some)
     by code (Some l) found some all =
-        stands_same newest_rules room limits wanted
-        (applied_all newest_rules limits territories (all_edits wanted territories)) code l sound
+        stands_same newest_rules room limits target
+        (applied_all newest_rules limits territories (all_edits target territories)) code l sound
         after found (subst (λ ls. Stands l (entry_of code ls)) (sym all) (made.stands code l found))

@@ -12,9 +12,9 @@ use Rattle.osn_register.specs.Answer.{period_source}
 use Rattle.osn_register.specs.Sources.{SourcesModel, opening_sources}
 use Rattle.osn_register_text.specs.Change.{Change}
 use Rattle.osn_register_text.specs.Change.Change.{Alter}
-use Rattle.osn_register_text.specs.Differences.{dropped_change, wanted_change, is_day}
+use Rattle.osn_register_text.specs.Differences.{dropped_change, target_change, is_day}
 use Rattle.osn_register_text.specs.Differences.{dropped_exception}
-use Rattle.osn_register_text.specs.Differences.{wanted_exception, added_change, added_exception}
+use Rattle.osn_register_text.specs.Differences.{target_exception, added_change, added_exception}
 use Rattle.osn_register_text.specs.Differences.{differences}
 use Rattle.osn_register_text.specs.Differences.{is_same, altered_change, later}
 use Rattle.osn_register_text.specs.Cited.{BothSources, same_source, same_period, same_easter}
@@ -31,46 +31,46 @@ pub record Ascends (t : TerritoryModel) : Type 0 where
   pub starts : IsFrom 0 t.starts
   pub years : IsFrom 0 t.exceptions
 
--- the changes are each due, and the same is found after them as in the wanted territory
+-- the changes are each due, and the same is found after them as in the target territory
 pub record Reaches (both : BothSources) (w t : TerritoryModel) (es : List Change) : Type 0 where
   pub due : AreDue both w t es
   pub starts : (k : ℕ) → look k (after es t).starts ≡ look k w.starts
   pub years : (k : ℕ) → look k (after es t).exceptions ≡ look k w.exceptions
 
-kept_wanted : {V : Type 0} (o now : Option V) (b : Bool) → b ≡ true → kept o b now ≡ now
-kept_wanted None now b on = refl
-kept_wanted (Some v) now b on = ap (λ c. cond c now None) on
+kept_if_true : {V : Type 0} (o now : Option V) (b : Bool) → b ≡ true → kept o b now ≡ now
+kept_if_true None now b on = refl
+kept_if_true (Some v) now b on = ap (λ c. cond c now None) on
 
--- what is kept is wanted
+-- what is kept is in the target
 among_kept : (o : Option Regime) (b : Bool) → is_some (kept o b o) ≡ true → b ≡ true
 among_kept None b some = absurd (false≢true some)
 among_kept (Some r) true some = refl
 among_kept (Some r) false some = absurd (false≢true some)
 
-among_kept_day : (same : Bool) (o wanted : Option ℕ) → is_some (kept_day same o wanted o) ≡ true →
-    is_some wanted ≡ true
-among_kept_day same None wanted some = absurd (false≢true some)
+among_kept_day : (same : Bool) (o target : Option ℕ) → is_some (kept_day same o target o) ≡ true →
+    is_some target ≡ true
+among_kept_day same None target some = absurd (false≢true some)
 among_kept_day same (Some d) None some = absurd (false≢true some)
 among_kept_day same (Some d) (Some e) some = refl
 
--- after the first two passes the wanted starts are found
-start_at : (wanted standing now : Option Regime) (b : Bool) → b ≡ is_some wanted →
-    now ≡ kept standing b standing → option_or wanted now ≡ wanted
-start_at (Some r) standing now b is e = refl
+-- after the first two passes the target starts are found
+start_at : (target current now : Option Regime) (b : Bool) → b ≡ is_some target →
+    now ≡ kept current b current → option_or target now ≡ target
+start_at (Some r) current now b is e = refl
 start_at None None now b is e = e
 start_at None (Some s) now b is e = e ∙ ap (λ c. cond c (Some s) None) is
 
--- after the last two the wanted days
-day_at : (same : Bool) (wanted standing now : Option ℕ) →
-    now ≡ kept_day same standing wanted standing → option_or wanted now ≡ wanted
-day_at same (Some d) standing now e = refl
+-- after the last two the target days
+day_at : (same : Bool) (target current now : Option ℕ) →
+    now ≡ kept_day same current target current → option_or target now ≡ target
+day_at same (Some d) current now e = refl
 day_at same None None now e = e
 day_at same None (Some s) now e = e
 
--- between them a wanted day is listed if it was listed with its source, and otherwise its year has
+-- between them a target day is listed if it was listed with its source, and otherwise its year has
 -- no day
-day_between : (same : Bool) (d : ℕ) (standing : Option ℕ) →
-    kept_day same standing (Some d) standing ≡ cond (is_day d standing && same) (Some d) None
+day_between : (same : Bool) (d : ℕ) (current : Option ℕ) →
+    kept_day same current (Some d) current ≡ cond (is_day d current && same) (Some d) None
 day_between same d None = refl
 day_between same d (Some s) = elim (cases_eq d s) [
   | inl e ↦ ap (λ b. cond (b && same) (Some s) None) (eq-eqb d s e)
@@ -84,9 +84,9 @@ pub reaches : (both : BothSources) (w t : TerritoryModel) → Ascends w → Asce
     Reaches both w t (differences both t w)
 reaches both w t up from =
     let es0 = flat_map (λ (s : ℕ × Regime). dropped_change w s.0) t.starts in
-    let es1 = flat_map (wanted_change both t) w.starts in
+    let es1 = flat_map (target_change both t) w.starts in
     let es2 = flat_map (dropped_exception both w) t.exceptions in
-    let es3 = flat_map (wanted_exception both t) w.exceptions in
+    let es3 = flat_map (target_exception both t) w.exceptions in
     let t1 = after es0 t in
     let t2 = after es1 t1 in
     let t3 = after es2 t2 in
@@ -94,7 +94,7 @@ reaches both w t up from =
     (λ k high. refl) in
     let second : Starts both w t1 w.starts es1 =
     starts both w t t1 0 w.starts from.starts up.starts (λ k high. refl)
-    (λ k high some. first.found k ∙ kept_wanted (look k t.starts) (look k t.starts) (starts_on w k)
+    (λ k high some. first.found k ∙ kept_if_true (look k t.starts) (look k t.starts) (starts_on w k)
     (starts_found k w.starts ∙ some))
     (record {
       from = first.from;
@@ -147,22 +147,22 @@ reaches both w t up from =
 
 abbrev pub opened_with : Option SourcesModel → BothSources
 opened_with cited =
-    record { standing = Some (opening_sources (period_source cited 1)); wanted = cited }
+    record { current = Some (opening_sources (period_source cited 1)); target = cited }
 
 later_starts : (cited : Option SourcesModel) (r : Regime) (n : ℕ) (ss : List (ℕ × Regime)) → 1 < n →
     IsFrom n ss →
-    flat_map (wanted_change (opened_with cited) (opened r)) ss ≡ flat_map (added_change cited) ss
+    flat_map (target_change (opened_with cited) (opened r)) ss ≡ flat_map (added_change cited) ss
 later_starts cited r n [] low from = refl
 later_starts cited r n (s ∷ ss) low from =
     ap (λ b. cond (b || false) (altered_change (opened_with cited) (regime_at (opened r) s.0) s)
     (added_change cited s)
-    ++ flat_map (wanted_change (opened_with cited) (opened r)) ss)
+    ++ flat_map (target_change (opened_with cited) (opened r)) ss)
     (ne_eqb 1 s.0 (λ e. omega (arith, from.0)))
     ∙ ap (λ es. added_change cited s ++ es)
     (later_starts cited r (s.0 + 1) ss (omega (arith, from.0)) from.1)
 
 later_years : (cited : Option SourcesModel) (r : Regime) (ys : List (ℕ × ℕ)) →
-    flat_map (wanted_exception (opened_with cited) (opened r)) ys
+    flat_map (target_exception (opened_with cited) (opened r)) ys
     ≡ flat_map (added_exception cited) ys
 later_years cited r [] = refl
 later_years cited r (y ∷ ys) = ap (λ es. added_exception cited y ++ es) (later_years cited r ys)
@@ -179,10 +179,10 @@ later_of : (cited : Option SourcesModel) (r : Regime) (rest : List (ℕ × Regim
 later_of cited r rest ys from =
     let both = opened_with cited in
     ap (λ b. (cond b [] (Alter 1 r (period_source cited 1) ∷ [])
-    ++ flat_map (wanted_change both (opened r)) rest)
-    ++ flat_map (wanted_exception both (opened r)) ys)
+    ++ flat_map (target_change both (opened r)) rest)
+    ++ flat_map (target_exception both (opened r)) ys)
     (and_from (is_same r r) (same_period both 1) (regime_itself r) (opening_agrees cited))
-    ∙ ap (λ es. es ++ flat_map (wanted_exception both (opened r)) ys)
+    ∙ ap (λ es. es ++ flat_map (target_exception both (opened r)) ys)
     (later_starts cited r 2 rest (omega arith) from)
     ∙ ap (λ es. flat_map (added_change cited) rest ++ es) (later_years cited r ys)
 

@@ -9,8 +9,8 @@ use Rattle.osn_territory.specs.Changes.{starts_on}
 use Rattle.osn_register.specs.Sources.{SourcesModel, source_of}
 use Rattle.osn_register_text.specs.Change.{Change}
 use Rattle.osn_register_text.specs.Cited.{same_easter}
-use Rattle.osn_register_text.specs.Differences.{is_day, dropped_change, wanted_change}
-use Rattle.osn_register_text.specs.Differences.{dropped_exception, wanted_exception, differences}
+use Rattle.osn_register_text.specs.Differences.{is_day, dropped_change, target_change}
+use Rattle.osn_register_text.specs.Differences.{dropped_exception, target_exception, differences}
 use Rattle.osn_register_text.proofs.Rows.{look}
 use Rattle.osn_register_text.proofs.Changed.{starts_found}
 use Rattle.osn_register_text.proofs.Reached.{Ascends}
@@ -21,7 +21,7 @@ use Rattle.osn_register_text.proofs.StartSources.{starts_cited}
 use Rattle.osn_register_text.proofs.DaySources.{DayDropsCited, day_drops_cited, DaysCited}
 use Rattle.osn_register_text.proofs.DaySources.{days_cited}
 
--- after the changes each period and each listed Easter of the wanted territory has its source
+-- after the changes each period and each listed Easter of the target territory has its source
 pub record Cites (w : TerritoryModel) (old new : SourcesModel) (es : List Change) : Type 0 where
   pub fresh : AreFresh old old es
   pub periods : (k : ℕ) → starts_on w k ≡ true →
@@ -38,9 +38,9 @@ pub cites : (w t : TerritoryModel) (old new : SourcesModel) → Ascends w → As
 cites w t old new up from =
     let both = pair_of old new in
     let es0 = flat_map (λ (s : ℕ × Regime). dropped_change w s.0) t.starts in
-    let es1 = flat_map (wanted_change both t) w.starts in
+    let es1 = flat_map (target_change both t) w.starts in
     let es2 = flat_map (dropped_exception both w) t.exceptions in
-    let es3 = flat_map (wanted_exception both t) w.exceptions in
+    let es3 = flat_map (target_exception both t) w.exceptions in
     let s1 = cited_after es0 old in
     let s2 = cited_after es1 s1 in
     let s3 = cited_after es2 s2 in
@@ -56,9 +56,9 @@ cites w t old new up from =
     days_cited old new s3 t 0 w.exceptions up.years
     (λ k d high found agrees.
     let both_agree = and_parts (is_day d (look k t.exceptions)) (same_easter both k) agrees in
-    let standing : look k t.exceptions ≡ Some d =
+    let current : look k t.exceptions ≡ Some d =
     is_day_is d (look k t.exceptions) both_agree.0 in
-    third.kept k d standing
+    third.kept k d current
     (and_from (is_day d (look k w.exceptions)) (same_easter both k)
     (ap (is_day d) found ∙ eq-eqb d d refl) both_agree.1)
     ∙ ap (source_of k) same_years) in

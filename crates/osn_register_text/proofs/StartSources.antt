@@ -11,12 +11,12 @@ use Rattle.osn_register_text.specs.Change.{Change}
 use Rattle.osn_register_text.specs.Change.Change.{Alter, Drop}
 use Rattle.osn_register_text.specs.Cited.{same_period}
 use Rattle.osn_register_text.specs.Differences.{is_same, start_agrees, dropped_change, added_change}
-use Rattle.osn_register_text.specs.Differences.{wanted_change}
+use Rattle.osn_register_text.specs.Differences.{target_change}
 use Rattle.osn_register_text.proofs.Rows.{look, IsFrom, look_here, look_there, look_below, parts}
 use Rattle.osn_register_text.proofs.SourceRows.{source_here, source_apart, same_is}
 use Rattle.osn_register_text.proofs.Fresh.{pair_of, cited_after, AreFresh}
 
--- the drops of changes: a wanted day keeps its source
+-- the drops of changes: a target day keeps its source
 
 pub record DropsCited (w : TerritoryModel) (old s : SourcesModel) (es : List Change) : Type 0
   where
@@ -44,7 +44,7 @@ drops_cited w old s (x ∷ ss) = by (starts_on w x.0) refl (λ u. drops_cited w 
               (λ e. false≢true (sym off ∙ ap (starts_on w) (sym e) ∙ on));
         }
 
--- the wanted starts: each has the wanted source
+-- the target starts: each has the target source
 
 pub record StartsCited (old new s : SourcesModel) (ss : List (ℕ × Regime)) (es : List Change)
     : Type 0 where
@@ -55,7 +55,7 @@ pub record StartsCited (old new s : SourcesModel) (ss : List (ℕ × Regime)) (e
   pub others : (k : ℕ) → look k ss ≡ None →
       source_of k (cited_after es s).periods ≡ source_of k s.periods
 
--- the sources with the wanted one of a day
+-- the sources with the target one of a day
 abbrev cited_on : ℕ → SourcesModel → SourcesModel → SourcesModel
 cited_on d new s = with_period_source d (source_of d new.periods) s
 
@@ -64,13 +64,13 @@ abbrev Later : SourcesModel → SourcesModel → TerritoryModel → ℕ → List
 Later old new t n ss = (u : SourcesModel) →
     ((k : ℕ) → n ≤ k → is_some (look k ss) ≡ true →
     source_of k u.periods ≡ source_of k old.periods) →
-    StartsCited old new u ss (flat_map (wanted_change (pair_of old new) t) ss)
+    StartsCited old new u ss (flat_map (target_change (pair_of old new) t) ss)
 
 pub starts_cited : (old new s : SourcesModel) (t : TerritoryModel) (n : ℕ)
     (ss : List (ℕ × Regime)) → IsFrom n ss →
     ((k : ℕ) → n ≤ k → is_some (look k ss) ≡ true →
     source_of k s.periods ≡ source_of k old.periods) →
-    StartsCited old new s ss (flat_map (wanted_change (pair_of old new) t) ss)
+    StartsCited old new s ss (flat_map (target_change (pair_of old new) t) ss)
 starts_cited old new s t n [] from same = record {
   fresh = tt;
   easters = refl;
@@ -94,7 +94,7 @@ starts_cited old new s t n (x ∷ ss) from same =
 
     given : Later old new t (x.0 + 1) ss →
         StartsCited old new (cited_on x.0 new s) ss
-        (flat_map (wanted_change (pair_of old new) t) ss)
+        (flat_map (target_change (pair_of old new) t) ss)
     given next = next (cited_on x.0 new s)
         (λ k high some. source_apart k x.0 (source_of x.0 new.periods) s.periods
         (λ e. omega (arith, e, high)) ∙ still k high some)
@@ -121,7 +121,7 @@ starts_cited old new s t n (x ∷ ss) from same =
     by : (b c : Bool) → start_agrees (pair_of old new) (regime_at t x.0) x ≡ c →
         Later old new t (x.0 + 1) ss → StartsCited old new s (x ∷ ss)
         (cond b (cond c [] (Alter x.0 x.1 (source_of x.0 new.periods) ∷ []))
-        (added_change (Some new) x) ++ flat_map (wanted_change (pair_of old new) t) ss)
+        (added_change (Some new) x) ++ flat_map (target_change (pair_of old new) t) ss)
     by true true agrees next =
         let rest = next s still in
         let one : source_of x.0 old.periods ≡ source_of x.0 new.periods =
@@ -144,14 +144,14 @@ starts_cited old new s t n (x ∷ ss) from same =
         record {
           fresh = (now, rest.fresh);
           easters = rest.easters;
-          periods = found (flat_map (wanted_change (pair_of old new) t) ss) rest;
-          others = elsewhere (flat_map (wanted_change (pair_of old new) t) ss) rest;
+          periods = found (flat_map (target_change (pair_of old new) t) ss) rest;
+          others = elsewhere (flat_map (target_change (pair_of old new) t) ss) rest;
         }
     by false c agrees next =
         let rest = given next in
         record {
           fresh = (tt, rest.fresh);
           easters = rest.easters;
-          periods = found (flat_map (wanted_change (pair_of old new) t) ss) rest;
-          others = elsewhere (flat_map (wanted_change (pair_of old new) t) ss) rest;
+          periods = found (flat_map (target_change (pair_of old new) t) ss) rest;
+          others = elsewhere (flat_map (target_change (pair_of old new) t) ss) rest;
         }

@@ -49,7 +49,7 @@ module _ (limits : Limits) (territories : List EntryModel) (es : List Edit) (roo
   -- or refuses it
   pub not_taken : (f : PlanFault) → IsEditFault room draft e f →
       IsTrialFault limits territories es f
-  not_taken (Renamed code standing name) fault = fault
+  not_taken (Renamed code current name) fault = fault
   not_taken (Refused code reason) fault = record {
     before = take i es;
     edit = e;
@@ -66,27 +66,27 @@ module _ (limits : Limits) (territories : List EntryModel) (es : List Edit) (roo
   not_taken NoMemory fault = fault
 
 -- of edits that are needed one is refused
-pub trial_fault : (limits : Limits) (wanted territories : List EntryModel) (es : List Edit) →
-    first_renamed wanted territories ≡ None → AreNeeded wanted territories es →
-    AreLimited newest_rules limits wanted territories es → (f : PlanFault) →
-    IsTrialFault limits territories es f → IsFault limits wanted territories f
-trial_fault limits wanted territories es named needed limited (Renamed code standing name) fault =
+pub trial_fault : (limits : Limits) (target territories : List EntryModel) (es : List Edit) →
+    first_renamed target territories ≡ None → AreNeeded target territories es →
+    AreLimited newest_rules limits target territories es → (f : PlanFault) →
+    IsTrialFault limits territories es f → IsFault limits target territories f
+trial_fault limits target territories es named needed limited (Renamed code current name) fault =
     absurd fault
-trial_fault limits wanted territories es named needed limited (Refused code reason) fault = (
+trial_fault limits target territories es named needed limited (Refused code reason) fault = (
   named,
   record {
     before = fault.before;
     edit = fault.edit;
     lawful = fault.lawful;
-    needed = AreNeeded-front wanted territories (fault.before ++ fault.edit ∷ []) fault.after
-        (subst (AreNeeded wanted territories)
+    needed = AreNeeded-front target territories (fault.before ++ fault.edit ∷ []) fault.after
+        (subst (AreNeeded target territories)
         (fault.among ∙ sym (append_assoc fault.before (fault.edit ∷ []) fault.after)) needed);
     has_code = fault.has_code;
     refused = fault.refused;
-    over = subst (λ c. IsOver limits (entry_of c wanted) reason) fault.has_code
-        (limit_at limits wanted territories fault.before fault.edit fault.after reason fault.lawful
-        (subst (AreLimited newest_rules limits wanted territories) fault.among limited)
+    over = subst (λ c. IsOver limits (entry_of c target) reason) fault.has_code
+        (limit_at limits target territories fault.before fault.edit fault.after reason fault.lawful
+        (subst (AreLimited newest_rules limits target territories) fault.among limited)
         fault.refused);
   },
 )
-trial_fault limits wanted territories es named needed limited NoMemory fault = fault
+trial_fault limits target territories es named needed limited NoMemory fault = fault

@@ -31,8 +31,8 @@ use Rattle.osn_register_text.specs.Cited.{BothSources}
 use Rattle.osn_register.specs.Answer.{period_source}
 use Rattle.osn_register_text.specs.Change.{edit_of}
 use Rattle.osn_register_text.specs.Differences.{start_agrees, day_agrees, dropped_change}
-use Rattle.osn_register_text.specs.Differences.{added_change, wanted_change, dropped_exception}
-use Rattle.osn_register_text.specs.Differences.{added_exception, wanted_exception, differences}
+use Rattle.osn_register_text.specs.Differences.{added_change, target_change, dropped_exception}
+use Rattle.osn_register_text.specs.Differences.{added_exception, target_exception, differences}
 use Rattle.osn_register_text.proofs.Rows.{look, not_none, some_is}
 use Rattle.osn_register_text.proofs.Changed.{starts_found}
 use Rattle.osn_register_text.proofs.Due.{IsDue, AreDue}
@@ -119,10 +119,10 @@ only_limit p limits both w t (DropDay y) due valid f refused =
 
 -- each edit in turn is refused by a limit, if it is
 abbrev pub AreLimited : Rules → Limits → List EntryModel → List EntryModel → List Edit → Type 0
-AreLimited p limits wanted ls [] = Unit {0}
-AreLimited p limits wanted ls (e ∷ es) =
-    ((f : Refusal) → refusal p limits ls e ≡ Some f → IsOver limits (entry_of (code_of e) wanted) f)
-    × AreLimited p limits wanted (effect ls e) es
+AreLimited p limits target ls [] = Unit {0}
+AreLimited p limits target ls (e ∷ es) =
+    ((f : Refusal) → refusal p limits ls e ≡ Some f → IsOver limits (entry_of (code_of e) target) f)
+    × AreLimited p limits target (effect ls e) es
 
 code_is : (code : List ℕ) (e : Change) → code_of (edit_of code e) ≡ code
 code_is code (Add d r c) = refl
@@ -155,18 +155,18 @@ refusal_is p limits ls code l (ListDay y d c) is known =
 refusal_is p limits ls code l (DropDay y) is known =
     refusal_known ls code l (change_refusal p limits (DropDay y)) is known
 
-pub are_limited : (p : Rules) (limits : Limits) (wanted : List EntryModel) (both : BothSources)
-    (code : List ℕ) (w : EntryModel) → entry_of code wanted ≡ Some w → (es : List Change)
+pub are_limited : (p : Rules) (limits : Limits) (target : List EntryModel) (both : BothSources)
+    (code : List ℕ) (w : EntryModel) → entry_of code target ≡ Some w → (es : List Change)
     (ls : List EntryModel) (l : EntryModel) → is_code code ≡ true → entry_of code ls ≡ Some l →
     AreDue both w.territory l.territory es → AreValid p es →
-    AreLimited p limits wanted ls (map (edit_of code) es)
-are_limited p limits wanted both code w at [] ls l is known due valid = tt
-are_limited p limits wanted both code w at (e ∷ es) ls l is known due valid = (
+    AreLimited p limits target ls (map (edit_of code) es)
+are_limited p limits target both code w at [] ls l is known due valid = tt
+are_limited p limits target both code w at (e ∷ es) ls l is known due valid = (
   (λ f refused. subst (λ o. IsOver limits o f)
-      (sym (ap (λ c. entry_of c wanted) (code_is code e) ∙ at))
+      (sym (ap (λ c. entry_of c target) (code_is code e) ∙ at))
       (only_limit p limits both w l.territory e due.0 valid.0 f
       (sym (refusal_is p limits ls code l e is known) ∙ refused))),
-  are_limited p limits wanted both code w at es (effect ls (edit_of code e))
+  are_limited p limits target both code w at es (effect ls (edit_of code e))
       (changed (territory_after e) (sources_after e) l) is (step_here code e ls l known)
       due.1 valid.1,
 )
@@ -203,15 +203,15 @@ drops_valid p w (s ∷ ss) on days =
 
 starts_valid : (p : Rules) (both : BothSources) (t : TerritoryModel) (ss : List (ℕ × Regime)) →
     starts_on t 1 ≡ true → AreDays p ss → AreStyled p ss →
-    AreValid p (flat_map (wanted_change both t) ss)
+    AreValid p (flat_map (target_change both t) ss)
 starts_valid p both t [] on days styles = tt
 starts_valid p both t (s ∷ ss) on days styles =
     by (starts_on t s.0) (start_agrees both (regime_at t s.0) s) refl
     (starts_valid p both t ss on days.1 styles.1)
   where
-    by : (b c : Bool) → starts_on t s.0 ≡ b → AreValid p (flat_map (wanted_change both t) ss) →
-        AreValid p (cond b (cond c [] (Alter s.0 s.1 (period_source both.wanted s.0) ∷ []))
-        (added_change both.wanted s) ++ flat_map (wanted_change both t) ss)
+    by : (b c : Bool) → starts_on t s.0 ≡ b → AreValid p (flat_map (target_change both t) ss) →
+        AreValid p (cond b (cond c [] (Alter s.0 s.1 (period_source both.target s.0) ∷ []))
+        (added_change both.target s) ++ flat_map (target_change both t) ss)
     by true true e rest = rest
     by true false e rest = ((days.0, styles.0), rest)
     by false c e rest = ((days.0, not_first t s.0 on e, styles.0), rest)
@@ -228,24 +228,24 @@ year_drops_valid p both w (y ∷ ys) listed =
     by false rest = (listed.0, rest)
 
 years_valid : (p : Rules) (both : BothSources) (t : TerritoryModel) (ys : List (ℕ × ℕ)) →
-    AreListed p ys → AreValid p (flat_map (wanted_exception both t) ys)
+    AreListed p ys → AreValid p (flat_map (target_exception both t) ys)
 years_valid p both t [] listed = tt
 years_valid p both t (y ∷ ys) listed =
     by (day_agrees both t y) (years_valid p both t ys listed.2)
   where
-    by : (b : Bool) → AreValid p (flat_map (wanted_exception both t) ys) →
+    by : (b : Bool) → AreValid p (flat_map (target_exception both t) ys) →
         AreValid p
-        (cond b [] (added_exception both.wanted y) ++ flat_map (wanted_exception both t) ys)
+        (cond b [] (added_exception both.target y) ++ flat_map (target_exception both t) ys)
     by true rest = rest
     by false rest = ((listed.0, listed.1), rest)
 
 pub differences_valid : (p : Rules) (both : BothSources) (t w : TerritoryModel) → Allowed p t →
     Allowed p w → AreValid p (differences both t w)
-differences_valid p both t w standing wanted =
+differences_valid p both t w current target =
     AreValid-append p (flat_map (λ s. dropped_change w s.0) t.starts) _
-    (drops_valid p w t.starts wanted.opening standing.days)
-    (AreValid-append p (flat_map (wanted_change both t) w.starts) _
-    (starts_valid p both t w.starts standing.opening wanted.days wanted.styles)
+    (drops_valid p w t.starts target.opening current.days)
+    (AreValid-append p (flat_map (target_change both t) w.starts) _
+    (starts_valid p both t w.starts current.opening target.days target.styles)
     (AreValid-append p (flat_map (dropped_exception both w) t.exceptions) _
-    (year_drops_valid p both w t.exceptions standing.listed)
-    (years_valid p both t w.exceptions wanted.listed)))
+    (year_drops_valid p both w t.exceptions current.listed)
+    (years_valid p both t w.exceptions target.listed)))

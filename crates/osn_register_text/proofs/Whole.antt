@@ -13,14 +13,14 @@ use Rattle.osn_register_text.proofs.Planned.{placed_all, is_plan}
 use Rattle.osn_register_text.proofs.Tried.{trial_fault}
 
 module _ (w r : RegisterModel) (sound : IsWellFormed newest_rules w)
-    (standing : IsWellFormed newest_rules r)
+    (current : IsWellFormed newest_rules r)
     (named : first_renamed w.territories r.territories ≡ None)
     (es tried : List Edit) (are : es ≡ all_edits w.territories r.territories) (same : tried ≡ es)
   where
     made : AllPlaced newest_rules r.limits w.territories r.territories w.territories
         (all_edits w.territories r.territories)
     made = placed_all w.limits r.limits w.territories r.territories sound.distinct sound.named
-        sound.territories standing.territories named
+        sound.territories current.territories named
 
     pub planned : AreLawful newest_rules r.limits r.territories tried →
         IsWellFormed newest_rules (record r {

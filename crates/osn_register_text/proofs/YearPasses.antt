@@ -12,7 +12,7 @@ use Rattle.osn_register_text.specs.Change.{Change}
 use Rattle.osn_register_text.specs.Change.Change.{DropDay}
 use Rattle.osn_register_text.specs.Cited.{BothSources, same_easter}
 use Rattle.osn_register_text.specs.Differences.{is_day, lists, day_agrees, dropped_exception}
-use Rattle.osn_register_text.specs.Differences.{added_exception, wanted_exception}
+use Rattle.osn_register_text.specs.Differences.{added_exception, target_exception}
 use Rattle.osn_register_text.proofs.Rows.{look, IsFrom, look_here, look_there, look_below}
 use Rattle.osn_register_text.proofs.Changed.{listed}
 use Rattle.osn_register_text.proofs.Changed.{listed_apart, removed, removed_apart, removed_from}
@@ -26,8 +26,8 @@ use Rattle.osn_register_text.proofs.Passes.{and_second}
 
 -- what is found of a year after the drops among these rows, whether its sources are one or not
 abbrev pub kept_day : Bool → Option ℕ → Option ℕ → Option ℕ → Option ℕ
-kept_day same None wanted now = now
-kept_day same (Some d) wanted now = cond (is_day d wanted && same) now None
+kept_day same None target now = now
+kept_day same (Some d) target now = cond (is_day d target && same) now None
 
 pub record YearDrops (both : BothSources) (w t : TerritoryModel) (ys : List (ℕ × ℕ))
     (es : List Change) : Type 0 where
@@ -52,9 +52,9 @@ year_drops both w t n (y ∷ ys) up from same =
     now : look y.0 t.exceptions ≡ Some y.1
     now = same y.0 from.0 ∙ look_here y.0 y ys refl
 
-    wanted_at : (k : ℕ) → k ≡ y.0 →
+    target_at : (k : ℕ) → k ≡ y.0 →
         (is_day y.1 (look k w.exceptions) && same_easter both k) ≡ day_agrees both w y
-    wanted_at k e = ap (λ d. is_day y.1 (look d w.exceptions) && same_easter both d) e
+    target_at k e = ap (λ d. is_day y.1 (look d w.exceptions) && same_easter both d) e
 
     by : (b : Bool) → day_agrees both w y ≡ b → ((u : TerritoryModel) → IsFrom 0 u.exceptions →
         ((k : ℕ) → y.0 + 1 ≤ k → look k u.exceptions ≡ look k ys) →
@@ -73,7 +73,7 @@ year_drops both w t n (y ∷ ys) up from same =
                 ∙ ap (λ o. kept_day (same_easter both k) o (look k w.exceptions)
                 (look k t.exceptions))
                 (look_below k (y.0 + 1) ys (omega arith) from.1)
-                ∙ sym (ap (λ b. cond b (look k t.exceptions) None) (wanted_at k e ∙ on))
+                ∙ sym (ap (λ b. cond b (look k t.exceptions) None) (target_at k e ∙ on))
                 ∙ sym (ap (λ o. kept_day (same_easter both k) o (look k w.exceptions)
                 (look k t.exceptions))
                 (look_here k y ys e))
@@ -105,7 +105,7 @@ year_drops both w t n (y ∷ ys) up from same =
                 (look k u.exceptions))
                 (look_below k (y.0 + 1) ys (omega arith) from.1)
                 ∙ ap (λ d. look d u.exceptions) e ∙ removed 0 y.0 t.exceptions up
-                ∙ sym (ap (λ b. cond b (look k t.exceptions) None) (wanted_at k e ∙ off))
+                ∙ sym (ap (λ b. cond b (look k t.exceptions) None) (target_at k e ∙ off))
                 ∙ sym (ap (λ o. kept_day (same_easter both k) o (look k w.exceptions)
                 (look k t.exceptions))
                 (look_here k y ys e))
@@ -118,7 +118,7 @@ year_drops both w t n (y ∷ ys) up from same =
           ];
         }
 
--- the wanted days
+-- the target days
 
 pub record Years (both : BothSources) (w t : TerritoryModel) (ys : List (ℕ × ℕ))
     (es : List Change) : Type 0 where
@@ -148,7 +148,7 @@ LaterYears both w s0 n ys = (u : TerritoryModel) → IsWithin u.exceptions w.exc
     ((k d : ℕ) → n ≤ k → look k ys ≡ Some d →
     look k u.exceptions
     ≡ cond (is_day d (look k s0.exceptions) && same_easter both k) (Some d) None) →
-    Years both w u ys (flat_map (wanted_exception both s0) ys)
+    Years both w u ys (flat_map (target_exception both s0) ys)
 
 pub years : (both : BothSources) (w s0 t : TerritoryModel) (n : ℕ) (ys : List (ℕ × ℕ)) →
     IsFrom n ys →
@@ -156,10 +156,10 @@ pub years : (both : BothSources) (w s0 t : TerritoryModel) (n : ℕ) (ys : List 
     ((k d : ℕ) → n ≤ k → look k ys ≡ Some d →
     look k t.exceptions
     ≡ cond (is_day d (look k s0.exceptions) && same_easter both k) (Some d) None) →
-    IsWithin t.exceptions w.exceptions → Years both w t ys (flat_map (wanted_exception both s0) ys)
-years both w s0 t n [] from wanted same within =
+    IsWithin t.exceptions w.exceptions → Years both w t ys (flat_map (target_exception both s0) ys)
+years both w s0 t n [] from target same within =
     record { due = tt; starts = refl; found = λ k. refl }
-years both w s0 t n (y ∷ ys) from wanted same within = by (day_agrees both s0 y) refl
+years both w s0 t n (y ∷ ys) from target same within = by (day_agrees both s0 y) refl
     (λ u still rest here. years both w s0 u (y.0 + 1) ys from.1 rest here still)
   where
     later : (k : ℕ) → y.0 + 1 ≤ k → look k (y ∷ ys) ≡ look k ys
@@ -174,21 +174,21 @@ years both w s0 t n (y ∷ ys) from wanted same within = by (day_agrees both s0 
     rest_of : (u : TerritoryModel) → LaterYears both w s0 (y.0 + 1) ys →
         IsWithin u.exceptions w.exceptions →
         ((k : ℕ) → (k ≡ y.0 → ⊥) → look k u.exceptions ≡ look k t.exceptions) →
-        Years both w u ys (flat_map (wanted_exception both s0) ys)
+        Years both w u ys (flat_map (target_exception both s0) ys)
     rest_of u next still there = next u still
-        (λ k high. sym (later k high) ∙ wanted k (omega (arith, from.0, high)))
+        (λ k high. sym (later k high) ∙ target k (omega (arith, from.0, high)))
         (λ k d high found. there k (λ e. omega (arith, e, high))
         ∙ same k d (omega (arith, from.0, high)) (later k high ∙ found))
 
     by : (b : Bool) → day_agrees both s0 y ≡ b → LaterYears both w s0 (y.0 + 1) ys →
         Years both w t (y ∷ ys)
-        (cond b [] (added_exception both.wanted y) ++ flat_map (wanted_exception both s0) ys)
+        (cond b [] (added_exception both.target y) ++ flat_map (target_exception both s0) ys)
     by true on next =
         let rest = rest_of t next within (λ k apart. refl) in
         record {
           due = rest.due;
           starts = rest.starts;
-          found = year_more both w t t y ys (flat_map (wanted_exception both s0) ys) from.1
+          found = year_more both w t t y ys (flat_map (target_exception both s0) ys) from.1
               (now ∙ ap (λ b. cond b (Some y.1) None) on) (λ k apart. refl) rest;
         }
     by false off next =
@@ -197,16 +197,16 @@ years both w s0 t n (y ∷ ys) from wanted same within = by (day_agrees both s0 
         let grown : IsWithin u.exceptions w.exceptions =
         within_one t.exceptions u.exceptions w.exceptions y.0 within
         (listed_from 0 y.0 y.1 t.exceptions (omega arith) none within.from)
-        (ap is_some (sym (wanted y.0 from.0) ∙ here))
+        (ap is_some (sym (target y.0 from.0) ∙ here))
         (λ k apart. listed_apart k y.0 y.1 t.exceptions apart) in
         let rest = rest_of u next grown (λ k apart. listed_apart k y.0 y.1 t.exceptions apart) in
         let room : length t.exceptions < length w.exceptions =
         has_room t.exceptions u.exceptions w.exceptions grown
         (length-listed y.0 y.1 t.exceptions none) in
         record {
-          due = ((none, sym (wanted y.0 from.0) ∙ here, room, refl), rest.due);
+          due = ((none, sym (target y.0 from.0) ∙ here, room, refl), rest.due);
           starts = rest.starts;
-          found = year_more both w t u y ys (flat_map (wanted_exception both s0) ys) from.1
+          found = year_more both w t u y ys (flat_map (target_exception both s0) ys) from.1
               (listed y.0 y.1 t.exceptions none)
               (λ k apart. listed_apart k y.0 y.1 t.exceptions apart) rest;
         }

@@ -1,4 +1,4 @@
--- The changes that a territory takes towards a wanted one, and what each does in it.
+-- The changes that a territory takes towards a target one, and what each does in it.
 use Rattle.std.specs.Prelude.{ℕ, pos, List, Option, None}
 use Rattle.osn_days.specs.Rules.{Rules}
 use Rattle.osn_territory.specs.declared.regime.Regime.{Regime}

@@ -1,4 +1,4 @@
--- The line of an edit, between the present territories and the wanted ones. What is dropped is
+-- The line of an edit, between the present territories and the target ones. What is dropped is
 -- printed from the former, and what is added from the latter. This project's profile.
 use Rattle.std.specs.Prelude.{ℕ, if◌then◌else◌, ℤ, pos, List, [], ◌++◌, None, codes}
 use Rattle.std.specs.Ordering.{int_eq}
@@ -28,8 +28,8 @@ new_territory code name regime = territory_words code name (regime_words None re
 
 -- a regime from a day on, by what differs from the day before
 abbrev pub new_change : Rules → List EntryModel → List ℕ → ℤ → Regime → List ℕ
-new_change p wanted code day regime = change_words code (day_in p wanted code day)
-    (regime_words (regime_before p (territory_of code wanted) day) regime)
+new_change p target code day regime = change_words code (day_in p target code day)
+    (regime_words (regime_before p (territory_of code target) day) regime)
 
 -- another opening regime, by what differs from the present one
 abbrev pub new_opening : List EntryModel → List ℕ → Regime → List ℕ
@@ -38,37 +38,37 @@ new_opening territories code regime =
 
 -- what an edit changes
 unfoldable pub edit_words : Rules → List EntryModel → List EntryModel → Edit → List ℕ
-edit_words p territories wanted (AddLand code name regime source) = new_territory code name regime
-edit_words p territories wanted (AddChange code day regime source) =
-    new_change p wanted code day regime
-edit_words p territories wanted (AlterChange code day regime source) =
+edit_words p territories target (AddLand code name regime source) = new_territory code name regime
+edit_words p territories target (AddChange code day regime source) =
+    new_change p target code day regime
+edit_words p territories target (AlterChange code day regime source) =
     if int_eq day (pos 1) then new_opening territories code regime
-    else new_change p wanted code day regime
-edit_words p territories wanted (DropChange code day) =
+    else new_change p target code day regime
+edit_words p territories target (DropChange code day) =
     drop_words code (day_in p territories code day)
-edit_words p territories wanted (AddException code year day source) =
-    easter_words code year (day_in p wanted code day)
-edit_words p territories wanted (DropException code year) = no_easter_words code year
+edit_words p territories target (AddException code year day source) =
+    easter_words code year (day_in p target code day)
+edit_words p territories target (DropException code year) = no_easter_words code year
 
 -- what an editor is shown of a change of regime: the days around it, and that it changes nothing
 abbrev pub change_remarks : Rules → List EntryModel → List ℕ → ℤ → Regime → List ℕ
-change_remarks p wanted code day regime =
-    followed_lines p code (territory_of code wanted) day
-    ++ same_regime_note code (regime_before p (territory_of code wanted) day) regime
+change_remarks p target code day regime =
+    followed_lines p code (territory_of code target) day
+    ++ same_regime_note code (regime_before p (territory_of code target) day) regime
 
 -- what an editor is shown of an edit, in lines of their own: the days around a change of regime, as
 -- they are dated once it is made or dropped, and what is unlikely of an Easter
 unfoldable pub remarks : Rules → List EntryModel → Edit → List ℕ
-remarks p wanted (AddLand code name regime source) = []
-remarks p wanted (AddChange code day regime source) = change_remarks p wanted code day regime
-remarks p wanted (AlterChange code day regime source) = change_remarks p wanted code day regime
-remarks p wanted (DropChange code day) = followed_lines p code (territory_of code wanted) day
-remarks p wanted (AddException code year day source) = easter_notes p code year day
-remarks p wanted (DropException code year) = []
+remarks p target (AddLand code name regime source) = []
+remarks p target (AddChange code day regime source) = change_remarks p target code day regime
+remarks p target (AlterChange code day regime source) = change_remarks p target code day regime
+remarks p target (DropChange code day) = followed_lines p code (territory_of code target) day
+remarks p target (AddException code year day source) = easter_notes p code year day
+remarks p target (DropException code year) = []
 
 -- the line of an edit: what it changes, and what it says of the source; then what is shown of it
 unfoldable pub edit_line : Rules → List EntryModel → List EntryModel → Edit → List ℕ
-edit_line p territories wanted edit =
-    edit_words p territories wanted edit
+edit_line p territories target edit =
+    edit_words p territories target edit
     ++ (source_words (source_given edit) (source_before p territories edit)
-    ++ (codes "\n" ++ remarks p wanted edit))
+    ++ (codes "\n" ++ remarks p target edit))

@@ -39,42 +39,42 @@ period_cited territories code d = period_source (sources_of code territories) d
 abbrev pub easter_cited : List EntryModel → List ℕ → ℕ → Option (List ℕ)
 easter_cited territories code y = easter_source (sources_of code territories) y
 
--- The edit changes what differs. It adds a territory or a change that only the wanted register has.
--- It alters a regime that starts in both, if the wanted one or its source is another. It drops a
--- change that only the first register has, of a territory that is wanted. It lists a wanted day for
--- a year without one, and drops a day that is not the wanted day of its year, or has another
--- source. What it adds, alters or lists has the wanted source.
+-- The edit changes what differs. It adds a territory or a change that only the target register has.
+-- It alters a regime that starts in both, if the target one or its source is another. It drops a
+-- change that only the first register has, of a territory of the target. It lists a target day for
+-- a year without one, and drops a day that is not the target day of its year, or has another
+-- source. What it adds, alters or lists has the target source.
 abbrev pub IsNeeded : List EntryModel → List EntryModel → Edit → Type 0
-IsNeeded wanted territories (AddLand code name regime source) =
-    (entry_of code territories ≡ None) × (name_in wanted code ≡ Some name)
-    × (regime_in wanted code 1 ≡ Some regime) × (source ≡ period_cited wanted code 1)
-IsNeeded wanted territories (AddChange code day regime source) =
+IsNeeded target territories (AddLand code name regime source) =
+    (entry_of code territories ≡ None) × (name_in target code ≡ Some name)
+    × (regime_in target code 1 ≡ Some regime) × (source ≡ period_cited target code 1)
+IsNeeded target territories (AddChange code day regime source) =
     (regime_in territories code (unsigned_abs day) ≡ None)
-    × (regime_in wanted code (unsigned_abs day) ≡ Some regime)
-    × (source ≡ period_cited wanted code (unsigned_abs day))
-IsNeeded wanted territories (AlterChange code day regime source) =
+    × (regime_in target code (unsigned_abs day) ≡ Some regime)
+    × (source ≡ period_cited target code (unsigned_abs day))
+IsNeeded target territories (AlterChange code day regime source) =
     (is_some (regime_in territories code (unsigned_abs day)) ≡ true)
     × (regime_in territories code (unsigned_abs day) ≡ Some regime
     → period_cited territories code (unsigned_abs day) ≡ source → ⊥)
-    × (regime_in wanted code (unsigned_abs day) ≡ Some regime)
-    × (source ≡ period_cited wanted code (unsigned_abs day))
-IsNeeded wanted territories (DropChange code day) =
-    (is_some (entry_of code wanted) ≡ true)
+    × (regime_in target code (unsigned_abs day) ≡ Some regime)
+    × (source ≡ period_cited target code (unsigned_abs day))
+IsNeeded target territories (DropChange code day) =
+    (is_some (entry_of code target) ≡ true)
     × (is_some (regime_in territories code (unsigned_abs day)) ≡ true)
-    × (regime_in wanted code (unsigned_abs day) ≡ None)
-IsNeeded wanted territories (AddException code year day source) =
+    × (regime_in target code (unsigned_abs day) ≡ None)
+IsNeeded target territories (AddException code year day source) =
     (easter_in territories code (unsigned_abs year) ≡ None)
-    × (easter_in wanted code (unsigned_abs year) ≡ Some (unsigned_abs day))
-    × (source ≡ easter_cited wanted code (unsigned_abs year))
-IsNeeded wanted territories (DropException code year) =
-    (is_some (entry_of code wanted) ≡ true)
+    × (easter_in target code (unsigned_abs year) ≡ Some (unsigned_abs day))
+    × (source ≡ easter_cited target code (unsigned_abs year))
+IsNeeded target territories (DropException code year) =
+    (is_some (entry_of code target) ≡ true)
     × (is_some (easter_in territories code (unsigned_abs year)) ≡ true)
-    × (easter_in wanted code (unsigned_abs year) ≡ easter_in territories code (unsigned_abs year)
-    → easter_cited wanted code (unsigned_abs year)
+    × (easter_in target code (unsigned_abs year) ≡ easter_in territories code (unsigned_abs year)
+    → easter_cited target code (unsigned_abs year)
     ≡ easter_cited territories code (unsigned_abs year) → ⊥)
 
 -- each edit is needed in its turn, from these territories on
 abbrev pub AreNeeded : List EntryModel → List EntryModel → List Edit → Type 0
-AreNeeded wanted territories [] = Unit {0}
-AreNeeded wanted territories (e ∷ es) = IsNeeded wanted territories e
-    × AreNeeded wanted (effect territories e) es
+AreNeeded target territories [] = Unit {0}
+AreNeeded target territories (e ∷ es) = IsNeeded target territories e
+    × AreNeeded target (effect territories e) es

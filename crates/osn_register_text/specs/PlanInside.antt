@@ -5,4 +5,4 @@ use Rattle.osn_register_text.specs.Cited.{BothSources, both_sources}
 -- the sources of the territory in both
 abbrev pub sources_at : TerritoryPair → BothSources
 sources_at pair = both_sources pair.code.now pair.register.now.territories
-    pair.wanted.now.territories
+    pair.target.now.territories

@@ -7,14 +7,14 @@ use Rattle.osn_register.specs.declared.edit.Edit.{Edit}
 use Rattle.osn_register.specs.Plain.{EntryModel, entry_of}
 use Rattle.osn_register_text.specs.EditLine.{edit_line}
 
--- a blank and the code of a territory that is not wanted
+-- a blank and the code of a territory that is not in the target
 unfoldable pub absent_code : List EntryModel → List ℕ → List ℕ
-absent_code wanted code =
-    if is_some (entry_of code wanted) then [] else codes " " ++ code
+absent_code target code =
+    if is_some (entry_of code target) then [] else codes " " ++ code
 
--- those of all territories that are not wanted, in the order of addition
+-- those of all territories that are not in the target, in the order of addition
 abbrev pub absent_codes : List EntryModel → List EntryModel → List ℕ
-absent_codes wanted territories = flat_map (λ l. absent_code wanted l.code) territories
+absent_codes target territories = flat_map (λ l. absent_code target l.code) territories
 
 -- not in the text, so unchanged: SE RM
 unfoldable pub absent_line : List ℕ → List ℕ
@@ -24,6 +24,6 @@ absent_line names =
 
 -- the whole text
 abbrev pub plan_page : Rules → List EntryModel → List EntryModel → List Edit → List ℕ
-plan_page p territories wanted edits =
-    flat_map (edit_line p territories wanted) edits
-    ++ absent_line (absent_codes wanted territories)
+plan_page p territories target edits =
+    flat_map (edit_line p territories target) edits
+    ++ absent_line (absent_codes target territories)

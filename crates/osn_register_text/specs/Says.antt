@@ -4,7 +4,7 @@ use Rattle.osn_days.specs.Rules.{newest_rules}
 use Rattle.osn_register.specs.declared.limits.Limits.{Limits}
 use Rattle.osn_register.specs.Plain.{EntryModel, RegisterModel, IsWellFormed, entry_of}
 use Rattle.osn_register.specs.SameEntry.{AreSameEntry}
-use Rattle.osn_register_text.specs.Text.{said_by}
+use Rattle.osn_register_text.specs.Text.{text_of_table}
 use Rattle.osn_register_text.specs.WrittenText.{if_there}
 
 -- the text is read, under the limits, as of this edition and as these territories with their
@@ -13,7 +13,7 @@ use Rattle.osn_register_text.specs.WrittenText.{if_there}
 pub record SaysTerritories (limits : Limits) (text : List ℕ) (edition : ℕ) (given : List EntryModel)
     : Type 0 where
   pub territories : List EntryModel
-  pub reads : said_by limits text ≡ Some (Ok (Some edition, territories))
+  pub reads : text_of_table limits text ≡ Some (Ok (Some edition, territories))
   pub same : (code : List ℕ) → AreSameEntry (entry_of code territories) (entry_of code given)
 
 -- the text is read so under the register's limits, if TOML has a number for the edition

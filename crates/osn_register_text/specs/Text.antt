@@ -83,8 +83,8 @@ text_says limits ms = do
   Ok (edition, territories)
 
 -- the same of a text, if it is TOML
-abbrev pub said_by : Limits → List ℕ → Option (Result (Option ℕ × List EntryModel) KeyFault)
-said_by limits text = option_map (text_says limits) (parse_document text)
+abbrev pub text_of_table : Limits → List ℕ → Option (Result (Option ℕ × List EntryModel) KeyFault)
+text_of_table limits text = option_map (text_says limits) (parse_document text)
 
 -- why a text doesn't describe territories, unless memory runs out
 abbrev pub IsFaultOf : Option (Result (Option ℕ × List EntryModel) KeyFault) → TextFault → Type 0

@@ -1,4 +1,4 @@
-//! The line of an edit that changes a register towards a wanted one.
+//! The line of an edit that changes a register towards a target one.
 ghost use Rattle.std.specs.Prelude.{◌≡◌, ◌++◌, OnOk, string_bytes};
 ghost use Rattle.osn_days.specs.Rules.{newest_rules};
 ghost use Rattle.osn_register_text.specs.EditLine as spec;
@@ -46,17 +46,17 @@ fn push_new_territory(
 fn push_new_change(
     alloc: Global,
     out: &mut String,
-    wanted: &Register,
+    target: &Register,
     code: &str,
     day: i64,
     regime: Regime,
 ) -> Result<(), AllocError>
     ensures { OnOk result (string_bytes out.new ≡ string_bytes out.old
-        ++ spec.new_change newest_rules wanted.now.territories code.now day regime) }
+        ++ spec.new_change newest_rules target.now.territories code.now day regime) }
 {
-    let before = regime_before(territory_of(wanted, code), day);
+    let before = regime_before(territory_of(target, code), day);
     let words = regime_words(alloc, before, regime)?;
-    push_change(out, code, day_in(wanted, code, day), words.as_str())
+    push_change(out, code, day_in(target, code, day), words.as_str())
 }
 
 /// Appends that the opening regime is another.
@@ -81,11 +81,11 @@ fn push_edit_words(
     alloc: Global,
     out: &mut String,
     register: &Register,
-    wanted: &Register,
+    target: &Register,
     edit: &Edit,
 ) -> Result<(), AllocError>
     ensures { OnOk result (string_bytes out.new ≡ string_bytes out.old
-        ++ spec.edit_words newest_rules register.now.territories wanted.now.territories edit.now) }
+        ++ spec.edit_words newest_rules register.now.territories target.now.territories edit.now) }
 {
     match edit {
         Edit::AddLand {
@@ -111,7 +111,7 @@ fn push_edit_words(
             day,
             regime,
             ..
-        } => push_new_change(alloc, out, wanted, code.as_str(), *day, *regime),
+        } => push_new_change(alloc, out, target, code.as_str(), *day, *regime),
         Edit::DropChange { code, day } => {
             push_drop(out, code.as_str(), day_in(register, code.as_str(), *day))
         }
@@ -125,7 +125,7 @@ fn push_edit_words(
                 out,
                 code.as_str(),
                 *year,
-                day_in(wanted, code.as_str(), *day),
+                day_in(target, code.as_str(), *day),
             )
         }
         Edit::DropException { code, year } => push_no_easter(out, code.as_str(), *year),
@@ -135,24 +135,24 @@ fn push_edit_words(
 /// Appends what an editor is shown of a change of regime.
 fn push_change_remarks(
     out: &mut String,
-    wanted: &Register,
+    target: &Register,
     code: &str,
     day: i64,
     regime: Regime,
 ) -> Result<(), AllocError>
     ensures { OnOk result (string_bytes out.new ≡ string_bytes out.old
-        ++ spec.change_remarks newest_rules wanted.now.territories code.now day regime) }
+        ++ spec.change_remarks newest_rules target.now.territories code.now day regime) }
 {
-    let territory = territory_of(wanted, code);
+    let territory = territory_of(target, code);
     push_followed(out, code, territory, day)?;
     push_same_regime(out, code, regime_before(territory, day), regime)
 }
 
 /// Appends what an editor is shown of an edit, in lines of their own.
 #[tactic(auto, unfolding(crate::specs::EditLine::remarks))]
-fn push_remarks(out: &mut String, wanted: &Register, edit: &Edit) -> Result<(), AllocError>
+fn push_remarks(out: &mut String, target: &Register, edit: &Edit) -> Result<(), AllocError>
     ensures { OnOk result (string_bytes out.new
-        ≡ string_bytes out.old ++ spec.remarks newest_rules wanted.now.territories edit.now) }
+        ≡ string_bytes out.old ++ spec.remarks newest_rules target.now.territories edit.now) }
 {
     match edit {
         Edit::AddChange {
@@ -166,12 +166,12 @@ fn push_remarks(out: &mut String, wanted: &Register, edit: &Edit) -> Result<(), 
             day,
             regime,
             ..
-        } => push_change_remarks(out, wanted, code.as_str(), *day, *regime),
+        } => push_change_remarks(out, target, code.as_str(), *day, *regime),
         Edit::DropChange { code, day } => {
             push_followed(
                 out,
                 code.as_str(),
-                territory_of(wanted, code.as_str()),
+                territory_of(target, code.as_str()),
                 *day,
             )
         }
@@ -192,14 +192,14 @@ pub(crate) fn push_edit(
     alloc: Global,
     out: &mut String,
     register: &Register,
-    wanted: &Register,
+    target: &Register,
     edit: &Edit,
 ) -> Result<(), AllocError>
     ensures { OnOk result (string_bytes out.new ≡ string_bytes out.old
-        ++ spec.edit_line newest_rules register.now.territories wanted.now.territories edit.now) }
+        ++ spec.edit_line newest_rules register.now.territories target.now.territories edit.now) }
 {
-    push_edit_words(alloc, out, register, wanted, edit)?;
+    push_edit_words(alloc, out, register, target, edit)?;
     push_source_words(out, edit.source(), source_before(register, edit))?;
     out.push_str("\n")?;
-    push_remarks(out, wanted, edit)
+    push_remarks(out, target, edit)
 }

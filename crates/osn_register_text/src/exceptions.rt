@@ -17,26 +17,26 @@ fn lists(territory: &Territory, year: Year, day: Day) -> bool
     territory.exception(year) == Some(day)
 }
 
-/// Returns whether the territory lists the day as the Easter of the year, with the wanted source.
+/// Returns whether the territory lists the day as the Easter of the year, with the target source.
 fn agrees(pair: TerritoryPair<'_>, territory: &Territory, year: Year, day: Day) -> bool
     ensures { result ≡ spec.day_agrees (sources_at pair.entry) territory.now (year, day) }
 {
     lists(territory, year, day) && pair.has_easter_source(year)
 }
 
-/// Appends the drop of a listed day, unless it is wanted with its source.
+/// Appends the drop of a listed day, unless the target lists it with its source.
 fn push_drop(
     pair: TerritoryPair<'_>,
-    wanted: &Territory,
+    target: &Territory,
     year: Year,
     day: Day,
     edits: &mut Vec<Edit>,
 ) -> Result<(), AllocError>
     ensures { OnOk result (edits.new.items ≡ edits.old.items
         ++ map (edit_of pair.entry.code.now) (spec.dropped_exception (sources_at pair.entry)
-        wanted.now (year, day))) }
+        target.now (year, day))) }
 {
-    if agrees(pair, wanted, year, day) {
+    if agrees(pair, target, year, day) {
         return Ok(());
     }
     edits.push(Edit::DropException {
@@ -46,24 +46,24 @@ fn push_drop(
     Ok(())
 }
 
-/// Appends the drops of the listed days that are not wanted, or whose sources differ.
+/// Appends the drops of the listed days that are not in the target, or whose sources differ.
 pub(crate) fn push_drops(
     pair: TerritoryPair<'_>,
-    standing: &Territory,
-    wanted: &Territory,
+    current: &Territory,
+    target: &Territory,
     edits: &mut Vec<Edit>,
 ) -> Result<(), AllocError>
     ensures { OnOk result (edits.new.items ≡ edits.old.items ++ flat_map
         (λ e. map (edit_of pair.entry.code.now) (spec.dropped_exception
-        (sources_at pair.entry) wanted.now e)) standing.now.exceptions) }
+        (sources_at pair.entry) target.now e)) current.now.exceptions) }
 {
-    for (year, day) in standing.exceptions() {
-        push_drop(pair, wanted, *year, *day, edits)?;
+    for (year, day) in current.exceptions() {
+        push_drop(pair, target, *year, *day, edits)?;
     }
     Ok(())
 }
 
-/// Appends the edit that lists a wanted day as the Easter of a year.
+/// Appends the edit that lists a target day as the Easter of a year.
 fn push_addition(
     pair: TerritoryPair<'_>,
     year: Year,
@@ -72,7 +72,7 @@ fn push_addition(
 ) -> Result<(), AllocError>
     ensures { OnOk result (edits.new.items ≡ edits.old.items
         ++ map (edit_of pair.entry.code.now) (spec.added_exception
-        (sources_at pair.entry).wanted (year, day))) }
+        (sources_at pair.entry).target (year, day))) }
 {
     edits.push(Edit::AddException {
         code: pair.code_text()?,
@@ -83,53 +83,53 @@ fn push_addition(
     Ok(())
 }
 
-/// Appends the edits that list the days of a wanted territory.
+/// Appends the edits that list the days of a target territory.
 pub(crate) fn push_additions(
     pair: TerritoryPair<'_>,
-    wanted: &Territory,
+    target: &Territory,
     edits: &mut Vec<Edit>,
 ) -> Result<(), AllocError>
     ensures { OnOk result (edits.new.items ≡ edits.old.items ++ flat_map
         (λ e. map (edit_of pair.entry.code.now) (spec.added_exception
-        (sources_at pair.entry).wanted e)) wanted.now.exceptions) }
+        (sources_at pair.entry).target e)) target.now.exceptions) }
 {
-    for (year, day) in wanted.exceptions() {
+    for (year, day) in target.exceptions() {
         push_addition(pair, *year, *day, edits)?;
     }
     Ok(())
 }
 
-/// Appends the edit that lists a wanted day, unless it is listed already with its source.
-fn push_wanted(
+/// Appends the edit that lists a target day, unless it is listed already with its source.
+fn push_added(
     pair: TerritoryPair<'_>,
-    standing: &Territory,
+    current: &Territory,
     year: Year,
     day: Day,
     edits: &mut Vec<Edit>,
 ) -> Result<(), AllocError>
     ensures { OnOk result (edits.new.items ≡ edits.old.items
-        ++ map (edit_of pair.entry.code.now) (spec.wanted_exception (sources_at pair.entry)
-        standing.now (year, day))) }
+        ++ map (edit_of pair.entry.code.now) (spec.target_exception (sources_at pair.entry)
+        current.now (year, day))) }
 {
-    if agrees(pair, standing, year, day) {
+    if agrees(pair, current, year, day) {
         return Ok(());
     }
     push_addition(pair, year, day, edits)
 }
 
-/// Appends the edits that list the wanted days that are not listed already with their sources.
-pub(crate) fn push_all_wanted(
+/// Appends the edits that list the target days that are not listed already with their sources.
+pub(crate) fn push_all_added(
     pair: TerritoryPair<'_>,
-    standing: &Territory,
-    wanted: &Territory,
+    current: &Territory,
+    target: &Territory,
     edits: &mut Vec<Edit>,
 ) -> Result<(), AllocError>
     ensures { OnOk result (edits.new.items ≡ edits.old.items ++ flat_map
-        (λ e. map (edit_of pair.entry.code.now) (spec.wanted_exception
-        (sources_at pair.entry) standing.now e)) wanted.now.exceptions) }
+        (λ e. map (edit_of pair.entry.code.now) (spec.target_exception
+        (sources_at pair.entry) current.now e)) target.now.exceptions) }
 {
-    for (year, day) in wanted.exceptions() {
-        push_wanted(pair, standing, *year, *day, edits)?;
+    for (year, day) in target.exceptions() {
+        push_added(pair, current, *year, *day, edits)?;
     }
     Ok(())
 }

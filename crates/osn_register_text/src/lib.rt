@@ -2,7 +2,7 @@
 //! guarantees that the register that is read is that of the text's edits, in turn, or that the
 //! first fault is returned, with its place. A text that is written is its definition, line by line,
 //! and says the edition and the territories of which it was written. Each edit of a plan is lawful
-//! in its turn and changes what differs. After them each wanted territory is as it is wanted, with
+//! in its turn and changes what differs. After them each target territory is as in the target, with
 //! its sources, and every other one as before. `plan_page` prints them, each in words and dates.
 #![tactic(auto)]
 

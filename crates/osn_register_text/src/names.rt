@@ -1,4 +1,4 @@
-//! Checks that each wanted territory has the name that its code has already.
+//! Checks that each target territory has the name that its code has already.
 ghost use Rattle.std.specs.Prelude.{◌≡◌, false, None, IfOk, OnOk, IfErr};
 ghost use Rattle.osn_register_text.specs.declared.plan_fault.PlanFault.TheVariants.{Renamed};
 ghost use Rattle.osn_register_text.specs.Fault.{has_other_name, first_renamed, IsNameFault};
@@ -10,13 +10,13 @@ use osn_register::{Register, Text};
 use std::alloc::{AllocError, Global};
 
 /// Returns the fault of a code that has another name.
-fn renamed(alloc: Global, code: &str, name: &str, wanted: &str) -> Result<PlanFault, AllocError>
-    ensures { IfOk result (λ fault. fault ≡ Renamed code.now name.now wanted.now) }
+fn renamed(alloc: Global, code: &str, name: &str, new_name: &str) -> Result<PlanFault, AllocError>
+    ensures { IfOk result (λ fault. fault ≡ Renamed code.now name.now new_name.now) }
 {
     Ok(PlanFault::Renamed {
         code: Text::from_str(alloc, code)?,
         name: Text::from_str(alloc, name)?,
-        wanted: Text::from_str(alloc, wanted)?,
+        new_name: Text::from_str(alloc, new_name)?,
     })
 }
 
@@ -27,26 +27,26 @@ fn check_name(alloc: Global, register: &Register, code: &str, name: &str) -> Res
     ensures err { IfErr result (IsNameFault register.now.territories code.now name.now) }
 {
     match register.find_territory(code) {
-        Some((standing, _)) if standing != name => Err(renamed(alloc, code, standing, name)?),
+        Some((current, _)) if current != name => Err(renamed(alloc, code, current, name)?),
         _ => Ok(()),
     }
 }
 
-/// Checks that every code of the wanted register that is present has the wanted name.
+/// Checks that every code of the target register that is present has the target name.
 pub(crate) fn check_names(
     alloc: Global,
     register: &Register,
-    wanted: &Register,
+    target: &Register,
 ) -> Result<(), PlanFault>
     ensures ok { OnOk result
-        (first_renamed wanted.now.territories register.now.territories ≡ None) }
+        (first_renamed target.now.territories register.now.territories ≡ None) }
     ensures err { IfErr result
-        (IsFault register.now.limits wanted.now.territories register.now.territories) }
+        (IsFault register.now.limits target.now.territories register.now.territories) }
 {
     // There are no more territories than the limit, so that each place fits.
-    let _most = wanted.limits().lands;
+    let _most = target.limits().lands;
     let mut place = 0;
-    while let Some((code, name, _)) = wanted.territory_at(place) {
+    while let Some((code, name, _)) = target.territory_at(place) {
         check_name(alloc, register, code, name)?;
         place += 1;
     }

@@ -1,4 +1,4 @@
-//! A territory in the present register and in the wanted one, and its sources in both.
+//! A territory in the present register and in the target one, and its sources in both.
 ghost use Rattle.std.specs.Prelude.{◌≡◌, IfOk, option_map};
 ghost use Rattle.osn_register_text.specs.Cited.{same_source};
 
@@ -6,13 +6,13 @@ use osn_days::{Day, Year};
 use osn_register::{Register, Source, Text};
 use std::alloc::{AllocError, Global};
 
-/// The code of a territory, with the present register and the wanted one.
+/// The code of a territory, with the present register and the target one.
 #[derive(Clone, Copy)]
 pub(crate) struct TerritoryPair<'a> {
     pub(crate) alloc: Global,
     pub(crate) code: &'a str,
     pub(crate) register: &'a Register,
-    pub(crate) wanted: &'a Register,
+    pub(crate) target: &'a Register,
 }
 
 /// Returns whether two sources are equal, or neither is given.
@@ -49,37 +49,37 @@ impl TerritoryPair<'_> {
         Text::from_str(self.alloc, self.code)
     }
 
-    /// Returns the wanted source of the period that starts on a day.
+    /// Returns the target source of the period that starts on a day.
     pub(crate) fn period_source(self, day: Day) -> Result<Option<Source>, AllocError>
-        ensures { IfOk result (λ s. s ≡ spec.period_source (sources_at self.entry).wanted day) }
+        ensures { IfOk result (λ s. s ≡ spec.period_source (sources_at self.entry).target day) }
     {
-        copy_of(self.wanted.period_source(self.code, day))
+        copy_of(self.target.period_source(self.code, day))
     }
 
-    /// Returns the wanted source of the Easter that is listed for a year.
+    /// Returns the target source of the Easter that is listed for a year.
     pub(crate) fn easter_source(self, year: Year) -> Result<Option<Source>, AllocError>
-        ensures { IfOk result (λ s. s ≡ spec.easter_source (sources_at self.entry).wanted year) }
+        ensures { IfOk result (λ s. s ≡ spec.easter_source (sources_at self.entry).target year) }
     {
-        copy_of(self.wanted.easter_source(self.code, year))
+        copy_of(self.target.easter_source(self.code, year))
     }
 
-    /// Returns whether the period that starts on a day has the wanted source.
+    /// Returns whether the period that starts on a day has the target source.
     pub(crate) fn has_period_source(self, day: Day) -> bool
         ensures { result ≡ same_period (sources_at self.entry) day }
     {
         are_same(
             self.register.period_source(self.code, day),
-            self.wanted.period_source(self.code, day),
+            self.target.period_source(self.code, day),
         )
     }
 
-    /// Returns whether the Easter that is listed for a year has the wanted source.
+    /// Returns whether the Easter that is listed for a year has the target source.
     pub(crate) fn has_easter_source(self, year: Year) -> bool
         ensures { result ≡ same_easter (sources_at self.entry) year }
     {
         are_same(
             self.register.easter_source(self.code, year),
-            self.wanted.easter_source(self.code, year),
+            self.target.easter_source(self.code, year),
         )
     }
 }

@@ -136,7 +136,7 @@ fn register_of(alloc: Global, limits: Limits, edits: &[Placed]) -> Result<Regist
 
 /// Returns what the table of a text says, under limits.
 #[tactic(auto, unfolding(crate::specs::Text::text_says))]
-fn said_by(alloc: Global, limits: Limits, table: &Table) -> Result<RegisterText, TextFault>
+fn text_of_table(alloc: Global, limits: Limits, table: &Table) -> Result<RegisterText, TextFault>
     ensures limits { IfOk result (λ said. said.register.limits ≡ limits) }
     ensures said { MatchResult result
         (λ said. spec.text_says limits (table_view table.now)
@@ -157,14 +157,14 @@ fn said_by(alloc: Global, limits: Limits, table: &Table) -> Result<RegisterText,
 /// text doesn't describe territories: for a wrong edition, otherwise for the first wrong table in
 /// order, and if all tables are right for the first refusal of the register.
 pub fn parse_text(alloc: Global, limits: Limits, text: &str) -> Result<RegisterText, TextFault>
-    ensures ok { IfOk result (λ said. spec.said_by limits text.now
+    ensures ok { IfOk result (λ said. spec.text_of_table limits text.now
         ≡ Some (Ok (said.edition, said.register.territories))) }
     ensures limits { IfOk result (λ said. said.register.limits ≡ limits) }
-    ensures err { IfErr result (spec.IsFaultOf (spec.said_by limits text.now)) }
+    ensures err { IfErr result (spec.IsFaultOf (spec.text_of_table limits text.now)) }
 {
     let table = match toml::table_from_str(alloc, text) {
         Ok(table) => table,
         Err(error) => return Err(toml_fault(alloc, text, &error)),
     };
-    said_by(alloc, limits, &table)
+    text_of_table(alloc, limits, &table)
 }

@@ -10,17 +10,17 @@ use osn_register::Edit;
 use osn_territory::{Period, Regime, Territory};
 use std::alloc::AllocError;
 
-/// Appends the drop of the change on a day, unless one is wanted there.
+/// Appends the drop of the change on a day, unless the target has one there.
 fn push_drop(
     pair: TerritoryPair<'_>,
-    wanted: &Territory,
+    target: &Territory,
     day: Day,
     edits: &mut Vec<Edit>,
 ) -> Result<(), AllocError>
     ensures { OnOk result (edits.new.items ≡ edits.old.items
-        ++ map (edit_of pair.entry.code.now) (spec.dropped_change wanted.now day)) }
+        ++ map (edit_of pair.entry.code.now) (spec.dropped_change target.now day)) }
 {
-    if wanted.starts_on(day) {
+    if target.starts_on(day) {
         return Ok(());
     }
     edits.push(Edit::DropChange {
@@ -30,31 +30,31 @@ fn push_drop(
     Ok(())
 }
 
-/// Appends the drops of the changes on days without a wanted one.
+/// Appends the drops of the changes on days without a target one.
 pub(crate) fn push_drops(
     pair: TerritoryPair<'_>,
-    standing: &[Period],
-    wanted: &Territory,
+    current: &[Period],
+    target: &Territory,
     edits: &mut Vec<Edit>,
 ) -> Result<(), AllocError>
     ensures { OnOk result (edits.new.items ≡ edits.old.items ++ flat_map
-        (λ p. map (edit_of pair.entry.code.now) (spec.dropped_change wanted.now p.first))
-        standing.now) }
+        (λ p. map (edit_of pair.entry.code.now) (spec.dropped_change target.now p.first))
+        current.now) }
 {
-    for period in standing {
-        push_drop(pair, wanted, period.first, edits)?;
+    for period in current {
+        push_drop(pair, target, period.first, edits)?;
     }
     Ok(())
 }
 
-/// Appends the edit that adds the change on the first day of a wanted period.
+/// Appends the edit that adds the change on the first day of a target period.
 fn push_addition(
     pair: TerritoryPair<'_>,
     period: &Period,
     edits: &mut Vec<Edit>,
 ) -> Result<(), AllocError>
     ensures { OnOk result (edits.new.items ≡ edits.old.items
-        ++ map (edit_of pair.entry.code.now) (spec.added_change (sources_at pair.entry).wanted
+        ++ map (edit_of pair.entry.code.now) (spec.added_change (sources_at pair.entry).target
         (period.now.first, period.now.regime))) }
 {
     edits.push(Edit::AddChange {
@@ -66,7 +66,7 @@ fn push_addition(
     Ok(())
 }
 
-/// Appends the edits that add the changes on the first days of these wanted periods.
+/// Appends the edits that add the changes on the first days of these target periods.
 pub(crate) fn push_additions(
     pair: TerritoryPair<'_>,
     periods: &[Period],
@@ -74,7 +74,7 @@ pub(crate) fn push_additions(
 ) -> Result<(), AllocError>
     ensures { OnOk result (edits.new.items ≡ edits.old.items ++ flat_map
         (λ p. map (edit_of pair.entry.code.now) (spec.added_change
-        (sources_at pair.entry).wanted (p.first, p.regime))) periods.now) }
+        (sources_at pair.entry).target (p.first, p.regime))) periods.now) }
 {
     for period in periods {
         push_addition(pair, period, edits)?;
@@ -82,69 +82,69 @@ pub(crate) fn push_additions(
     Ok(())
 }
 
-/// Returns whether the present regime and its source are those of a wanted period.
-fn agrees(pair: TerritoryPair<'_>, standing: Regime, wanted: &Period) -> bool
-    ensures { result ≡ spec.start_agrees (sources_at pair.entry) standing
-        (wanted.now.first, wanted.now.regime) }
+/// Returns whether the present regime and its source are those of a target period.
+fn agrees(pair: TerritoryPair<'_>, current: Regime, target: &Period) -> bool
+    ensures { result ≡ spec.start_agrees (sources_at pair.entry) current
+        (target.now.first, target.now.regime) }
 {
-    standing == wanted.regime && pair.has_period_source(wanted.first)
+    current == target.regime && pair.has_period_source(target.first)
 }
 
-/// Appends the edit that alters the period that starts on the day of a wanted one, unless the two
+/// Appends the edit that alters the period that starts on the day of a target one, unless the two
 /// have one regime and one source.
 fn push_alteration(
     pair: TerritoryPair<'_>,
-    standing: Regime,
-    wanted: &Period,
+    current: Regime,
+    target: &Period,
     edits: &mut Vec<Edit>,
 ) -> Result<(), AllocError>
     ensures { OnOk result (edits.new.items ≡ edits.old.items
         ++ map (edit_of pair.entry.code.now) (spec.altered_change (sources_at pair.entry)
-        standing (wanted.now.first, wanted.now.regime))) }
+        current (target.now.first, target.now.regime))) }
 {
-    if agrees(pair, standing, wanted) {
+    if agrees(pair, current, target) {
         return Ok(());
     }
     edits.push(Edit::AlterChange {
         code: pair.code_text()?,
-        day: i64::from(wanted.first.number()),
-        regime: wanted.regime,
-        source: pair.period_source(wanted.first)?,
+        day: i64::from(target.first.number()),
+        regime: target.regime,
+        source: pair.period_source(target.first)?,
     })?;
     Ok(())
 }
 
-/// Appends the edit that the start of a wanted period needs, if any.
-fn push_wanted(
+/// Appends the edit that the start of a target period needs, if any.
+fn push_added(
     pair: TerritoryPair<'_>,
-    standing: &Territory,
-    wanted: &Period,
+    current: &Territory,
+    target: &Period,
     edits: &mut Vec<Edit>,
 ) -> Result<(), AllocError>
     ensures { OnOk result (edits.new.items ≡ edits.old.items
-        ++ map (edit_of pair.entry.code.now) (spec.wanted_change (sources_at pair.entry)
-        standing.now (wanted.now.first, wanted.now.regime))) }
+        ++ map (edit_of pair.entry.code.now) (spec.target_change (sources_at pair.entry)
+        current.now (target.now.first, target.now.regime))) }
 {
-    if standing.starts_on(wanted.first) {
-        push_alteration(pair, standing.regime_at(wanted.first), wanted, edits)
+    if current.starts_on(target.first) {
+        push_alteration(pair, current.regime_at(target.first), target, edits)
     } else {
-        push_addition(pair, wanted, edits)
+        push_addition(pair, target, edits)
     }
 }
 
-/// Appends the edits that the starts of the wanted periods need.
-pub(crate) fn push_all_wanted(
+/// Appends the edits that the starts of the target periods need.
+pub(crate) fn push_all_added(
     pair: TerritoryPair<'_>,
-    standing: &Territory,
-    wanted: &[Period],
+    current: &Territory,
+    target: &[Period],
     edits: &mut Vec<Edit>,
 ) -> Result<(), AllocError>
     ensures { OnOk result (edits.new.items ≡ edits.old.items ++ flat_map
-        (λ p. map (edit_of pair.entry.code.now) (spec.wanted_change (sources_at pair.entry)
-        standing.now (p.first, p.regime))) wanted.now) }
+        (λ p. map (edit_of pair.entry.code.now) (spec.target_change (sources_at pair.entry)
+        current.now (p.first, p.regime))) target.now) }
 {
-    for period in wanted {
-        push_wanted(pair, standing, period, edits)?;
+    for period in target {
+        push_added(pair, current, period, edits)?;
     }
     Ok(())
 }

@@ -7,11 +7,11 @@ use std::alloc::AllocError;
 /// Why there is no plan.
 #[derive(Debug, Drop)]
 pub enum PlanFault {
-    /// The code has another name than the wanted one, and a name can't be changed.
+    /// The code has another name than the target one, and a name can't be changed.
     Renamed {
         code: Text,
         name: Text,
-        wanted: Text,
+        new_name: Text,
     },
     /// The register refuses an edit of the territory that has the code.
     Refused {

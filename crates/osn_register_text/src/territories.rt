@@ -13,24 +13,24 @@ use osn_register::{Edit, Text};
 use osn_territory::{Regime, Territory};
 use std::alloc::AllocError;
 
-/// Appends the edits that take a territory to the wanted one.
+/// Appends the edits that take a territory to the target one.
 fn push_differences(
     pair: TerritoryPair<'_>,
-    standing: &Territory,
-    wanted: &Territory,
+    current: &Territory,
+    target: &Territory,
     edits: &mut Vec<Edit>,
 ) -> Result<(), AllocError>
     ensures { OnOk result (edits.new.items ≡ edits.old.items
         ++ map (edit_of pair.entry.code.now)
-        (spec.differences (sources_at pair.entry) standing.now wanted.now)) }
+        (spec.differences (sources_at pair.entry) current.now target.now)) }
 {
-    plan_changes::push_drops(pair, standing.periods(), wanted, edits)?;
-    plan_changes::push_all_wanted(pair, standing, wanted.periods(), edits)?;
-    exceptions::push_drops(pair, standing, wanted, edits)?;
-    exceptions::push_all_wanted(pair, standing, wanted, edits)
+    plan_changes::push_drops(pair, current.periods(), target, edits)?;
+    plan_changes::push_all_added(pair, current, target.periods(), edits)?;
+    exceptions::push_drops(pair, current, target, edits)?;
+    exceptions::push_all_added(pair, current, target, edits)
 }
 
-/// Appends the edit that adds a territory with its opening regime, and the wanted source of that.
+/// Appends the edit that adds a territory with its opening regime, and the target source of that.
 fn push_territory(
     pair: TerritoryPair<'_>,
     name: &str,
@@ -39,7 +39,7 @@ fn push_territory(
 ) -> Result<(), AllocError>
     ensures { OnOk result (edits.new.items ≡ edits.old.items
         ++ AddLand pair.entry.code.now name.now regime
-        (period_source (sources_at pair.entry).wanted 1) ∷ []) }
+        (period_source (sources_at pair.entry).target 1) ∷ []) }
 {
     edits.push(Edit::AddLand {
         code: pair.code_text()?,
@@ -50,34 +50,34 @@ fn push_territory(
     Ok(())
 }
 
-/// Appends the edits that make the wanted territory of one that has its opening regime alone.
+/// Appends the edits that make the target territory of one that has its opening regime alone.
 fn push_later(
     pair: TerritoryPair<'_>,
-    wanted: &Territory,
+    target: &Territory,
     edits: &mut Vec<Edit>,
 ) -> Result<(), AllocError>
     ensures { OnOk result (edits.new.items ≡ edits.old.items
         ++ map (edit_of pair.entry.code.now)
-        (spec.later (sources_at pair.entry).wanted wanted.now)) }
+        (spec.later (sources_at pair.entry).target target.now)) }
 {
-    plan_changes::push_additions(pair, &wanted.periods()[1..], edits)?;
-    exceptions::push_additions(pair, wanted, edits)
+    plan_changes::push_additions(pair, &target.periods()[1..], edits)?;
+    exceptions::push_additions(pair, target, edits)
 }
 
-/// Appends the edits that take the territory of a code to the wanted one, or add it.
+/// Appends the edits that take the territory of a code to the target one, or add it.
 pub(crate) fn push_edits(
     pair: TerritoryPair<'_>,
     name: &str,
-    wanted: &Territory,
+    target: &Territory,
     edits: &mut Vec<Edit>,
 ) -> Result<(), AllocError>
     ensures { OnOk result (edits.new.items ≡ edits.old.items
-        ++ spec.entry_edits pair.entry.wanted.now.territories pair.entry.register.now.territories
-        pair.entry.code.now name.now wanted.now) }
+        ++ spec.entry_edits pair.entry.target.now.territories pair.entry.register.now.territories
+        pair.entry.code.now name.now target.now) }
 {
-    if let Some((_, standing)) = pair.register.find_territory(pair.code) {
-        return push_differences(pair, standing, wanted, edits);
+    if let Some((_, current)) = pair.register.find_territory(pair.code) {
+        return push_differences(pair, current, target, edits);
     }
-    push_territory(pair, name, wanted.periods()[0].regime, edits)?;
-    push_later(pair, wanted, edits)
+    push_territory(pair, name, target.periods()[0].regime, edits)?;
+    push_later(pair, target, edits)
 }

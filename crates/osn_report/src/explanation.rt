@@ -28,11 +28,11 @@ fn change_text(cause: ChangeCause) -> &'static str
 }
 
 /// Returns the note that says this of the file of a path.
-fn note(alloc: Global, path: &str, said: &str) -> Result<Option<String>, AllocError>
+fn note(alloc: Global, path: &str, message: &str) -> Result<Option<String>, AllocError>
     ensures { IfOk result (λ text.
-        option_map string_bytes text ≡ Some (spec.note path.now said.now)) }
+        option_map string_bytes text ≡ Some (spec.note path.now message.now)) }
 {
-    Ok(Some(format!(in alloc; "note: {}: {said}\n", Escaped(path))?))
+    Ok(Some(format!(in alloc; "note: {}: {message}\n", Escaped(path))?))
 }
 
 /// Returns the text that a file is not a journal, and how one begins.
@@ -202,9 +202,9 @@ fn explanation(
 /// Writes the line that explains a fault, if there is one and there was memory for it.
 fn report_more<E: Sink>(errors: &mut E, text: Result<Option<String>, AllocError>)
     // Whatever text it is, if it was made.
-    ensures { (wanted : Option (List ℕ)) → IfOk text (λ text. option_map string_bytes text ≡ wanted)
+    ensures { (expected : Option (List ℕ)) → IfOk text (λ text. option_map string_bytes text ≡ expected)
         → ReportsMore (output_of E.contents E.has_failed E.holds_back errors.old errors.new)
-        wanted }
+        expected }
 {
     if let Ok(Some(text)) = text {
         write_line(errors, text.as_str());

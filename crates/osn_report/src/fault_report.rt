@@ -84,9 +84,9 @@ pub fn report_line<E: Sink>(
     line: Result<String, AllocError>,
 ) -> Status
     // Whatever text it is, if it is one.
-    ensures { (wanted : List ℕ) → IfOk line (λ text. string_bytes text ≡ wanted) → ReportsIfMade
+    ensures { (expected : List ℕ) → IfOk line (λ text. string_bytes text ≡ expected) → ReportsIfMade
         (output_of E.contents E.has_failed E.holds_back errors.old errors.new)
-        status wanted result }
+        status expected result }
 {
     match line {
         Ok(line) => report_text(errors, status, line.as_str()),

@@ -29,8 +29,8 @@ pub fn print<W: Sink, E: Sink>(
     errors: &mut E,
 ) -> Status
     // Whatever text it is, if it was made.
-    ensures { (wanted : List ℕ) → IfOk made (λ text. string_bytes text ≡ wanted)
-        → PrintsIfMade wanted
+    ensures { (expected : List ℕ) → IfOk made (λ text. string_bytes text ≡ expected)
+        → PrintsIfMade expected
         (output_of W.contents W.has_failed W.holds_back output.old output.new)
         (output_of E.contents E.has_failed E.holds_back errors.old errors.new) result }
 {
@@ -47,8 +47,8 @@ pub fn print_or_report<W: Sink, E: Sink>(
     errors: &mut E,
 ) -> Status
     // Whatever text it is, if it was made.
-    ensures { (wanted : List ℕ) → IfOk made (λ text. string_bytes text ≡ wanted)
-        → PrintsOrReports wanted
+    ensures { (expected : List ℕ) → IfOk made (λ text. string_bytes text ≡ expected)
+        → PrintsOrReports expected
         (output_of W.contents W.has_failed W.holds_back output.old output.new)
         (output_of E.contents E.has_failed E.holds_back errors.old errors.new) result }
 {

@@ -141,19 +141,19 @@ fn keep<D: Folder, R: Source, W: Sink, E: Sink>(
         (output_of E.contents E.has_failed E.holds_back errors.old errors.new) result }
 {
     match folder.keep(path) {
-        Ok((mut kept, mut journal)) => {
+        Ok((mut keeper, mut journal)) => {
             let status = keep_command(
                 alloc,
                 limits,
                 path,
-                &mut kept,
+                &mut keeper,
                 &mut journal,
                 rules,
                 input,
                 output,
                 errors,
             );
-            folder.release(path, kept);
+            folder.release(path, keeper);
             status
         }
         Err(fault) => report_at(alloc, errors, path, CommandFault::Keep(fault)),

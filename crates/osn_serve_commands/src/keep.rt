@@ -14,7 +14,7 @@ ghost use Rattle.osn_serve_commands.specs.KeepInside.{IsCut, IsCompleted, IsComp
 ghost use Rattle.osn_serve_commands.specs.KeepInside.{IsReady, IsUnready};
 ghost use Rattle.osn_service.specs.Faults.{MatchServiceFault};
 
-use crate::held::{check_kept, read_kept};
+use crate::loaded_journal::{check_version_to_keep, read_journal_to_keep};
 use osn_core::Object;
 use osn_files::{CountedPrefix, LastLine, head_line};
 use osn_folder::{KeptFile, KeptFileFault};
@@ -148,8 +148,8 @@ fn begin<K: KeptFile, J: Source, E: Sink>(
         (λ held. DoesNotBegin limits held (J.has_failed journal.new) cut
         (file_of K.contents K.synced K.fault keeper.new) fault)) }
 {
-    let held = read_kept(alloc, limits, journal)?;
-    check_kept(held.version)?;
+    let held = read_journal_to_keep(alloc, limits, journal)?;
+    check_version_to_keep(held.version)?;
     make_ready(alloc, held.part, keeper, errors)?;
     Ok((held.object, held.version))
 }

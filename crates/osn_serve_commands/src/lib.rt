@@ -6,9 +6,9 @@
 #![tactic(auto)]
 
 mod follow;
-mod held;
 mod in_folder;
 mod keep;
+mod loaded_journal;
 mod mode;
 mod saved_file;
 mod saving;
@@ -17,9 +17,9 @@ mod target;
 mod upgrade;
 
 pub use follow::follow_command;
-pub use held::{LoadedJournal, check_kept, read_kept};
 pub use in_folder::serve_in_folder;
 pub use keep::{cut_unfinished, keep_command, missing_text};
+pub use loaded_journal::{LoadedJournal, check_version_to_keep, read_journal_to_keep};
 pub use serve::{ServeResult, initial_object, serve_command};
 pub use target::{SaveTarget, TargetFault, report_target, save_target};
 pub use upgrade::{cut_text_of, report_cut, save_anew, upgrade_file};

@@ -200,8 +200,8 @@ pub(crate) fn serve<'a, D: Folder, R: Source, W: Sink, E: Sink, T: Sink + Drop>(
         }
         None => {
             let mut source = open_if(folder, journal)?;
-            let found = match target_if(alloc, limits, folder, save) {
-                Ok(found) => found,
+            let target = match target_if(alloc, limits, folder, save) {
+                Ok(target) => target,
                 Err(fault) => return Ok(report_target(alloc, errors, path_or_none(save), fault)),
             };
             Ok(serve_opened(
@@ -210,8 +210,8 @@ pub(crate) fn serve<'a, D: Folder, R: Source, W: Sink, E: Sink, T: Sink + Drop>(
                 folder,
                 path_or_none(journal),
                 &mut source,
-                bytes_of(found),
-                is_left_beside(found),
+                bytes_of(target),
+                is_left_beside(target),
                 locked,
                 rules,
                 input,

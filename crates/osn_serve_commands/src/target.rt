@@ -171,10 +171,10 @@ pub fn report_target<E: Sink>(
 }
 
 /// Returns whether what is found is left beside the journal that is saved.
-pub(crate) fn is_left_beside(found: SaveTarget) -> bool
-    ensures { result ≡ in_folder.is_left_beside found }
+pub(crate) fn is_left_beside(target: SaveTarget) -> bool
+    ensures { result ≡ in_folder.is_left_beside target }
 {
-    match found {
+    match target {
         SaveTarget::Journal => true,
         SaveTarget::NoFile | SaveTarget::Empty => false,
     }
@@ -182,10 +182,10 @@ pub(crate) fn is_left_beside(found: SaveTarget) -> bool
 
 /// Returns the bytes that a file which a journal is saved over must still contain, if it is not a
 /// journal itself.
-pub(crate) fn bytes_of(found: SaveTarget) -> Option<&'static [u8]>
-    ensures { option_map (λ bytes. bytes.now) result ≡ in_folder.bytes_of found }
+pub(crate) fn bytes_of(target: SaveTarget) -> Option<&'static [u8]>
+    ensures { option_map (λ bytes. bytes.now) result ≡ in_folder.bytes_of target }
 {
-    match found {
+    match target {
         SaveTarget::Empty => Some(&[]),
         SaveTarget::NoFile | SaveTarget::Journal => None,
     }

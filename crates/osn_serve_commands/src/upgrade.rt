@@ -12,8 +12,8 @@ ghost use Rattle.osn_serve_commands.specs.Upgrade.{CannotSaveAnew, CannotUpgrade
 ghost use Rattle.osn_serve_commands.specs.Upgrade.{Upgrades};
 ghost use Rattle.osn_serve_commands.specs.UpgradeInside.{IsNewest, IsOlder};
 
-use crate::held::read_kept;
 use crate::keep::cut_text;
+use crate::loaded_journal::read_journal_to_keep;
 use crate::saved_file::report_unsaved;
 use osn_files::{CountedPrefix, LastLine, journal_text_of};
 use osn_folder::{Folder, save_file};
@@ -105,7 +105,7 @@ fn older_journal<J: Source>(
     ensures err { IfErr result (λ fault. IsUnreadKept limits
         (J.remaining journal.old) (J.has_failed journal.new) fault) }
 {
-    let held = read_kept(alloc, limits, journal)?;
+    let held = read_journal_to_keep(alloc, limits, journal)?;
     if held.version.has_sources() {
         return Ok(None);
     }
@@ -169,15 +169,15 @@ pub fn upgrade_file<D: Folder, E: Sink>(
         (folders_of D.known folder.old folder.new)
         (output_of E.contents E.has_failed E.holds_back errors.old errors.new)) }
 {
-    let (kept, mut journal) = match folder.keep(path) {
-        Ok(found) => found,
+    let (keeper, mut journal) = match folder.keep(path) {
+        Ok(file) => file,
         Err(fault) => return Err(report_at(alloc, errors, path, CommandFault::Keep(fault))),
     };
-    let found = older_journal(alloc, limits, &mut journal);
+    let outcome = older_journal(alloc, limits, &mut journal);
     // What reads the file has its lock too.
     drop(journal);
-    folder.release(path, kept);
-    match found {
+    folder.release(path, keeper);
+    match outcome {
         Ok(None) => Ok(()),
         Ok(Some(older)) => save_older(alloc, folder, path, &older, errors),
         Err(fault) => Err(report_at(alloc, errors, path, fault)),

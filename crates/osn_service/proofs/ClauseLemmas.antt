@@ -22,7 +22,7 @@ use Rattle.osn_service.specs.declared.service.End.TheVariants.{AtEnd, AtRefusal,
 use Rattle.osn_service.specs.Faults.{HasLongReply}
 use Rattle.osn_service.specs.Refusals.{NoneRefused}
 use Rattle.osn_service.specs.Served.{line_text, outputs, after_lines, WritesAll, WritesFirst}
-use Rattle.osn_service.specs.Served.{WritesInPart, StandsAfter, IsAfterLines, IsAfterOrNext}
+use Rattle.osn_service.specs.Served.{WritesInPart, IsStateAfter, IsAfterLines, IsAfterOrNext}
 use Rattle.osn_service.specs.Serves.{Serves, RefusesNone, ServesToRefusal, ServesStore}
 use Rattle.osn_service.specs.ServiceInside.{InPart, WritesSome}
 use Rattle.osn_service.specs.Session.{line_after, line_outcome}
@@ -216,7 +216,7 @@ module _ {rules : ServeRules} {begun now : SessionState} {n : ℕ} (i : Input)
                 IfSome-both i.bytes
                 (λ bytes. IsAfterLines rules begun.object now.object (lines bytes) n)
                 (λ bytes. n ≡ length (lines bytes))
-                (λ bytes. StandsAfter rules begun.object now.object (lines bytes))
+                (λ bytes. IsStateAfter rules begun.object now.object (lines bytes))
                 (λ bytes k count. k ∙ ap (after_lines rules begun.object) (all bytes count))
                 first_reached end.0;
             passed = passed_on;

@@ -42,8 +42,8 @@ pub record WritesInPart (rules : ServeRules) (s : ObjectState) (old new : Option
   pub no_more : n < length lines → bytes < length (outputs rules s (take (n + 1) lines))
 
 -- the object is in the state after the lines
-abbrev pub StandsAfter : ServeRules → ObjectState → ObjectState → List (List ℕ) → Type 0
-StandsAfter rules s t lines = t ≡ after_lines rules s lines
+abbrev pub IsStateAfter : ServeRules → ObjectState → ObjectState → List (List ℕ) → Type 0
+IsStateAfter rules s t lines = t ≡ after_lines rules s lines
 
 -- after the first n lines
 abbrev pub IsAfterLines : ServeRules → ObjectState → ObjectState → List (List ℕ) → ℕ → Type 0

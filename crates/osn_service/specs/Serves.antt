@@ -13,7 +13,7 @@ use Rattle.osn_service.specs.declared.rules.ServeRules.{ServeRules}
 use Rattle.osn_service.specs.declared.service.Served.{Served}
 use Rattle.osn_service.specs.Faults.{MatchEnd, MatchService, IsUnwritten}
 use Rattle.osn_service.specs.Refusals.{NoneRefused, IsFirstRefused}
-use Rattle.osn_service.specs.Served.{WritesAll, WritesFirst, WritesInPart, StandsAfter}
+use Rattle.osn_service.specs.Served.{WritesAll, WritesFirst, WritesInPart, IsStateAfter}
 use Rattle.osn_service.specs.Served.{IsAfterLines, IsAfterOrNext, after_lines}
 
 -- The lines of an input were answered by these rules from the object s, and the object is t then.
@@ -30,7 +30,7 @@ pub record Serves (rules : ServeRules) (s t : ObjectState) (i : Input) (o : Outp
   -- The object is in the state after all lines. If it ended early, in that after those lines. If a
   -- write failed, in that after those lines or one more.
   pub object : IfSome i.bytes (λ bytes. MatchEnd end
-      (λ _. StandsAfter rules s t (lines bytes))
+      (λ _. IsStateAfter rules s t (lines bytes))
       (IsAfterLines rules s t (lines bytes))
       (IsAfterLines rules s t (lines bytes))
       (IsAfterOrNext rules s t (lines bytes)))

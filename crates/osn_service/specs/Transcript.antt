@@ -13,14 +13,14 @@ use Rattle.osn_request.specs.Json.{whole, signed}
 use Rattle.osn_service.specs.ReplyText.{replied_data, line_of}
 
 -- a query about a date by the text of the date, and by a weekday if one is given
-abbrev pub asked_date_data : ℕ → List ℕ → List ℕ → Option Weekday → Data
-asked_date_data reader code text None = object (
+abbrev pub query_date_data : ℕ → List ℕ → List ℕ → Option Weekday → Data
+query_date_data reader code text None = object (
     member (codes "code") (string code)
     (member (codes "date") (string text)
     (member (codes "op") (string (codes "written"))
     (member (codes "reader") (whole reader)
     no_members))))
-asked_date_data reader code text (Some weekday) = object (
+query_date_data reader code text (Some weekday) = object (
     member (codes "code") (string code)
     (member (codes "date") (string text)
     (member (codes "op") (string (codes "written"))
@@ -74,14 +74,14 @@ query_data reader (Changes code) = object (
     (member (codes "op") (string (codes "changes"))
     (member (codes "reader") (whole reader)
     no_members)))
-query_data reader (Written code text date weekday) = asked_date_data reader code text weekday
+query_data reader (Written code text date weekday) = query_date_data reader code text weekday
 
 -- what a reader asked, and the reply
-abbrev pub asked_data : ℕ → Query → Reply → Data
-asked_data reader q reply = object (
+abbrev pub query_data : ℕ → Query → Reply → Data
+query_data reader q reply = object (
     member (codes "ask") (query_data reader q)
     (member (codes "reply") (replied_data reader reply.edition reply.answer)
     no_members))
 
 unfoldable pub transcript_line : ℕ → Query → Reply → List ℕ
-transcript_line reader q reply = line_of (asked_data reader q reply)
+transcript_line reader q reply = line_of (query_data reader q reply)

@@ -149,12 +149,12 @@ pub fn transcript_text(
     ensures { IfOk result (λ s.
         string_bytes s ≡ transcript_line reader query.now reply.now) }
 {
-    let asked = TranscriptRecord {
+    let record = TranscriptRecord {
         reader,
         query,
         reply,
     };
-    line_text(alloc, &asked)
+    line_text(alloc, &record)
 }
 
 /// Appends the reply line of an outcome, or leaves the bytes as they were.

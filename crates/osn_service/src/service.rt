@@ -118,9 +118,9 @@ fn take_all<R: Source, W: Sink, S: Store>(
 fn write_rest<W: Sink, S: Store>(
     sink: &mut W,
     waiting: &mut ReplyBuffer,
-    taken: Result<LinesTaken, EndedEarly<ServiceFault<S::Fault>>>,
+    outcome: Result<LinesTaken, EndedEarly<ServiceFault<S::Fault>>>,
 ) -> Result<Served, EndedEarly<ServiceFault<S::Fault>>>
-    requires { IfOk taken (λ taken. length waiting.old.ends.items ≤ taken.lines) }
+    requires { IfOk outcome (λ outcome. length waiting.old.ends.items ≤ outcome.lines) }
     // Whatever was taken, and by which rules.
     ensures serves { (rules : ServeRules) (begun : SessionState) (object : ObjectState) (i : Input)
         → HasTaken rules begun (record {
@@ -128,14 +128,14 @@ fn write_rest<W: Sink, S: Store>(
           written = W.contents sink.old;
           failed = W.has_failed sink.old;
           waiting = waiting.old;
-        }) (W.holds_back sink.old) i taken →
+        }) (W.holds_back sink.old) i outcome →
         ServesStore rules begun.object object i (output_since begun (W.contents sink.new)
         (W.has_failed sink.new) (W.holds_back sink.new)) result }
     ensures keeps { (rules : ServeRules) (s : ObjectState) (old : S) (new : S) (i : Input) →
-        HasKept S.has_kept S.has_lost rules s old new i taken →
+        HasKept S.has_kept S.has_lost rules s old new i outcome →
         KeepsStore S.has_kept S.has_lost rules s old new i result }
 {
-    let LinesTaken { lines, end } = taken?;
+    let LinesTaken { lines, end } = outcome?;
     if let Err(UnwrittenReplies { unwritten }) = waiting.write(sink) {
         return Err(EndedEarly {
             lines: lines - unwritten,
@@ -178,8 +178,8 @@ fn run<R: Source, W: Sink, S: Store>(
         (S.state session.old.store.now) session.old.store.now session.new.store.now
         (input_of R.remaining R.has_failed source.old source.new) result }
 {
-    let taken = take_all(session, source);
-    write_rest::<W, S>(session.sink, session.waiting, taken)
+    let outcome = take_all(session, source);
+    write_rest::<W, S>(session.sink, session.waiting, outcome)
 }
 
 /// Answers every line of the source up to its end, by these rules, from the store that is given.

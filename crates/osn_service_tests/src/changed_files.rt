@@ -27,11 +27,11 @@ const LOOKS: [Look; 6] = [
 fn has_gained(
     rt: &impl Abort,
     gained: Result<Vec<u8>, FollowFault>,
-    wanted: Result<&str, FollowFault>,
+    expected: Result<&str, FollowFault>,
 ) {
     match &gained {
-        Ok(gained) => same(rt, Ok(text_of(rt, gained)), wanted),
-        Err(fault) => same(rt, Err(*fault), wanted),
+        Ok(gained) => same(rt, Ok(text_of(rt, gained)), expected),
+        Err(fault) => same(rt, Err(*fault), expected),
     }
 }
 
@@ -40,9 +40,9 @@ fn is_followed<R: Files<File = fs::File> + AllocGlobal + Abort>(rt: &R, looks: &
     let mut disk = Disk::new(rt);
     let followed = disk.follow(rt.alloc(), "followed.journal");
     let mut file = followed.expect(rt, "memory");
-    for (text, wanted) in looks {
+    for (text, expected) in looks {
         fs::write(rt, "followed.journal", *text).expect(rt, text);
-        has_gained(rt, file.look(rt.alloc()), *wanted);
+        has_gained(rt, file.look(rt.alloc()), *expected);
     }
     fs::rename(rt, "followed.journal", "moved").expect(rt, "it moves");
     has_gained(rt, file.look(rt.alloc()), Err(FollowFault::Replaced));
@@ -50,15 +50,15 @@ fn is_followed<R: Files<File = fs::File> + AllocGlobal + Abort>(rt: &R, looks: &
 
 /// Checks that a file which another program has moved is not reported as synced.
 fn is_kept<R: Files<File = fs::File> + AllocGlobal + Abort>(rt: &R) {
-    let (mut kept, _) = Disk::new(rt)
+    let (mut keeper, _) = Disk::new(rt)
         .keep("kept.journal")
         .expect(rt, "nobody keeps it");
-    same(rt, kept.append(b"one\n"), Ok(()));
-    same(rt, kept.sync(), Ok(()));
+    same(rt, keeper.append(b"one\n"), Ok(()));
+    same(rt, keeper.sync(), Ok(()));
     fs::rename(rt, "kept.journal", "moved").expect(rt, "it moves");
-    same(rt, kept.append(b"two\n"), Ok(()));
-    same(rt, kept.sync(), Err(KeptFileFault::Replaced));
-    drop(kept);
+    same(rt, keeper.append(b"two\n"), Ok(()));
+    same(rt, keeper.sync(), Err(KeptFileFault::Replaced));
+    drop(keeper);
 }
 
 const LETTER: &str = "Honoured Sir";
@@ -83,8 +83,8 @@ fn is_left<R: Files<File = fs::File> + AllocGlobal + Abort>(rt: &R, files: &[(&s
     let beside = String::from_str(rt.alloc(), "saved.journal.unfinished-2").expect(rt, "memory");
     same(rt, saved, Err(SaveFault::Changed(beside)));
     for (path, text) in files {
-        let found = fs::read_to_string(rt, *path).expect(rt, path);
-        same(rt, (*path, found.as_str()), (*path, *text));
+        let actual = fs::read_to_string(rt, *path).expect(rt, path);
+        same(rt, (*path, actual.as_str()), (*path, *text));
     }
 }
 

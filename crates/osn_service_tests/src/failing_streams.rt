@@ -70,7 +70,7 @@ const ROWS: [Row; 17] = [
 
 /// Checks how the service ends over these streams. A journal to save is left only if it is done.
 fn ends(rt: &impl Abort, alloc: Global, row: Row) {
-    let (journal, input, output, (status, printed), wanted) = row;
+    let (journal, input, output, (status, printed), expected) = row;
     let mut sink = FailingSink::new(alloc, output);
     let mut errors = Plain::new(Vec::new(alloc));
     let left = serve_command(
@@ -86,12 +86,12 @@ fn ends(rt: &impl Abort, alloc: Global, row: Row) {
     );
     let errors = errors.into_inner();
     let courses = (journal, input, output);
-    let found = (sink.bytes.len(), sink.passed, left.editions);
-    same(rt, (courses, found), (courses, wanted));
+    let actual = (sink.bytes.len(), sink.passed, left.editions);
+    same(rt, (courses, actual), (courses, expected));
     same(
         rt,
         Some(sink.bytes.as_slice()),
-        WRITTEN.as_bytes().get(..wanted.0),
+        WRITTEN.as_bytes().get(..expected.0),
     );
     same(rt, (left.status, text_of(rt, &errors)), (status, printed));
     same(rt, left.journal.is_some(), status == Status::Done);

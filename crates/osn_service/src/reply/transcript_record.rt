@@ -119,7 +119,7 @@ fn write_written(
     weekday: Option<Weekday>,
 ) -> Result<(), AllocError>
     ensures text { OnOk result (out.new.text ≡ out.old.text
-        ++ compact_text (spec.asked_date_data reader code.now text.now weekday)) }
+        ++ compact_text (spec.query_date_data reader code.now text.now weekday)) }
     ensures before { out.new.before ≡ out.old.before }
 {
     out.push_text(r#"{"code":"#, code.as_str())?;
@@ -172,7 +172,7 @@ pub(crate) struct TranscriptRecord<'a> {
 }
 
 impl<'a> WriteJson for TranscriptRecord<'a> {
-    ghost json_value = { λ a. spec.asked_data a.reader a.query.now a.reply.now };
+    ghost json_value = { λ a. spec.query_data a.reader a.query.now a.reply.now };
 
     fn write_json(&self, out: &mut LineWriter) -> Result<(), AllocError> {
         out.push(r#"{"ask":"#)?;

@@ -7,8 +7,8 @@ use std::process::Abort;
 
 /// Checks that a value that was found is the wanted one. If the two alone don't say which row of a
 /// table they belong to, the row is compared with them.
-pub fn same<T: PartialEq + Debug + Drop>(rt: &impl Abort, found: T, wanted: T)
-    ensures { T.eq found wanted ≡ true }
+pub fn same<T: PartialEq + Debug + Drop>(rt: &impl Abort, actual: T, expected: T)
+    ensures { T.eq actual expected ≡ true }
 {
-    assert_eq!(rt; found, wanted);
+    assert_eq!(rt; actual, expected);
 }

@@ -5,10 +5,10 @@ use Rattle.osn_commands.proofs.check.check_command.Goals as goal
 pub returns-in-Ok : goal.returns-in-Ok
 returns-in-Ok g c =
     inr (
-      c.in-Ok.said.edition,
-      c.in-Ok.said.register,
+      c.in-Ok.register_text.edition,
+      c.in-Ok.register_text.register,
       c.in-Ok.ensures.ok,
-      c.print.ensures (checked_line (length c.in-Ok.said.register.territories))
+      c.print.ensures (checked_line (length c.in-Ok.register_text.register.territories))
           c.register_line.ensures,
     )
 

@@ -5,7 +5,7 @@ use Rattle.osn_commands.proofs.diff.print_diff.Goals as goal
 pub returns-in-Some : goal.returns-in-Some
 returns-in-Some g c =
     let is : lacking (length c.args.object.now.batches) c.args.from c.args.to
-        ≡ Some c.in-Some.number = cc in
+    ≡ Some c.in-Some.number = cc in
     rw is (refl, c.report_edition_fault.ensures)
 
 pub returns-in-None : goal.returns-in-None

@@ -11,7 +11,7 @@ pub returns-in-Ok-published : goal.returns-in-Ok-published
 returns-in-Ok-published g c =
     let file = g.D.Keeper.KeptFile in
     let state = file_of file.contents file.synced file.fault in
-    let found = c.in-Ok.found in
+    let found = c.in-Ok.file in
     let journal = c.publish_command-published.new.journal in
     inr (
       g.D.Folder.known c.keep.new.self,
@@ -33,7 +33,7 @@ pub returns-in-Err-published : goal.returns-in-Err-published
 returns-in-Err-published g c =
     let file = g.D.Keeper.KeptFile in
     let state = file_of file.contents file.synced file.fault in
-    let found = c.in-Ok.found in
+    let found = c.in-Ok.file in
     let published = c.publish_command-published in
     let journal = published.new.journal in
     let older = c.in-Err-published.older in
@@ -42,7 +42,7 @@ returns-in-Err-published g c =
     let text = string_bytes older.edition.text in
     let anew = string_bytes older.edition.journal in
     let cut = option_map string_bytes older.cut in
-    let path = c.args.asked.journal.now in
+    let path = c.args.request.journal.now in
     let done = folders_of folder c.release.new.self c.save_edition.new.folder in
     let w = g.W.Sink in
     let e = g.E.Sink in
@@ -84,7 +84,7 @@ returns-in-Err-published g c =
 
 pub returns-in-Err : goal.returns-in-Err
 returns-in-Err g c =
-    let path = c.args.asked.journal.now in
+    let path = c.args.request.journal.now in
     inl (
       c.cause_of-cause.result,
       (

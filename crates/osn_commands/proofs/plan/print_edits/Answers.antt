@@ -22,8 +22,8 @@ pub returns-in-Done : goal.returns-in-Done
 returns-in-Done g c =
     let errors = c.print.new.errors in
     let object = c.args.object.now in
-    let wanted = c.args.wanted.now in
-    let text = plan_text object wanted c.args.edits.items in
+    let target = c.args.target.now in
+    let text = plan_text object target c.args.edits.items in
     record {
       between = g.E.Sink.contents errors;
       failed = g.E.Sink.has_failed errors;
@@ -36,7 +36,7 @@ returns-in-Done g c =
           (output_of g.E.Sink.contents g.E.Sink.has_failed g.E.Sink.holds_back c.args.errors.now
           errors)) c.in-Done.is (c.print.ensures text
           (subst (λ es. IfOk c.plan_text.result (λ t. string_bytes t
-          ≡ plan_text object wanted es)) c.deref.ensures.value c.plan_text.ensures));
+          ≡ plan_text object target es)) c.deref.ensures.value c.plan_text.ensures));
       notes = c.report_edits.ensures;
     }
 
@@ -44,8 +44,8 @@ pub returns-in_default : goal.returns-in_default
 returns-in_default g c =
     let errors = c.print.new.errors in
     let object = c.args.object.now in
-    let wanted = c.args.wanted.now in
-    let text = plan_text object wanted c.args.edits.items in
+    let target = c.args.target.now in
+    let text = plan_text object target c.args.edits.items in
     record {
       between = g.E.Sink.contents errors;
       failed = g.E.Sink.has_failed errors;
@@ -54,6 +54,6 @@ returns-in_default g c =
       prints =
           c.print.ensures text
           (subst (λ es. IfOk c.plan_text.result (λ t. string_bytes t
-          ≡ plan_text object wanted es)) c.deref.ensures.value c.plan_text.ensures);
+          ≡ plan_text object target es)) c.deref.ensures.value c.plan_text.ensures);
       notes = not_printed c.print.result _ _ c.in_default.not-Done (refl, refl);
     }

@@ -7,10 +7,10 @@ use Rattle.osn_commands.proofs.plan.print_plan.Goals as goal
 pub returns-in-Ok : goal.returns-in-Ok
 returns-in-Ok g c =
     let object = c.args.object.now in
-    let had : later_than c.args.asked.edition (length object.batches) ≡ None = cc in
+    let had : later_than c.args.request.edition (length object.batches) ≡ None = cc in
     rw had (inr (
       c.in-Ok.edits.items,
-      same_plan object _ _ c.args.wanted.now.territories _ _ c.register.ensures.limits
+      same_plan object _ _ c.args.target.now.territories _ _ c.register.ensures.limits
           c.register.ensures.territories refl c.in-Ok.ensures.ok,
       c.print_edits.ensures,
     ))
@@ -18,10 +18,10 @@ returns-in-Ok g c =
 pub returns-in-Err : goal.returns-in-Err
 returns-in-Err g c =
     let object = c.args.object.now in
-    let had : later_than c.args.asked.edition (length object.batches) ≡ None = cc in
+    let had : later_than c.args.request.edition (length object.batches) ≡ None = cc in
     rw had (inl (
       c.in-Err.fault,
-      same_fault object _ _ c.args.wanted.now.territories c.in-Err.fault c.register.ensures.limits
+      same_fault object _ _ c.args.target.now.territories c.in-Err.fault c.register.ensures.limits
           c.register.ensures.territories c.in-Err.ensures.err,
       refl,
       c.report_plan_fault.ensures,

@@ -4,9 +4,9 @@ use Rattle.osn_register.specs.declared.refusal.Refusal.{Refusal}
 use Rattle.osn_commands.specs.PlanFault.{refused_line, renamed_line}
 use Rattle.osn_commands.proofs.plan_fault.report_plan_fault.Goals as goal
 
-same_renamed : (path a code b name c wanted : List ℕ) → a ≡ code → b ≡ name → c ≡ wanted
-    → renamed_line path a b c ≡ renamed_line path code name wanted
-same_renamed path a code b name c wanted p q r = rw (p, q, r) refl
+same_renamed : (path a code b name c new_name : List ℕ) → a ≡ code → b ≡ name → c ≡ new_name
+    → renamed_line path a b c ≡ renamed_line path code name new_name
+same_renamed path a code b name c new_name p q r = rw (p, q, r) refl
 
 same_refused : (path a code : List ℕ) (refusal : Refusal) → a ≡ code
     → refused_line path a refusal ≡ refused_line path code refusal
@@ -16,7 +16,7 @@ pub returns-in-Renamed : goal.returns-in-Renamed
 returns-in-Renamed g c =
     let fault = c.in-Renamed in
     let path = c.args.path.now in
-    rw fault.is (c.report_line.ensures (renamed_line path fault.code fault.name fault.wanted)
+    rw fault.is (c.report_line.ensures (renamed_line path fault.code fault.name fault.new_name)
     (IfOk-weaker c.renamed_line-line.result _ _
     (λ line is. is ∙ same_renamed path _ _ _ _ _ _ c.as_str.ensures.value
     c.as_str-in-Renamed.ensures.value c.as_str-in-Renamed-2.ensures.value)

@@ -26,14 +26,14 @@ pub returns-in-Ok-clause-older : goal.returns-in-Ok-clause-older
 returns-in-Ok-clause-older g c =
     let held = c.in-Ok.held in
     IfErr-weaker c.publish_held.result _ _
-    (λ older h. edition_of_older c.args.limits (request_of c.args.asked) c.args.wanted.now
+    (λ older h. edition_of_older c.args.limits (request_of c.args.request) c.args.target.now
     (g.J.Source.remaining c.args.journal.now) held.bytes.items _ _ _ _ held.part held.version
     held.object c.in-Ok.ensures.bytes c.in-Ok.ensures.ok h) c.publish_held.ensures.older
 
 pub returns-in-Err-clause-ended : goal.returns-in-Err-clause-ended
 returns-in-Err-clause-ended g c =
     let given = g.J.Source.remaining c.args.journal.now in
-    let failed = g.J.Source.has_failed c.read_kept.new.journal in
+    let failed = g.J.Source.has_failed c.read_journal_to_keep.new.journal in
     inl (
       c.in-Err.fault,
       refl,

@@ -1,7 +1,7 @@
 use Rattle.std.proofs.Common.{◌≡◌, ◌==◌, ◌∙◌, ℕ, length, vec_len, ap, arith, refl, sym}
 use Rattle.osn_commands.proofs.PublishLemmas.{edition_refused, edition_written}
 use Rattle.osn_commands.proofs.PublishLemmas.{nothing_published}
-use Rattle.osn_commands.specs.Publish.{standing_text}
+use Rattle.osn_commands.specs.Publish.{no_change_text}
 use Rattle.osn_commands.specs.PublishInside.{CanStay}
 use Rattle.osn_commands.proofs.publish_edits.append_edits.Goals as goal
 
@@ -10,20 +10,20 @@ returns-then-is_empty g c = λ given part_of.
     let size : length c.args.edits.items ≡ vec_len c.args.edits =
     omega (arith, c.args.edits.ok.0) in
     nothing_published (CanStay g.K.KeptFile.cut_back_may_fail) c.args.path.now c.args.object.now
-    c.args.wanted.now
+    c.args.target.now
     _ _ given _ _ c.print.result c.args.edits.items
     (ap (λ (n : ℕ). n == 0) size
     ∙ (sym c.is_empty.ensures ∙ c.if-is_empty.true))
     refl
-    (c.print.ensures (standing_text c.args.object.now c.args.wanted.now)
-    c.standing_text.ensures)
+    (c.print.ensures (no_change_text c.args.object.now c.args.target.now)
+    c.no_change_text.ensures)
 
 pub returns-in-Ok : goal.returns-in-Ok
 returns-in-Ok g c = λ given part_of.
     let size : length c.args.edits.items ≡ vec_len c.args.edits =
     omega (arith, c.args.edits.ok.0) in
     edition_written (CanStay g.K.KeptFile.cut_back_may_fail) c.args.path.now c.args.object.now
-    c.args.wanted.now
+    c.args.target.now
     _ _ given _ _ c.publish_edition.result c.args.edits.items
     (ap (λ (n : ℕ). n == 0) size
     ∙ (sym c.is_empty.ensures ∙ c.if-is_empty.false)) c.in-Ok.ensures.lawful
@@ -36,7 +36,7 @@ returns-in-Err g c = λ given part_of.
     let size : length c.args.edits.items ≡ vec_len c.args.edits =
     omega (arith, c.args.edits.ok.0) in
     edition_refused (CanStay g.K.KeptFile.cut_back_may_fail) c.args.path.now c.args.object.now
-    c.args.wanted.now
+    c.args.target.now
     _ _ given _ _ c.report.result c.args.edits.items c.in-Err.refusal
     (ap (λ (n : ℕ). n == 0) size
     ∙ (sym c.is_empty.ensures ∙ c.if-is_empty.false)) c.in-Err.ensures.refused

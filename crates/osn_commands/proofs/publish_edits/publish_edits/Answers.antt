@@ -21,26 +21,26 @@ returns-in-Ok-clause-older g c = record {
 pub returns-in-Err-clause-ok : goal.returns-in-Err-clause-ok
 returns-in-Err-clause-ok g c = λ given part_of.
     anew_refused (CanStay g.K.KeptFile.cut_back_may_fail) c.args.path.now c.args.held.object
-    c.args.wanted.now _ _ given _ _ c.report.result c.args.held.version _
+    c.args.target.now _ _ given _ _ c.report.result c.args.held.version _
     (subst (λ l. needs_sources c.args.held.version l ≡ true) c.deref.ensures.value
     (sym c.needs_sources.ensures ∙ c.if-needs_sources.true)) c.args.edits.items
     c.in-Err.refusal c.in-Err.ensures.refused (refl, (refl, c.report.ensures))
 
-pub returns-in-Ok-check_kept-clause-ok : goal.returns-in-Ok-check_kept-clause-ok
-returns-in-Ok-check_kept-clause-ok g c = λ given part_of.
+pub returns-in-Ok-check_version_to_keep-clause-ok : goal.returns-in-Ok-check_version_to_keep-clause-ok
+returns-in-Ok-check_version_to_keep-clause-ok g c = λ given part_of.
     none_needed (CanStay g.K.KeptFile.cut_back_may_fail) c.args.path.now c.args.held.object
-    c.args.wanted.now _ _ given _ _ c.append_edits.result c.args.held.version _
+    c.args.target.now _ _ given _ _ c.append_edits.result c.args.held.version _
     (subst (λ l. needs_sources c.args.held.version l ≡ false) c.deref.ensures.value
     (sym c.needs_sources.ensures ∙ c.if-needs_sources.false)) c.args.edits.items
-    (rw c.in-Ok-check_kept.ensures.ok (c.append_edits.ensures given part_of))
+    (rw c.in-Ok-check_version_to_keep.ensures.ok (c.append_edits.ensures given part_of))
 
 pub returns-clause-ok : goal.returns-clause-ok
 returns-clause-ok g c = λ given part_of.
     none_needed (CanStay g.K.KeptFile.cut_back_may_fail) c.args.path.now c.args.held.object
-    c.args.wanted.now _ _ given _ _ c.report_line.result c.args.held.version _
+    c.args.target.now _ _ given _ _ c.report_line.result c.args.held.version _
     (subst (λ l. needs_sources c.args.held.version l ≡ false) c.deref.ensures.value
     (sym c.needs_sources.ensures ∙ c.if-needs_sources.false)) c.args.edits.items
-    (rw c.in-Err-check_kept.ensures.err.1 (
+    (rw c.in-Err-check_version_to_keep.ensures.err.1 (
       refl,
       refl,
       c.report_line.ensures (not_kept_line c.args.path.now c.args.held.version)

@@ -10,6 +10,6 @@ abbrev pub invariant-loop-year : goal.invariant-loop-year
 invariant-loop-year l =
     l.initial.edits.items
     ++ flat_map (λ e. map (edit_of l.pair.code.now)
-    (spec.added_exception (sources_at l.pair).wanted e)) l.wanted.exceptions
+    (spec.added_exception (sources_at l.pair).target e)) l.target.exceptions
     ≡ l.edits.items ++ flat_map (λ e. map (edit_of l.pair.code.now)
-    (spec.added_exception (sources_at l.pair).wanted e)) l.year-iterator
+    (spec.added_exception (sources_at l.pair).target e)) l.year-iterator

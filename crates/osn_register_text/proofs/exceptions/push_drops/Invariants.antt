@@ -10,6 +10,6 @@ abbrev pub invariant-loop-year : goal.invariant-loop-year
 invariant-loop-year l =
     l.initial.edits.items
     ++ flat_map (λ e. map (edit_of l.pair.code.now)
-    (spec.dropped_exception (sources_at l.pair) l.wanted e)) l.standing.exceptions
+    (spec.dropped_exception (sources_at l.pair) l.target e)) l.current.exceptions
     ≡ l.edits.items ++ flat_map (λ e. map (edit_of l.pair.code.now)
-    (spec.dropped_exception (sources_at l.pair) l.wanted e)) l.year-iterator
+    (spec.dropped_exception (sources_at l.pair) l.target e)) l.year-iterator

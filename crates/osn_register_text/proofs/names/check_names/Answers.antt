@@ -12,23 +12,23 @@ use Rattle.osn_register_text.proofs.names.check_names.Goals as goal
 pub returns-in_err-check_name-clause-err : goal.returns-in_err-check_name-clause-err
 returns-in_err-check_name-clause-err c =
     let territories = c.args.register.now.territories in
-    let wanted = c.args.wanted.now.territories in
+    let target = c.args.target.now.territories in
     let place = c.loop-code.place in
     let f = c.in_err-check_name.field-0.0 in
-    let here = is_listed (slice_get wanted place) _ _ _ (sym c.in-Some.ensures.value) in
-    handed_on (IsFault c.args.register.now.limits wanted territories) c.from_residual.result f
+    let here = is_listed (slice_get target place) _ _ _ (sym c.in-Some.ensures.value) in
+    handed_on (IsFault c.args.register.now.limits target territories) c.from_residual.result f
     c.from_residual.ensures.1
-    (name_fault wanted territories place c.args.register.now.limits here.entry here.is
+    (name_fault target territories place c.args.register.now.limits here.entry here.is
     c.loop-code.invariant f
     (of_entry (λ code name. IsNameFault territories code name f) here.entry _ _ here.code_is
     here.name_is c.in_err-check_name.ensures.err))
 
 pub overflow_add-place : goal.overflow_add-place
 overflow_add-place c =
-    let wanted = c.args.wanted.now.territories in
+    let target = c.args.target.now.territories in
     let place = c.loop-code.place in
-    let here = is_listed (slice_get wanted place) _ _ _ (sym c.in-Some.ensures.value) in
-    let within : place < length wanted = slice_get_within wanted place here.entry here.is in
+    let here = is_listed (slice_get target place) _ _ _ (sym c.in-Some.ensures.value) in
+    let within : place < length target = slice_get_within target place here.entry here.is in
     omega (
       arith,
       within,
@@ -38,25 +38,25 @@ overflow_add-place c =
 
 pub loop-code-smaller : goal.loop-code-smaller
 loop-code-smaller c =
-    let wanted = c.args.wanted.now.territories in
+    let target = c.args.target.now.territories in
     let place = c.loop-code.place in
-    let here = is_listed (slice_get wanted place) _ _ _ (sym c.in-Some.ensures.value) in
-    let within : place < length wanted = slice_get_within wanted place here.entry here.is in
+    let here = is_listed (slice_get target place) _ _ _ (sym c.in-Some.ensures.value) in
+    let within : place < length target = slice_get_within target place here.entry here.is in
     omega (arith, within)
 
 pub loop-code-preserved : goal.loop-code-preserved
 loop-code-preserved c =
     let territories = c.args.register.now.territories in
-    let wanted = c.args.wanted.now.territories in
+    let target = c.args.target.now.territories in
     let place = c.loop-code.place in
-    let here = is_listed (slice_get wanted place) _ _ _ (sym c.in-Some.ensures.value) in
-    called_more wanted territories place here.entry here.is
+    let here = is_listed (slice_get target place) _ _ _ (sym c.in-Some.ensures.value) in
+    called_more target territories place here.entry here.is
     (of_entry (λ code name. has_other_name name (name_in territories code) ≡ false) here.entry _ _
     here.code_is here.name_is c.in_ok-check_name.ensures.ok) c.loop-code.invariant
 
 pub returns-clause-ok : goal.returns-clause-ok
 returns-clause-ok c =
-    let wanted = c.args.wanted.now.territories in
+    let target = c.args.target.now.territories in
     let place = c.loop-code.place in
-    called_all wanted c.args.register.now.territories place
-    (none_listed (slice_get wanted place) (sym c.in_default.ensures.value)) c.loop-code.invariant
+    called_all target c.args.register.now.territories place
+    (none_listed (slice_get target place) (sym c.in_default.ensures.value)) c.loop-code.invariant

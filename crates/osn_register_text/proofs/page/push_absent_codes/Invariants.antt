@@ -5,5 +5,5 @@ use Rattle.osn_register_text.proofs.page.push_absent_codes.Given as goal
 -- the codes of the territories that are left are still to come
 abbrev pub invariant-loop-place : goal.invariant-loop-place
 invariant-loop-place l =
-    string_bytes l.initial.out ++ absent_codes l.wanted.territories l.register.territories
-    ≡ string_bytes l.out ++ absent_codes l.wanted.territories (drop l.place l.register.territories)
+    string_bytes l.initial.out ++ absent_codes l.target.territories l.register.territories
+    ≡ string_bytes l.out ++ absent_codes l.target.territories (drop l.place l.register.territories)

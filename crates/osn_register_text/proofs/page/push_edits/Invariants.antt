@@ -8,5 +8,5 @@ use Rattle.osn_register_text.proofs.page.push_edits.Given as goal
 abbrev pub invariant-loop-edit : goal.invariant-loop-edit
 invariant-loop-edit l =
     string_bytes l.out ≡ string_bytes l.initial.out
-    ++ flat_map (edit_line newest_rules l.register.territories l.wanted.territories)
+    ++ flat_map (edit_line newest_rules l.register.territories l.target.territories)
     (take l.edit-index l.edits)

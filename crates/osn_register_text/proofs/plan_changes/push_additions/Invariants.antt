@@ -10,5 +10,5 @@ abbrev pub invariant-loop-period : goal.invariant-loop-period
 invariant-loop-period l =
     l.edits.items ≡ l.initial.edits.items
     ++ flat_map (λ p. map (edit_of l.pair.code.now)
-    (spec.added_change (sources_at l.pair).wanted (p.first, p.regime)))
+    (spec.added_change (sources_at l.pair).target (p.first, p.regime)))
     (take l.period-index l.periods)

@@ -8,5 +8,5 @@ use Rattle.osn_register_text.proofs.plan_changes.push_drops.Given as goal
 abbrev pub invariant-loop-period : goal.invariant-loop-period
 invariant-loop-period l =
     l.edits.items ≡ l.initial.edits.items
-    ++ flat_map (λ p. map (edit_of l.pair.code.now) (spec.dropped_change l.wanted p.first))
-    (take l.period-index l.standing)
+    ++ flat_map (λ p. map (edit_of l.pair.code.now) (spec.dropped_change l.target p.first))
+    (take l.period-index l.current)

@@ -10,10 +10,10 @@ use Rattle.osn_register_text.proofs.planning.all_edits.Goals as goal
 
 pub overflow_add-place : goal.overflow_add-place
 overflow_add-place c =
-    let wanted = c.args.wanted.now.territories in
+    let target = c.args.target.now.territories in
     let place = c.loop-code.place in
-    let here = is_listed (slice_get wanted place) _ _ _ (sym c.in-Some.ensures.value) in
-    let within : place < length wanted = slice_get_within wanted place here.entry here.is in
+    let here = is_listed (slice_get target place) _ _ _ (sym c.in-Some.ensures.value) in
+    let within : place < length target = slice_get_within target place here.entry here.is in
     omega (
       arith,
       within,
@@ -23,39 +23,39 @@ overflow_add-place c =
 
 pub loop-code-smaller : goal.loop-code-smaller
 loop-code-smaller c =
-    let wanted = c.args.wanted.now.territories in
+    let target = c.args.target.now.territories in
     let place = c.loop-code.place in
-    let here = is_listed (slice_get wanted place) _ _ _ (sym c.in-Some.ensures.value) in
-    let within : place < length wanted = slice_get_within wanted place here.entry here.is in
+    let here = is_listed (slice_get target place) _ _ _ (sym c.in-Some.ensures.value) in
+    let within : place < length target = slice_get_within target place here.entry here.is in
     omega (arith, within)
 
 pub loop-code-preserved : goal.loop-code-preserved
 loop-code-preserved c =
     let territories = c.args.register.now.territories in
-    let wanted = c.args.wanted.now.territories in
+    let target = c.args.target.now.territories in
     let place = c.loop-code.place in
     let old = c.loop-code.edits.items in
     let code = c.in-Some.code.now in
     let name = c.in-Some.name.now in
     let territory = c.in-Some.territory.now in
-    let rest = edits_for wanted territories (drop (place + 1) wanted) in
-    let here = is_listed (slice_get wanted place) code name territory
+    let rest = edits_for target territories (drop (place + 1) target) in
+    let here = is_listed (slice_get target place) code name territory
     (sym c.in-Some.ensures.value) in
     ap (λ es. es ++ rest) c.in_ok-push_edits.ensures
-    ∙ append_assoc old (entry_edits wanted territories code name territory) rest
+    ∙ append_assoc old (entry_edits target territories code name territory) rest
     ∙ ap (λ es. old ++ (es ++ rest))
-    (sym (same_entry_edits wanted territories here.entry code name territory here.code_is
+    (sym (same_entry_edits target territories here.entry code name territory here.code_is
     here.name_is here.territory_is))
-    ∙ ap (λ ls. old ++ edits_for wanted territories ls)
-    (sym (left_from wanted place here.entry here.is)) ∙ c.loop-code.invariant
+    ∙ ap (λ ls. old ++ edits_for target territories ls)
+    (sym (left_from target place here.entry here.is)) ∙ c.loop-code.invariant
 
 pub returns : goal.returns
 returns c =
     let territories = c.args.register.now.territories in
-    let wanted = c.args.wanted.now.territories in
+    let target = c.args.target.now.territories in
     let place = c.loop-code.place in
     sym (append-nil c.loop-code.edits.items)
-    ∙ ap (λ ls. c.loop-code.edits.items ++ edits_for wanted territories ls)
-    (sym (none_left wanted place
-    (none_listed (slice_get wanted place) (sym c.in_default.ensures.value))))
+    ∙ ap (λ ls. c.loop-code.edits.items ++ edits_for target territories ls)
+    (sym (none_left target place
+    (none_listed (slice_get target place) (sym c.in_default.ensures.value))))
     ∙ c.loop-code.invariant

@@ -4,11 +4,11 @@ use Rattle.osn_register_text.proofs.Mapped.{four, differences_mapped, ok_by}
 use Rattle.osn_register_text.proofs.territories.push_differences.Goals as goal
 
 pub returns : goal.returns
-returns c = ok_by c.push_all_wanted-2.result
+returns c = ok_by c.push_all_added-2.result
     (λ is. four c.args.edits.now.items _ _ _ _ _ _ _ _ c.in_ok-push_drops.ensures
-    c.in_ok-push_all_wanted.ensures c.in_ok-push_drops-2.ensures is
+    c.in_ok-push_all_added.ensures c.in_ok-push_drops-2.ensures is
     ∙ ap (λ es. c.args.edits.now.items ++ es)
-    (differences_mapped c.args.pair.code.now (sources_at c.args.pair) c.args.standing.now
-    c.args.wanted.now c.periods.result.now c.periods-2.result.now c.periods.ensures.value
+    (differences_mapped c.args.pair.code.now (sources_at c.args.pair) c.args.current.now
+    c.args.target.now c.periods.result.now c.periods-2.result.now c.periods.ensures.value
     c.periods-2.ensures.value))
-    c.push_all_wanted-2.ensures
+    c.push_all_added-2.ensures

@@ -7,6 +7,6 @@ pub returns : goal.returns
 returns c = ok_by c.push_additions-2.result
     (λ is. two c.args.edits.now.items _ _ _ _ c.in_ok-push_additions.ensures is
     ∙ ap (λ es. c.args.edits.now.items ++ es)
-    (later_mapped c.args.pair.code.now (sources_at c.args.pair).wanted c.args.wanted.now
+    (later_mapped c.args.pair.code.now (sources_at c.args.pair).target c.args.target.now
     c.periods.result.now c.periods.ensures.value))
     c.push_additions-2.ensures

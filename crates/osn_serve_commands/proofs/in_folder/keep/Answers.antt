@@ -11,7 +11,7 @@ returns-in-Ok g c =
     inr (
       g.D.Folder.known c.keep.new.self,
       c.in-Ok.ensures.ok,
-      state c.in-Ok.kept,
+      state c.in-Ok.keeper,
       c.in-Ok.ensures.contents,
       c.in-Ok.ensures.sound.0,
       input_of g.D.File.Source.remaining g.D.File.Source.has_failed c.in-Ok.journal journal,

@@ -6,7 +6,7 @@ use Rattle.osn_serve_commands.proofs.keep.begin.Goals as goal
 
 pub returns-in_err-held-clause-err : goal.returns-in_err-held-clause-err
 returns-in_err-held-clause-err g c =
-    let failed = g.J.Source.has_failed c.read_kept.new.journal in
+    let failed = g.J.Source.has_failed c.read_journal_to_keep.new.journal in
     let fault = c.in_err-held.field-0.0 in
     if_err_made c.from_residual.result c.from_residual.ensures.1
     (λ e is. (
@@ -21,12 +21,12 @@ returns-in_err-held-clause-err g c =
       )),
     ))
 
-pub returns-in_err-check_kept-clause-err : goal.returns-in_err-check_kept-clause-err
-returns-in_err-check_kept-clause-err g c =
-    let older = c.in_err-check_kept.ensures.err in
+pub returns-in_err-check_version_to_keep-clause-err : goal.returns-in_err-check_version_to_keep-clause-err
+returns-in_err-check_version_to_keep-clause-err g c =
+    let older = c.in_err-check_version_to_keep.ensures.err in
     let read = c.in_ok-held in
-    if_err_made c.from_residual-in_err-check_kept.result
-    c.from_residual-in_err-check_kept.ensures.1
+    if_err_made c.from_residual-in_err-check_version_to_keep.result
+    c.from_residual-in_err-check_version_to_keep.ensures.1
     (λ e is. (
       None,
       refl,
@@ -77,7 +77,7 @@ returns-clause-ok g c =
           read.held.object given read.ensures.bytes read.ensures.ok in
           let ready = r.2 held known whole.0 in (
             whole.1,
-            c.in_ok-check_kept.ensures.ok,
+            c.in_ok-check_version_to_keep.ensures.ok,
             ready.0,
             is_ready _ _ _ _ _ _ ready.1 ready.2 c.in_ok-make_ready.ensures.sound,
           )),

@@ -42,7 +42,7 @@ returns-in-Ok-target_if-clause-ok g c =
           (may_fail_if file.remaining file.has_failed found.source left) found.ensures.ok
           found.ensures.crash
           (saved_over c.args.limits _ _ _ _ c.args.rules _ _
-          (g.D.Folder.known c.target_if.new.folder) _ _ _ _ _ c.in-Ok-target_if.found _ _
+          (g.D.Folder.known c.target_if.new.folder) _ _ _ _ _ c.in-Ok-target_if.target _ _
           c.path_or_none-in-None.ensures c.in-Ok.ensures.path c.in-Ok-target_if.ensures.ok
           c.target_if.ensures.crash c.bytes_of.ensures c.is_left_beside.ensures
           c.serve_opened.ensures),

@@ -12,8 +12,8 @@ use Rattle.osn_serve_commands.proofs.upgrade.upgrade_file.Goals as goal
 pub returns-in-Ok-None-clause-ok : goal.returns-in-Ok-None-clause-ok
 returns-in-Ok-None-clause-ok g c =
     let file = g.D.File.Source in
-    let found = c.in-Ok.found in
-    let left = c.older_journal-found.new.journal in
+    let found = c.in-Ok.file in
+    let left = c.older_journal-outcome.new.journal in
     let given = input_of file.remaining file.has_failed found.1 left in
     let folder = g.D.Folder.known in
     upgrade_left c.args.limits c.args.path.now (MayFail file.has_failed)
@@ -31,8 +31,8 @@ returns-in-Ok-None-clause-ok g c =
 pub returns-in-Ok-Some-clause-ok : goal.returns-in-Ok-Some-clause-ok
 returns-in-Ok-Some-clause-ok g c =
     let file = g.D.File.Source in
-    let found = c.in-Ok.found in
-    let left = c.older_journal-found.new.journal in
+    let found = c.in-Ok.file in
+    let left = c.older_journal-outcome.new.journal in
     let given = input_of file.remaining file.has_failed found.1 left in
     let folder = g.D.Folder.known in
     let older = c.in-Ok-Some.older in
@@ -53,8 +53,8 @@ returns-in-Ok-Some-clause-ok g c =
 pub returns-in-Ok-Some-clause-err : goal.returns-in-Ok-Some-clause-err
 returns-in-Ok-Some-clause-err g c =
     let file = g.D.File.Source in
-    let found = c.in-Ok.found in
-    let left = c.older_journal-found.new.journal in
+    let found = c.in-Ok.file in
+    let left = c.older_journal-outcome.new.journal in
     let given = input_of file.remaining file.has_failed found.1 left in
     let folder = g.D.Folder.known in
     let older = c.in-Ok-Some.older in
@@ -72,18 +72,18 @@ returns-in-Ok-Some-clause-err g c =
     c.release.ensures) older.bytes.items (string_bytes older.text)
     (option_map string_bytes older.cut) is) c.save_older.ensures.err
 
-pub returns-in-Err-found-clause-err : goal.returns-in-Err-found-clause-err
-returns-in-Err-found-clause-err g c =
+pub returns-in-Err-outcome-clause-err : goal.returns-in-Err-outcome-clause-err
+returns-in-Err-outcome-clause-err g c =
     let file = g.D.File.Source in
-    let found = c.in-Ok.found in
-    let left = c.older_journal-found.new.journal in
+    let found = c.in-Ok.file in
+    let left = c.older_journal-outcome.new.journal in
     let given = input_of file.remaining file.has_failed found.1 left in
     let folder = g.D.Folder.known in
     upgrade_unread c.args.limits c.args.path.now (MayFail file.has_failed)
     (folders_of folder c.args.folder.now c.release.new.self)
     (output_of g.E.Sink.contents g.E.Sink.has_failed g.E.Sink.holds_back c.args.errors.now
-    c.report_at-in-Err-found.new.errors) (folder c.release.new.self) given
+    c.report_at-in-Err-outcome.new.errors) (folder c.release.new.self) given
     (looked_at c.args.path.now (MayFail file.has_failed) _ (folder c.keep.new.self) _ _ given
     c.in-Ok.ensures.ok c.in-Ok.ensures.contents c.in-Ok.ensures.source (λ yes. (left, yes))
-    c.release.ensures) c.in-Err-found.fault c.report_at-in-Err-found.result
-    c.in-Err-found.ensures.err refl c.report_at-in-Err-found.ensures
+    c.release.ensures) c.in-Err-outcome.fault c.report_at-in-Err-outcome.result
+    c.in-Err-outcome.ensures.err refl c.report_at-in-Err-outcome.ensures

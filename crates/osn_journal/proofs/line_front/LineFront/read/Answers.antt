@@ -1,6 +1,6 @@
 use Rattle.std.proofs.Common.{◌++◌, ◌∙◌, sym, subst, List, ℕ}
 use Rattle.osn_lines.specs.Ended.{ended_bytes}
-use Rattle.osn_journal.specs.FollowerInside.{StandsForLines}
+use Rattle.osn_journal.specs.FollowerInside.{GivesSameLines}
 use Rattle.osn_journal.proofs.FrontLemmas.{ended-added, few-added, long_of, not_long, rest-added}
 use Rattle.osn_journal.proofs.LineLemmas.{rest-pass, no_line-pass}
 use Rattle.osn_journal.proofs.line_front.LineFront.read.Goals as goal
@@ -10,7 +10,7 @@ use Rattle.osn_journal.proofs.line_front.LineFront.read.Goals.{else-len-gt-LONGE
 
 pub returns-then-ended_length-eq0-clause-lines : goal.returns-then-ended_length-eq0-clause-lines
 returns-then-ended_length-eq0-clause-lines c = λ waiting h.
-    subst (λ (l : List ℕ). StandsForLines l (ended_bytes (waiting ++ c.args.more.now)))
+    subst (λ (l : List ℕ). GivesSameLines l (ended_bytes (waiting ++ c.args.more.now)))
     (sym c.new.ensures.items)
     (no_line-pass waiting c.args.more.now c.args.self.now h
     (sym c.ended_length.ensures.value ∙ c.if-ended_length-eq0.true))

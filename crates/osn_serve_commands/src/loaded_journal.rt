@@ -66,7 +66,7 @@ fn held_journal(alloc: Global, limits: Limits, bytes: Vec<u8>) -> Result<LoadedJ
 /// # Errors
 ///
 /// Why it makes no object. Any version is read.
-pub fn read_kept<J: Source>(
+pub fn read_journal_to_keep<J: Source>(
     alloc: Global,
     limits: Limits,
     journal: &mut J,
@@ -88,7 +88,7 @@ pub fn read_kept<J: Source>(
 /// # Errors
 ///
 /// `OlderVersion` if it is not.
-pub fn check_kept(version: Version) -> Result<(), CommandFault>
+pub fn check_version_to_keep(version: Version) -> Result<(), CommandFault>
     ensures ok { OnOk result (is_kept version ≡ true) }
     ensures err { IfErr result (λ fault. (fault ≡ CommandFault.OlderVersion version)
         × (is_kept version ≡ false)) }

@@ -1,7 +1,7 @@
 use Rattle.std.proofs.Common.{Ok, sym, ◌∙◌}
 use Rattle.std.proofs.lemmas.Result.{IfOk-weaker}
 use Rattle.osn_serve_commands.proofs.KeepLemmas.{object_refused, some_loaded, some_said}
-use Rattle.osn_serve_commands.proofs.held.kept_object.Goals as goal
+use Rattle.osn_serve_commands.proofs.loaded_journal.kept_object.Goals as goal
 
 pub returns-clause-object : goal.returns-clause-object
 returns-clause-object c =

@@ -3,7 +3,7 @@ use Rattle.osn_lines.specs.Whole.{WhyNotRead}
 use Rattle.osn_serve_commands.specs.Keep.{IsUnread}
 use Rattle.osn_serve_commands.proofs.ResultLemmas.{if_err_made, any_bytes, known_bytes}
 use Rattle.osn_serve_commands.proofs.KeepLemmas.{none_held, not_read, reports_unread}
-use Rattle.osn_serve_commands.proofs.held.read_kept.Goals as goal
+use Rattle.osn_serve_commands.proofs.loaded_journal.read_journal_to_keep.Goals as goal
 
 pub returns-in_err-bytes-clause-err : goal.returns-in_err-bytes-clause-err
 returns-in_err-bytes-clause-err g c =

@@ -3,7 +3,7 @@ use Rattle.osn_files.specs.CountedPrefix.{IsCountedPrefix}
 use Rattle.osn_serve_commands.specs.Keep.{IsUnread, SaysVersion, object_of}
 use Rattle.osn_serve_commands.proofs.ResultLemmas.{if_err_made}
 use Rattle.osn_serve_commands.proofs.KeepLemmas.{not_measured, whole_read, whole_within}
-use Rattle.osn_serve_commands.proofs.held.held_journal.Goals as goal
+use Rattle.osn_serve_commands.proofs.loaded_journal.held_journal.Goals as goal
 
 pub returns-in_err-part-clause-err : goal.returns-in_err-part-clause-err
 returns-in_err-part-clause-err c =
