@@ -10,10 +10,9 @@ use Rattle.std.specs.Map.{update}
 use Rattle.std.specs.Option.{option_or}
 use Rattle.std.specs.Str.{bytes_eq}
 use Rattle.osn_territory.specs.Territory.{TerritoryModel}
-use Rattle.osn_register.specs.ByName.{entry_named, territory_named}
+use Rattle.osn_letters.specs.TerritoryNames.{entry_named, if_named, territory_named}
 use Rattle.osn_register.specs.Named.{listing_of}
 use Rattle.osn_register.specs.Plain.{EntryModel}
-use Rattle.osn_letters.specs.TerritoryNames.{if_named}
 
 module _ {T : Type 0} where
   or_none : (o : Option T) → option_or o None ≡ o

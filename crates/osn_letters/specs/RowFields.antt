@@ -12,7 +12,7 @@ use Rattle.osn_written.specs.declared.any_date.AnyDate.{AnyDate}
 use Rattle.osn_grammar.specs.Reading.{members, read_date}
 use Rattle.osn_territory.specs.Territory.{TerritoryModel}
 use Rattle.osn_letters.specs.PlaceEntries.{PlaceEntry, code_of}
-use Rattle.osn_register.specs.ByName.{territory_named}
+use Rattle.osn_letters.specs.TerritoryNames.{territory_named}
 use Rattle.osn_register.specs.Code.{is_code}
 use Rattle.osn_register.specs.Plain.{EntryModel, territory_of}
 use Rattle.osn_written.specs.declared.written_date.DateFault.{DateFault}

@@ -5,8 +5,7 @@ ghost use Rattle.std.specs.Option.{option_or};
 ghost use Rattle.std.specs.Str.{bytes_eq};
 ghost use Rattle.osn_letters.specs.PlaceEntries as entries;
 ghost use Rattle.osn_letters.specs.RowFields as spec;
-ghost use Rattle.osn_letters.specs.TerritoryNames.{if_named};
-ghost use Rattle.osn_register.specs.ByName as by_name;
+ghost use Rattle.osn_letters.specs.TerritoryNames as by_name;
 
 use crate::places::Places;
 use crate::row_field::text_in_field;
@@ -28,7 +27,7 @@ impl<'a> Model for TerritoryFinder<'a> {
     ghost use Rattle.std.specs.Prelude.{◌≡◌, ℕ, List, IfSome, option_map};
     ghost use Rattle.std.specs.HashMap.{get_by};
     ghost use Rattle.std.specs.Str.{bytes_eq};
-    ghost use Rattle.osn_register.specs.ByName.{territory_named};
+    ghost use Rattle.osn_letters.specs.TerritoryNames.{territory_named};
     ghost use Rattle.osn_register.specs.Plain.{EntryModel};
 
     ghost Value = { List EntryModel };
@@ -49,7 +48,7 @@ fn add_name<'a>(
     ensures { OnOk result ((text : List ℕ) →
         option_map (λ t. t.now) (get_by (λ known. bytes_eq text known.now) names.new)
         ≡ option_or (option_map (λ t. t.now) (get_by (λ known. bytes_eq text known.now) names.old))
-        (if_named text name.now territory.now)) }
+        (by_name.if_named text name.now territory.now)) }
 {
     if names.contains_key(name) {
         return Ok(());

@@ -8,7 +8,6 @@ pub mod Plain
 pub mod Lawful
 pub mod SameEntry
 pub mod Named
-pub mod ByName
 pub mod Remarks
 pub mod Answer
 pub mod Inside

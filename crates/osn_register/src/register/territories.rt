@@ -3,7 +3,6 @@ ghost use Rattle.std.specs.Prelude.{◌≡◌, ℕ, List, Some, is_some, option_
 ghost use Rattle.std.specs.Prelude.{IfSome};
 ghost use Rattle.osn_territory.specs.Territory.{TerritoryModel};
 ghost use Rattle.osn_days.specs.Rules.{newest_rules};
-ghost use Rattle.osn_register.specs.ByName as by_name;
 ghost use Rattle.osn_register.specs.Named.{listing_of, named_of};
 ghost use Rattle.osn_register.specs.Plain.{IsWellFormed, code_refusal, entry_of};
 ghost use Rattle.osn_register.specs.Refusal.{IsCheckOf};
@@ -53,18 +52,5 @@ impl Register {
             return Err(Refusal::BadCode);
         }
         self.find_territory(code).ok_or(Refusal::UnknownLand)
-    }
-
-    /// Returns the first territory that has the name.
-    pub fn territory_named(&self, name: &str) -> Option<&Territory>
-        ensures { option_map (λ t. t.now) result
-            ≡ by_name.territory_named name.now self.now.territories }
-    {
-        for (_code, entry) in &self.territories {
-            if entry.name.as_str() == name {
-                return Some(&entry.territory);
-            }
-        }
-        None
     }
 }

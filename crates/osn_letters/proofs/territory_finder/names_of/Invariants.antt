@@ -2,7 +2,7 @@ use Rattle.std.proofs.Common.{◌≡◌, ℕ, List, drop, option_map}
 use Rattle.std.specs.HashMap.{get_by}
 use Rattle.std.specs.Option.{option_or}
 use Rattle.std.specs.Str.{bytes_eq}
-use Rattle.osn_register.specs.ByName.{territory_named}
+use Rattle.osn_letters.specs.TerritoryNames.{territory_named}
 use Rattle.osn_letters.proofs.territory_finder.names_of.Given as goal
 
 -- the first territory of a name is in the map, or among those that are left
