@@ -5,11 +5,12 @@ mutants/README.md says what a mutant is. `check` proves nothing and takes a seco
 mutant, of the gate and of mutants/, whose old text is not exactly once in its file, that does not
 say what it breaks, or that repeats another.
 
-`try` clones what is committed, puts the mutants of mutants/CRATE.edits in the place of the gate's,
-and runs `rt must-fail`: a proof of each crate, and some 15 seconds for each mutant. A mutant that
-is proved is reported, unless mutants/survivors.txt gives the reason. If all of a crate went as
-they should, the first line of its file gets the commit and the date. With --part K/N only each Nth
-crate is tried, from the Kth on.
+`try` clones what is committed, proves each crate, and then checks it with the mutants of
+mutants/CRATE.edits: of each function one, as many in one check as there are functions. A mutant
+counts as refused if the prover refuses a function that it changes, and not for one that this calls;
+what is left open is tried alone. A mutant that is proved is reported, unless mutants/survivors.txt
+gives the reason. If all of a crate went as they should, the first line of its file gets the commit
+and the date. With --part K/N only each Nth crate is tried, from the Kth on.
 """
 import argparse
 import datetime
@@ -31,7 +32,9 @@ from command_line import TOP, CommandLine, end, need
 DATA = os.path.join(HERE, "mutants")
 SAYS = "# "
 TRIED = "tried: "
-VERDICT = re.compile(r"(?:rt: )?must-fail (\S+?)/(\S+\.edit): (.*)")
+FUNCTION = re.compile(r"^ *(?:pub(?:\([a-z]+\))? )?(?:const )?fn (\w+)", re.M)
+NAME_ALONE = re.compile(r"has no field|is not in scope|has no `|was not admitted")
+FAULT = re.compile(r"^.*\berror\[.*", re.M)
 
 
 @dataclass(frozen=True)
@@ -46,11 +49,6 @@ class Mutant:
     def breaks(self):
         """What it breaks, which is its name in survivors.txt."""
         return f"{self.crate}: {self.lines[0].removeprefix(SAYS)}"
-
-    @property
-    def edit(self):
-        """The name of the file that `rt must-fail` reads it from: the line that it begins at."""
-        return f"line_{self.place.rpartition(':')[2]}.edit"
 
 
 def read(path):
@@ -134,26 +132,97 @@ def check(crates):
     return bool(bad or unclear)
 
 
-def put_in_place(clone, crate):
-    folder = os.path.join(clone, "crates", crate, "must-fail")
-    shutil.rmtree(folder, ignore_errors=True)
-    os.mkdir(folder)
-    for mutant in further(crate):
-        with open(os.path.join(folder, mutant.edit), "w", encoding="utf-8") as file:
-            file.writelines(line + "\n" for line in mutant.lines)
+def functions_of(mutant, folder):
+    """The functions that a mutant changes, each by its file and name, without a name outside of
+    all functions."""
+    touched, file = set(), None
+    for line in mutant.lines:
+        mark, _, rest = line.partition(": ")
+        if mark == "file":
+            file = rest
+        elif mark == "old":
+            before, _, after = read(os.path.join(folder, file)).partition(rest)
+            names = FUNCTION.findall(before + (rest + after).partition("\n")[0])
+            touched.add((file, names[-1] if names and file.startswith("src/") else None))
+    return touched
 
 
-def verdicts_in(clone, crates):
-    """The verdict on each mutant, by its crate and the name of its edit."""
+def batches(mutants, folder):
+    """Lists of mutants of which no two change one function, so that one check tries a list."""
+    lists = []
+    for mutant in mutants:
+        touched = functions_of(mutant, folder)
+        if any(name is None for _, name in touched):
+            lists.append(([mutant], None))
+            continue
+        for batch, others in lists:
+            if others is not None and not others & touched:
+                batch.append(mutant)
+                others |= touched
+                break
+        else:
+            lists.append(([mutant], touched))
+    return [batch for batch, _ in lists]
+
+
+def edit(mutants, folder):
+    """Puts mutants into the files of a crate."""
+    for line in (line for mutant in mutants for line in mutant.lines):
+        mark, _, rest = line.partition(": ")
+        if mark == "file":
+            file = os.path.join(folder, rest)
+        elif mark == "old":
+            old = rest
+        elif line.startswith("new:"):
+            text = read(file).replace(old, line.removeprefix("new:").removeprefix(" "))
+            with open(file, "w", encoding="utf-8") as out:
+                out.write(text)
+
+
+def is_refused(output, mutant, folder):
+    """Whether a check refused a function that a mutant changes for itself, not for one that it
+    calls, and whether only because a proof names what is no longer there."""
+    errors = []
+    for file, name in functions_of(mutant, folder):
+        module = "::".join(file.removeprefix("src/").removesuffix(".rt").split("/"))
+        module = "" if module in ("lib", "main") else module + "::"
+        own = re.compile(rf"^fn \w+::{module}(?:\S+::)?{name}(?:::\S+)?: (?!proved|.* it calls )", re.M)
+        if name is None or own.search(output):
+            proofs = rf"proofs/\S*{'' if name is None else '/' + name + '/'}\S*:\d+: error.*"
+            errors.append(re.findall(rf"{proofs}|note: {file}:\d+:\d+: it is not .*", output))
+    by_name = any(errors) and all(NAME_ALONE.search(line) for lines in errors for line in lines)
+    return bool(errors), by_name
+
+
+def check_with(mutants, folder):
+    """What a check of the crate with these mutants prints, without its colors, and its status."""
+    edit(mutants, folder)
+    run = subprocess.run(["rt", "check"], cwd=folder, capture_output=True, text=True)
+    subprocess.run(["git", "checkout", "--quiet", "."], cwd=folder, check=True)
+    return run.stdout + run.stderr, run.returncode
+
+
+def verdicts_in(clone, crate):
+    """The verdict on each mutant of a crate, by its place. What a list of mutants leaves open is
+    tried alone."""
+    folder = os.path.join(clone, "crates", crate)
+    _, status = check_with([], folder)
+    waiting = [] if status else batches(further(crate), folder)
     verdicts = {}
-    command = ["rt", "must-fail", *crates]
-    with subprocess.Popen(
-        command, cwd=clone, stdout=subprocess.PIPE, stderr=subprocess.STDOUT, text=True
-    ) as run:
-        for line in run.stdout:
-            print(line, end="", flush=True)
-            if found := VERDICT.match(line):
-                verdicts[found[1], found[2]] = found[3]
+    while waiting:
+        mutants = waiting.pop()
+        output, status = check_with(mutants, folder)
+        is_read = "logic=not-proved" in output
+        for mutant in mutants:
+            refused, by_name = is_refused(output, mutant, folder) if is_read else (False, False)
+            if refused or len(mutants) == 1 and is_read:
+                verdicts[mutant.place] = "refused for a name alone" if by_name else "refused"
+            elif len(mutants) > 1:
+                waiting.append([mutant])
+            elif status == 0:
+                verdicts[mutant.place] = "proved"
+            else:
+                verdicts[mutant.place] = next(iter(FAULT.findall(output)), output[-200:])
     return verdicts
 
 
@@ -162,14 +231,14 @@ def report(crate, verdicts, listed):
     went otherwise than listed."""
     count, for_a_name, bad = Counter(), 0, 0
     for mutant in further(crate):
-        verdict = verdicts.get((crate, mutant.edit), "no verdict")
+        verdict = verdicts.get(mutant.place, "its crate is not proved")
         is_listed = mutant.breaks in listed
         if verdict.startswith("refused"):
             came = "refused"
-            for_a_name += "only because a proof file names" in verdict
+            for_a_name += verdict.endswith("name alone")
             if is_listed:
                 print(f"  {mutant.place}: refused now, take it out of survivors.txt")
-        elif verdict.startswith("NOT REFUSED"):
+        elif verdict == "proved":
             came = "proved"
             bad += not is_listed
             print(f"  {mutant.place}: proved, {'as listed' if is_listed else 'NOT LISTED'}")
@@ -196,16 +265,13 @@ def tried(crates):
     need("rt", "the Rattle kit that KIT names")
     commit = subprocess.run(["git", "rev-parse", "--short", "HEAD"], cwd=TOP, check=True,
                             capture_output=True, text=True).stdout.strip()
+    listed, count, failed = survivors(), 0, 0
     with cloned() as clone:
         for crate in crates:
-            put_in_place(clone, crate)
-        verdicts = verdicts_in(clone, crates)
-    listed, count, failed = survivors(), 0, 0
-    for crate in crates:
-        total, bad = report(crate, verdicts, listed)
-        count, failed = count + total, failed + bad
-        if not bad:
-            note_commit(crate, commit)
+            total, bad = report(crate, verdicts_in(clone, crate), listed)
+            count, failed = count + total, failed + bad
+            if not bad:
+                note_commit(crate, commit)
     print(f"{count} mutants of {len(crates)} crates, {failed} proved unlisted or not tried")
     return failed > 0
 
