@@ -187,18 +187,18 @@ class Way(NamedTuple):
 def ways(chance):
     """A save over a file and one to a new name, and keepers of files that a run may find."""
     begun = session(chance, chance.randint(2, 12)).accepted
-    more, anew = session(chance, chance.randint(8, 25), begun), session(chance, 25)
+    more, added = session(chance, chance.randint(8, 25), begun), session(chance, 25)
     old, cut = journal(begun), PUBLISH[:chance.randint(1, len(PUBLISH) - 1)].encode()
     yield Way("serve --journal a --save a", "a", old, begun, more.accepted, more.stdin())
-    yield Way("serve --save a", "a", None, [], anew.accepted, anew.stdin())
+    yield Way("serve --save a", "a", None, [], added.accepted, added.stdin())
     for content in (old, old[:-1], old + cut):
         yield Way("serve --keep a", "a", content, begun, more.accepted, more.stdin())
     for content in (None, HEAD[:4].encode(), b""):
-        yield Way("serve --keep a", "a", content, [], anew.accepted, anew.stdin())
+        yield Way("serve --keep a", "a", content, [], added.accepted, added.stdin())
     for content in (old, old + cut):
         yield Way("serve --keep a --upgrade", "a", content, begun, more.accepted, more.stdin(),
                   HEAD_4)
-    yield Way("serve --keep a --upgrade", "a", None, [], anew.accepted, anew.stdin(), HEAD_4)
+    yield Way("serve --keep a --upgrade", "a", None, [], added.accepted, added.stdin(), HEAD_4)
 
 
 def steps_of(program, way, folder, inject=None):

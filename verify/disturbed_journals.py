@@ -232,7 +232,7 @@ def main():
             try_changed(options.program, folder, change)
         try_other_disk(options.program, folder)
     return verdict(f"{options.count} runs, two savers and {len(CHANGES)} changed files: no edition "
-                   "is reported that is not in the file, and none is replaced that was changed")
+                   "is reported that is not in the file, and no file that was changed is replaced")
 
 
 if __name__ == "__main__":

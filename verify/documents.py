@@ -8,8 +8,10 @@ input. What it prints, on standard output and then on standard error, are the li
 the next run or the end of the block. After '$ cat > FILE << END', as in the cases, the lines up to
 END make a file. Prints each reply and each run that differs.
 
-Compares the completions too: those of each shell have the commands and options of the help.
+Compares the completions too: those of each shell have the commands and options of the help. Each
+text in the tables of docs/ERRORS.md must be printed by a case, or tried by a file in TRIED.
 """
+import glob
 import itertools
 import os
 import re
@@ -21,6 +23,18 @@ from lib.common import TOP, CommandLine, end, file_at, run
 RUN, FILE = "$ ./oldstyle ", "$ cat > "
 HELP = "crates/osn_cases/data/help.cases"
 SHELLS = "bash", "zsh", "fish"
+ERRORS = "docs/ERRORS.md"
+# Parts of the texts in its tables that no case prints, and the files of verify/ that try them.
+TRIED = {
+    "MiB of the transcript read": "audits.py", "no memory": "lib/command_cases.py",
+    "of the letters read": "letters.py", "a record of more than": "letters.py",
+    "may not be on the disk yet": "growths.py", "can't be opened for writing": "growths.py",
+    "publish writes to it": "hard_publishes.py", "could not be printed": "hard_publishes.py",
+    "nobody reads it any more": "hard_conditions.py", "the journal is in": "system_calls.py",
+    "no space left on the device": "hard_conditions.py", "got shorter": "lib/keeper.py",
+    "run of the program keeps": "lib/keeper.py", "no more is kept": "lib/keeper.py",
+    "followed was replaced or removed": "lib/keeper.py",
+}
 
 
 def marked(lines, mark):
@@ -94,13 +108,35 @@ def differences_of_completions(program):
             yield f"completions {shell}: {done.stderr}\n  lacking {sorted(lacking)}"
 
 
+def is_in(text, printed):
+    """Whether a text of a table is printed: `<..>`, `..` and numbers may be any text or number."""
+    parts = re.split(r"<[^>]+>|\.\.+", text)
+    return re.search(".*".join(re.sub(r"\d+", r"\\d+", re.escape(part)) for part in parts), printed)
+
+
+def is_tried(text):
+    """Whether a text has a part that is in TRIED, and in the file that tries it."""
+    return any(part in text and part in re.sub(r'"\s*f?"', "", text_of(f"verify/{file}"))
+               for part, file in TRIED.items())
+
+
+def untried_errors():
+    """Each text in the tables of ERRORS.md that no case prints and no file of TRIED tries."""
+    cases = [*glob.glob(f"{TOP}/{os.path.dirname(HELP)}/*.cases"), "verify/system.cases"]
+    printed = "\n".join(line for path in cases for line in marked(text_of(path).split("\n"), "! "))
+    for number, line in enumerate(text_of(ERRORS).split("\n"), 1):
+        for text in re.findall("`([^`]+)`", line.split(" | ")[0]) if line.startswith("| `") else ():
+            if not is_in(text, printed) and not is_tried(text):
+                yield f"{ERRORS}:{number}: nothing prints {text}"
+
+
 def main():
     line = CommandLine(__doc__)
     line.add_argument("files", nargs="+", type=file_at, metavar="FILE", help="a document")
     line.add_program()
     options = line.read()
     requests = all_runs = differ = 0
-    for difference in differences_of_completions(options.program):
+    for difference in [*differences_of_completions(options.program), *untried_errors()]:
         differ += 1
         print(difference)
     for path in options.files:
@@ -112,7 +148,7 @@ def main():
         requests += len(marked(lines, "> "))
         all_runs += len(list(runs(lines)))
     print(f"{requests} requests and {all_runs} runs of {', '.join(options.files)}, and the "
-          f"completions: {differ} differ")
+          f"completions and the errors: {differ} differ")
     return 1 if differ else 0
 
 

@@ -84,7 +84,7 @@ class Copies:
                 copy.write(more[first:last])
                 time.sleep(self.chance.uniform(0, 0.002))
 
-    def make_anew(self):
+    def make_again(self):
         """Puts new files in the place of the copies."""
         for file in self.files:
             shutil.copyfile(self.journal.path, file.path + ".new")

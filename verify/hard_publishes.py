@@ -44,7 +44,7 @@ class Trial:
 
     def __init__(self, program, folder, size, source=""):
         self.program, self.journal = program, os.path.join(folder, "a.journal")
-        self.text, self.is_anew = os.path.join(folder, "a.toml"), bool(source)
+        self.text, self.is_saved_again = os.path.join(folder, "a.toml"), bool(source)
         register_text = text_of(*size, source)
         with open(self.text, "w", encoding="utf-8") as file:
             file.write(register_text)
@@ -194,9 +194,9 @@ def try_kill(trial, chance, longest):
     found = trial.contents()
     is_whole, is_old = found == trial.after, found == trial.before
     is_front = found.startswith(trial.before) and trial.after.startswith(found)
-    check("a kill leaves other lines", is_whole or is_old or is_front and not trial.is_anew)
+    check("a kill leaves other lines", is_whole or is_old or is_front and not trial.is_saved_again)
     for path in trial.unfinished():
-        check("a kill leaves a file beside the journal", trial.is_anew)
+        check("a kill leaves a file beside the journal", trial.is_saved_again)
         os.remove(path)
     done = run(trial.program, ["serve", "--follow", trial.journal],
                [compact({"op": "lands", "reader": 1})])
@@ -241,9 +241,10 @@ def main():
     line.add_count(200, "runs that are killed")
     line.add_seed()
     options = line.read()
-    plain, anew = try_all(options, ""), try_all(options, SOURCE)
+    plain, again = try_all(options, ""), try_all(options, SOURCE)
     return verdict(f"{options.count} publishes were killed: {plain}. As many that save the journal "
-                   f"again: {anew}. Streams, files, limits and a full disk leave the journal whole")
+                   f"again: {again}. Streams, files, limits and a full disk leave the journal "
+                   "whole")
 
 
 if __name__ == "__main__":

@@ -1,9 +1,9 @@
 #!/usr/bin/env python3
-"""Finds the forms of prose.words in documents, help texts and comments.
+"""Finds the forms of prose.words in documents, help texts, comments and the texts of programs.
 
 None of them may have such a form, and no document a link that leads nowhere: each is printed with
-its line, and the status is 1. Code, and what a program prints, is ignored. FOLDER.. names where to
-look.
+its line, and the status is 1. Code, and what a document shows of a program's output, is ignored.
+FOLDER.. names where to look.
 
 The words of README.md and docs/ are counted as `wc -w` does, without what scripts write there.
 """
@@ -86,10 +86,12 @@ def in_manual(text):
 
 
 def in_python(text):
-    """The comments of a script, and the docstrings of its functions and classes."""
-    tokens = tokenize.generate_tokens(io.StringIO(text).readline)
+    """The comments and strings of a script, and the docstrings of its functions and classes."""
+    tokens = list(tokenize.generate_tokens(io.StringIO(text).readline))
     yield from joined((token.start[0], token.string.lstrip("#! ")) for token in tokens
                       if token.type == tokenize.COMMENT)
+    yield from ((token.start[0], text_in(token.string)) for token in tokens
+                if token.type == tokenize.STRING and not token.string.endswith('"""'))
     for node in ast.walk(ast.parse(text)):
         if isinstance(node, (ast.Module, ast.ClassDef, ast.FunctionDef)) and node.body:
             first = node.body[0]
@@ -106,15 +108,42 @@ def after(mark):
     return found
 
 
+def text_in(string):
+    """A text in quotes, if it has words: what is put into it is code."""
+    text = re.sub(r"\\\n|\\n", "\n", string[string.index(string[-1]) + 1:-1])
+    return re.sub(r"\$?\{[^{}]*\}|\$\w+", CODE, text) if " " in text else ""
+
+
+def also_strings(read, marks=r'(?<!\\)"(?:[^"\\]|\\.|\\\n)*"'):
+    """The blocks of a reader, and the texts in double quotes, or with other marks around them."""
+    def found(text):
+        yield from read(text)
+        for match in re.finditer(marks, text):
+            yield text.count("\n", 0, match.start()) + 1, text_in(match[0])
+    return found
+
+
+def in_tags(text):
+    """The texts of a page, between its tags."""
+    text = re.sub(r"<[^>]*>|\{[%#].*?[%#]\}", lambda tag: "\n" * tag[0].count("\n"), text,
+                  flags=re.S)
+    return joined((number, re.sub(r"\{\{ (?:_\(\"(.*?)\")?.*?\}\}", r"\1", line.strip()))
+                  for number, line in enumerate(text.split("\n"), 1))
+
+
 def in_stars(text):
     """The blocks of comments in a script or a style of the page."""
     yield from after(r"(?://+|/?\*+/?)\s?")(text)
 
 
-READERS = {".md": in_markdown, ".1": in_manual, ".py": in_python, ".rt": after(r"//[/!]?\s?"),
+READERS = {".md": in_markdown, ".1": in_manual, ".py": in_python,
+           ".rt": also_strings(after(r"//[/!]?\s?")), ".html": in_tags,
+           ".po": also_strings(after(r"#\s"), r'(?<=msgid )"(?:[^"\\]|\\.)*"'),
+           ".Rd": after(r"(?!\\\\|%)"), ".service": after(r"#\s|Description="),
+           ".socket": after(r"#\s|Description="),
            ".rattle": after(r"//[/!]?\s?"), ".antt": after(r"--\s?"), ".js": in_stars,
-           ".css": in_stars, ".bash": after(r"#!?\s?"), ".cases": after(r"(?:#|==)\s"),
-           ".toml": after(r"#\s"), ".edits": after(r"#\s"), ".edit": after(r"#\s"),
+           ".css": in_stars, ".bash": also_strings(after(r"#!?\s?")),
+           ".cases": after(r"(?:#|==)\s"), ".toml": after(r"#\s"), ".edits": after(r"#\s"), ".edit": after(r"#\s"),
            ".R": after(r"#'?\s?")}
 HELP = "help.cases"
 
@@ -125,7 +154,7 @@ def reader_of(path, text):
         return lambda text: joined(enumerate(text.split("\n"), 1))
     first = text.split("\n", 1)[0]
     if first.startswith("#!"):
-        return in_python if "python" in first else after(r"#!?\s?")
+        return in_python if "python" in first else READERS[".bash"]
     return READERS.get(os.path.splitext(path)[1])
 
 

@@ -27,7 +27,7 @@ from lib.territory_texts import WORDS, TextFault, after, differences, lands_of, 
 from lib.text_draws import Draws, beginnings, journal_lines, version_for
 from lib.text_faults import spoiled_text
 from lib.text_files import LAND, Files, bytes_of, lines_of, published, refused
-from lib.text_journals import ANEW, try_all_journals
+from lib.text_journals import SAVED_AGAIN, try_all_journals
 from lib.text_pages import (absent_lines, edit_lines, fault_words, plan_end, publish_begin,
                             publish_end, register_lines, texts_of)
 
@@ -117,7 +117,7 @@ def change(files, draws, number):
     editions, absent = int(bool(lands)), absent_lines(lands, expected)
     needed = list(differences(lands, expected))
     is_upgraded = version < NEWEST and any("source" in edit for edit in needed)
-    note = ANEW.format(version) * is_upgraded
+    note = SAVED_AGAIN.format(version) * is_upgraded
     planned = files.printed(what, "plan", journal, text, stderr=note).split("\n")[:-1]
     check(f"{what}: plan changes the journal", bytes_of(journal) == before)
     printed_lines = files.printed(what, "publish", journal, text).split("\n")[:-1]

@@ -24,12 +24,12 @@ try_answers() {
     words+=(status=3)
     run FAKE_PAUSE=0.1
     check "what only reads is answered before the proof" goes_before "not proved yet" "built in"
-    check "once, with the files that the words name" gives "" "$(printf '%s\n' "word: read" \
+    check "once, with the files that the arguments name" gives "" "$(printf '%s\n' "word: read" \
         "word: one" "file one" "word: with space" "file one" "word: two" "file two" "word: one" \
         "file one" "word: two" "file two" "word: --unreadable=one" "word: two" "word: status=3")"
     check "with the program's status" ends_with 3
     check "and what it wrote to standard error" says_once "^oldstyle: one: permission denied"
-    check "in the words that were typed" says_once "^oldstyle: ../far/two: permission denied"
+    check "as it was typed" says_once "^oldstyle: ../far/two: permission denied"
     check "it is said once that this is not proved yet" says_once "not proved yet"
     check "and that the program gives the same" says_once "now proved, gives the same answer"
     check "with nothing at work and nothing left" is_clean
@@ -163,12 +163,12 @@ try_default() {
     words=(read RM 1500-01-01)
     run OLDSTYLE_JOURNAL=one
     check "so does what leaves out a journal that the environment names" \
-        says_once "the words name no journal"
+        says_once "the arguments name no journal"
     forget
     mkdir -p "$at/here/oldstyle"
     touch "$at/here/oldstyle/register.journal"
     run XDG_DATA_HOME=.
-    check "or that is the user's own" says_once "the words name no journal"
+    check "or that is the user's own" says_once "the arguments name no journal"
     forget
     run XDG_DATA_HOME=elsewhere
     check "but not if there is none" says_once "gives the same answer"
@@ -214,7 +214,7 @@ try_no_answers() {
     await has_answer ""
     echo more >> "$at/here/one"
     end_started
-    check "where a file was changed they are not compared" says_once "changed since the answer"
+    check "if a file was changed, they are not compared" says_once "changed since the answer"
     check "and the status is the first one's" ends_with 0
     forget
     run FAKE_TRY=60

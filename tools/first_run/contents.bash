@@ -113,7 +113,7 @@ try_read_only() {
     mv "$clone/crates/oldstyle/out" "$at/out_of_copy"
     chmod u-w "$clone/crates/oldstyle"
     run_as_other "$tools:$PATH"
-    check "where that isn't built it ends with 125" ends_with 125
+    check "if that isn't built, it ends with 125" ends_with 125
     check "and says so" says_once "the program is not built, and this folder can't be written"
     chmod -R u+w "$clone"
 }
@@ -152,7 +152,7 @@ try_uninstall() {
     run PATH=/usr/bin:/bin
     check "what an older version had more is removed" test ! -e "$at/under/share/oldstyle/older"
     check "each listed file is there" bash -c "cd '$at/under' && xargs ls < $list"
-    check "and each file but the user's is listed" diff <(sort "$at/under/$list") <(
+    check "and each file except the user's is listed" diff <(sort "$at/under/$list") <(
         cd "$at/under" && find . ! -type d ! -path ./share/oldstyle/own -printf '%P\n' | sort)
     cp -a "$at/under" "$at/removed"
     words=(uninstall "$at/removed")
@@ -177,7 +177,7 @@ try_install() {
     check "and ends with 0" ends_with 0
     check "and says what it did" says_once "installed under $at/under: bin/oldstyle"
     check "with the manual" cmp "$clone/docs/oldstyle.1" "$at/under/share/man/man1/oldstyle.1"
-    check "and what completes its words in bash" \
+    check "and what completes its arguments in bash" \
         cmp "$at/under/share/bash-completion/completions/oldstyle" <(completed bash)
     check "in zsh" cmp "$at/under/share/zsh/site-functions/_oldstyle" <(completed zsh)
     check "in fish" cmp "$at/under/share/fish/vendor_completions.d/oldstyle.fish" <(completed fish)

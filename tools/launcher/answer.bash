@@ -14,7 +14,8 @@ feeder=""
 runs=""
 closed=""
 
-# why_no_answer WORD..: prints why these words get no answer before the proof, if they get none.
+# why_no_answer ARGUMENT..: prints why these arguments get no answer before the proof, if they get
+# none.
 why_no_answer() {
     local file
     if ! only_reads "$@"; then
@@ -25,7 +26,7 @@ why_no_answer() {
     elif [ -n "$closed" ]; then
         echo "standard input or output is closed"
     elif reads_default "$@"; then
-        echo "the words name no journal, and only the proved program reads the default one"
+        echo "the arguments name no journal, and only the proved program reads the default one"
     elif takes_input "$@" && [ -f /dev/fd/0 ] && [ "$(stat -L -c %s /dev/fd/0)" -gt $most ]; then
         echo "the input has more than 1 MiB"
     else
@@ -60,8 +61,8 @@ asks_help() {
 
 takes_input() { [[ ${1:-} =~ ^(|serve|letters)$ ]] && ! asks_help "$@"; }
 
-# Returns whether the words leave out the journal, which the environment or the user's folder names:
-# the program gets neither while it is tried.
+# Returns whether the arguments leave out the journal, which the environment or the user's folder
+# names: the program gets neither while it is tried.
 reads_default() {
     local own=${XDG_DATA_HOME:-${HOME:-}/.local/share}/oldstyle/register.journal
     [[ ${1:-} =~ ^(read|day|month|year|territory|almanac|letters|text)$ ]] || return 1
@@ -69,7 +70,7 @@ reads_default() {
     (cd "$from" && [ ! -e "${2:-}" ] && { [ -n "${OLDSTYLE_JOURNAL:-}" ] || [ -e "$own" ]; })
 }
 
-# Prints each file that is there and that a word after the command names, ended by a zero byte.
+# Prints each file that is there and that an argument after the command names, ended by a zero byte.
 named_files() {
     local word
     for word in "${@:2}"; do
@@ -79,7 +80,7 @@ named_files() {
     done
 }
 
-# Begins to read the input, if the words take one; the answer follows once it has ended.
+# Begins to read the input, if the arguments take one; the answer follows once it has ended.
 prepare_answer() {
     mapfile -d '' -t files < <(named_files "$@")
     before=$(sum_of_files)
@@ -97,8 +98,8 @@ prepare_answer() {
 
 sum_of_files() { cat -- /dev/null "${files[@]}" 2> /dev/null | sha256sum; }
 
-# Sets `words`, those that the program gets while it is tried, and `data`. It is tried in a new
-# folder: a file gets there by its name, or the word gives the whole path.
+# Sets `words`, the arguments that the program gets while it is tried, and `data`. It is tried in a
+# new folder: a file gets there by its name, or the argument gives the whole path.
 place_files() {
     local word file
     words=("${@:1:1}")
@@ -159,7 +160,7 @@ take_answer() {
         "$(nproc) processors, and the program then answers again; Ctrl-C ends it until the next run"
 }
 
-# Prints what the program wrote on standard error, with the words as they were typed.
+# Prints what the program wrote on standard error, with the arguments as they were typed.
 program_errors() {
     local text file
     text=$(sed -e '/^checked: ended/,$d' -e '/^rt: /d' "$answer/stderr")
@@ -169,11 +170,12 @@ program_errors() {
     [ -z "$text" ] || echo "$text"
 }
 
-# answer_again WORD..: lets the program answer the same, and ends with its status if both agree.
+# answer_again ARGUMENT..: lets the program answer the same, and ends with its status if both agree.
 answer_again() {
     local status=0 folder=$out/answers
     if [ "$before" != "$(sum_of_files)" ]; then
-        say "built; a file that the words name was changed since the answer, which is not compared"
+        say "built; a file that the arguments name was changed since the answer, which is not" \
+            "compared"
         exit "$answered"
     fi
     (cd "$from" && exec "$program" "$@") \
@@ -189,7 +191,7 @@ answer_again() {
         "compare output and errors with proved_output and proved_errors in $folder"
 }
 
-# run_on_input WORD..: runs the program on what was read by now and on what follows.
+# run_on_input ARGUMENT..: runs the program on what was read by now and on what follows.
 run_on_input() {
     local status=0
     trap 'exit 130' INT TERM HUP PIPE

@@ -37,7 +37,7 @@ install_program() {
 # put MODE FILE TARGET: puts a file below the folder, and lists it.
 put() { install -D -m "$1" "$2" "$to/$3" && echo "$3" >> "$to/$list.new"; }
 
-# put_completions SHELL TARGET: the program says how the shell completes its words.
+# put_completions SHELL TARGET: the program says how the shell completes its arguments.
 put_completions() { "$program" completions "$1" | put 644 /dev/stdin "$2"; }
 
 # put_folder FOLDER TARGET: puts the files of a folder, except those that Python and pip make.

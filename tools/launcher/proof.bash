@@ -18,7 +18,7 @@ need_kit() {
         say "there is no command rt on the PATH. The kit is a folder with Rattle's compiler" \
             "and prover, made for Linux"
         say "on x86-64; it is not part of this repository, and comes from those who publish" \
-            "Rattle. Needed is"
+            "Rattle. You need"
         refuse "$(known_kits). Put its folder bin on the PATH; START-HERE.md in the kit says more."
     fi
     built_by=$(rt version 2> /dev/null) || true

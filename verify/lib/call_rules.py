@@ -146,9 +146,9 @@ def replace_rules(trace, way, moved):
 def new_rules(trace, way, moved):
     """The rules of a save of a new file."""
     beside = way.place + ".unfinished"
-    yield "where nothing was, a second name is made, which replaces nothing", [
+    yield "if no file was there, a second name is made, which replaces nothing", [
         trace.steps[at].kind for at in moved] == ["link"]
-    yield "and the first name is taken away before the folder is synced", precede(
+    yield "and the first name is removed before the folder is synced", precede(
         trace.at("remove", name=beside), trace.at("sync", name=os.path.dirname(way.place) or "."))
 
 

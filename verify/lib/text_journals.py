@@ -32,17 +32,17 @@ def result_of(files, command, journal, text):
     return done.returncode, done.stderr.replace(journal, "J").replace(text, "T"), before == after_it
 
 
-PENDING = ("oldstyle: publish refuses a journal with 1 pending edit: publish all that is pending "
-           'by serve --keep with {"op":"publish"}, or remove the lines after the last publish from the '
-           "journal\n")
+PENDING = ("oldstyle: publish refuses a journal with 1 pending edit: publish what is pending "
+           'with serve --keep and the line {"op":"publish"}, or remove the lines after the last '
+           "publish from the journal\n")
 NOT_KEPT = ("oldstyle: publish refuses a journal of version 1: serve --keep with --upgrade saves "
             "it as version 4\nhelp: run oldstyle serve --keep J --upgrade < /dev/null, then "
             "publish\n")
 NO_HEAD = ("oldstyle: journal line 1: 32 NotJson\nhelp: J is not a journal: oldstyle publish FILE "
            "TEXT begins one in a new or empty file\n")
 # What a plan prints for a journal that its publish saves again.
-ANEW = ("oldstyle: the journal is of version {}, which has no sources: publish saves it as "
-        "version 4\n")
+SAVED_AGAIN = ("oldstyle: the journal is of version {}, which has no sources: publish saves it "
+               "as version 4\n")
 FULL = "oldstyle: {}17 EditionsFull (--limits editions=N allows more)\n"
 
 
@@ -119,7 +119,8 @@ def try_new(files):
         check(f"a new kept file of {words}", bytes_of(path).decode() == journal_of(version))
     older = files.write("journal", journal_of(1))
     result = result_of(files, "plan", older, text)
-    check(f"a plan of sources in version 1 gives {result}", result == (0, ANEW.format(1), True))
+    check(f"a plan of sources in version 1 gives {result}",
+          result == (0, SAVED_AGAIN.format(1), True))
     result = result_of(files, "publish", older, text)
     check(f"a source in version 1 gives {result}", result == (0, "", False))
     check("version 1, saved again", bytes_of(older) == bytes_of(files.path("cited")))

@@ -11,7 +11,7 @@ oldstyle_read(journal, code, date, weekday = NA, program = NULL)
   \item{journal}{the path of the journal of a register. It is only read.}
   \item{code}{codes of territories, such as \code{"GB"}, as many as dates, or one
     for all. \code{\link{oldstyle_lands}} lists them.}
-  \item{date}{dates as the documents have them, such as \code{"11 Feb. 1731/32"},
+  \item{date}{dates as in the documents, such as \code{"11 Feb. 1731/32"},
     \code{"March 1731"} or \code{"before 1640"}.}
   \item{weekday}{English names of weekdays that the documents give, as many as
     dates, or one for all. \code{NA} and \code{""} if a document gives none.}

@@ -42,7 +42,7 @@ edits_word edits = if edits == 1 then codes "edit" else codes "edits"
 
 -- what to do with pending edits
 abbrev pub advice : List ℕ
-advice = codes ": publish all that is pending by serve --keep with {\"op\":\"publish\"}, "
+advice = codes ": publish what is pending with serve --keep and the line {\"op\":\"publish\"}, "
     ++ codes "or remove the lines after the last publish from the journal\n"
 
 -- the line on a journal with this many pending edits, which are so called

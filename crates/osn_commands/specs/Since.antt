@@ -107,10 +107,10 @@ editions_lines territories number (batch ∷ batches) =
 unfoldable pub behind_begin : List ℕ → List ℕ → ℕ → List ℕ
 behind_begin text journal edition = codes "oldstyle: "
     ++ (escaped text
-    ++ (codes ": the text is of edition "
+    ++ (codes ": the text was made from edition "
     ++ (decimal edition
-    ++ (codes ", and would undo or change again what came since in "
-    ++ (escaped journal ++ codes ":\n")))))
+    ++ (codes ", and would undo or change again what later editions of "
+    ++ (escaped journal ++ codes " changed:\n")))))
 
 unfoldable pub behind_end : List ℕ → ℕ → List ℕ
 behind_end journal editions = codes "help: print the text again with oldstyle text "

@@ -1,4 +1,4 @@
-//! The command `check`: whether a text has a fault, by itself and without a journal.
+//! The command `check`: whether a text has a fault, without comparing it with a journal.
 ghost use Rattle.std.specs.Prelude.{◌≡◌, ◌∷◌, [], IfOk, OnErr, length, string_bytes};
 ghost use Rattle.osn_folder.specs.Folder.{CannotOpen, MayFail};
 ghost use Rattle.osn_lines.specs.Streams.{input_of, output_of};

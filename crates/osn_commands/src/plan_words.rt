@@ -60,8 +60,8 @@ fn edits_word(edits: usize) -> &'static str
 }
 
 /// What to do with pending edits.
-const ADVICE: &str = ": publish all that is pending by serve --keep with {\"op\":\"publish\"}, \
-or remove the lines after the last publish from the journal\n";
+const ADVICE: &str = ": publish what is pending with serve --keep and the line \
+{\"op\":\"publish\"}, or remove the lines after the last publish from the journal\n";
 
 /// Returns the line on a journal with this many pending edits, which are so called.
 #[tactic(auto, unfolding(crate::specs::PlanWords::pending_text))]

@@ -195,8 +195,8 @@ fn push_begin(out: &mut String, request: PublishRequest<'_>, edition: u64) -> Re
     let journal = Escaped(request.journal);
     writeln!(
         out,
-        "oldstyle: {text}: the text is of edition {edition}, and would undo or change again \
-what came since in {journal}:"
+        "oldstyle: {text}: the text was made from edition {edition}, and would undo or change \
+again what later editions of {journal} changed:"
     )
 }
 

@@ -180,7 +180,7 @@ and remark.",
             Optional(
                 "table",
                 "TABLE",
-                "The file of the table; without it, or as -, it is standard input",
+                "The file of the table; if it is - or left out, standard input is read",
             ),
             Valued(
                 "place",
@@ -300,12 +300,12 @@ edition that it was made from.",
     },
     CommandRow {
         name: "check",
-        about: "Says whether a text has a fault, by itself and without a journal",
+        about: "Says whether a text has a fault, without comparing it with a journal",
         examples: "Example:
   ./oldstyle check territories.toml
 
-TEXT has the form that the command text prints. It is only read. A fault ends with status 1. The
-command plan says whether a journal can take what TEXT says.",
+TEXT has the form that the command text prints. It is only read. If it has a fault, the status
+is 1. The command plan says whether a journal accepts what TEXT says.",
         arguments: &[TEXT, LIMITS],
     },
     CommandRow {
@@ -324,8 +324,8 @@ dates it. A territory that TEXT does not name stays as it is. The journal is onl
         examples: "Example:
   ./oldstyle publish new.journal territories.toml
 
-All edits are in the journal as one edition, or none of them. A text with a fault changes nothing.
-Nor does a text that would undo what an edition later than its own has changed.",
+Either all edits become one edition of the journal, or none does. A text with a fault changes
+nothing. Nor does a text that would undo what an edition later than its own has changed.",
         arguments: &[
             JOURNAL,
             TEXT,

@@ -10,14 +10,14 @@ use crate::commands::{CommandRow, DATES, OTHERS, TABLES};
 use clap::Command;
 use std::alloc::{AllocError, Global};
 
-const ABOUT: &str = "Says which day a dated document means, by the calendar, the beginning of the \
-year and the rule of Easter that were in force where it was written";
+const ABOUT: &str = "Says which day the date on a document means, by the calendar, the beginning \
+of the year and the rule of Easter that were in force where it was written";
 
 const STATUSES: &str = "Statuses:
   0  done
-  1  the input was refused: a line, a text, a territory, a year, or a file without questions
+  1  the input was refused
   2  an argument is wrong
-  3  a file could not be opened, or a read or a write failed
+  3  a file, a stream or the disk failed
   4  memory ran out
 If the status is not 0, standard error says what was refused or failed.
 

@@ -119,7 +119,7 @@ function _oldstyle_has -a command
     test "$words[2]" = $command
 end
 
-# Whether an argument of a command comes next, after so many others.
+# Whether an argument of a command comes next, after this many others.
 function _oldstyle_wants -a command number
     _oldstyle_has $command; or return
     set -l count 0

@@ -59,7 +59,7 @@ const STATE_QUERIES: [&str; 5] = [
 pub(crate) fn edit_of<R: AllocGlobal + Abort>(rt: &R, line: &str) -> Edit {
     match read_request(rt.alloc(), 1, line.as_bytes()).expect(rt, line) {
         Request::Stage(edit) => edit,
-        _ => panic!(rt; "{line} is no edit"),
+        _ => panic!(rt; "{line} is not an edit"),
     }
 }
 
@@ -67,7 +67,7 @@ pub(crate) fn edit_of<R: AllocGlobal + Abort>(rt: &R, line: &str) -> Edit {
 pub(crate) fn query_of<R: AllocGlobal + Abort>(rt: &R, line: &str) -> Query {
     match read_request(rt.alloc(), 1, line.as_bytes()).expect(rt, line) {
         Request::Ask { query, .. } => query,
-        _ => panic!(rt; "{line} is no query"),
+        _ => panic!(rt; "{line} is not a query"),
     }
 }
 

@@ -10,7 +10,7 @@ use std::process::Abort;
 pub fn edit_of(rt: &impl Abort, alloc: Global, line: &str) -> Edit {
     match read_request(alloc, 1, line.as_bytes()).expect(rt, line) {
         Request::Stage(edit) => edit,
-        _ => panic!(rt; "{line} is no edit"),
+        _ => panic!(rt; "{line} is not an edit"),
     }
 }
 
@@ -18,7 +18,7 @@ pub fn edit_of(rt: &impl Abort, alloc: Global, line: &str) -> Edit {
 pub fn query_of(rt: &impl Abort, alloc: Global, line: &str) -> Query {
     match read_request(alloc, 1, line.as_bytes()).expect(rt, line) {
         Request::Ask { query, .. } => query,
-        _ => panic!(rt; "{line} is no query"),
+        _ => panic!(rt; "{line} is not a query"),
     }
 }
 

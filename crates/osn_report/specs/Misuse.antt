@@ -52,10 +52,10 @@ usual_text (faults.TwoDays old new written) = both_calendars
 usual_text faults.NamedCalendar =
     codes "a day by both calendars names both of them or neither, such as "
     ++ codes "3 June O.S./13 June N.S. 1675"
-usual_text faults.Feast = codes "a feast is not read: write its day"
+usual_text faults.Feast = codes "this feast is not read: write its day"
 usual_text faults.RomanNumeral =
     codes "a Roman numeral is read as the day beside a month's name, such as xi February 1731, "
-    ++ codes "or as the month between two numbers, but vi, xx and single letters are other words "
+    ++ codes "or as the month between two numbers; vi, xx and single letters are ordinary words "
     ++ codes "too: write it in digits"
 usual_text faults.OpenPart =
     codes "early, mid, late and the halves are parts of a month, a year, a decade or a century, "

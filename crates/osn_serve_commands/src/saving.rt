@@ -19,16 +19,16 @@ use osn_report::{CommandFault, Failure, Status, report_at};
 use osn_service::ServeRules;
 use std::alloc::{AllocError, Global};
 
-/// Returns the line on editions that were published and saved nowhere.
+/// Returns the line on editions that were published and not saved.
 fn unsaved_line(alloc: Global, editions: usize) -> Result<String, AllocError> {
     if editions == 1 {
         return String::from_str(
             alloc,
-            "oldstyle: 1 edition was saved nowhere: --save or --keep would have kept it\n",
+            "oldstyle: 1 edition was not saved: --save or --keep would have kept it\n",
         );
     }
     format!(in alloc;
-        "oldstyle: {editions} editions were saved nowhere: --save or --keep would have kept them\n"
+        "oldstyle: {editions} editions were not saved: --save or --keep would have kept them\n"
     )
 }
 

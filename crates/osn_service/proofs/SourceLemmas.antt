@@ -40,7 +40,7 @@ published s None h =
     (sym (append-nil _ ∙ joined-push s.batches s.pending)) h
 published s (Some f) h = h
 
--- an edit without a source is let in
+-- an edit without a source is accepted
 edit_leaves : (s : ObjectState) (e : Edit) (given : Option (List ℕ)) → source_given e ≡ given
     → GivesNoSource s
     → GivesNoSource

@@ -77,11 +77,11 @@ query_data reader (Changes code) = object (
 query_data reader (Written code text date weekday) = query_date_data reader code text weekday
 
 -- what a reader asked, and the reply
-abbrev pub query_data : ℕ → Query → Reply → Data
-query_data reader q reply = object (
+abbrev pub record_data : ℕ → Query → Reply → Data
+record_data reader q reply = object (
     member (codes "ask") (query_data reader q)
     (member (codes "reply") (replied_data reader reply.edition reply.answer)
     no_members))
 
 unfoldable pub transcript_line : ℕ → Query → Reply → List ℕ
-transcript_line reader q reply = line_of (query_data reader q reply)
+transcript_line reader q reply = line_of (record_data reader q reply)

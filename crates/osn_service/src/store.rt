@@ -84,7 +84,7 @@ pub trait Store {
         ensures test { IsCheckOf (change_refusal (state self.now) change.now) result }
         ensures number { IfOk result (λ n. n ≡ number_after (state self.now) change.now) };
 
-    /// Makes a change that `check` has let in, and keeps it.
+    /// Makes a change that `check` has accepted, and keeps it.
     ///
     /// # Errors
     ///

@@ -46,10 +46,10 @@ ADVICE = {
                                      "Julian date of the day and its Gregorian one"),
     "one calendar for the dates of both": N_("a day by both calendars names both of them or "
                                              "neither, such as 3 June O.S./13 June N.S. 1675"),
-    "a feast, not read": N_("a feast is not read: write its day"),
+    "a feast, not read": N_("this feast is not read: write its day"),
     "a Roman numeral, not read": N_("a Roman numeral is read as the day beside a month's name, "
                                     "such as xi February 1731, or as the month between two "
-                                    "numbers, but vi, xx and single letters are other words too: "
+                                    "numbers; vi, xx and single letters are ordinary words too: "
                                     "write it in digits"),
     "an open part of a date, not read": N_("early, mid, late and the halves are parts of a month, "
                                            "a year, a decade or a century, and a winter is of two "

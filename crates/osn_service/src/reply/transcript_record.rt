@@ -172,7 +172,7 @@ pub(crate) struct TranscriptRecord<'a> {
 }
 
 impl<'a> WriteJson for TranscriptRecord<'a> {
-    ghost json_value = { λ a. spec.query_data a.reader a.query.now a.reply.now };
+    ghost json_value = { λ a. spec.record_data a.reader a.query.now a.reply.now };
 
     fn write_json(&self, out: &mut LineWriter) -> Result<(), AllocError> {
         out.push(r#"{"ask":"#)?;
