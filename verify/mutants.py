@@ -203,14 +203,14 @@ def check_with(mutants, folder):
 
 
 def verdicts_in(clone, crate):
-    """The verdict on each mutant of a crate, by its place. What a list of mutants leaves open is
-    tried alone."""
+    """The verdict on each mutant of a crate, by its place. The mutants that a check leaves open are
+    tried once more without the others, and in two halves if it leaves all of them open."""
     folder = os.path.join(clone, "crates", crate)
     _, status = check_with([], folder)
     waiting = [] if status else batches(further(crate), folder)
     verdicts = {}
     while waiting:
-        mutants = waiting.pop()
+        mutants, left = waiting.pop(), []
         output, status = check_with(mutants, folder)
         is_read = "logic=not-proved" in output
         for mutant in mutants:
@@ -218,11 +218,13 @@ def verdicts_in(clone, crate):
             if refused or len(mutants) == 1 and is_read:
                 verdicts[mutant.place] = "refused for a name alone" if by_name else "refused"
             elif len(mutants) > 1:
-                waiting.append([mutant])
+                left.append(mutant)
             elif status == 0:
                 verdicts[mutant.place] = "proved"
             else:
                 verdicts[mutant.place] = next(iter(FAULT.findall(output)), output[-200:])
+        half = len(left) // 2 if len(left) == len(mutants) else 0
+        waiting += [part for part in (left[:half], left[half:]) if part]
     return verdicts
 
 
