@@ -1,3 +1,4 @@
+pub mod NameLemmas
 pub mod NumberLemmas
 pub mod TextLemmas
 pub mod GrammarLemmas

@@ -1,6 +1,6 @@
 -- What a command line asks for, by what the grammar finds in its arguments.
 use Rattle.std.specs.Prelude.{◌&&◌, ℕ, Bool, List, [], Option, Some, None, if◌then◌else◌}
-use Rattle.std.specs.Prelude.{codes, length, nat_lt, option_map, unwrap_or}
+use Rattle.std.specs.Prelude.{codes, length, map, nat_lt, option_map, unwrap_or}
 use Rattle.std.specs.Char.{digit_value}
 use Rattle.std.specs.List.{list_all}
 use Rattle.std.specs.Option.{option_map_or}
@@ -231,38 +231,48 @@ abbrev pub territory_page : List Row → PageRequestModel
 territory_page given =
     territory_words (first_of (codes "code") given) (is_given (codes "json") given)
 
--- which page a command asks for, by its name, and what it asks for if it prints no page
-abbrev pub page_or_serve : Text → List Row → CommandModel
-page_or_serve name given =
-    if bytes_eq name (codes "almanac") then page_command given (almanac_page given)
-    else (if bytes_eq name (codes "read") then page_command given (read_page given)
-    else (if bytes_eq name (codes "day") then page_command given (day_page given)
-    else (if bytes_eq name (codes "month") then page_command given (month_page given)
-    else (if bytes_eq name (codes "year") then page_command given (year_page given)
-    else (if bytes_eq name (codes "territory") then page_command given (territory_page given)
-    else serve_command given)))))
+-- what a command asks for that prints a page, by its name
+abbrev pub page_named : Text → List Row → Option CommandModel
+page_named name given =
+    if bytes_eq name (codes "almanac") then Some (page_command given (almanac_page given))
+    else (if bytes_eq name (codes "read") then Some (page_command given (read_page given))
+    else (if bytes_eq name (codes "day") then Some (page_command given (day_page given))
+    else (if bytes_eq name (codes "month") then Some (page_command given (month_page given))
+    else (if bytes_eq name (codes "year") then Some (page_command given (year_page given))
+    else (if bytes_eq name (codes "territory") then Some (page_command given (territory_page given))
+    else None)))))
 
--- what a command of the register's text asks for, by its name, and what another one asks for
-abbrev pub text_or_page : Text → List Row → CommandModel
+-- that, or what a command of the register's text asks for
+abbrev pub text_or_page : Text → List Row → Option CommandModel
 text_or_page name given =
-    if bytes_eq name (codes "editions") then editions_command given
-    else (if bytes_eq name (codes "diff") then diff_command given
-    else (if bytes_eq name (codes "text") then text_command given
-    else (if bytes_eq name (codes "check") then check_command given
-    else (if bytes_eq name (codes "plan") then plan_command given
-    else (if bytes_eq name (codes "publish") then publish_command given
-    else page_or_serve name given)))))
+    if bytes_eq name (codes "editions") then Some (editions_command given)
+    else (if bytes_eq name (codes "diff") then Some (diff_command given)
+    else (if bytes_eq name (codes "text") then Some (text_command given)
+    else (if bytes_eq name (codes "check") then Some (check_command given)
+    else (if bytes_eq name (codes "plan") then Some (plan_command given)
+    else (if bytes_eq name (codes "publish") then Some (publish_command given)
+    else page_named name given)))))
 
--- what a command asks for, by its name
-abbrev pub command_by : Text → List Row → CommandModel
-command_by name given =
-    if bytes_eq name (codes "replay") then replay_command given
-    else (if bytes_eq name (codes "desk") then desk_command given
-    else (if bytes_eq name (codes "audit") then audit_command given
-    else (if bytes_eq name (codes "convert") then convert_command given
-    else (if bytes_eq name (codes "letters") then letters_command given
-    else (if bytes_eq name (codes "completions") then completions_command given
-    else text_or_page name given)))))
+-- what a command asks for, by its name, if the program has a command of this name
+abbrev pub command_named : Text → List Row → Option CommandModel
+command_named name given =
+    if bytes_eq name (codes "serve") then Some (serve_command given)
+    else (if bytes_eq name (codes "replay") then Some (replay_command given)
+    else (if bytes_eq name (codes "desk") then Some (desk_command given)
+    else (if bytes_eq name (codes "audit") then Some (audit_command given)
+    else (if bytes_eq name (codes "convert") then Some (convert_command given)
+    else (if bytes_eq name (codes "letters") then Some (letters_command given)
+    else (if bytes_eq name (codes "completions") then Some (completions_command given)
+    else text_or_page name given))))))
+
+-- the names of the commands of the command line
+abbrev pub command_names : List Text
+command_names = map (λ command. command.name) command_line.subs
+
+-- what a command asks for. Each name of the command line is one of those above, as the contract of
+-- `command_or_serve` says
+unfoldable pub command_by : Text → List Row → CommandModel
+command_by name given = unwrap_or (command_named name given) (serve_command given)
 
 -- a command with what its limits are said to be
 abbrev pub with_limits : List Row → CommandModel → InvocationModel

@@ -6,7 +6,8 @@ ghost use Rattle.osn_invocation.specs.Grammar.{command_line, command_of_row, dat
 ghost use Rattle.osn_invocation.specs.Grammar.{other_commands, table_commands};
 
 use crate::argument::{Argument, arg_of};
-use crate::commands::{CommandRow, DATES, OTHERS, TABLES};
+use crate::commands::{CommandRow, OTHERS, TABLES};
+use crate::dates::DATES;
 use clap::Command;
 use std::alloc::{AllocError, Global};
 

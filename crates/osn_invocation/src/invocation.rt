@@ -1,21 +1,19 @@
 //! What a command line asks for, by what the grammar finds in its arguments.
 
-ghost use Rattle.std.specs.Prelude.{◌≡◌, IfErr, IfOk, map, true};
+ghost use Rattle.std.specs.Prelude.{◌≡◌, Contains, IfErr, IfOk, Some, map, option_map, true};
 ghost use Rattle.clap.specs.Words.{FailsBy, fault_of, found_of, kind_of, rows_of};
 ghost use Rattle.clap.specs.Words.{subcommand_rows_of, takes};
 ghost use Rattle.clap.specs.declared.error.kind.ErrorKind.TheVariants.{OutOfMemory};
 ghost use Rattle.osn_invocation.specs.Grammar.{HasMatches, command_line};
-ghost use Rattle.osn_invocation.specs.Invocation.{almanac_page, command_by};
-ghost use Rattle.osn_invocation.specs.Invocation.{command_model, completions_command};
-ghost use Rattle.osn_invocation.specs.Invocation.{convert_command, day_page};
-ghost use Rattle.osn_invocation.specs.Invocation.{invocation_by, invocation_in};
-ghost use Rattle.osn_invocation.specs.Invocation.{model_of, month_page, page_command, page_request};
-ghost use Rattle.osn_invocation.specs.Invocation.{read_page, serve_command};
-ghost use Rattle.osn_invocation.specs.Invocation.{territory_page, with_limits, year_page};
+ghost use Rattle.osn_invocation.specs.Invocation.{command_by, command_model, command_named};
+ghost use Rattle.osn_invocation.specs.Invocation.{command_names, completions_command};
+ghost use Rattle.osn_invocation.specs.Invocation.{convert_command, invocation_by, invocation_in};
+ghost use Rattle.osn_invocation.specs.Invocation.{model_of, serve_command, with_limits};
 
 use crate::file_words::{audit_of, desk_of, replay_of};
 use crate::grammar::command_line;
 use crate::letters::{LettersOptions, letters_of};
+use crate::pages::{almanac_of, day_of, month_of, page_of, read_of, territory_of, year_of};
 use crate::register_text::{check_of, diff_of, editions_of, plan_of, publish_of, register_text_of};
 use crate::values::{is_given, number_of, text_of, value_of};
 use clap::{ArgMatches, Error};
@@ -248,7 +246,7 @@ fn invocation_of<'a>(matches: &ArgMatches<'a>) -> Invocation<'a>
         ≡ invocation_by (rows_of (found_of matches.now)) (subcommand_rows_of matches.now) }
 {
     match matches.subcommand() {
-        Some((name, matches)) => with_limits(matches, command_of(name, matches)),
+        Some((name, matches)) => with_limits(matches, command_or_serve(name, matches)),
         None => with_limits(matches, serve_of(matches)),
     }
 }
@@ -264,30 +262,47 @@ fn with_limits<'a>(matches: &ArgMatches<'a>, command: CommandWords<'a>) -> Invoc
     }
 }
 
-/// Returns what a command asks for, by its name and the arguments after it.
-fn command_of<'a>(name: &str, matches: &ArgMatches<'a>) -> CommandWords<'a>
-    ensures { command_model result ≡ command_by name.now (rows_of (found_of matches.now)) }
+/// Returns what a command asks for, by its name and the arguments after it. For each name that the
+/// grammar has, this is what its own command asks for.
+#[tactic(auto, unfolding(crate::specs::Invocation::command_by))]
+fn command_or_serve<'a>(name: &str, matches: &ArgMatches<'a>) -> CommandWords<'a>
+    ensures value { command_model result ≡ command_by name.now (rows_of (found_of matches.now)) }
+    ensures named { Contains command_names name.now
+        → command_named name.now (rows_of (found_of matches.now)) ≡ Some (command_model result) }
+{
+    match command_of(name, matches) {
+        Some(command) => command,
+        None => serve_of(matches),
+    }
+}
+
+/// Returns what a command asks for, by its name and the arguments after it, if the program has a
+/// command of this name.
+fn command_of<'a>(name: &str, matches: &ArgMatches<'a>) -> Option<CommandWords<'a>>
+    ensures { option_map command_model result
+        ≡ command_named name.now (rows_of (found_of matches.now)) }
 {
     match name {
-        "replay" => replay_of(matches),
-        "desk" => desk_of(matches),
-        "audit" => audit_of(matches),
-        "convert" => convert_of(matches),
-        "letters" => letters_of(matches),
-        "completions" => completions_of(matches),
-        "editions" => editions_of(matches),
-        "diff" => diff_of(matches),
-        "text" => register_text_of(matches),
-        "check" => check_of(matches),
-        "plan" => plan_of(matches),
-        "publish" => publish_of(matches),
-        "almanac" => page_of(matches, almanac_of(matches)),
-        "read" => page_of(matches, read_of(matches)),
-        "day" => page_of(matches, day_of(matches)),
-        "month" => page_of(matches, month_of(matches)),
-        "year" => page_of(matches, year_of(matches)),
-        "territory" => page_of(matches, territory_of(matches)),
-        _ => serve_of(matches),
+        "serve" => Some(serve_of(matches)),
+        "replay" => Some(replay_of(matches)),
+        "desk" => Some(desk_of(matches)),
+        "audit" => Some(audit_of(matches)),
+        "convert" => Some(convert_of(matches)),
+        "letters" => Some(letters_of(matches)),
+        "completions" => Some(completions_of(matches)),
+        "editions" => Some(editions_of(matches)),
+        "diff" => Some(diff_of(matches)),
+        "text" => Some(register_text_of(matches)),
+        "check" => Some(check_of(matches)),
+        "plan" => Some(plan_of(matches)),
+        "publish" => Some(publish_of(matches)),
+        "almanac" => Some(page_of(matches, almanac_of(matches))),
+        "read" => Some(page_of(matches, read_of(matches))),
+        "day" => Some(page_of(matches, day_of(matches))),
+        "month" => Some(page_of(matches, month_of(matches))),
+        "year" => Some(page_of(matches, year_of(matches))),
+        "territory" => Some(page_of(matches, territory_of(matches))),
+        _ => None,
     }
 }
 
@@ -323,83 +338,5 @@ fn completions_of<'a>(matches: &ArgMatches<'a>) -> CommandWords<'a>
 {
     CommandWords::Completions {
         shell: text_of(matches, "shell"),
-    }
-}
-
-/// Returns what the arguments of a command that prints this page ask for.
-fn page_of<'a>(matches: &ArgMatches<'a>, page: PageRequest<'a>) -> CommandWords<'a>
-    ensures { command_model result
-        ≡ page_command (rows_of (found_of matches.now)) (page_request page.entry) }
-{
-    CommandWords::Page {
-        journal: text_of(matches, "journal"),
-        edition: value_of(matches, "edition"),
-        page,
-    }
-}
-
-/// Returns which page the arguments of `almanac` ask for.
-fn almanac_of<'a>(matches: &ArgMatches<'a>) -> PageRequest<'a>
-    ensures { page_request result ≡ almanac_page (rows_of (found_of matches.now)) }
-{
-    PageRequest::Almanac {
-        code: text_of(matches, "code"),
-        year: number_of(matches, "year", 0),
-    }
-}
-
-/// Returns which page the arguments of `read` ask for.
-fn read_of<'a>(matches: &ArgMatches<'a>) -> PageRequest<'a>
-    ensures { page_request result ≡ read_page (rows_of (found_of matches.now)) }
-{
-    PageRequest::Read {
-        code: text_of(matches, "code"),
-        date: text_of(matches, "date"),
-        weekday: value_of(matches, "weekday"),
-        order: value_of(matches, "order"),
-        strict: is_given(matches, "strict"),
-        json: is_given(matches, "json"),
-    }
-}
-
-/// Returns which page the arguments of `day` ask for.
-fn day_of<'a>(matches: &ArgMatches<'a>) -> PageRequest<'a>
-    ensures { page_request result ≡ day_page (rows_of (found_of matches.now)) }
-{
-    PageRequest::Day {
-        code: text_of(matches, "code"),
-        date: text_of(matches, "date"),
-        json: is_given(matches, "json"),
-    }
-}
-
-/// Returns which page the arguments of `month` ask for.
-fn month_of<'a>(matches: &ArgMatches<'a>) -> PageRequest<'a>
-    ensures { page_request result ≡ month_page (rows_of (found_of matches.now)) }
-{
-    PageRequest::Month {
-        code: text_of(matches, "code"),
-        year: text_of(matches, "year"),
-        month: text_of(matches, "month"),
-    }
-}
-
-/// Returns which page the arguments of `year` ask for.
-fn year_of<'a>(matches: &ArgMatches<'a>) -> PageRequest<'a>
-    ensures { page_request result ≡ year_page (rows_of (found_of matches.now)) }
-{
-    PageRequest::Year {
-        code: text_of(matches, "code"),
-        year: text_of(matches, "year"),
-    }
-}
-
-/// Returns which page the arguments of `territory` ask for.
-fn territory_of<'a>(matches: &ArgMatches<'a>) -> PageRequest<'a>
-    ensures { page_request result ≡ territory_page (rows_of (found_of matches.now)) }
-{
-    PageRequest::Territory {
-        code: value_of(matches, "code"),
-        json: is_given(matches, "json"),
     }
 }

@@ -8,10 +8,12 @@
 mod argument;
 mod commands;
 mod common;
+mod dates;
 mod file_words;
 mod grammar;
 mod invocation;
 mod letters;
+mod pages;
 mod register_text;
 mod rows;
 mod shell;
