@@ -32,7 +32,7 @@ use Rattle.osn_letters.specs.declared.settings.TableSettings.{TableSettings}
 use Rattle.osn_page_commands.specs.declared.letters.TableRules.{TableRules}
 use Rattle.osn_report.specs.Journal.{MakesObject, MakesNoObject}
 use Rattle.osn_lines.specs.Escaped.{escaped}
-use Rattle.osn_report.specs.Printing.{EndsUnwritten, PrintsNone}
+use Rattle.osn_report.specs.Printing.{EndsUnwritten, PrintsNoneAt}
 use Rattle.osn_report.specs.Messages.{EndsBy, Reports, ReportsIfMade, ReportsNothing}
 use Rattle.osn_report.specs.declared.fault.CommandFault.TheVariants.{File, NoMemory}
 use Rattle.osn_report.specs.declared.status.Status.{Status}
@@ -205,12 +205,13 @@ WritesTable s settings rules i o e status =
     ⊎ ((ended : LettersFault) × ReportsTable settings.names e ended status
     × EndsTable (table_of s settings) i o ended × IsReason (table_of s settings) i o ended)
 
--- how the command ends: the journal is refused, and nothing was written; or it makes an object, and
--- that was done by its edition that the rules ask for
-abbrev pub PrintsLetters : Limits → Input → SettingsModel → TableRules → Input → Output → Output
-    → Status → Type 0
-PrintsLetters limits journal settings rules i o e status =
-    ((fault : FileFault) × MakesNoObject limits journal fault × PrintsNone (File fault) o e status)
+-- how the command ends: the journal of a path is refused, and nothing was written; or it makes an
+-- object, and that was done by its edition that the rules ask for
+abbrev pub PrintsLetters : Limits → List ℕ → Input → SettingsModel → TableRules → Input → Output
+    → Output → Status → Type 0
+PrintsLetters limits path journal settings rules i o e status =
+    ((fault : FileFault) × MakesNoObject limits journal fault
+    × PrintsNoneAt path (File fault) o e status)
     ⊎ ((s : ObjectState) × MakesObject limits journal.bytes s
     × OnEdition rules.edition s
     (λ edition. WritesTable edition settings rules i o e status) o e status)

@@ -41,31 +41,31 @@ RefusesPlaces path table o e status =
     × ReportsPlaces path e fault status
 
 -- it has these entries, and letters were read by them
-abbrev pub ReadsByEntries : Limits → Input → Input → SettingsModel → TableRules → Input → Output
-    → Output → Status → Type 0
-ReadsByEntries limits table journal settings rules i o e status =
+abbrev pub ReadsByEntries : Limits → Input → List ℕ → Input → SettingsModel → TableRules → Input
+    → Output → Output → Status → Type 0
+ReadsByEntries limits table name journal settings rules i o e status =
     (entries : List PlaceEntry) × IfSome table.bytes (λ text. places_in text ≡ Ok entries)
-    × PrintsLetters limits journal (record settings { places = entries }) rules i o e status
+    × PrintsLetters limits name journal (record settings { places = entries }) rules i o e status
 
 -- how the command with a table of places ends, once the journal was opened
-abbrev pub PrintsByPlaces : Limits → List ℕ → Input → SettingsModel → TableRules → (Bool → Type 0)
-    → Folders → Input → Output → Output → Status → Type 0
-PrintsByPlaces limits path journal settings rules CanFail d i o e status =
+abbrev pub PrintsByPlaces : Limits → List ℕ → Input → List ℕ → SettingsModel → TableRules
+    → (Bool → Type 0) → Folders → Input → Output → Output → Status → Type 0
+PrintsByPlaces limits name journal path settings rules CanFail d i o e status =
     MissesPlaces path d o e status
     ⊎ (Changes (Opens (path ∷ [])) d.before d.after
     × (table : Input) × IsReadOf d path CanFail table
     × (RefusesPlaces path table o e status
-    ⊎ ReadsByEntries limits table journal settings rules i o e status))
+    ⊎ ReadsByEntries limits table name journal settings rules i o e status))
 
 -- how the command ends, once the journal was opened, with a table of places or without
 abbrev pub PrintsTable : Limits → List ℕ → Option (List ℕ) → SettingsModel → TableRules
     → (Bool → Type 0) → Folders → Input → Output → Output → Status → Type 0
 PrintsTable limits journal None settings rules CanFail d i o e status = ReadsOne journal CanFail d
-    (λ file. PrintsLetters limits file settings rules i o e status)
+    (λ file. PrintsLetters limits journal file settings rules i o e status)
 PrintsTable limits journal (Some path) settings rules CanFail d i o e status =
     (opened : Option Known) × Changes (Opens (journal ∷ [])) d.before opened
     × (file : Input) × IsReadOf d journal CanFail file
-    × PrintsByPlaces limits path file settings rules CanFail
+    × PrintsByPlaces limits journal file path settings rules CanFail
     (record { before = opened; after = d.after }) i o e status
 
 -- what the options ask for was done, by the edition of a number, or the newest one; or one of them is

@@ -12,7 +12,7 @@ use osn_files::load_journal;
 use osn_letters::{TableSettings, Tally, write_letters};
 use osn_lines::{Progress, Sink, Source};
 use osn_register::Limits;
-use osn_report::{CommandFault, Status, report, report_line};
+use osn_report::{CommandFault, Status, report_at, report_line};
 use std::alloc::Global;
 
 /// What is asked for a table besides its columns.
@@ -104,7 +104,7 @@ fn write_numbered<R: Source, W: Sink, E: Sink, P: Progress>(
 
 /// Runs the command `letters`: writes the table of the input, CSV with a header, with twelve
 /// columns more after its own. These say for each row what its date means, by an edition of the
-/// journal under these limits. The journal is read whole before a record is, and what comes of a
+/// journal of this path under these limits. The journal is read whole before a record is, and what comes of a
 /// read is written before the next one. The settings name the columns that are read, what separates
 /// the fields, the order of a date's three numbers and the table of places. The progress shows how
 /// much of the table was read.
@@ -115,6 +115,7 @@ fn write_numbered<R: Source, W: Sink, E: Sink, P: Progress>(
 pub fn letters_command<J: Source, R: Source, W: Sink, E: Sink, P: Progress>(
     alloc: Global,
     limits: Limits,
+    path: &str,
     journal: &mut J,
     settings: TableSettings<'_>,
     rules: TableRules,
@@ -123,7 +124,7 @@ pub fn letters_command<J: Source, R: Source, W: Sink, E: Sink, P: Progress>(
     errors: &mut E,
     progress: &mut P,
 ) -> Status
-    ensures { spec.PrintsLetters limits
+    ensures { spec.PrintsLetters limits path.now
         (input_of J.remaining J.has_failed journal.old journal.new)
         (spec.settings_model settings.entry) rules
         (input_of R.remaining R.has_failed input.old input.new)
@@ -134,6 +135,6 @@ pub fn letters_command<J: Source, R: Source, W: Sink, E: Sink, P: Progress>(
         Ok(object) => write_numbered(
             alloc, object, settings, rules, input, output, errors, progress,
         ),
-        Err(fault) => report(alloc, errors, CommandFault::File(fault)),
+        Err(fault) => report_at(alloc, errors, path, CommandFault::File(fault)),
     }
 }

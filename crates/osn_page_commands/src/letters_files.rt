@@ -33,12 +33,13 @@ fn rules_of(options: LettersOptions<'_>, number: Option<u32>) -> TableRules
     }
 }
 
-/// Reads the table of places of a path, and does what `letters_command` does by it, if it has no
-/// fault. If it could not be opened or has one, standard error reports why, and nothing is written.
+/// Reads the table of places of a path, and does what `letters_command` does by it for the journal
+/// of this name, if it has no fault. If it could not be opened or has one, standard error reports why, and nothing is written.
 fn letters_by_places<D: Folder, R: Source, W: Sink, E: Sink, P: Progress>(
     alloc: Global,
     limits: Limits,
     folder: &mut D,
+    name: &str,
     journal: &mut D::File,
     path: &str,
     settings: TableSettings<'_>,
@@ -48,8 +49,8 @@ fn letters_by_places<D: Folder, R: Source, W: Sink, E: Sink, P: Progress>(
     errors: &mut E,
     progress: &mut P,
 ) -> Status
-    ensures { spec.PrintsByPlaces limits path.now
-        (input_of D.File.remaining D.File.has_failed journal.old journal.new)
+    ensures { spec.PrintsByPlaces limits name.now
+        (input_of D.File.remaining D.File.has_failed journal.old journal.new) path.now
         (settings_model settings.entry) rules (MayFail D.File.has_failed)
         (folders_of D.known folder.old folder.new)
         (input_of R.remaining R.has_failed input.old input.new)
@@ -67,7 +68,7 @@ fn letters_by_places<D: Folder, R: Source, W: Sink, E: Sink, P: Progress>(
                 ..settings
             };
             letters_command(
-                alloc, limits, journal, settings, rules, input, output, errors, progress,
+                alloc, limits, name, journal, settings, rules, input, output, errors, progress,
             )
         }
         Err(fault) => report_places(alloc, errors, path, &fault),
@@ -107,6 +108,7 @@ fn letters_by<D: Folder, R: Source, W: Sink, E: Sink, T: Sink + Drop>(
         None => Ok(letters_command(
             alloc,
             limits,
+            journal,
             &mut file,
             settings,
             rules,
@@ -119,6 +121,7 @@ fn letters_by<D: Folder, R: Source, W: Sink, E: Sink, T: Sink + Drop>(
             alloc,
             limits,
             folder,
+            journal,
             &mut file,
             path,
             settings,

@@ -1,18 +1,17 @@
-use Rattle.std.proofs.Common.{◌≡◌, false, nat_lt, refl, true}
+use Rattle.std.proofs.Common.{arith, lt-ltb, refl}
+use Rattle.std.proofs.lemmas.Bool.{le-ltb}
 use Rattle.osn_lines.specs.Streams.{input_of}
 use Rattle.osn_commands.proofs.diff_folder.numbered_diff_in_folder.Goals as goal
 
 pub returns-then-to-lt-from-clause-ok : goal.returns-then-to-lt-from-clause-ok
 returns-then-to-lt-from-clause-ok g c =
-    let is : nat_lt c.args.to c.args.from ≡ true = cc in
-    rw is (refl, refl, c.report_backward.ensures)
+    rw (lt-ltb c.args.to c.args.from (omega arith)) (refl, refl, c.report_backward.ensures)
 
 pub returns-clause-ok : goal.returns-clause-ok
 returns-clause-ok g c =
     let found = c.in_ok-file in
     let left = c.diff_command.new.journal in
-    let is : nat_lt c.args.to c.args.from ≡ false = cc in
-    rw is (
+    rw (le-ltb c.args.to c.args.from (omega arith)) (
       found.ensures.ok,
       input_of g.D.File.Source.remaining g.D.File.Source.has_failed found.file left,
       (found.ensures.file, (λ e. (left, e))),

@@ -7,5 +7,5 @@ returns-in-Err g c =
     inl (
       c.in-Err.fault,
       file_fault c.in-Err.fault c.in-Err.ensures.file,
-      (refl, c.report.ensures),
+      (refl, c.report_at.ensures),
     )
