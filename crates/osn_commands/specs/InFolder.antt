@@ -3,8 +3,9 @@ use Rattle.std.specs.Prelude.{◌≡◌, ◌⊎◌, Bool, List, [], ◌∷◌, �
 use Rattle.std.specs.Prelude.{MatchResult, option_map}
 use Rattle.osn_core.specs.Edition.{edition_of_word}
 use Rattle.osn_page_commands.specs.Editions.{ReportsEditionWord}
-use Rattle.osn_folder.specs.Folder.{CannotOpen, Changes, IsFileOf, Known, Opens}
+use Rattle.osn_folder.specs.Folder.{CannotOpen, Changes, IsCauseAt, IsFileOf, Known, Opens}
 use Rattle.osn_folder.specs.declared.fault.OpenFailed.{OpenFailed}
+use Rattle.osn_folder.specs.declared.fault.OpenFailed.TheVariants as causes
 use Rattle.osn_lines.specs.Streams.{Input, Output}
 use Rattle.osn_register.specs.declared.limits.Limits.{Limits}
 use Rattle.osn_report.specs.Folders.{Folders, ReadsOne}
@@ -18,9 +19,10 @@ use Rattle.osn_commands.specs.Keeping.{ReportsHindrance}
 use Rattle.osn_commands.specs.Plan.{PrintsPlan}
 use Rattle.osn_commands.specs.Text.{PrintsText}
 
--- the file of this path was opened, and will give these bytes; or it could not be
+-- the file of this path was opened, and will give these bytes; or there is no such file
 abbrev pub IsOpened : List ℕ → Option (Option (List ℕ)) → Option Known → Option Known → Type 0
-IsOpened path None before after = CannotOpen (path ∷ []) before after
+IsOpened path None before after =
+    CannotOpen (path ∷ []) before after × IsCauseAt before path causes.NotFound
 IsOpened path (Some bytes) before after =
     IsFileOf before path bytes × Changes (Opens (path ∷ [])) before after
 
@@ -33,11 +35,11 @@ RunsText limits journal edition code CanFail d o e status = MatchResult (edition
     (λ file. PrintsText limits journal file number code o e status))
     (λ typed. (d.after ≡ d.before) × (o.new ≡ o.old) × ReportsEditionWord typed e status)
 
--- the text of a path could not be opened, which was reported, and nothing was written
+-- the text of a path could not be opened, which was reported with the cause, and nothing was written
 abbrev pub MissesText : List ℕ → Folders → Output → Output → Status → Type 0
 MissesText path d o e status =
     CannotOpen (path ∷ []) d.before d.after × (o.new ≡ o.old)
-    × (cause : OpenFailed)
+    × (cause : OpenFailed) × IsCauseAt d.before path cause
     × ReportsIfMade e statuses.ReadFault (open_failure_line path cause) status
 
 -- the plan for a journal of this path, which is there or not, was printed, if the text could be

@@ -6,7 +6,7 @@ use Rattle.clap.specs.declared.error.kind.ErrorKind.{ErrorKind}
 use Rattle.clap.specs.declared.error.kind.ErrorKind.TheVariants.{OutOfMemory, DisplayHelp}
 use Rattle.clap.specs.declared.error.kind.ErrorKind.TheVariants.{DisplayVersion}
 use Rattle.osn_register.specs.declared.limits.Limits.{Limits}
-use Rattle.osn_folder.specs.Folder.{CannotOpen}
+use Rattle.osn_folder.specs.Folder.{CannotOpen, IsCauseAt}
 use Rattle.osn_folder.specs.declared.fault.OpenFailed.{OpenFailed}
 use Rattle.osn_invocation.specs.Grammar.{command_line}
 use Rattle.osn_invocation.specs.Invocation.{CommandModel, InvocationModel}
@@ -86,10 +86,10 @@ Runs limits (publishing journal text onto_newest) CanFail CanStay d i o e status
 
 -- ---- why a command ended early
 
--- the file of a path could not be opened, which the line says with the path
+-- the file of a path could not be opened, by this cause, which the line says with the path
 abbrev pub IsOpenFailure : List ℕ → Folders → List ℕ → CommandFault → Type 0
 IsOpenFailure file d path fault =
-    (path ≡ file) × ((cause : OpenFailed) × (fault ≡ NotOpened cause))
+    (path ≡ file) × ((cause : OpenFailed) × (fault ≡ NotOpened cause) × IsCauseAt d.before file cause)
     × CannotOpen (file ∷ []) d.before d.after
 
 -- why the command that is asked for ended early, by this fault at the file of this path: nothing

@@ -1,6 +1,6 @@
 //! The command `check`: whether a text has a fault, without comparing it with a journal.
-ghost use Rattle.std.specs.Prelude.{◌≡◌, ◌∷◌, [], IfOk, OnErr, length, string_bytes};
-ghost use Rattle.osn_folder.specs.Folder.{CannotOpen, MayFail};
+ghost use Rattle.std.specs.Prelude.{◌≡◌, ◌∷◌, [], IfErr, IfOk, OnErr, length, string_bytes};
+ghost use Rattle.osn_folder.specs.Folder.{CannotOpen, IsCauseAt, MayFail};
 ghost use Rattle.osn_lines.specs.Streams.{input_of, output_of};
 ghost use Rattle.osn_report.specs.Folders.{ReadsOne, folders_of};
 ghost use Rattle.osn_commands.specs.Check as spec;
@@ -80,6 +80,7 @@ pub fn check_in_folder<D: Folder, W: Sink, E: Sink>(
     ensures err { OnErr result (CannotOpen (text.now ∷ [])
         (D.known folder.old) (D.known folder.new)
         × (output.new ≡ output.old) × (errors.new ≡ errors.old)) }
+    ensures cause { IfErr result (IsCauseAt (D.known folder.old) text.now) }
 {
     let mut file = open_file(folder, text)?;
     Ok(check_command(alloc, limits, text, &mut file, output, errors))

@@ -1,6 +1,6 @@
 //! The command `diff` over the files of a folder: the journal is opened by its path first.
 ghost use Rattle.std.specs.Prelude.{◌≡◌, ◌∷◌, [], Ok, Err, IfErr, IfOk, OnErr, nat_lt};
-ghost use Rattle.osn_folder.specs.Folder.{CannotOpen, MayFail};
+ghost use Rattle.osn_folder.specs.Folder.{CannotOpen, IsCauseAt, MayFail};
 ghost use Rattle.osn_lines.specs.Streams.{output_of};
 ghost use Rattle.osn_report.specs.Folders.{folders_of};
 ghost use Rattle.osn_commands.specs.Diff as spec;
@@ -48,6 +48,7 @@ fn numbered_diff_in_folder<D: Folder, W: Sink, E: Sink>(
     ensures err { OnErr result (CannotOpen (journal.now ∷ [])
         (D.known folder.old) (D.known folder.new)
         × (output.new ≡ output.old) × (errors.new ≡ errors.old)) }
+    ensures cause { IfErr result (IsCauseAt (D.known folder.old) journal.now) }
 {
     if to < from {
         return Ok(report_backward(alloc, errors, from, to));
@@ -80,6 +81,7 @@ pub fn diff_in_folder<D: Folder, W: Sink, E: Sink>(
     ensures err { OnErr result (CannotOpen (journal.now ∷ [])
         (D.known folder.old) (D.known folder.new)
         × (output.new ≡ output.old) × (errors.new ≡ errors.old)) }
+    ensures cause { IfErr result (IsCauseAt (D.known folder.old) journal.now) }
 {
     match numbers_of(first, second) {
         Ok((from, to)) => numbered_diff_in_folder(

@@ -1,6 +1,6 @@
 //! The commands `text` and `plan` over the files of a folder, opened by their paths first.
 ghost use Rattle.std.specs.Prelude.{◌≡◌, ◌≢◌, ◌∷◌, [], IfErr, IfOk, OnErr, option_map};
-ghost use Rattle.osn_folder.specs.Folder.{CannotOpen, MayFail};
+ghost use Rattle.osn_folder.specs.Folder.{CannotOpen, IsCauseAt, MayFail};
 ghost use Rattle.osn_folder.specs.declared.fault.OpenFailed.{OpenFailed};
 ghost use Rattle.osn_lines.specs.Streams.{input_of, output_of};
 ghost use Rattle.osn_report.specs.Folders.{ReadsOne, folders_of};
@@ -39,6 +39,7 @@ fn numbered_text_in_folder<D: Folder, W: Sink, E: Sink>(
     ensures err { OnErr result (CannotOpen (journal.now ∷ [])
         (D.known folder.old) (D.known folder.new)
         × (output.new ≡ output.old) × (errors.new ≡ errors.old)) }
+    ensures cause { IfErr result (IsCauseAt (D.known folder.old) journal.now) }
 {
     let mut file = open_file(folder, journal)?;
     Ok(text_command(
@@ -71,6 +72,7 @@ pub fn text_in_folder<D: Folder, W: Sink, E: Sink>(
     ensures err { OnErr result (CannotOpen (journal.now ∷ [])
         (D.known folder.old) (D.known folder.new)
         × (output.new ≡ output.old) × (errors.new ≡ errors.old)) }
+    ensures cause { IfErr result (IsCauseAt (D.known folder.old) journal.now) }
 {
     match edition_of_word(edition) {
         Ok(number) => numbered_text_in_folder(
@@ -90,7 +92,8 @@ fn open_if_there<D: Folder>(folder: &mut D, journal: &str) -> Result<Option<D::F
         (option_map D.File.remaining file) (D.known folder.old) (D.known folder.new)) }
     ensures err { OnErr result (CannotOpen (journal.now ∷ [])
         (D.known folder.old) (D.known folder.new)) }
-    ensures cause { IfErr result (λ cause. cause ≢ OpenFailed.NotFound) }
+    ensures cause { IfErr result (IsCauseAt (D.known folder.old) journal.now) }
+    ensures there { IfErr result (λ cause. cause ≢ OpenFailed.NotFound) }
 {
     match open_file(folder, journal) {
         Ok(file) => Ok(Some(file)),
@@ -148,7 +151,8 @@ pub fn plan_in_folder<D: Folder, W: Sink, E: Sink>(
     ensures err { OnErr result (CannotOpen (journal.now ∷ [])
         (D.known folder.old) (D.known folder.new)
         × (output.new ≡ output.old) × (errors.new ≡ errors.old)) }
-    ensures cause { IfErr result (λ cause. cause ≢ OpenFailed.NotFound) }
+    ensures cause { IfErr result (IsCauseAt (D.known folder.old) journal.now) }
+    ensures there { IfErr result (λ cause. cause ≢ OpenFailed.NotFound) }
 {
     let mut file = open_if_there(folder, journal)?;
     let is_there = file.is_some();

@@ -1,7 +1,7 @@
 //! The command `publish` over the files of a folder: the text is read first, and then the file of
 //! the journal is kept.
-ghost use Rattle.std.specs.Prelude.{◌≡◌, ◌∷◌, [], IfOk, OnErr, option_map, string_bytes};
-ghost use Rattle.osn_folder.specs.Folder.{CannotOpen, MayFail};
+ghost use Rattle.std.specs.Prelude.{◌≡◌, ◌∷◌, [], IfErr, IfOk, OnErr, option_map, string_bytes};
+ghost use Rattle.osn_folder.specs.Folder.{CannotOpen, IsCauseAt, MayFail};
 ghost use Rattle.osn_lines.specs.Streams.{output_of};
 ghost use Rattle.osn_report.specs.Folders.{folders_of};
 ghost use Rattle.osn_commands.specs.PublishFolder as spec;
@@ -132,6 +132,7 @@ pub fn publish_in_folder<D: Folder, W: Sink, E: Sink>(
     ensures err { OnErr result (CannotOpen (text.now ∷ [])
         (D.known folder.old) (D.known folder.new)
         × (output.new ≡ output.old) × (errors.new ≡ errors.old)) }
+    ensures cause { IfErr result (IsCauseAt (D.known folder.old) text.now) }
 {
     let mut file = open_file(folder, text)?;
     match read_register_text(alloc, limits, &mut file) {

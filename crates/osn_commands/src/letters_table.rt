@@ -1,6 +1,6 @@
 //! The command `letters` with the file of its table: it is opened first.
-ghost use Rattle.std.specs.Prelude.{◌≡◌, ◌∷◌, [], IfOk, OnErr, option_map};
-ghost use Rattle.osn_folder.specs.Folder.{CannotOpen, MayFail};
+ghost use Rattle.std.specs.Prelude.{◌≡◌, ◌∷◌, [], IfErr, IfOk, OnErr, option_map};
+ghost use Rattle.osn_folder.specs.Folder.{CannotOpen, IsCauseAt, MayFail};
 ghost use Rattle.osn_invocation.specs.Invocation.{letters_model};
 ghost use Rattle.osn_lines.specs.Streams.{input_of, output_of};
 ghost use Rattle.osn_report.specs.Folders.{folders_of};
@@ -106,6 +106,7 @@ pub fn table_in_folder<D: Folder, R: Source, W: Sink, E: Sink, T: Sink + Drop>(
     ensures err { OnErr result (CannotOpen (journal.now ∷ [])
         (D.known folder.old) (D.known folder.new)
         × (output.new ≡ output.old) × (errors.new ≡ errors.old)) }
+    ensures cause { IfErr result (IsCauseAt (D.known folder.old) journal.now) }
 {
     match file_of(table) {
         None => letters_in_folder(

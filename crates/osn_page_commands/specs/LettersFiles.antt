@@ -2,7 +2,7 @@
 -- places.
 use Rattle.std.specs.Prelude.{◌≡◌, ◌⊎◌, Bool, ℕ, List, [], ◌∷◌, Option, Some, None, IfSome, Ok}
 use Rattle.std.specs.Prelude.{MatchResult}
-use Rattle.osn_folder.specs.Folder.{CannotOpen, Changes, Known, Opens}
+use Rattle.osn_folder.specs.Folder.{CannotOpen, Changes, IsCauseAt, Known, Opens}
 use Rattle.osn_folder.specs.declared.fault.OpenFailed.{OpenFailed}
 use Rattle.osn_invocation.specs.Invocation.{LettersModel}
 use Rattle.osn_letters.specs.PlaceEntries.{PlaceEntry}
@@ -27,11 +27,12 @@ abbrev pub rules_of : LettersModel → Option ℕ → TableRules
 rules_of options number =
     record { edition = number; strict = options.strict; summary = options.summary }
 
--- the table of places of a path could not be opened, which was reported, and nothing was written
+-- the table of places of a path could not be opened, which was reported with the cause, and nothing
+-- was written
 abbrev pub MissesPlaces : List ℕ → Folders → Output → Output → Status → Type 0
 MissesPlaces path d o e status =
     CannotOpen (path ∷ []) d.before d.after × (o.new ≡ o.old)
-    × (cause : OpenFailed)
+    × (cause : OpenFailed) × IsCauseAt d.before path cause
     × ReportsIfMade e statuses.ReadFault (open_failure_line path cause) status
 
 -- it has a fault, which was reported, and nothing was written

@@ -1,6 +1,6 @@
 //! The command `editions` over the files of a folder: the journal is opened by its path first.
-ghost use Rattle.std.specs.Prelude.{◌≡◌, ◌∷◌, [], IfOk, OnErr};
-ghost use Rattle.osn_folder.specs.Folder.{CannotOpen, MayFail};
+ghost use Rattle.std.specs.Prelude.{◌≡◌, ◌∷◌, [], IfErr, IfOk, OnErr};
+ghost use Rattle.osn_folder.specs.Folder.{CannotOpen, IsCauseAt, MayFail};
 ghost use Rattle.osn_lines.specs.Streams.{output_of};
 ghost use Rattle.osn_report.specs.Folders.{ReadsOne, folders_of};
 ghost use Rattle.osn_page_commands.specs.EditionList.{PrintsEditions};
@@ -33,6 +33,7 @@ pub fn editions_in_folder<D: Folder, W: Sink, E: Sink>(
     ensures err { OnErr result (CannotOpen (journal.now ∷ [])
         (D.known folder.old) (D.known folder.new)
         × (output.new ≡ output.old) × (errors.new ≡ errors.old)) }
+    ensures cause { IfErr result (IsCauseAt (D.known folder.old) journal.now) }
 {
     let mut file = open_file(folder, journal)?;
     Ok(editions_command(alloc, limits, journal, &mut file, output, errors))

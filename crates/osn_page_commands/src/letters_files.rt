@@ -1,7 +1,7 @@
 //! The command `letters` over the files of a folder: the journal is opened by its path first, and
 //! then the table of places.
-ghost use Rattle.std.specs.Prelude.{◌≡◌, ◌∷◌, [], IfOk, OnErr, option_map};
-ghost use Rattle.osn_folder.specs.Folder.{CannotOpen, MayFail};
+ghost use Rattle.std.specs.Prelude.{◌≡◌, ◌∷◌, [], IfErr, IfOk, OnErr, option_map};
+ghost use Rattle.osn_folder.specs.Folder.{CannotOpen, IsCauseAt, MayFail};
 ghost use Rattle.osn_invocation.specs.Invocation.{letters_model};
 ghost use Rattle.osn_lines.specs.Streams.{input_of, output_of};
 ghost use Rattle.osn_page_commands.specs.Letters.{settings_model};
@@ -100,6 +100,7 @@ fn letters_by<D: Folder, R: Source, W: Sink, E: Sink, T: Sink + Drop>(
     ensures err { OnErr result (CannotOpen (journal.now ∷ [])
         (D.known folder.old) (D.known folder.new)
         × (output.new ≡ output.old) × (errors.new ≡ errors.old)) }
+    ensures cause { IfErr result (IsCauseAt (D.known folder.old) journal.now) }
 {
     let rules = rules_of(options, number);
     let mut file = open_file(folder, journal)?;
@@ -155,6 +156,7 @@ fn numbered_letters_in_folder<D: Folder, R: Source, W: Sink, E: Sink, T: Sink + 
     ensures err { OnErr result (CannotOpen (journal.now ∷ [])
         (D.known folder.old) (D.known folder.new)
         × (output.new ≡ output.old) × (errors.new ≡ errors.old)) }
+    ensures cause { IfErr result (IsCauseAt (D.known folder.old) journal.now) }
 {
     match settings_of_options(options) {
         Ok(settings) => letters_by(
@@ -194,6 +196,7 @@ pub fn letters_in_folder<D: Folder, R: Source, W: Sink, E: Sink, T: Sink + Drop>
     ensures err { OnErr result (CannotOpen (journal.now ∷ [])
         (D.known folder.old) (D.known folder.new)
         × (output.new ≡ output.old) × (errors.new ≡ errors.old)) }
+    ensures cause { IfErr result (IsCauseAt (D.known folder.old) journal.now) }
 {
     match edition_of_word(options.edition) {
         Ok(number) => numbered_letters_in_folder(

@@ -15,6 +15,7 @@ returns-in-Err g c =
       err.0,
       ap g.W.Sink.contents err.1,
       c.in-Err.cause,
+      c.in-Err.ensures.cause,
       subst (λ errors. ReportsIfMade
           (output_of g.E.Sink.contents g.E.Sink.has_failed g.E.Sink.holds_back errors
           c.report_open_failure.new.errors) statuses.ReadFault

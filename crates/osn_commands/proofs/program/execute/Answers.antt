@@ -116,7 +116,11 @@ returns-in-Letters-clause-err g c =
     (λ failure h.
     let why = not_done c.table_in_folder-done.result h.0 _ h.1
     c.table_in_folder-done.ensures.err in (
-      failed c.args.limits c.args.command _ _ _ _ _ c.in-Letters.is (h.2, (h.0, h.3), why.0),
+      failed c.args.limits c.args.command _ _ _ _ _ c.in-Letters.is (
+        h.2,
+        (h.0, h.3, if_failed c.table_in_folder-done.result h.0 _ h.1 c.table_in_folder-done.ensures.cause),
+        why.0,
+      ),
       why.1,
       why.2,
     )) c.opened.ensures.err
@@ -134,7 +138,11 @@ returns-in-Editions-clause-err g c =
     (λ failure h.
     let why = not_done c.editions_in_folder-done.result h.0 _ h.1
     c.editions_in_folder-done.ensures.err in (
-      failed c.args.limits c.args.command _ _ _ _ _ c.in-Editions.is (h.2, (h.0, h.3), why.0),
+      failed c.args.limits c.args.command _ _ _ _ _ c.in-Editions.is (
+        h.2,
+        (h.0, h.3, if_failed c.editions_in_folder-done.result h.0 _ h.1 c.editions_in_folder-done.ensures.cause),
+        why.0,
+      ),
       why.1,
       why.2,
     )) c.opened-in-Editions.ensures.err
@@ -151,7 +159,11 @@ returns-in-Diff-clause-err g c =
     IfErr-weaker c.opened-in-Diff.result _ _
     (λ failure h.
     let why = not_done c.diff_in_folder-done.result h.0 _ h.1 c.diff_in_folder-done.ensures.err in (
-      failed c.args.limits c.args.command _ _ _ _ _ c.in-Diff.is (h.2, (h.0, h.3), why.0),
+      failed c.args.limits c.args.command _ _ _ _ _ c.in-Diff.is (
+        h.2,
+        (h.0, h.3, if_failed c.diff_in_folder-done.result h.0 _ h.1 c.diff_in_folder-done.ensures.cause),
+        why.0,
+      ),
       why.1,
       why.2,
     )) c.opened-in-Diff.ensures.err
@@ -168,7 +180,11 @@ returns-in-Text-clause-err g c =
     IfErr-weaker c.opened-in-Text.result _ _
     (λ failure h.
     let why = not_done c.text_in_folder-done.result h.0 _ h.1 c.text_in_folder-done.ensures.err in (
-      failed c.args.limits c.args.command _ _ _ _ _ c.in-Text.is (h.2, (h.0, h.3), why.0),
+      failed c.args.limits c.args.command _ _ _ _ _ c.in-Text.is (
+        h.2,
+        (h.0, h.3, if_failed c.text_in_folder-done.result h.0 _ h.1 c.text_in_folder-done.ensures.cause),
+        why.0,
+      ),
       why.1,
       why.2,
     )) c.opened-in-Text.ensures.err
@@ -185,7 +201,11 @@ returns-in-Check-clause-err g c =
     IfErr-weaker c.opened-in-Check.result _ _
     (λ failure h.
     let why = not_done c.check_in_folder-done.result h.0 _ h.1 c.check_in_folder-done.ensures.err in (
-      failed c.args.limits c.args.command _ _ _ _ _ c.in-Check.is (h.2, (h.0, h.3), why.0),
+      failed c.args.limits c.args.command _ _ _ _ _ c.in-Check.is (
+        h.2,
+        (h.0, h.3, if_failed c.check_in_folder-done.result h.0 _ h.1 c.check_in_folder-done.ensures.cause),
+        why.0,
+      ),
       why.1,
       why.2,
     )) c.opened-in-Check.ensures.err
@@ -202,7 +222,11 @@ returns-in-Plan-clause-err g c =
     IfErr-weaker c.opened-in-Plan.result _ _
     (λ failure h.
     let why = not_done c.plan_in_folder-done.result h.0 _ h.1 c.plan_in_folder-done.ensures.err in (
-      failed c.args.limits c.args.command _ _ _ _ _ c.in-Plan.is (h.2, (h.0, h.3), why.0),
+      failed c.args.limits c.args.command _ _ _ _ _ c.in-Plan.is (
+        h.2,
+        (h.0, h.3, if_failed c.plan_in_folder-done.result h.0 _ h.1 c.plan_in_folder-done.ensures.cause),
+        why.0,
+      ),
       why.1,
       why.2,
     )) c.opened-in-Plan.ensures.err
@@ -220,7 +244,11 @@ returns-in-Publish-clause-err g c =
     (λ failure h.
     let why = not_done c.publish_in_folder-done.result h.0 _ h.1
     c.publish_in_folder-done.ensures.err in (
-      failed c.args.limits c.args.command _ _ _ _ _ c.in-Publish.is (h.2, (h.0, h.3), why.0),
+      failed c.args.limits c.args.command _ _ _ _ _ c.in-Publish.is (
+        h.2,
+        (h.0, h.3, if_failed c.publish_in_folder-done.result h.0 _ h.1 c.publish_in_folder-done.ensures.cause),
+        why.0,
+      ),
       why.1,
       why.2,
     )) c.opened-in-Publish.ensures.err
