@@ -59,7 +59,7 @@ pub(crate) fn read_register_text<T: Source>(
     text: &mut T,
 ) -> Result<RegisterText, TextFileFault>
     ensures ok { IfOk result
-        (λ text. spec.Says limits (T.remaining text.old) text.edition text.register) }
+        (λ read. spec.Says limits (T.remaining text.old) read.edition read.register) }
     ensures err { IfErr result (spec.IsTextFileFault limits
         (input_of T.remaining T.has_failed text.old text.new)) }
 {

@@ -6,7 +6,7 @@ pub returns-in-Some : goal.returns-in-Some
 returns-in-Some g c =
     let is : lacking (length c.args.object.now.batches) c.args.from c.args.to
     ≡ Some c.in-Some.number = cc in
-    rw is (refl, c.report_edition_fault.ensures)
+    rw is (refl, rw c.batches-newest.ensures.value at c.report_edition_fault.ensures)
 
 pub returns-in-None : goal.returns-in-None
 returns-in-None g c =

@@ -3,8 +3,8 @@ use Rattle.std.proofs.lemmas.Bool.{le-ltb}
 use Rattle.osn_lines.specs.Streams.{input_of}
 use Rattle.osn_commands.proofs.diff_folder.numbered_diff_in_folder.Goals as goal
 
-pub returns-then-to-lt-from-clause-ok : goal.returns-then-to-lt-from-clause-ok
-returns-then-to-lt-from-clause-ok g c =
+pub returns-then-to-from-clause-ok : goal.returns-then-to-from-clause-ok
+returns-then-to-from-clause-ok g c =
     rw (lt-ltb c.args.to c.args.from (omega arith)) (refl, refl, c.report_backward.ensures)
 
 pub returns-clause-ok : goal.returns-clause-ok
