@@ -17,7 +17,6 @@ import datetime
 import glob
 import os
 import re
-import shutil
 import subprocess
 import sys
 from collections import Counter
