@@ -35,6 +35,7 @@ pub mod Sourced
 pub mod Found
 pub mod Valid
 pub mod Placed
+pub mod Ordered
 pub mod Fitting
 pub mod Planned
 pub mod Places

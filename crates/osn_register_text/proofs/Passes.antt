@@ -1,4 +1,5 @@
--- The two passes through the starts of two territories: those that are dropped, and those that are added.
+-- The two passes through the starts of two territories: those that are dropped, and those that are
+-- added.
 use Rattle.std.proofs.Common.{◌≡◌, ℕ, inl, inr, ◌+◌, ◌≤◌, Bool, cond, true, false, List}
 use Rattle.std.proofs.Common.{[], ◌∷◌, ◌++◌, Option, Some, None, is_some, refl, sym, ap}
 use Rattle.std.proofs.Common.{◌∙◌, ◌<◌, ◌&&◌, length, arith}

@@ -1,4 +1,5 @@
--- The edits of the territories of the target in turn: after its edits each of them is as in the target.
+-- The edits of the territories of the target in turn: after its edits each of them is as in the
+-- target.
 use Rattle.std.proofs.Common.{◌≡◌, ℕ, ◌≤◌, Bool, true, false, cond, List, [], ◌∷◌, ◌++◌, fold}
 use Rattle.std.proofs.Common.{Option, Some, None, option_map, is_some, refl, sym, ap, subst, ◌∙◌}
 use Rattle.std.proofs.Common.{arith}

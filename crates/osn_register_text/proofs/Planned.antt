@@ -22,11 +22,13 @@ use Rattle.osn_register_text.specs.Needed.{name_in, regime_from, regime_in, east
 use Rattle.osn_register_text.specs.Needed.{easter_cited, IsNeeded, AreNeeded}
 use Rattle.osn_register_text.specs.Fault.{first_renamed, IsOver}
 use Rattle.osn_register_text.specs.Plan.{AgreeWithTarget, IsPlan}
+use Rattle.osn_register_text.specs.PlanOrder.{AreInOrder}
 use Rattle.osn_register_text.specs.Differences.{all_edits}
 use Rattle.osn_register_text.proofs.Rows.{not_none}
 use Rattle.osn_register_text.proofs.Placed.{Stands, AllPlaced, all_placed}
 use Rattle.osn_register_text.proofs.Valid.{AreLimited}
 use Rattle.osn_register_text.proofs.Changed.{starts_found}
+use Rattle.osn_register_text.proofs.Ordered.{in_order}
 use Rattle.osn_register_text.proofs.Fitting.{are_fit, stands_same}
 
 effects_of : (limits : Limits) (territories : List EntryModel) (es : List Edit) →
@@ -182,14 +184,22 @@ placed_all room limits target territories distinct named sound current none =
     (are_fit newest_rules room limits target territories (omega arith) named sound current none)
     (λ code some. refl) (λ code l found. found)
 
+pub ordered_all : (room limits : Limits) (target territories : List EntryModel) → AreNamed target →
+    AreSound newest_rules room target → AreSound newest_rules limits territories →
+    first_renamed target territories ≡ None → AreInOrder target (all_edits target territories)
+ordered_all room limits target territories named sound current none =
+    in_order newest_rules target territories target
+    (are_fit newest_rules room limits target territories (omega arith) named sound current none)
+
 pub is_plan : (room limits : Limits) (target territories : List EntryModel) →
     AreSound newest_rules room target →
     AllPlaced newest_rules limits target territories target (all_edits target territories) →
+    AreInOrder target (all_edits target territories) →
     AreLawful newest_rules limits territories (all_edits target territories) →
     AreSound newest_rules limits
     (applied_all newest_rules limits territories (all_edits target territories)) →
     IsPlan limits target territories (all_edits target territories)
-is_plan room limits target territories sound made lawful after = record {
+is_plan room limits target territories sound made ordered lawful after = record {
   lawful = lawful;
   stand = λ code some. by code (entry_of code target) refl some
       (effects_of limits territories (all_edits target territories) lawful);
@@ -199,6 +209,7 @@ is_plan room limits target territories sound made lawful after = record {
   needed = made.needed;
   idle = λ already. none_needed target territories already (all_edits target territories)
       made.needed;
+  order = ordered;
 }
   where
     by : (code : List ℕ) (o : Option EntryModel) → entry_of code target ≡ o → is_some o ≡ true →

@@ -9,7 +9,7 @@ use Rattle.osn_register_text.specs.Fault.{first_renamed, IsTrialFault, IsFault}
 use Rattle.osn_register_text.specs.Plan.{IsPlan}
 use Rattle.osn_register_text.specs.Differences.{all_edits}
 use Rattle.osn_register_text.proofs.Placed.{AllPlaced}
-use Rattle.osn_register_text.proofs.Planned.{placed_all, is_plan}
+use Rattle.osn_register_text.proofs.Planned.{placed_all, ordered_all, is_plan}
 use Rattle.osn_register_text.proofs.Tried.{trial_fault}
 
 module _ (w r : RegisterModel) (sound : IsWellFormed newest_rules w)
@@ -29,6 +29,8 @@ module _ (w r : RegisterModel) (sound : IsWellFormed newest_rules w)
     planned lawful after =
         subst (IsPlan r.limits w.territories r.territories) (sym are)
         (is_plan w.limits r.limits w.territories r.territories sound.territories made
+        (ordered_all w.limits r.limits w.territories r.territories sound.named sound.territories
+        current.territories named)
         (subst (AreLawful newest_rules r.limits r.territories) (same ∙ are) lawful)
         (subst (λ fs. IsWellFormed newest_rules (record r {
           territories = applied_all newest_rules r.limits r.territories fs;

@@ -12,6 +12,7 @@ pub mod Says
 pub mod Cited
 pub mod Needed
 pub mod Fault
+pub mod PlanOrder
 pub mod Plan
 pub mod Change
 pub mod Differences

@@ -7,6 +7,7 @@ use Rattle.osn_register.specs.Lawful.{AreLawful}
 use Rattle.osn_register.specs.Plain.{EntryModel, entry_of, applied_all}
 use Rattle.osn_register.specs.SameEntry.{AreSameEntry}
 use Rattle.osn_register_text.specs.Needed.{AreNeeded}
+use Rattle.osn_register_text.specs.PlanOrder.{AreInOrder}
 
 -- every target territory is as in the target: its name, itself, and the source of each of its
 -- periods and of each of its listed Easters
@@ -16,7 +17,9 @@ AgreeWithTarget target territories = (code : List ℕ) → is_some (entry_of cod
 
 -- The edits take these territories to the target ones, under these limits. Each is lawful in its
 -- turn, and needed then. After them each target territory is as in the target, and every other one
--- as before. If all are as in the target already, there are no edits.
+-- as before. If all are as in the target already, there are no edits. The edits of one
+-- target territory are together, in the order of the target, and PlanOrder says in which order they
+-- are.
 pub record IsPlan (limits : Limits) (target territories : List EntryModel) (edits : List Edit)
     : Type 0
   where
@@ -27,3 +30,4 @@ pub record IsPlan (limits : Limits) (target territories : List EntryModel) (edit
         ≡ entry_of code territories
     pub needed : AreNeeded target territories edits
     pub idle : AgreeWithTarget target territories → edits ≡ []
+    pub order : AreInOrder target edits

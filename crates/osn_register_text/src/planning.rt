@@ -34,15 +34,17 @@ fn all_edits(alloc: Global, register: &Register, target: &Register) -> Result<Ve
     Ok(edits)
 }
 
-/// Returns the edits that take a register to a target one, in their order: its territories, and the
-/// sources of their periods and listed Easters. A territory that the target register lacks stays as
-/// it is. The limits are those of the first register.
+/// Returns the edits that take a register to a target one: its territories, and the sources of
+/// their periods and listed Easters. They are in the order of the target's territories. For each of
+/// these, changes of regime are dropped before others are added or altered, and then listed Easters
+/// before others are listed, by the day or the year. A territory that the target register lacks
+/// stays as it is. The limits are those of the first register.
 ///
 /// # Errors
 ///
-/// Returns `Renamed` for the first territory of the target whose code has another name, then `Refused` if
-/// the register refuses an edit that is needed, such as one territory more than its limit. Returns
-/// `NoMemory` if memory runs out.
+/// Returns `Renamed` for the first territory of the target whose code has another name, then
+/// `Refused` if the register refuses an edit that is needed, such as one territory more than its
+/// limit. Returns `NoMemory` if memory runs out.
 pub fn plan(alloc: Global, register: &Register, target: &Register) -> Result<Vec<Edit>, PlanFault>
     ensures ok { IfOk result (λ edits. IsPlan register.now.limits target.now.territories
         register.now.territories edits.items) }
