@@ -19,7 +19,8 @@ minutes if `rt check` has built the libraries in this checkout, and otherwise pr
 runs take some two minutes, two at a time. A save that finds no memory to sync the folder, or for
 the note on the journal that it replaced, has saved: it counts as refused, and is not made again. A
 publish that finds no memory to open the journal says that it can't be opened, and a plan says so
-below its edits. A note that finds no memory is left out.
+below its edits. A save that finds no memory to keep the file that it would replace ends with a
+write fault, and changes nothing. A note that finds no memory is left out.
 growths/growths.c refuses the growths, and requires a C compiler: `cc`, or what CC names.
 """
 import json
@@ -213,6 +214,12 @@ def is_not_kept(words, got):
     return got[::2] == (status, f"oldstyle: {(paths or [''])[0]}: {NOT_OPENED}\n")
 
 
+def is_not_backed_up(words, got):
+    """Returns whether a save could not keep the file that it would replace, for lack of memory."""
+    path = words.partition(" --save ")[2].partition(" ")[0]
+    return got[::2] == (3, f"oldstyle: write fault\nnote: {path}: write fault\n")
+
+
 def without_notes(errors):
     """What was written to standard error, with no note."""
     return "".join(line for line in errors.splitlines(True) if not line.startswith("note: "))
@@ -269,7 +276,8 @@ class Command:
 
     def is_refused(self, got):
         is_publish = self.words.startswith("publish")
-        ends = (is_refused(self.words, *got[::2]) or is_publish and is_not_kept(self.words, got))
+        ends = (is_refused(self.words, *got[::2]) or is_publish and is_not_kept(self.words, got)
+                or is_not_backed_up(self.words, got))
         return ends and self.is_front(got) or self.is_noted(got)
 
     def outcome(self, number):
