@@ -51,7 +51,7 @@ LIBRARY = os.path.join(ROOM.name, "growths.so")
 
 MARK = "called\nanswered\n"
 LACKS = {"NoMemory\n", "NoPlace\n", "Err(NoMemory)\n", "Err(NoPlace)\n", "Err(AllocError)\n"}
-LACKS_AFTER = re.compile(r"Err\(Interrupted \{ lines: (\d+), cause: NoMemory \}\)\n")
+LACKS_AFTER = re.compile(r"Err\(EndedEarly \{ lines: (\d+), cause: NoMemory \}\)\n")
 
 NOT_SYNCED = (3, "oldstyle: the journal is saved, but may not be on the disk yet\n")
 NOT_OPENED = "it can't be opened for writing and locked, as on a read-only disk or without memory"
