@@ -129,13 +129,21 @@ def twelve(place, date, weekday):
     return [field.encode() for field in letter_fields(lands, edition, place, date, weekday)]
 
 
+def index_of(columns, role):
+    """The index of the column of a role: the first of its name, else the first in other letters
+    or with white space around it. None if there is no such column."""
+    named = [role.encode() == name for name in columns]
+    alike = [role.encode() == name.strip(SPACES.encode()).lower() for name in columns]
+    return next((names.index(True) for names in (named, alike) if True in names), None)
+
+
 def bad_header(columns):
     """Why a header is bad, or None."""
     for name in COLUMNS:
         if name.encode() in columns:
             return IS_THERE.format(name=name).encode()
     for role in ROLES[:2]:
-        if role.encode() not in columns:
+        if index_of(columns, role) is None:
             if any(b"\0" in name for name in columns):
                 return IN_UTF_16.encode()
             found = escaped(b", ".join(columns).decode("utf-8", "replace"))
@@ -155,8 +163,8 @@ def expected_lines(table, named):
         elif not why and len(fields) != len(columns):
             why = OTHER_NUMBER.encode()
         elif not why:
-            read = [fields[columns.index(role.encode())] if role.encode() in columns else b""
-                    for role in ROLES]
+            indices = [index_of(columns, role) for role in ROLES]
+            read = [b"" if index is None else fields[index] for index in indices]
             rows.append((separator, fields, twelve(*read)))
         if why:
             return rows, b"oldstyle: letters line %d: %s\n" % (line, why)

@@ -144,7 +144,10 @@ class Tables:
             return End(-1, "the table took too long, and was ended")
         except OSError as why:
             return End(-1, reason_of(why))
-        message = self.settings.public_report(errors.decode(errors="replace"))
+        # A line of help says what to do at the command line.
+        lines = [line for line in errors.decode(errors="replace").splitlines()
+                 if not line.startswith("help: ")]
+        message = self.settings.public_report("\n".join(lines))
         message = PLACES_FILE.sub("the table of places", message)
         if process.returncode < 0 and not message:
             message = "the program was ended before the table did"
