@@ -11,7 +11,7 @@ import re
 
 from lib.common import TOP, CommandLine, end, run
 
-DAY = r"\d+ [A-Z][a-z]+ \d+(?:/\d)?(?: N\.S\.)?"
+DAY = r"\d+ [A-Z][a-z]+ \d+(?:/\d)?(?: [NO]\.S\.)?"
 NOT_ONE_DAY = "the date is not written as a day"
 
 

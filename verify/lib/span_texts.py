@@ -13,14 +13,15 @@ MONTHS = {name.lower(): month for names in NAMES for month, name in enumerate(na
 
 YEARS = r"(?P<year>\d{3,5})(?:/(?P<later>\d{1,5}))?"
 NAME, DAY = f"(?P<name>{'|'.join(map(re.escape, MONTHS))})", r"(?P<day>\d{1,2})"
-DATES = [YEARS, f"anno {YEARS}", f"{YEARS}-XX-XX", f"{NAME},? {YEARS}", f"{YEARS} {NAME}",
+DATES = [YEARS, f"anno {YEARS}", f"{YEARS}-XX(?:-XX)?", f"{NAME},? {YEARS}", f"{YEARS} {NAME}",
+         f"{YEARS},? {NAME} {DAY}",
          rf"{YEARS}-(?P<month>\d\d)", rf"{YEARS}-(?P<month>\d\d)-(?P<day>\d\d)",
          f"{DAY} {NAME} {YEARS}", f"the {DAY} of {NAME}, {YEARS}", f"{NAME} {DAY}, {YEARS}",
          rf"{DAY}\.(?P<month>\d{{1,2}})\.{YEARS}"]
 # What the first date of a range may be, if the last one has the other parts.
 FRONTS = [DAY, f"{DAY} {NAME}", NAME]
 # With a dash after it a double year alone is not a first date.
-RANGES = [r"from (.+) to (.+)", r"between (.+) and (.+)", r"(.+) to (.+)",
+RANGES = [r"from (.+) to (.+)", r"between (.+) (?:and|&) (.+)", r"(.+) to (.+)",
           r"(?!\d+/\d+ ?[-\u2013])([^-]+?) ?[-\u2013] ?(.+)"]
 # A day by both calendars.
 OLD_NEW = r"(?P<old>\d{1,2})/(?P<new>\d{1,2})"
@@ -28,6 +29,15 @@ OTHER = NAME.replace("name", "other")
 BOTH = [f"{OLD_NEW} {NAME} {YEARS}", f"{NAME} {OLD_NEW},? {YEARS}",
         rf"(?P<old>\d{{1,2}}) {NAME}/(?P<new>\d{{1,2}}) {OTHER} {YEARS}"]
 BOUND = r"(before|not after|by|after|not before) (.+)"
+THAN = {"earlier than ": "before ", "later than ": "after "}
+
+# A double year after a dash, with what is before or after it.
+DASHED = r"(?P<year>\d{4,5})[-\u2013](?P<last>\d+)"
+DASHED = [rf"(?P<before>.*\b{NAME}(?: \d{{1,2}})?,? ){DASHED}(?P<after>)",
+          rf"(?P<before>){DASHED}(?P<after>,? {NAME} \d{{1,2}})"]
+# Days and months of which the last digit is open.
+OPEN_DAY, OPEN_MONTH = r"(\d{4})-(\d\d)-([0-3])X", r"(\d{4})-([01])X"
+PHRASE = r"INT (.*?) ?\([^()]*\)"
 
 # A number that may be a day or a month, and one that is a day.
 MAY_BE_MONTH, ONE_DAY = "([1-9]|1[0-2])", r"(?:0?[1-9]|[12]\d|3[01])"
@@ -47,11 +57,13 @@ BY_SIGNS = r"(\[?)(?:([1-9]\d\d)(?:\?|-(\??))|([1-9]\d)--(\??))(\]?)"
 # A year that may lack its last digit.
 THREE_DIGITS = r"(?<![\d/])[1-9]\d\d(?!\d)"
 SUPPLIED = r"\[(.*)\]"
-SET_DAY = r"\d{3,5}-\d\d-\d\d[?~%]?"
-SET_MEMBER = rf"{SET_DAY}(?:\.\.{SET_DAY})?"
-SET = rf"\[{SET_DAY}\.\.{SET_DAY}\]|\[{SET_MEMBER}(?:,{SET_MEMBER})+\]"
+SET_DAY = r"(?:\d{3,5}-\d\d-\d\d|\d{4}(?:-\d\d)?)[?~%]?"
+SET_MEMBER = rf"(?:{SET_DAY}(?:\.\.(?:{SET_DAY})?)?|\.\.{SET_DAY})"
+SET = rf"\[(?:{SET_DAY}\.\.(?:{SET_DAY})?|\.\.{SET_DAY})\]|\[{SET_MEMBER}(?:,{SET_MEMBER})+\]"
+# A square bracket between two digits or two letters.
+WITHIN = r"(?<=\d)[][](?=\d)|(?<=[a-z])[][](?=[a-z])"
 UNCERTAIN = r"(?:probably|perhaps) (.*)|(.*?) ?(?:\?|\(\?\))"
-RECKONING = r"(.*?),? \(?(O\.?S\.?|old style|N\.?S\.?|new style)\)?"
+RECKONING = r"(.*?),? \(?(O\.?S\.?|old style|Julian|N\.?S\.?|new style|Gregorian)\)?"
 APPROXIMATE = r"(?:about|c\.|ca\.|circa) (.*)"
 
 
@@ -116,6 +128,7 @@ def years_of(text):
     return None
 
 
+PART = r"\b(?:early|mid|late|spring|summer|autumn)\b"
 # A part of a month, a year, a decade or a century, and the first months of seasons and quarters.
 PARTS = [(f"{word} (.*)", portion) for portion, words in PART_WORDS.items() for word in words]
 SEASONS = {"spring": 3, "21": 3, "summer": 6, "22": 6, "autumn": 9, "23": 9,
@@ -124,6 +137,7 @@ SEASONS = {"spring": 3, "21": 3, "summer": 6, "22": 6, "autumn": 9, "23": 9,
 
 def part_in(text):
     """The part of a time that a text is, None if it has no such form."""
+    text = re.sub(r"^(.*?),? \(?(early|mid|late)\)?$", r"\2 \1", text, flags=re.I)
     for form, portion in PARTS:
         if match := re.fullmatch(form, text, re.I):
             if years := years_of(match[1]):
@@ -138,6 +152,7 @@ def part_in(text):
 
 def season_in(text):
     """The months of a season or a quarter, None if the text is neither."""
+    text = re.sub(r"^(\d{4}),? (spring|summer|autumn)$", r"\2 \1", text, flags=re.I)
     if match := re.fullmatch(r"(spring|summer|autumn) (\d{4})", text, re.I):
         year, month = int(match[2]), SEASONS[match[1].lower()]
     elif (match := re.fullmatch(r"(\d{4})-(2[123]|3[3-6])", text)) and match[1][2:] >= match[2]:
@@ -145,6 +160,57 @@ def season_in(text):
     else:
         return None
     return Span("range", Simple(year, False, month), Simple(year, False, month + 2))
+
+
+def end_in(text, portions, year=None):
+    """The first and last date of a part of a time, as the end of a range: a part of years has one
+    only if it is one of these portions. Parts of a year may lack it."""
+    if year is not None and not re.search(r"\d", text):
+        text = f"{text} {year}"
+    if not (part := part_in(text) or season_in(text)):
+        raise Unread(text)
+    if part.kind == "part" and part.portion not in portions:
+        raise Unread(text)
+    return part.first, part.last or part.first
+
+
+def range_of_parts(text):
+    """From one part of a time to another one, None if a text has no such form."""
+    match = re.fullmatch(rf"(.*?{PART}.*?)(?: - | to | or )(.*{PART}.*)", text, re.I)
+    if not match:
+        return None
+    last = end_in(match[2], ("last third", "second half"))[1]
+    first = end_in(match[1], ("first third", "first half"), last.year)[0]
+    return Span("range", first, last)
+
+
+def open_in(text):
+    """The days or months of which the last digit is open, None if a text has no such form."""
+    if match := re.fullmatch(OPEN_MONTH, text, re.I):
+        first, last = ((1, 9), (10, 12))[int(match[2])]
+        return Span("range", *(Simple(int(match[1]), False, month) for month in (first, last)))
+    if not (match := re.fullmatch(OPEN_DAY, text, re.I)):
+        return None
+    month = Simple(int(match[1]), False, int(match[2]))
+    tens, is_february = int(match[3]), month.month == 2
+    if month.month not in range(1, 13) or is_february and tens == 3:
+        raise Unread(text)
+    end = None if is_february and tens == 2 else 10 * tens + 9
+    if tens == 3:
+        end = 30 if month.month in (4, 6, 9, 11) else 31
+    return Span("range", month._replace(day=max(1, 10 * tens)), month._replace(day=end))
+
+
+def with_slash(text):
+    """A text with `/` for the dash of a double year."""
+    parts = matched(DASHED, text)
+    if not parts or month_of(parts) > 3 or len(parts["last"]) not in (1, 2, 4):
+        return text
+    is_later = str(int(parts["year"]) + 1).endswith(parts["last"])
+    has_day = re.search(r"\d", parts["before"] + parts["after"])
+    if not is_later or len(parts["last"]) == 4 and not has_day:
+        return text
+    return f"{parts['before']}{parts['year']}/{parts['last']}{parts['after']}"
 
 
 def years_by_signs(text):
@@ -158,12 +224,15 @@ def years_by_signs(text):
 
 def extent_of(text):
     """One date, a range or a bound."""
-    if years := years_of(text):
-        return years
+    if found := years_of(text) or open_in(text):
+        return found
+    text = with_slash(text)
     if parts := matched(DATES, text):
         return Span("on", simple_of(parts, text))
     if parts := matched([rf"{FEAST} {YEARS}"], text):
         return Span("feast", simple_of(parts, text), feast=NAMED[parts["feast"].lower()])
+    for words, word in THAN.items():
+        text = text.replace(words, word)
     if match := re.fullmatch(BOUND, text, re.I):
         word = match[1].lower()
         return Span("not after" if word == "by" else word, date_of(match[2]))
@@ -175,20 +244,25 @@ def extent_of(text):
 
 
 def by_both(text):
-    """The Gregorian date of a day by both calendars, None if the text has no such form."""
+    """The date of a day by both calendars, None if a text has no such form."""
     if not (parts := matched(BOTH, text)):
         return None
     year = simple_of({"year": parts["year"], "later": parts["later"]}, text)
     month = month_of(parts)
     old = month, int(parts["old"])
     new = MONTHS[parts.get("other", parts["name"]).lower()], int(parts["new"])
-    if (min(old, new) < (3, 25)) != year.is_double:
+    is_early = min(old, new) < (3, 25)
+    is_own = is_early and not year.is_double
+    if is_early < year.is_double or is_own and (old >= (3, 25) or old > (new[0], 31)):
         raise Unread(text)
-    gregorian = year.year + year.is_double, *new
-    days = days_under(("gregorian", "january"), gregorian)
-    if [dates("julian")[day][1:] for day in days] != [old]:
-        raise Unread(text)
-    return Span("on", Simple(gregorian[0], False, *new), reckoning="new")
+    # In the place's own year it may be either, so the dates have to be one day of both.
+    for gregorian in {year.year + year.is_double, year.year + is_early}:
+        days = days_under(("gregorian", "january"), (gregorian, *new))
+        if [dates("julian")[day][1:] for day in days] != [old]:
+            raise Unread(text)
+    if is_own:
+        return Span("on", year._replace(month=old[0], day=old[1]), reckoning="old")
+    return Span("on", Simple(year.year + year.is_double, False, *new), reckoning="new")
 
 
 class Unread(Exception):
@@ -212,8 +286,10 @@ def set_of(text):
         return None
     members = []
     for member in text[1:-1].split(","):
-        days = [date_of(day.rstrip("?~%")) for day in member.split("..")]
-        members.append(Span("on", *days) if len(days) == 1 else Span("range", *days))
+        first, dots, last = (part.rstrip("?~%") for part in member.partition(".."))
+        kind = "range" if first and last else "not before" if first else "not after"
+        days = [date_of(day) for day in (first, last) if day]
+        members.append(Span(kind if dots else "on", *days))
     approximate, uncertain = (re.search(signs, text) is not None for signs in ("[~%]", "[?%]"))
     return Span("set", members[0].first, None, None, approximate, uncertain, False, tuple(members))
 
@@ -222,14 +298,20 @@ def span_of(text):
     """The span that a text means."""
     if found := years_by_signs(text) or set_of(text):
         return found
+    if match := re.fullmatch(PHRASE, text, re.I):
+        text = match[1]
     rest, supplied = without(SUPPLIED, text)
+    if re.search(r"[][]", rest):
+        rest = re.sub(r"[][]", " ", re.sub(WITHIN, "", rest, flags=re.I))
+        rest, supplied = " ".join(rest.split()), True
     rest, uncertain = without(UNCERTAIN, rest)
     if (supplied or uncertain) and re.search(THREE_DIGITS, rest):
         raise Unread(text)
+    rest = re.sub(r"@#D(JULIAN|GREGORIAN)@ (.*)", r"\2 \1", rest, flags=re.I)
     named = re.fullmatch(RECKONING, rest, re.I)
-    reckoning = ("old" if named[2].lower().startswith("o") else "new") if named else None
+    reckoning = ("old" if named[2][0] in "OoJj" else "new") if named else None
     rest, approximate = without(APPROXIMATE, named[1] if named else rest)
-    if part := part_in(rest) or season_in(rest):
+    if part := range_of_parts(rest) or part_in(rest) or season_in(rest):
         return part._replace(reckoning=reckoning, approximate=True, uncertain=uncertain,
                              supplied=supplied)
     if both := by_both(rest):

@@ -425,8 +425,11 @@ def range_text(chance, first, last):
         begin = str(first.day)
         if first.month != last.month or chance.random() < 0.3:
             begin += f" {month_name(chance, first.month)}"
-    return chance.choice([f"{begin} to {end}", f"from {begin} to {end}", f"{begin} - {end}",
-                          f"{begin}\u2013{end}", f"between {begin} and {end}"])
+    forms = [f"{begin} to {end}", f"from {begin} to {end}", f"between {begin} and {end}"]
+    # After a day from January to March a dash and the next year are a double year.
+    may_be_double = first.day and first.month < 4 and last == Simple(first.year + 1)
+    return chance.choice(forms if may_be_double else
+                         [*forms, f"{begin} - {end}", f"{begin}\u2013{end}"])
 
 
 PART_WORDS = {

@@ -82,9 +82,9 @@ def asking(program: str) -> Any:
     ("11 February 10001", "no year from 0 to 10000"), ("1640-45", "no month from 1 to 12"),
     ("1731-02-32", "no day from 1 to 31"), ("n.d.", "no date"),
     ("11 February 31", "year of one or two digits"), ("173..", "year with an open digit"),
-    ("11/2/1731", "open between day and month"), ("11/22 February 1731", "day by both calendars"),
+    ("11/2/1731", "open between day and month"), ("22 Dec./1 Jan. 1675", "day by both calendars"),
     ("3/13 June 1675 O.S.", "one calendar for the dates of both"),
-    ("Lady Day 1640", "a feast, not read"), ("vi February 1731", "a Roman numeral, not read"),
+    ("Lady Day 1640", "a feast, not read"), ("x February 1731", "a Roman numeral, not read"),
     ("winter 1675", "an open part of a date, not read")])
 def test_the_advice_is_that_of_the_program(asking: Asking, date: str, reason: str) -> None:
     answered, = asking.answers([{"op": "written", "code": "GB", "date": date}])

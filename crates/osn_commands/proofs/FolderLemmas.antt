@@ -26,7 +26,8 @@ pub edition_of_older : (limits : Limits) (request : RequestModel) (target : Regi
     → IsHeldIn limits held part version s
     → IsOlderPlan request held part version s target bytes journal text cut
     → IsRewriteNeeded limits request target given bytes journal text cut
-edition_of_older limits request target given held bytes journal text cut part version s read holds h =
+edition_of_older limits request target given held bytes journal text cut part version s read
+    holds h =
     let older = h.older in
     let same = sym older.same in record {
       read = subst (AreReadOf given) same read;

@@ -47,7 +47,8 @@ pub show_runs : (typed args : List (List ℕ)) (error : Error) (CanFail : Bool �
     → HasKind (fault_of command_line args) error → d.after ≡ d.before
     → ShowsOrEnds (kind_of error) (help_on (kind_of error) typed) o e status
     → RunsWords typed args CanFail CanStay d i o e status
-show_runs typed args error CanFail CanStay d i o e status kind same (inl first) = inr (same, inl first)
+show_runs typed args error CanFail CanStay d i o e status kind same (inl first) =
+    inr (same, inl first)
 show_runs typed args error CanFail CanStay d i o e status (inl memory) same (inr escaped) =
     absurd (escaped.0 memory)
 show_runs typed args error CanFail CanStay d i o e status (inr among) same (inr escaped) =

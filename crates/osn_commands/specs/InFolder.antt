@@ -26,8 +26,8 @@ IsOpened path None before after =
 IsOpened path (Some bytes) before after =
     IsFileOf before path bytes × Changes (Opens (path ∷ [])) before after
 
--- the text of a journal's edition was printed, by the word of the edition, if there is one; or it is
--- not the number of an edition, which was reported, and no file was opened
+-- the text of a journal's edition was printed, by the word of the edition, if there is one; or it
+-- is not the number of an edition, which was reported, and no file was opened
 abbrev pub RunsText : Limits → List ℕ → Option (List ℕ) → Option (List ℕ) → (Bool → Type 0)
     → Folders → Output → Output → Status → Type 0
 RunsText limits journal edition code CanFail d o e status = MatchResult (edition_of_word edition)
@@ -35,7 +35,8 @@ RunsText limits journal edition code CanFail d o e status = MatchResult (edition
     (λ file. PrintsText limits journal file number code o e status))
     (λ typed. (d.after ≡ d.before) × (o.new ≡ o.old) × ReportsEditionWord typed e status)
 
--- the text of a path could not be opened, which was reported with the cause, and nothing was written
+-- the text of a path could not be opened, which was reported with the cause, and nothing was
+-- written
 abbrev pub MissesText : List ℕ → Folders → Output → Output → Status → Type 0
 MissesText path d o e status =
     CannotOpen (path ∷ []) d.before d.after × (o.new ≡ o.old)

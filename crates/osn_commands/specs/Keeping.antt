@@ -56,7 +56,8 @@ FindsCause path failure before after (causes.NotMade why) =
 -- the cause after a fault: that another run has the file, or what was found
 abbrev pub IsCauseOf : List ℕ → Option Known → Option Known → KeepFault → KeepCause → Type 0
 IsCauseOf path before after faults.Held cause = (cause ≡ causes.Held) × (after ≡ before)
-IsCauseOf path before after (faults.NotOpened failure) cause = FindsCause path failure before after cause
+IsCauseOf path before after (faults.NotOpened failure) cause =
+    FindsCause path failure before after cause
 
 -- ---- before a publish
 

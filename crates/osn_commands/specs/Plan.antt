@@ -121,7 +121,8 @@ IsOfVersionIf (Some journal) version =
 abbrev pub PrintsPlan : Limits → List ℕ → Option Input → List ℕ → Input → Output → Output
     → Status → Type 0
 PrintsPlan limits path journal text_path text o e status =
-    ((fault : FileFault) × BeginsNot limits journal fault × PrintsNoneAt path (File fault) o e status)
+    ((fault : FileFault) × BeginsNot limits journal fault
+    × PrintsNoneAt path (File fault) o e status)
     ⊎ ((s : ObjectState) × Begins limits journal s
     × (version : Version) × IsOfVersionIf journal version
     × PrintsPlanOf limits s path text_path text

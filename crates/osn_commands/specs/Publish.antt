@@ -89,9 +89,9 @@ abbrev pub LosesEdition : Type 0 → List ℕ → List Edit → CommandFault →
 LosesEdition CanStay held edits fault cut file =
     IsChangeFault fault file.fault × IsLeftWhole CanStay held edits cut file.contents
 
--- Edits had to be written to the file of this path as an edition, and this text printed. Which line was cut off
--- was reported first, if one was. The edition is in the file and the text was printed, if it could
--- be; or the edition is not in the file, which was reported.
+-- Edits had to be written to the file of this path as an edition, and this text printed. Which line
+-- was cut off was reported first, if one was. The edition is in the file and the text was printed,
+-- if it could be; or the edition is not in the file, which was reported.
 pub record WritesEdition (CanStay : Type 0) (path : List ℕ) (old file : FileState)
     (given : Option (List ℕ)) (edits : List Edit) (text : List ℕ) (o e : Output)
     (status : Status) : Type 0 where
@@ -158,7 +158,8 @@ PublishesUnlessBehind None CanStay request version s target old file given edits
     given edits o e status
 PublishesUnlessBehind (Some edition) CanStay request version s target old file given edits o e
     status =
-    RefusesBy (behind_lines request.text request.journal edition (published s) s.batches) old file o e
+    RefusesBy (behind_lines request.text request.journal edition (published s) s.batches) old file
+    o e
     status
 
 -- from what an object has published to the target register: there is no plan; or the edits
@@ -177,7 +178,8 @@ abbrev pub PublishesUnlessLater : Option ℕ → Type 0 → Version → ObjectSt
 PublishesUnlessLater None CanStay version s request target old file given o e status =
     PublishesPlan CanStay version s request target old file given o e status
 PublishesUnlessLater (Some edition) CanStay version s request target old file given o e status =
-    RefusesBy (later_lines request.text request.journal edition (length s.batches)) old file o e status
+    RefusesBy (later_lines request.text request.journal edition (length s.batches)) old file o e
+    status
 
 -- that, unless edits are pending, which was reported
 abbrev pub PublishesUnlessPending : Type 0 → Version → ObjectState → List Edit → RequestModel

@@ -89,7 +89,8 @@ Runs limits (publishing journal text onto_newest) CanFail CanStay d i o e status
 -- the file of a path could not be opened, by this cause, which the line says with the path
 abbrev pub IsOpenFailure : List ℕ → Folders → List ℕ → CommandFault → Type 0
 IsOpenFailure file d path fault =
-    (path ≡ file) × ((cause : OpenFailed) × (fault ≡ NotOpened cause) × IsCauseAt d.before file cause)
+    (path ≡ file)
+    × ((cause : OpenFailed) × (fault ≡ NotOpened cause) × IsCauseAt d.before file cause)
     × CannotOpen (file ∷ []) d.before d.after
 
 -- why the command that is asked for ended early, by this fault at the file of this path: nothing
@@ -158,9 +159,9 @@ RunsInvocation request CanFail CanStay d i o e status = MatchResult (limits_of_w
     (λ misuse. (d.after ≡ d.before) × (o.new ≡ o.old)
     × ReportsMisuse e misuse (unwrap_or request.limits []) status)
 
--- what a run does with these words, which mean the typed ones. If the grammar takes them it does what
--- they ask for. Otherwise it shows what is wrong, with the help for a common mistake, or help that
--- was asked for, by a kind that the grammar gives
+-- what a run does with these words, which mean the typed ones. If the grammar takes them it does
+-- what they ask for. Otherwise it shows what is wrong, with the help for a common mistake, or help
+-- that was asked for, by a kind that the grammar gives
 abbrev pub RunsWords : List Text → List Text → (Bool → Type 0) → Type 0 → Folders → Input → Output
     → Output → Status → Type 0
 RunsWords typed args CanFail CanStay d i o e status =

@@ -45,6 +45,7 @@ PrintsTerritories edition path (Some code) o e status =
 abbrev pub PrintsText : Limits → List ℕ → Input → Option ℕ → Option (List ℕ) → Output → Output
     → Status → Type 0
 PrintsText limits path journal number code o e status =
-    ((fault : FileFault) × MakesNoObject limits journal fault × PrintsNoneAt path (File fault) o e status)
+    ((fault : FileFault) × MakesNoObject limits journal fault
+    × PrintsNoneAt path (File fault) o e status)
     ⊎ ((s : ObjectState) × MakesObject limits journal.bytes s
     × OnEdition number s (λ edition. PrintsTerritories edition path code o e status) o e status)

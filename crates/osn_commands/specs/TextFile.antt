@@ -29,7 +29,8 @@ by_read read_faults.ReadFault = faults.ReadFault
 -- these bytes say this register under these limits, and of which edition it was made, if they do
 abbrev pub BytesSay : Limits → List ℕ → Option ℕ → RegisterModel → Type 0
 BytesSay limits bytes edition r =
-    (r.limits ≡ limits) × IsUtf8 bytes × (text_of_table limits bytes ≡ Some (Ok (edition, r.territories)))
+    (r.limits ≡ limits) × IsUtf8 bytes
+    × (text_of_table limits bytes ≡ Some (Ok (edition, r.territories)))
 
 -- they say no register, by this fault
 abbrev pub BytesSayNone : Limits → List ℕ → TextFileFault → Type 0
@@ -53,7 +54,8 @@ IsTextFileFault limits text fault =
 
 -- the line on a text of this path
 abbrev pub text_line : List ℕ → List ℕ → List ℕ
-text_line path message = codes "oldstyle: " ++ (escaped path ++ (codes ": " ++ (message ++ codes "\n")))
+text_line path message =
+    codes "oldstyle: " ++ (escaped path ++ (codes ": " ++ (message ++ codes "\n")))
 
 -- it was reported what a text says wrongly, or that memory ran out
 abbrev pub ReportsText : List ℕ → Output → TextFault → Status → Type 0

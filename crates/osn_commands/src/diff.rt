@@ -1,14 +1,11 @@
 //! The command `diff`: what changed from one edition of a journal to another.
-ghost use Rattle.std.specs.Prelude.{◌≡◌, ◌≤◌, IfOk, None, OnOk, length, string_bytes};
-ghost use Rattle.osn_days.specs.Rules.{newest_rules};
-ghost use Rattle.osn_core.specs.Sequential.{joined};
+ghost use Rattle.std.specs.Prelude.{◌≡◌, ◌≤◌, IfOk, None, length, string_bytes};
 ghost use Rattle.osn_lines.specs.Streams.{input_of, output_of};
-ghost use Rattle.osn_register.specs.Plain.{applied_all};
 ghost use Rattle.osn_commands.specs.Diff as spec;
 
 use crate::diff_words::push_diff_end;
 use crate::plan_fault::report_plan_fault;
-use osn_core::{Batch, EditionFault, Object};
+use osn_core::{EditionFault, Object, register_of};
 use osn_files::load_journal;
 use osn_lines::{Sink, Source};
 use osn_page_commands::report_edition_fault;
@@ -16,31 +13,6 @@ use osn_register::{Edit, Limits, Register};
 use osn_register_text::{plan, plan_page};
 use osn_report::{CommandFault, Status, print, report_at, report_no_memory};
 use std::alloc::{AllocError, Global};
-
-/// Applies the edits of batches, each in its turn.
-fn apply_batches(register: &mut Register, batches: &[Batch]) -> Result<(), AllocError>
-    ensures { OnOk result (register.new ≡ record register.old {
-      territories = applied_all newest_rules register.old.limits register.old.territories
-          (joined batches.now);
-    }) }
-{
-    for batch in batches {
-        register.apply_all(batch.edits())?;
-    }
-    Ok(())
-}
-
-/// Returns the register of an edition that an object has, by its number.
-fn register_of(alloc: Global, object: &Object, number: u32) -> Result<Register, AllocError>
-    requires { number ≤ length object.now.batches }
-    ensures limits { IfOk result (λ register. register.limits ≡ object.now.limits) }
-    ensures territories { IfOk result
-        (λ register. register.territories ≡ spec.territories_by number object.now) }
-{
-    let mut register = Register::new(alloc, object.register().limits());
-    apply_batches(&mut register, &object.batches()[..number as usize])?;
-    Ok(register)
-}
 
 /// Returns the lines of the edits from one edition to another.
 fn diff_text(

@@ -76,8 +76,8 @@ fn print_edits<W: Sink, E: Sink>(
     errors: &mut E,
 ) -> Status
     ensures { spec.PrintsNoted (spec.plan_text object.old target.now edits.items)
-        (spec.edits_line request.entry.journal.now request.entry.text.now is_there version object.old
-        request.entry.edition edits.items)
+        (spec.edits_line request.entry.journal.now request.entry.text.now is_there version
+        object.old request.entry.edition edits.items)
         (output_of W.contents W.has_failed W.holds_back output.old output.new)
         (output_of E.contents E.has_failed E.holds_back errors.old errors.new) result }
 {
@@ -102,8 +102,8 @@ fn print_plan<W: Sink, E: Sink>(
     ensures { spec.PrintsUnlessLater
         (later_than request.entry.edition (length object.old.batches))
         object.old request.entry.journal.now request.entry.text.now target.now
-        (spec.edits_line request.entry.journal.now request.entry.text.now is_there version object.old
-        request.entry.edition)
+        (spec.edits_line request.entry.journal.now request.entry.text.now is_there version
+        object.old request.entry.edition)
         (output_of W.contents W.has_failed W.holds_back output.old output.new)
         (output_of E.contents E.has_failed E.holds_back errors.old errors.new) result }
 {

@@ -83,7 +83,7 @@ pub edition_refused : (d : DraftState) (bs : List (List Edit)) → IsDraftOf d b
 edition_refused d bs h = ap (λ n. cond (length d.pending == 0) (Some NothingPending)
     (cond (nat_lt n d.register.limits.editions) None (Some EditionsFull))) h.editions
 
--- an edit that is let in leaves the edits within their limit
+-- an edit that is accepted leaves the edits within their limit
 pub has_room : (d : DraftState) (e : Edit) → edit_refusal d e ≡ None →
     d.edits < d.register.limits.edits
 has_room d e none =

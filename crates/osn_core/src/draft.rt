@@ -91,7 +91,7 @@ impl Draft {
         Ok(self.pending.len() as u32 + 1)
     }
 
-    /// Stages an edit that `check` has let in, and returns how many are pending then.
+    /// Stages an edit that `check` accepted, and returns how many are pending then.
     ///
     /// # Errors
     ///

@@ -1,7 +1,7 @@
 //! An edition of the object of a journal.
-ghost use Rattle.std.specs.Prelude.{◌≡◌, ◌≤◌, IfErr, IfOk, OnOk, Some, length, take};
+ghost use Rattle.std.specs.Prelude.{◌≡◌, ◌≤◌, IfErr, IfOk, OnOk, Some, length};
 ghost use Rattle.osn_days.specs.Rules.{newest_rules};
-ghost use Rattle.osn_core.specs.Sequential.{joined, territories_of};
+ghost use Rattle.osn_core.specs.Sequential.{joined};
 ghost use Rattle.osn_register.specs.BorrowedQuery.{as_query};
 ghost use Rattle.osn_register.specs.Plain.{applied_all};
 ghost use Rattle.osn_core.specs.Edition as spec;
@@ -114,14 +114,19 @@ fn apply_batches(register: &mut Register, batches: &[Batch]) -> Result<(), Alloc
     Ok(())
 }
 
-/// Returns the register of the first batches of an object, as many as this.
-fn early_register(alloc: Global, object: &Object, count: usize) -> Result<Register, AllocError>
-    requires { count ≤ length object.now.batches }
-    ensures { IfOk result (λ register. register.territories
-        ≡ territories_of newest_rules object.now.limits (take count object.now.batches)) }
+/// Returns the register of the edition of a number, which the object has.
+///
+/// # Errors
+///
+/// If memory runs out.
+pub fn register_of(alloc: Global, object: &Object, number: u32) -> Result<Register, AllocError>
+    requires { number ≤ length object.now.batches }
+    ensures limits { IfOk result (λ register. register.limits ≡ object.now.limits) }
+    ensures territories { IfOk result (λ register. register.territories
+        ≡ (spec.newest_edition (spec.published_by number object.now)).territories) }
 {
     let mut register = Register::new(alloc, object.register().limits());
-    apply_batches(&mut register, &object.batches()[..count])?;
+    apply_batches(&mut register, &object.batches()[..number as usize])?;
     Ok(register)
 }
 
@@ -147,6 +152,6 @@ pub fn edition_of(
     if number as usize > newest {
         return Err(EditionFault::TooLate { number, newest });
     }
-    let register = early_register(alloc, &object, number as usize)?;
+    let register = register_of(alloc, &object, number)?;
     Ok(Edition::Numbered { register, number })
 }

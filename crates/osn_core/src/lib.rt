@@ -23,7 +23,7 @@ mod step;
 pub use batch::Batch;
 pub use command::Command;
 pub use draft::Draft;
-pub use edition::{Edition, EditionFault, edition_of};
+pub use edition::{Edition, EditionFault, edition_of, register_of};
 pub use edition_word::edition_of_word;
 pub use machine::{Core, MOST_READERS};
 pub use object::Object;

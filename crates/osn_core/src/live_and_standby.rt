@@ -114,8 +114,8 @@ impl LiveAndStandby {
         self.draft.check(edit)
     }
 
-    /// Stages an edit that `check` has let in, in a standby that lacks nothing, and returns how
-    /// many are pending then.
+    /// Stages an edit that `check` accepted, in a standby that lacks nothing, and returns how many
+    /// are pending then.
     ///
     /// # Errors
     ///

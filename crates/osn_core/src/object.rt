@@ -138,7 +138,7 @@ impl Object {
         Ok(self.admit(edit.copy()?)?)
     }
 
-    /// Stages an edit that `check` has let in, and returns how many are pending then.
+    /// Stages an edit that `check` accepted, and returns how many are pending then.
     ///
     /// # Errors
     ///

@@ -6,7 +6,8 @@ use Rattle.osn_grammar.specs.Languages.{AreOrdinalsKnown, AreOtherWordsKnown, Ar
 use Rattle.osn_grammar.specs.Languages.{AreOtherLanguagesKnown, AreOtherMonthsKnown}
 use Rattle.osn_grammar.specs.Languages.{AreCenturiesKnown, AreDecadesKnown}
 use Rattle.osn_grammar.specs.Languages.{ArePeriodsKnown, AreFeastsKnown}
-use Rattle.osn_grammar.specs.Names.{names, other_names, feast_names}
+use Rattle.osn_grammar.specs.EarlyNames.{AreMoreMonthsKnown, AreMoreWordsKnown}
+use Rattle.osn_grammar.specs.Names.{names, other_names, more_names, feast_names}
 
 months_known : AreMonthsKnown
 unfolding names lib.Utf8.encode
@@ -64,6 +65,23 @@ other_months_known = record {
   december = refl;
 }
 
+more_months_known : AreMoreMonthsKnown
+unfolding names other_names more_names lib.Utf8.encode
+more_months_known = record {
+  january = refl;
+  february = refl;
+  march = refl;
+  april = refl;
+  may = refl;
+  june = refl;
+  july = refl;
+  august = refl;
+  september = refl;
+  october = refl;
+  november = refl;
+  december = refl;
+}
+
 weekdays_known : AreWeekdaysKnown
 unfolding names weekday_numbered lib.Utf8.encode
 weekdays_known = record {
@@ -96,7 +114,7 @@ other_weekdays_known = record {
 }
 
 ordinals_known : AreOrdinalsKnown
-unfolding names other_names feast_names lib.Utf8.encode
+unfolding names other_names more_names feast_names lib.Utf8.encode
 ordinals_known = record {
   english = refl;
   english_short = refl;
@@ -138,6 +156,25 @@ other_languages_known = record {
   fillers = refl;
 }
 
+more_words_known : AreMoreWordsKnown
+unfolding names other_names more_names feast_names lib.Utf8.encode
+more_words_known = record {
+  bounds = refl;
+  about = refl;
+  estimated = refl;
+  interpreted = refl;
+  old_style = refl;
+  new_style = refl;
+  from = refl;
+  to = refl;
+  to_the = refl;
+  first = refl;
+  tens = refl;
+  letters = refl;
+  six = refl;
+  and = refl;
+}
+
 centuries_known : AreCenturiesKnown
 unfolding names other_names lib.Utf8.encode
 centuries_known = record {
@@ -176,7 +213,7 @@ periods_known = record {
 }
 
 feasts_known : AreFeastsKnown
-unfolding names other_names feast_names lib.Utf8.encode
+unfolding names other_names more_names feast_names lib.Utf8.encode
 feasts_known = record {
   english = refl;
   german = refl;
@@ -193,11 +230,13 @@ unfolding AreWordsKnown
 words_known = (
   months_known,
   other_months_known,
+  more_months_known,
   weekdays_known,
   other_weekdays_known,
   ordinals_known,
   others_known,
   other_languages_known,
+  more_words_known,
   centuries_known,
   decades_known,
   periods_known,

@@ -4,7 +4,7 @@ use Rattle.std.specs.List.{list_any}
 use Rattle.osn_days.specs.Weekday.{weekday_numbered}
 use Rattle.osn_grammar.specs.Laws.{AreEnglishNamesKnown, AreCountedNamesKnown}
 use Rattle.osn_grammar.specs.Names.{AreNamesDistinct, are_distinct, is_listed, names, other_names}
-use Rattle.osn_grammar.specs.Names.{feast_names}
+use Rattle.osn_grammar.specs.Names.{more_names, feast_names}
 use Rattle.osn_grammar.proofs.LanguageFacts.{words_known}
 
 usual_distinct : are_distinct names ≡ true
@@ -14,6 +14,18 @@ usual_distinct = refl
 others_distinct : are_distinct other_names ≡ true
 unfolding other_names
 others_distinct = refl
+
+more_distinct : are_distinct more_names ≡ true
+unfolding more_names
+more_distinct = refl
+
+more_not_usual : list_any (is_listed names) more_names ≡ false
+unfolding names more_names
+more_not_usual = refl
+
+more_not_others : list_any (is_listed other_names) more_names ≡ false
+unfolding other_names more_names
+more_not_others = refl
 
 others_not_usual : list_any (is_listed names) other_names ≡ false
 unfolding names other_names
@@ -31,15 +43,23 @@ feasts_not_others : list_any (is_listed other_names) feast_names ≡ false
 unfolding other_names feast_names
 feasts_not_others = refl
 
+feasts_not_more : list_any (is_listed more_names) feast_names ≡ false
+unfolding more_names feast_names
+feasts_not_more = refl
+
 pub names_distinct : AreNamesDistinct
 unfolding AreNamesDistinct
 names_distinct = (
   usual_distinct,
   others_distinct,
+  more_distinct,
   feasts_distinct,
   others_not_usual,
+  more_not_usual,
   feasts_not_usual,
+  more_not_others,
   feasts_not_others,
+  feasts_not_more,
 )
 
 pub english_names_known : AreEnglishNamesKnown

@@ -25,12 +25,14 @@ use Rattle.osn_grammar.specs.Extent.{first_date, first_read}
 use Rattle.osn_grammar.specs.Extent.{range_after, range_of}
 use Rattle.osn_grammar.specs.Tokens.{is_of_time}
 use Rattle.osn_grammar.specs.BothCalendars.{are_named, day_by_both}
+use Rattle.osn_grammar.specs.declared.both_calendars.ReckonedDay.{ReckonedDay}
 use Rattle.osn_grammar.specs.declared.reading.ReckonedExtent.{ReckonedExtent}
 use Rattle.osn_grammar.specs.Reading.{after_estimated, date_of, is_undated, or_other, or_reason}
 use Rattle.osn_grammar.specs.Reading.{reading_of_tokens, unless_open, is_about, is_feast}
 use Rattle.osn_grammar.specs.Reading.{is_doubt, is_bracket, weekday_after, reckoning_after}
 use Rattle.osn_grammar.specs.Reading.{extent_by_both, extent_in, as_date, feast_of, with_its_signs}
 use Rattle.osn_grammar.specs.Feasts.{feast_in}
+use Rattle.osn_grammar.specs.OpenDigits.{open_in}
 use Rattle.osn_grammar.specs.Period.{period_in}
 use Rattle.osn_grammar.specs.Roman.{roman_date}
 use Rattle.osn_grammar.specs.SetsInDigits.{Days}
@@ -169,6 +171,7 @@ reason_refused tokens ts (Err fault) wrong = refl
 pub record HaveNoOtherForm (ts : List Token) : Type 0 where
   pub estimated : (o : DateOrder) (tokens : List Token)
       → after_estimated o tokens ts ≡ Err faults.Malformed
+  pub digits : open_in ts ≡ None
   pub years : years_in ts ≡ None
   pub period : period_in ts ≡ None
   pub roman : roman_date ts ≡ Err faults.Malformed
@@ -180,11 +183,25 @@ time_refused : (o : DateOrder) (tokens ts : List Token) (r : Option Reckoning)
     → is_err (or_other o tokens ts r read) ≡ true
 time_refused o tokens ts r (Ok e) other wrong = absurd (cc)
 time_refused o tokens ts None (Err fault) other wrong =
-    rw (other.estimated o tokens, other.years, other.period, other.roman, other.both tokens) refl
+    rw (
+      other.digits,
+      other.estimated o tokens,
+      other.years,
+      other.period,
+      other.roman,
+      other.both tokens,
+    ) refl
 time_refused o tokens ts (Some r) (Err fault) other wrong =
-    rw (other.estimated o tokens, other.years, other.period, other.roman, other.both tokens) refl
+    rw (
+      other.digits,
+      other.estimated o tokens,
+      other.years,
+      other.period,
+      other.roman,
+      other.both tokens,
+    ) refl
 
-named_refused : (named : Bool) (fault : DateFault) (day : Result PartialDate DateFault)
+named_refused : (named : Bool) (fault : DateFault) (day : Result ReckonedDay DateFault)
     → day ≡ Err faults.Malformed
     → is_err (extent_by_both None fault (if named then day else Err faults.Malformed)) ≡ true
 named_refused true fault day none = rw none refl
@@ -232,6 +249,7 @@ pub other_refused : (first next : Days) (rest : List Days)
     → HaveNoOtherForm (timed (first ∷ next ∷ rest))
 other_refused (d, None) (e, None) rest = record {
   estimated = λ o tokens. refl;
+  digits = refl;
   years = refl;
   period = refl;
   roman = refl;
@@ -240,6 +258,7 @@ other_refused (d, None) (e, None) rest = record {
 }
 other_refused (d, None) (e, Some f) rest = record {
   estimated = λ o tokens. refl;
+  digits = refl;
   years = refl;
   period = refl;
   roman = refl;
@@ -248,6 +267,7 @@ other_refused (d, None) (e, Some f) rest = record {
 }
 other_refused (d, Some e) next rest = record {
   estimated = λ o tokens. refl;
+  digits = refl;
   years = refl;
   period = refl;
   roman = refl;

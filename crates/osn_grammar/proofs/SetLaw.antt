@@ -25,20 +25,22 @@ use Rattle.osn_grammar.specs.declared.written.Written.TheVariants as say
 use Rattle.osn_written.specs.declared.any_date.AnyDate.{AnyDate}
 use Rattle.osn_grammar.specs.InDigits.{HasFourDigits, sign, signed}
 use Rattle.osn_grammar.specs.Tokens.{is_of_time}
-use Rattle.osn_grammar.specs.Reading.{all_members, member_by, member_in, member_of, or_set, or_years}
+use Rattle.osn_grammar.specs.Reading.{all_members, member_by, member_in, member_of, or_set}
+use Rattle.osn_grammar.specs.Reading.{or_years}
+use Rattle.osn_grammar.specs.Reading.{or_parts, or_phrase}
 use Rattle.osn_grammar.specs.Reading.{read_date, reading_of_tokens, set_in, set_inside, with_signs}
 use Rattle.osn_grammar.specs.Scan.{first_of, is_letter_alone, next_is, token_of_run, tokens_after}
 use Rattle.osn_grammar.specs.Scan.{tokens_in}
-use Rattle.osn_grammar.specs.Sets.{between_commas, days_in_digits, is_sign}
+use Rattle.osn_grammar.specs.Sets.{between_commas, dates_in_digits, is_sign}
 use Rattle.osn_grammar.specs.SetsInDigits.{AreSetsRead, Days, HaveFourDigits, days_text}
 use Rattle.osn_grammar.specs.SetsInDigits.{extent_of_days, member, set_text}
 use Rattle.osn_grammar.specs.Simple.{◌>>=◌}
 use Rattle.osn_grammar.proofs.DigitLaw.{IsDay, padded_digits, sign_tokens, signed_reads}
 use Rattle.osn_grammar.proofs.DigitLaw.{text_is, year_small}
 use Rattle.osn_grammar.proofs.SetFacts.{last_without}
-use Rattle.osn_grammar.proofs.TextFacts.{Ends, IsMark, Reads, Scans, bracket, begun_scans}
-use Rattle.osn_grammar.proofs.TextFacts.{closed_scans, is_low-append, joined_reads, mark_closes}
-use Rattle.osn_grammar.proofs.TextFacts.{nothing_closes, tokens_scanned, reads_scan}
+use Rattle.osn_grammar.proofs.TextFacts.{Ends, IsMark, Reads, Scans, bracket_closes, begun_scans}
+use Rattle.osn_grammar.proofs.TextFacts.{closed_scans, is_low-append, joined_reads}
+use Rattle.osn_grammar.proofs.TextFacts.{tokens_scanned, reads_scan}
 use Rattle.osn_grammar.proofs.WordFacts.{bracket_begins}
 use Rattle.osn_grammar.proofs.RefusedFacts.{dated, extent_refused, other_refused, tokens_of_date}
 use Rattle.osn_grammar.proofs.RefusedFacts.{said_refused, timed}
@@ -173,7 +175,7 @@ days_signed true true d e extent = refl
 range_is : (a u : Bool) (d e : Date) → IsDate d → IsDate e
     → member_of (days_tokens a u (d, Some e)) ≡ Ok (member a u (d, Some e))
 range_is a u d e h g =
-    ap (λ ps. member_by (days_tokens a u (d, Some e)) (days_in_digits ps))
+    ap (λ ps. member_by (days_tokens a u (d, Some e)) (dates_in_digits ps))
     (days_are a u d e)
     ∙ rw (h.year_high, h.month_low, h.month_high, h.day_low, h.day_high)
     (rw (g.year_high, g.month_low, g.month_high, g.day_low, g.day_high)
@@ -301,7 +303,7 @@ sets_law o a u first next rest all =
     members_are a u first (next ∷ rest) all in
     let scans : Scans text (Bracket ∷ inside) =
     begun_scans bracket_begins
-    (closed_scans (body_reads a u first (next ∷ rest) all) (mark_closes bracket nothing_closes)) in
+    (closed_scans (body_reads a u first (next ∷ rest) all) bracket_closes) in
     let filtered : filter is_of_time (Bracket ∷ inside) ≡ timed days =
     filter-append is_of_time (all_tokens a u days) (Bracket ∷ [])
     ∙ append-nil (filter is_of_time (all_tokens a u days)) ∙ tokens_timed a u days in
@@ -311,7 +313,9 @@ sets_law o a u first next rest all =
     (said_refused o Bracket inside (timed days) filtered (dated first (next ∷ rest))
     (other_refused first next rest) (extent_refused o first next rest)) in
     record {
-      is = ap (or_years text) (ap (λ found. or_set found
+      is = ap (λ read. or_phrase o text
+          (or_parts o (tokens_in text) (filter is_of_time (tokens_in text)) (or_years text read)))
+          (ap (λ found. or_set found
           (reading_of_tokens o (tokens_in text) (filter is_of_time (tokens_in text)))) dates
           ∙ set_said (map (member a u) days) _ wrong);
       dates = ap (λ found. unwrap_or (result_ok found) []) dates;

@@ -1,7 +1,8 @@
 -- How words, numbers and marks of a text are scanned, one after another.
-use Rattle.std.proofs.Common.{◌≡◌, ◌≤◌, ◌<◌, ℕ, Bool, true, false, ◌&&◌, ◌==◌, nat_lt, List, []}
+use Rattle.std.proofs.Common.{◌≡◌, ◌≤◌, ◌<◌, ℕ, Bool, true, false, not, ◌&&◌, ◌==◌, nat_lt, List}
+use Rattle.std.proofs.Common.{[]}
 use Rattle.std.proofs.Common.{◌∷◌, ◌++◌, length, Some, refl, ap, ◌∙◌, sym, arith, append_assoc}
-use Rattle.std.proofs.Common.{append-nil, IsAscii}
+use Rattle.std.proofs.Common.{append-nil, codes, IsAscii}
 use Rattle.std.proofs.lemmas.Bool.{le-leb, le-ltb, lt-leb, lt-ltb, ltb-true, ne_eqb}
 use Rattle.std.proofs.lemmas.Str.{encode_ascii, chars-IsAscii}
 use Rattle.std.proofs.lemmas.Str.Ascii.{IsAscii-nil, IsAscii-cons}
@@ -125,15 +126,6 @@ about_and_doubt = record {
   is = λ rest. refl;
 }
 
-pub bracket : IsMark 93 (token.Bracket ∷ [])
-bracket = record {
-  low = refl;
-  no_letter = refl;
-  no_stop = refl;
-  ends = λ rest word. ended (token.Bracket ∷ []) word rest;
-  is = λ rest. refl;
-}
-
 -- ---- a text, whatever ends it
 
 -- before an end a text is these parts
@@ -238,6 +230,26 @@ mark_closes {c} {marks} {ps} {x} mark last = record {
   is = mark.is x ∙ ap (λ r. marks ++ r) last.is;
 }
 
+-- a square bracket at the end of a text is within no word
+and_none : (b : Bool) → (b && false) ≡ false
+and_none true = refl
+and_none false = refl
+
+bracket_ends : (word : List ℕ)
+    → tokens_after word (93 ∷ []) ≡ option_to_list (token_of_run word) ++ token.Bracket ∷ []
+bracket_ends word =
+    rw (and_none (not (length word == 0)))
+    (append-nil (option_to_list (token_of_run word) ++ token.Bracket ∷ []))
+
+pub bracket_closes : Closes (codes "]") (token.Bracket ∷ [])
+bracket_closes = record {
+  low = refl;
+  no_letter = refl;
+  no_stop = refl;
+  ends = bracket_ends;
+  is = refl;
+}
+
 -- a text is these parts
 pub record Scans (text : List ℕ) (tokens : List Token) : Type 0 where
   pub low : is_low text ≡ true
@@ -276,9 +288,11 @@ digit_joins_word : (c : ℕ) (word rest : List ℕ) → 48 ≤ c → c ≤ 57
     → tokens_after word (c ∷ rest) ≡ tokens_after (word ++ c ∷ []) rest
 digit_joins_word c word rest low high =
     rw (
+      lt-leb 64 c (omega (arith, high)),
       lt-leb 65 c (omega (arith, high)),
       lt-leb 97 c (omega (arith, high)),
       ne_eqb c 95 (λ same. omega (arith, same, high)),
+      ne_eqb c 35 (λ same. omega (arith, same, low)),
       lt-leb 192 c (omega (arith, high)),
       le-ltb 127 c (omega (arith, high)),
       le-leb 48 c low,

@@ -25,7 +25,7 @@ use Rattle.osn_grammar.proofs.FormFacts.{year_is, on_is, from_to_is, before_is, 
 use Rattle.osn_grammar.proofs.FormFacts.{not_before_is, not_after_is}
 use Rattle.osn_grammar.proofs.TokenFacts.{Say, TextSays, nothing_says, token_adds, weekday_adds}
 use Rattle.osn_grammar.proofs.TokenFacts.{reckoning_adds, text_read}
-use Rattle.osn_grammar.proofs.TextFacts.{Reads, Closes, blank, doubt, bracket}
+use Rattle.osn_grammar.proofs.TextFacts.{Reads, Closes, blank, doubt, bracket_closes}
 use Rattle.osn_grammar.proofs.TextFacts.{joined_reads, begins_reads, begun_scans}
 use Rattle.osn_grammar.proofs.TextFacts.{closed_scans, mark_closes, nothing_closes}
 use Rattle.osn_grammar.proofs.WordFacts.{month_reads, weekday_begins, about_begins, before_begins}
@@ -164,7 +164,7 @@ bracket_tail : (s : Bool) → IsTail (optional_word s (codes "]")) None false s
 bracket_tail false = record { tokens = []; closes = nothing_closes; says = nothing_says }
 bracket_tail true = record {
   tokens = Bracket ∷ [];
-  closes = mark_closes bracket nothing_closes;
+  closes = bracket_closes;
   says = token_adds Bracket refl nothing_says;
 }
 

@@ -1,6 +1,7 @@
 -- A day by both calendars, such as 3/13 June 1675: its Julian date and its Gregorian one. This
 -- project's profile.
-use Rattle.std.specs.Prelude.{ℕ, Bool, true, false, not, ◌&&◌, ◌||◌, nat_lt, ◌==◌, ◌+◌, pos, ◌+ℤ◌}
+use Rattle.std.specs.Prelude.{ℕ, Bool, true, false, not, ◌&&◌, ◌||◌, nat_le, nat_lt, ◌==◌, ◌+◌, pos}
+use Rattle.std.specs.Prelude.{◌+ℤ◌}
 use Rattle.std.specs.Prelude.{if◌then◌else◌, List, [], ◌∷◌, Option, Some, None, is_some}
 use Rattle.std.specs.Prelude.{Result, Ok, Err}
 use Rattle.std.specs.List.{list_any}
@@ -10,6 +11,7 @@ use Rattle.osn_days.specs.declared.calendar.Calendar.TheVariants.{Gregorian, Jul
 use Rattle.osn_days.specs.declared.date.Date.{Date}
 use Rattle.osn_days.specs.Rules.{Rules}
 use Rattle.osn_territory.specs.Style.{is_before_25_march}
+use Rattle.osn_grammar.specs.declared.both_calendars.ReckonedDay.{ReckonedDay}
 use Rattle.osn_grammar.specs.declared.both_calendars.TwoDates.{TwoDates}
 use Rattle.osn_grammar.specs.declared.both_calendars.WrittenYears.{WrittenYears}
 use Rattle.osn_grammar.specs.declared.both_calendars.WrittenYears.TheVariants as years
@@ -17,12 +19,12 @@ use Rattle.osn_grammar.specs.declared.token.Numeral.{Numeral}
 use Rattle.osn_grammar.specs.declared.token.Token.{Token}
 use Rattle.osn_grammar.specs.declared.token.Token.TheVariants.{Number, Month, Slash, Round, Weekday}
 use Rattle.osn_grammar.specs.declared.token.Token.TheVariants.{Reckoning as By}
+use Rattle.osn_written.specs.declared.any_date.Reckoning.{Reckoning}
 use Rattle.osn_written.specs.declared.any_date.Reckoning.TheVariants.{OldStyle, NewStyle}
 use Rattle.osn_grammar.specs.declared.simple.YearNumbers.{YearNumbers}
 use Rattle.osn_grammar.specs.Forms.{year_numbers}
 use Rattle.osn_grammar.specs.Simple.{is_long, one, year_of}
 use Rattle.osn_grammar.specs.TwoDays.{dates_in_other, two_days}
-use Rattle.osn_written.specs.declared.any_date.PartialDate.{PartialDate}
 use Rattle.osn_written.specs.declared.any_date.PartialDate.TheVariants as date
 use Rattle.osn_written.specs.declared.any_date.Year.{Year}
 use Rattle.osn_written.specs.declared.written_date.MonthDay.{MonthDay}
@@ -94,8 +96,8 @@ slashed_dates tokens =
     or_dates (or_dates (before_their_month tokens) (after_their_month tokens))
     (or_dates (with_months tokens) (with_years tokens))
 
--- 3 (13) June 1675, June 3 (13), 1675: a number is before the one in round brackets, after a weekday
--- or the month or after nothing
+-- 3 (13) June 1675, June 3 (13), 1675: a number is before the one in round brackets, after a
+-- weekday or the month or after nothing
 abbrev pub begin_round : List Token → Bool
 begin_round (Number a ∷ Round ∷ rest) = true
 begin_round (Month m ∷ Number a ∷ Round ∷ rest) = true
@@ -128,8 +130,8 @@ abbrev pub later_of : Year → Year
 later_of y =
     record { first = y.first + 1; is_double = false; has_three_digits = y.has_three_digits }
 
--- so one year for both dates has to be double if one of them is from 1 January to 24 March. No
--- other date has a double year
+-- so one year for both dates is sure if it is double and one of them is from 1 January to 24 March.
+-- No other date has a double year
 abbrev pub if_settled : Bool → Result Year DateFault → Option Year
 if_settled early (Err fault) = None
 if_settled early (Ok y) =
@@ -170,21 +172,55 @@ is_old dates d =
 abbrev pub are_one_day : Rules → Year → TwoDates → Bool
 are_one_day p y dates = list_any (is_old dates) (julian_dates p y.first dates.new)
 
-abbrev pub day_in_year : Rules → TwoDates → Option Year → Result PartialDate DateFault
-day_in_year p dates None = Err faults.BothCalendars
+-- a date of the day by one of the calendars
+abbrev pub reckoned_day : Year → MonthDay → Reckoning → ReckonedDay
+reckoned_day y d r = record { date = date.Day y d.month d.day; reckoning = r }
+
+-- 16/26 Febr. 1690 has one year that is not double, though the place may have begun it on 25 March.
+-- So it is the first date by the old calendar, in the place's own year. Whichever year that is, the
+-- two dates have to be one day of it
+abbrev pub either : Bool → Bool → ReckonedDay → DateFault → Result ReckonedDay DateFault
+either own next day fault =
+    if own && next then Ok day
+    else (if own || next then Err faults.BothCalendars
+    else Err fault)
+
+abbrev pub in_own_year : Rules → TwoDates → Year → Result ReckonedDay DateFault
+in_own_year p dates y =
+    either (are_one_day p y dates) (are_one_day p (later_of y) dates)
+    (reckoned_day y dates.old OldStyle)
+    (two_days p y.first dates.old dates.new)
+
+-- both dates are of that year: the first one is from 1 January to 24 March, and the second one is
+-- in its month or a later one
+abbrev pub are_of_one_year : TwoDates → Bool
+are_of_one_year dates = is_early dates.old && nat_le dates.old.month dates.new.month
+
+abbrev pub if_plain : Rules → TwoDates → Result Year DateFault → Result ReckonedDay DateFault
+if_plain p dates (Err fault) = Err faults.BothCalendars
+if_plain p dates (Ok y) =
+    if are_of_one_year dates && not y.is_double then in_own_year p dates y
+    else Err faults.BothCalendars
+
+abbrev pub day_of_own_year : Rules → TwoDates → WrittenYears → Result ReckonedDay DateFault
+day_of_own_year p dates (years.Shared written) = if_plain p dates (year_of written)
+day_of_own_year p dates (years.Each first last) = Err faults.BothCalendars
+
+abbrev pub day_in_year : Rules → TwoDates → Option Year → Result ReckonedDay DateFault
+day_in_year p dates None = day_of_own_year p dates dates.years
 day_in_year p dates (Some y) =
-    if are_one_day p y dates then Ok (date.Day y dates.new.month dates.new.day)
+    if are_one_day p y dates then Ok (reckoned_day y dates.new NewStyle)
     else Err (two_days p y.first dates.old dates.new)
 
-abbrev pub day_of_both : Rules → TwoDates → Result PartialDate DateFault
+abbrev pub day_of_both : Rules → TwoDates → Result ReckonedDay DateFault
 day_of_both p dates = day_in_year p dates (gregorian_year dates)
 
--- the Gregorian date of the day that parts are by both calendars, if it is sure
-abbrev pub day_if_two : Rules → Option TwoDates → Result PartialDate DateFault
+-- the date of the day that parts are by both calendars, if it is sure
+abbrev pub day_if_two : Rules → Option TwoDates → Result ReckonedDay DateFault
 day_if_two p None = Err faults.Malformed
 day_if_two p (Some dates) = day_of_both p dates
 
-abbrev pub day_by_both : Rules → List Token → List Token → Result PartialDate DateFault
+abbrev pub day_by_both : Rules → List Token → List Token → Result ReckonedDay DateFault
 day_by_both p tokens timed = day_if_two p (dates_in tokens timed)
 
 -- ---- with the names of both calendars
@@ -210,6 +246,6 @@ are_named (Number a ∷ Month m ∷ rest) = is_old_first rest
 are_named (Weekday w ∷ Number a ∷ Month m ∷ rest) = is_old_first rest
 are_named _ = false
 
-abbrev pub named_day : Rules → List Token → List Token → Result PartialDate DateFault
+abbrev pub named_day : Rules → List Token → List Token → Result ReckonedDay DateFault
 named_day p tokens timed =
     if are_named tokens then day_by_both p tokens timed else Err faults.Malformed

@@ -1,5 +1,6 @@
 -- From when to when a date may be: one date, a range of two, or a bound. This project's profile.
-use Rattle.std.specs.Prelude.{ℕ, Bool, true, false, not, ◌&&◌, if◌then◌else◌}
+use Rattle.std.specs.Prelude.{ℕ, Bool, true, false, not, ◌&&◌, ◌||◌, ◌==◌, ◌+◌, nat_le}
+use Rattle.std.specs.Prelude.{if◌then◌else◌}
 use Rattle.std.specs.Prelude.{List, [], ◌∷◌, ◌++◌}
 use Rattle.std.specs.Prelude.{Result, Ok, Err}
 use Rattle.osn_grammar.specs.declared.extent.Beginning.{Beginning}
@@ -9,7 +10,7 @@ use Rattle.osn_grammar.specs.declared.extent.Joining.TheVariants as joins
 use Rattle.osn_grammar.specs.declared.token.Numeral.{Numeral}
 use Rattle.osn_grammar.specs.declared.token.Token.{Token}
 use Rattle.osn_grammar.specs.declared.token.Token.TheVariants.{Number, Month, Dash, Slash}
-use Rattle.osn_grammar.specs.declared.token.Token.TheVariants.{Dot, Open, To}
+use Rattle.osn_grammar.specs.declared.token.Token.TheVariants.{Dot, Open, To, ToThe}
 use Rattle.osn_grammar.specs.declared.token.Token.TheVariants.{Or, And, Between, From, Before}
 use Rattle.osn_grammar.specs.declared.token.Token.TheVariants.{After, Not, By}
 use Rattle.osn_written.specs.declared.written_date.DateFault.{DateFault}
@@ -90,8 +91,8 @@ range_in_digits first last = do
   end ← date_in_digits last
   Ok (extent.FromTo start end)
 
--- a date in digits may have nothing on the other side: /1640, 1640/. A year of three digits may lack
--- its last one there
+-- a date in digits may have nothing on the other side: /1640, 1640/. A year of three digits may
+-- lack its last one there
 abbrev pub is_nothing : List Token → Bool
 is_nothing [] = true
 is_nothing (token ∷ rest) = false
@@ -129,18 +130,39 @@ is_whole_year (Number y ∷ []) = is_long y
 is_whole_year (Number y ∷ Slash ∷ Number l ∷ []) = is_long y
 is_whole_year first = false
 
+-- after a day from January to March and its year, a dash and the next year are a double year:
+-- 11 Feb. 1699-1700
+abbrev pub is_next_after : ℕ → Numeral → Numeral → Bool
+is_next_after month y l =
+    nat_le month 3
+    && (l.digits == 4
+    && (is_long y && (nat_le y.value 10000 && l.value == y.value + 1)))
+
+abbrev pub is_year_after : ℕ → Numeral → List Token → Bool
+is_year_after month y (Number l ∷ []) = is_next_after month y l
+is_year_after month y last = false
+
+abbrev pub is_double_year : List Token → List Token → Bool
+is_double_year (Number d ∷ Month m ∷ Number y ∷ []) last = is_year_after m y last
+is_double_year (Month m ∷ Number d ∷ Number y ∷ []) last = is_year_after m y last
+is_double_year first last = false
+
 abbrev pub dashed_range : DateOrder → List Token → List Token → Result Extent DateFault
 dashed_range o first last =
-    if is_whole_year first && begins_short last then Err faults.Malformed else range o first last
+    if (is_whole_year first && begins_short last) || is_double_year first last then
+    Err faults.Malformed
+    else range o first last
 
--- what joins two dates: `to`, `or`, a dash and a `/`, after `from` only `to` or a dash, and after
--- `between` only `and`
+-- what joins two dates: `to`, `or`, `au`, a dash and a `/`, after `from` only `to`, `au` or a dash,
+-- and after `between` only `and`
 abbrev pub joined : DateOrder → Joining → List Token → Token → List Token → Result Extent DateFault
 joined o joins.Any first Slash last = slashed_range o first last
 joined o joins.Any first To last = range o first last
 joined o joins.Any first Or last = range o first last
+joined o joins.Any first ToThe last = range o first last
 joined o joins.Any first Dash last = dashed_range o first last
 joined o joins.To first To last = range o first last
+joined o joins.To first ToThe last = range o first last
 joined o joins.To first Dash last = dashed_range o first last
 joined o joins.And first And last = range o first last
 joined o joining first token last = Err faults.Malformed

@@ -13,15 +13,8 @@ use Rattle.osn_grammar.specs.declared.token.Token.TheVariants as token
 use Rattle.osn_written.specs.declared.any_date.Reckoning.TheVariants.{OldStyle, NewStyle}
 use Rattle.osn_written.specs.declared.portion.Portion.TheVariants as portion
 use Rattle.osn_written.specs.declared.feast.Feast.TheVariants as feast
+use Rattle.osn_grammar.specs.EarlyNames.{Reads, times, AreMoreMonthsKnown, AreMoreWordsKnown}
 use Rattle.osn_grammar.specs.Scan.{tokens_after}
-
--- the characters have these parts
-abbrev pub Reads : List ℕ → List Token → Type 0
-Reads text tokens = tokens_after [] text ≡ tokens
-
--- as often as this
-abbrev pub times : ℕ → Token → List Token
-times n p = map (λ _. p) (range_with_len 0 n)
 
 -- ---- months, from January to December
 
@@ -378,6 +371,6 @@ pub record AreFeastsKnown : Type 0 where
 -- as a law: all these words are known
 unfoldable pub AreWordsKnown : Type 0
 AreWordsKnown =
-    AreMonthsKnown × AreOtherMonthsKnown × AreWeekdaysKnown × AreOtherWeekdaysKnown
-    × AreOrdinalsKnown × AreOtherWordsKnown × AreOtherLanguagesKnown × AreCenturiesKnown
-    × AreDecadesKnown × ArePeriodsKnown × AreFeastsKnown
+    AreMonthsKnown × AreOtherMonthsKnown × AreMoreMonthsKnown × AreWeekdaysKnown
+    × AreOtherWeekdaysKnown × AreOrdinalsKnown × AreOtherWordsKnown × AreOtherLanguagesKnown
+    × AreMoreWordsKnown × AreCenturiesKnown × AreDecadesKnown × ArePeriodsKnown × AreFeastsKnown

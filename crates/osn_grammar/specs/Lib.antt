@@ -8,12 +8,16 @@ pub mod Extent
 pub mod Sets
 pub mod Years
 pub mod Period
+pub mod OpenDigits
+pub mod DashedYears
+pub mod PartRanges
 pub mod TwoDays
 pub mod BothCalendars
 pub mod Feasts
 pub mod Roman
 pub mod Reading
 pub mod Laws
+pub mod EarlyNames
 pub mod Languages
 pub mod InDigits
 pub mod SetsInDigits

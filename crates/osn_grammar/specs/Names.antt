@@ -1,10 +1,12 @@
 -- Which part a name is, by the table of names.
-use Rattle.std.specs.Prelude.{◌≡◌, ℕ, Bool, true, false, not, ◌&&◌, if◌then◌else◌, List, [], ◌∷◌, map}
+use Rattle.std.specs.Prelude.{◌≡◌, ℕ, Bool, true, false, not, ◌&&◌, if◌then◌else◌, List, [], ◌∷◌}
+use Rattle.std.specs.Prelude.{map}
 use Rattle.std.specs.Prelude.{Option, Some, None}
 use Rattle.std.specs.Borrow.{Bor}
 use Rattle.std.specs.List.{list_any}
 use Rattle.std.specs.Str.{bytes_eq}
 use Rattle.osn_grammar.specs.declared.feast_names.TheConstants.{FEAST_NAMES}
+use Rattle.osn_grammar.specs.declared.more_names.TheConstants.{MORE_NAMES}
 use Rattle.osn_grammar.specs.declared.names.TheConstants.{NAMES}
 use Rattle.osn_grammar.specs.declared.other_names.TheConstants.{OTHER_NAMES}
 use Rattle.osn_grammar.specs.declared.token.Token.{Token}
@@ -27,6 +29,10 @@ names = map (λ e. (e.0.now, e.1)) NAMES
 unfoldable pub other_names : List (List ℕ × Token)
 other_names = map (λ e. (e.0.now, e.1)) OTHER_NAMES
 
+-- the names of earlier hands and of genealogists
+unfoldable pub more_names : List (List ℕ × Token)
+more_names = map (λ e. (e.0.now, e.1)) MORE_NAMES
+
 -- the names of feasts
 unfoldable pub feast_names : List (List ℕ × Token)
 feast_names = map (λ e. (e.0.now, e.1)) FEAST_NAMES
@@ -35,8 +41,11 @@ abbrev pub named_or : Option Token → Option Token → Option Token
 named_or (Some p) other = Some p
 named_or None other = other
 
+abbrev pub more_or_feast : List ℕ → Option Token
+more_or_feast word = named_or (first_named more_names word) (first_named feast_names word)
+
 abbrev pub other_or_feast : List ℕ → Option Token
-other_or_feast word = named_or (first_named other_names word) (first_named feast_names word)
+other_or_feast word = named_or (first_named other_names word) (more_or_feast word)
 
 -- the part that a name in small letters is
 abbrev pub token_named : List ℕ → Option Token
@@ -55,7 +64,11 @@ are_distinct (entry ∷ rest) = not (is_listed rest entry) && are_distinct rest
 unfoldable pub AreNamesDistinct : Type 0
 AreNamesDistinct =
     (are_distinct names ≡ true) × (are_distinct other_names ≡ true)
+    × (are_distinct more_names ≡ true)
     × (are_distinct feast_names ≡ true)
     × (list_any (is_listed names) other_names ≡ false)
+    × (list_any (is_listed names) more_names ≡ false)
     × (list_any (is_listed names) feast_names ≡ false)
+    × (list_any (is_listed other_names) more_names ≡ false)
     × (list_any (is_listed other_names) feast_names ≡ false)
+    × (list_any (is_listed more_names) feast_names ≡ false)

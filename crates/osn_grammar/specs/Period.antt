@@ -13,7 +13,7 @@ use Rattle.osn_grammar.specs.declared.token.Token.TheVariants as token
 use Rattle.osn_grammar.specs.declared.token.Token.TheVariants.{Number, Dash, Season}
 use Rattle.osn_grammar.specs.declared.token.Years.{Years}
 use Rattle.osn_grammar.specs.Forms.{month_or_year}
-use Rattle.osn_grammar.specs.Simple.{one, year_of}
+use Rattle.osn_grammar.specs.Simple.{month_of, one, whole_year, year_of}
 use Rattle.osn_grammar.specs.Years.{by_word, one_in, or_years, range_of}
 use Rattle.osn_written.specs.declared.any_date.Extent.{Extent}
 use Rattle.osn_written.specs.declared.any_date.Extent.TheVariants as extent
@@ -52,8 +52,8 @@ years_cut portion.SecondHalf gap first last = years_to (last - gap / 2) last
 abbrev pub part_of_years : Portion → Years → Years
 part_of_years p years = years_cut p (years.last - years.first) years.first years.last
 
--- a part of a month is some of its days by their numbers: 1 to 10, 11 to 20, 21 to the last one, and
--- 1 to 15, 16 to the last one. The last day of February differs, so it is that of the month
+-- a part of a month is some of its days by their numbers: 1 to 10, 11 to 20, 21 to the last one,
+-- and 1 to 15, 16 to the last one. The last day of February differs, so it is that of the month
 abbrev pub day_in : Year → ℕ → ℕ → PartialDate
 day_in year month d = date.Day year month d
 
@@ -103,9 +103,11 @@ three_months (Err fault) first = None
 
 -- a season by its first month: spring is March to May, summer June to August, autumn September to
 -- November. A winter lasts from one year into the next, so it is open which one `winter 1675` is
+abbrev pub season_of : ℕ → Numeral → Option Extent
+season_of first y = if nat_le first 10 then three_months (year_of (one y)) first else None
+
 abbrev pub season_in : ℕ → List Token → Option Extent
-season_in first (Number y ∷ []) =
-    if nat_le first 10 then three_months (year_of (one y)) first else None
+season_in first (Number y ∷ []) = season_of first y
 season_in first _ = None
 
 -- the codes of EDTF: 21 is spring, 22 summer, 23 autumn, 33 to 36 are the quarters
@@ -141,17 +143,42 @@ abbrev pub nth_part : Option Nth → Fraction → List Token → Option Extent
 nth_part None fraction whole = None
 nth_part (Some nth) fraction whole = part_of (portion_of nth fraction) whole
 
+-- the part after its time: 1675, early; 1675, spring
 abbrev pub after_number : Numeral → List Token → Option Extent
 after_number n (Dash ∷ Number code ∷ []) = coded n code
+after_number n (token.Portion p ∷ []) = part_of_date p (whole_year (one n))
+after_number n (Season first ∷ []) = season_of first n
 after_number n (token.Fraction fraction ∷ whole) = nth_part (nth_of n.value) fraction whole
 after_number n _ = None
+
+-- Feb. 1675 (early)
+abbrev pub after_month : ℕ → List Token → Option Extent
+after_month m (Number y ∷ token.Portion p ∷ []) = part_of_date p (month_of (one y) m)
+after_month m _ = None
+
+-- 1580s, early
+abbrev pub after_years : Years → List Token → Option Extent
+after_years years (token.Portion p ∷ []) = Some (range_of (part_of_years p years))
+after_years years _ = None
 
 abbrev pub period_in : List Token → Option Extent
 period_in (token.Portion p ∷ rest) = part_after p rest
 period_in (token.Nth nth ∷ token.Fraction fraction ∷ whole) = nth_part (Some nth) fraction whole
 period_in (Season first ∷ year) = season_in first year
 period_in (Number n ∷ rest) = after_number n rest
+period_in (token.Month m ∷ rest) = after_month m rest
+period_in (token.Years years ∷ rest) = after_years years rest
 period_in _ = None
+
+-- the code of a winter after its year, and not 1621-24
+abbrev pub is_winter_of : Numeral → Numeral → Bool
+is_winter_of y code =
+    code.value == 24
+    && (y.digits == 4 && (code.digits == 2 && nat_le code.value (y.value % 100)))
+
+abbrev pub is_winter : List Token → Bool
+is_winter (Number y ∷ Dash ∷ Number code ∷ []) = is_winter_of y code
+is_winter _ = false
 
 -- `early`, `winter`
 abbrev pub is_period : Token → Bool

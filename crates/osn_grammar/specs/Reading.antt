@@ -16,9 +16,9 @@ use Rattle.osn_grammar.specs.declared.written.DateOrder.{DateOrder}
 use Rattle.osn_written.specs.declared.any_date.Extent.{Extent}
 use Rattle.osn_written.specs.declared.any_date.Extent.TheVariants as extent
 use Rattle.osn_written.specs.declared.any_date.Reckoning.{Reckoning}
-use Rattle.osn_written.specs.declared.any_date.Reckoning.TheVariants.{NewStyle}
 use Rattle.osn_written.specs.declared.any_date.PartialDate.{PartialDate}
 use Rattle.osn_grammar.specs.declared.token.Years.{Years}
+use Rattle.osn_grammar.specs.declared.both_calendars.ReckonedDay.{ReckonedDay}
 use Rattle.osn_grammar.specs.declared.reading.ReckonedExtent.{ReckonedExtent}
 use Rattle.osn_grammar.specs.declared.written.Written.{Written}
 use Rattle.osn_grammar.specs.declared.written.Written.TheVariants as say
@@ -26,12 +26,16 @@ use Rattle.osn_written.specs.declared.any_date.AnyDate.{AnyDate}
 use Rattle.osn_grammar.specs.Feasts.{feast_in}
 use Rattle.osn_grammar.specs.Extent.{extent_of}
 use Rattle.osn_written.specs.AnyDate.{has_three_digits}
+use Rattle.osn_written.specs.WrittenDate.{parts_at}
 use Rattle.osn_grammar.specs.Tokens.{is_of_time}
 use Rattle.osn_grammar.specs.Scan.{tokens_in}
-use Rattle.osn_grammar.specs.Sets.{inside_brackets, between_commas, is_sign, days_in_digits}
+use Rattle.osn_grammar.specs.Sets.{inside_brackets, between_commas, is_sign, dates_in_digits}
 use Rattle.osn_grammar.specs.Simple.{◌>>=◌, lacks_digit}
 use Rattle.osn_grammar.specs.BothCalendars.{day_by_both, named_day}
-use Rattle.osn_grammar.specs.Period.{is_period, period_in}
+use Rattle.osn_grammar.specs.DashedYears.{may_be_double, slashed}
+use Rattle.osn_grammar.specs.PartRanges.{part_range}
+use Rattle.osn_grammar.specs.Period.{is_period, is_winter, period_in}
+use Rattle.osn_grammar.specs.OpenDigits.{open_in}
 use Rattle.osn_grammar.specs.Roman.{roman_date}
 use Rattle.osn_grammar.specs.Years.{range_of, years_in, years_of_text}
 
@@ -83,6 +87,7 @@ is_feast _ = false
 abbrev pub is_roman_numeral : Token → Bool
 is_roman_numeral token.RomanNumeral = true
 is_roman_numeral (token.Roman n) = true
+is_roman_numeral (token.RomanLetter n) = true
 is_roman_numeral _ = false
 
 abbrev pub is_open_year : Token → Bool
@@ -99,10 +104,10 @@ reckoned reckoning e = record { extent = e; reckoning = reckoning; is_part = fal
 abbrev pub part_as_extent : Option Reckoning → Extent → ReckonedExtent
 part_as_extent reckoning e = record { extent = e; reckoning = reckoning; is_part = true }
 
--- a day by both calendars is that of the new one. No calendar may be named beside it
-abbrev pub extent_by_both : Option Reckoning → DateFault → Result PartialDate DateFault
+-- a day by both calendars is by the one whose date is sure. No calendar may be named beside it
+abbrev pub extent_by_both : Option Reckoning → DateFault → Result ReckonedDay DateFault
     → Result ReckonedExtent DateFault
-extent_by_both None fault (Ok d) = Ok (reckoned (Some NewStyle) (extent.On d))
+extent_by_both None fault (Ok d) = Ok (reckoned (Some d.reckoning) (extent.On d.date))
 extent_by_both (Some r) fault (Ok d) = Err faults.NamedCalendar
 extent_by_both reckoning fault (Err faults.Malformed) = Err fault
 extent_by_both reckoning fault (Err other) = Err other
@@ -122,25 +127,32 @@ after_estimated o tokens (token.Estimated ∷ date) =
     else Err faults.Malformed
 after_estimated o tokens _ = Err faults.Malformed
 
+-- an estimated date, or one with an open digit, such as 1675-05-0X
+abbrev pub open_first : Option Extent → Result Extent DateFault → Result Extent DateFault
+open_first (Some e) other = Ok e
+open_first None other = other
+
 abbrev pub extent_by : List Token → List Token → Option Reckoning → DateFault
     → Result Extent DateFault → Option Years → Option Extent → Result PartialDate DateFault
     → Result ReckonedExtent DateFault
 extent_by tokens timed reckoning fault (Ok e) years period roman = Ok (reckoned reckoning e)
 extent_by tokens timed reckoning fault (Err other) (Some years) period roman =
     Ok (reckoned reckoning (range_of years))
-extent_by tokens timed reckoning fault (Err other) None (Some e) roman = Ok (part_as_extent reckoning e)
+extent_by tokens timed reckoning fault (Err other) None (Some e) roman =
+    Ok (part_as_extent reckoning e)
 extent_by tokens timed reckoning fault (Err other) None None (Ok d) =
     Ok (reckoned reckoning (extent.On d))
 extent_by tokens timed reckoning fault (Err other) None None (Err another) =
     extent_by_both reckoning fault (day_by_both newest_rules tokens timed)
 
--- what has none of the usual forms may be an estimated date, a decade, a century, a part of a time,
--- a day with a Roman numeral or a day by both calendars
+-- what has none of the usual forms may be an estimated date, one with an open digit, a decade, a
+-- century, a part of a time, a day with a Roman numeral or a day by both calendars
 abbrev pub extent_otherwise : DateOrder → List Token → List Token → Option Reckoning → DateFault
     → Result ReckonedExtent DateFault
 extent_otherwise o tokens timed reckoning fault =
-    extent_by tokens timed reckoning fault (after_estimated o tokens timed) (years_in timed)
-    (period_in timed) (roman_date timed)
+    extent_by tokens timed reckoning fault
+    (open_first (open_in timed) (after_estimated o tokens timed))
+    (years_in timed) (period_in timed) (roman_date timed)
 
 abbrev pub or_other : DateOrder → List Token → List Token → Option Reckoning
     → Result Extent DateFault → Result ReckonedExtent DateFault
@@ -197,7 +209,7 @@ open_or timed fault = fault
 -- the fault
 abbrev pub reason : List Token → List Token → DateFault → DateFault
 reason tokens timed fault =
-    if list_any is_period tokens then faults.OpenPart
+    if list_any is_period tokens || is_winter timed then faults.OpenPart
     else (if list_any is_roman_numeral tokens then faults.RomanNumeral
     else (if list_any is_open_year tokens then faults.OpenYear
     else open_or timed fault))
@@ -259,7 +271,7 @@ member_by tokens days = do
 
 -- the member that parts are, or why they are not one
 abbrev pub member_of : List Token → Result AnyDate DateFault
-member_of tokens = member_by tokens (days_in_digits (filter (λ p. not (is_sign p)) tokens))
+member_of tokens = member_by tokens (dates_in_digits (filter (λ p. not (is_sign p)) tokens))
 
 abbrev pub member_in : List ℕ → Result AnyDate DateFault
 member_in text = member_of (tokens_in text)
@@ -302,9 +314,77 @@ years_unless None (Err fault) = Err fault
 abbrev pub or_years : List ℕ → Result Written DateFault → Result Written DateFault
 or_years text read = years_unless (years_of_text text) read
 
+-- ---- last of all
+
+-- the first fault, unless another reading succeeds
+abbrev pub or_this : Result Written DateFault → DateFault → Result Written DateFault
+or_this (Ok w) fault = Ok w
+or_this (Err other) fault = Err fault
+
+-- a double year after a dash, 11 Feb. 1675-6
+abbrev pub read_slashed : DateOrder → List Token → List Token → DateFault
+    → Result Written DateFault
+read_slashed o tokens timed fault =
+    if may_be_double timed then or_this (reading_of_tokens o tokens (slashed timed)) fault
+    else Err fault
+
+-- from one part of a time to another one, early 1675 - late 1676
+abbrev pub of_parts : List Token → Option Weekday → Option Reckoning → Option Extent
+    → Result AnyDate DateFault
+of_parts tokens weekday reckoning None = Err faults.OpenPart
+of_parts tokens weekday reckoning (Some e) = unless_open (record {
+  extent = e;
+  weekday = weekday;
+  reckoning = reckoning;
+  is_approximate = true;
+  is_uncertain = list_any is_doubt tokens;
+  is_supplied = list_any is_bracket tokens;
+})
+
+abbrev pub date_of_parts : List Token → List Token → Result AnyDate DateFault
+date_of_parts tokens timed = do
+  weekday ← weekday_after None tokens
+  reckoning ← reckoning_after None tokens
+  of_parts tokens weekday reckoning (part_range timed)
+
+abbrev pub read_parts : DateOrder → List Token → List Token → DateFault → Result Written DateFault
+read_parts o tokens timed fault =
+    if list_any is_period tokens then or_this (as_date (date_of_parts tokens timed)) fault
+    else read_slashed o tokens timed fault
+
+-- INT 11 FEB 1675 (a phrase) is a date that was interpreted from the phrase
+abbrev pub interpreted : DateOrder → List Token → List Token → DateFault → Result Written DateFault
+interpreted o tokens (token.Interpreted ∷ timed) fault =
+    or_this (reading_of_tokens o tokens timed) fault
+interpreted o tokens timed fault = Err fault
+
+-- the phrase ends with its round bracket, and so does the text
+abbrev pub is_closed : Option (List ℕ × List ℕ) → Bool
+is_closed None = false
+is_closed (Some parts) = length parts.1 == 0
+
+abbrev pub before_phrase : DateOrder → Option (List ℕ × List ℕ) → DateFault
+    → Result Written DateFault
+before_phrase o None fault = Err fault
+before_phrase o (Some parts) fault =
+    if is_closed (parts_at 41 parts.1) then
+    interpreted o (tokens_in parts.0) (filter is_of_time (tokens_in parts.0)) fault
+    else Err fault
+
+abbrev pub or_phrase : DateOrder → List ℕ → Result Written DateFault → Result Written DateFault
+or_phrase o text (Ok w) = Ok w
+or_phrase o text (Err fault) = before_phrase o (parts_at 40 text) fault
+
+abbrev pub or_parts : DateOrder → List Token → List Token → Result Written DateFault
+    → Result Written DateFault
+or_parts o tokens timed (Ok w) = Ok w
+or_parts o tokens timed (Err fault) = read_parts o tokens timed fault
+
 -- what a text says of a date, or why it is not a date
 unfoldable pub read_date : DateOrder → List ℕ → Result Written DateFault
 read_date o text =
-    or_years text
+    or_phrase o text
+    (or_parts o (tokens_in text) (filter is_of_time (tokens_in text))
+    (or_years text
     (or_set (set_in text)
-    (reading_of_tokens o (tokens_in text) (filter is_of_time (tokens_in text))))
+    (reading_of_tokens o (tokens_in text) (filter is_of_time (tokens_in text))))))

@@ -4,6 +4,7 @@ use Rattle.std.specs.Prelude.{Result, Err}
 use Rattle.osn_grammar.specs.declared.token.Numeral.{Numeral}
 use Rattle.osn_grammar.specs.declared.token.Token.{Token}
 use Rattle.osn_grammar.specs.declared.token.Token.TheVariants.{Number, Month, Roman, Dash, Slash}
+use Rattle.osn_grammar.specs.declared.token.Token.TheVariants.{RomanLetter}
 use Rattle.osn_grammar.specs.declared.simple.YearNumbers.{YearNumbers}
 use Rattle.osn_grammar.specs.Forms.{year_numbers}
 use Rattle.osn_grammar.specs.Simple.{is_long, one, day_of_month, around_month}
@@ -28,10 +29,11 @@ abbrev pub in_year : Option YearNumbers → ℕ → ℕ → Result PartialDate D
 in_year None month day = Err faults.Malformed
 in_year (Some years) month day = roman_day years month day
 
--- 1731 February xi, and the month between two numbers, 3 xii 1640, 3-XII-1640, 3/XII/1640
+-- 1731 February xi, and the month between two numbers, 3 xii 1640, 3.v.1640, 3-XII-1640, 3/XII/1640
 abbrev pub after_number : Numeral → List Token → Result PartialDate DateFault
 after_number a (Month m ∷ Roman d ∷ []) = year_first a m d
 after_number a (Roman m ∷ Number b ∷ []) = around_roman a m b
+after_number a (RomanLetter m ∷ Number b ∷ []) = around_roman a m b
 after_number a (Dash ∷ Roman m ∷ Dash ∷ Number b ∷ []) = around_roman a m b
 after_number a (Slash ∷ Roman m ∷ Slash ∷ Number b ∷ []) = around_roman a m b
 after_number a _ = Err faults.Malformed

@@ -26,11 +26,13 @@ is_dash c = c == 45 || (is_from_to 8208 8209 c || (is_from_to 8211 8212 c || c =
 abbrev pub is_blank : ℕ → Bool
 is_blank c = c == 32 || (c == 9 || (c == 160 || (c == 8201 || c == 8239)))
 
--- a letter: of ASCII, `_`, or any other character beyond it except such a dash or blank
+-- a letter: of ASCII, `_`, `@` and `#`, or any other character beyond it except such a dash or
+-- blank
 abbrev pub is_letter : ℕ → Bool
 is_letter c =
-    is_from_to 65 90 c
-    || (is_from_to 97 122 c || (c == 95 || (nat_lt 127 c && not (is_dash c || is_blank c))))
+    is_from_to 64 90 c
+    || (is_from_to 97 122 c
+    || (c == 95 || (c == 35 || (nat_lt 127 c && not (is_dash c || is_blank c)))))
 
 -- the small letter of a capital one of ASCII, or of U+00C0 to U+00DE
 abbrev pub small : ℕ → ℕ
@@ -92,8 +94,17 @@ is_month _ = false
 abbrev pub is_month_name : List ℕ → Bool
 is_month_name word = is_month (token_named word)
 
+-- the name of a month, or an ordinal such as `11th`
+abbrev pub is_named_part : Option Token → Bool
+is_named_part (Some (token.Month m)) = true
+is_named_part (Some (token.Number n)) = true
+is_named_part _ = false
+
+abbrev pub is_month_or_ordinal : List ℕ → Bool
+is_month_or_ordinal word = is_named_part (token_named word)
+
 -- the mark that a character is, after a word and before the rest of the text. Blanks, commas, other
--- round brackets and a colon after the name of a month, `Feb:`, are not marks
+-- round brackets and a colon after the name of a month or an ordinal, `11th: Feb:`, are not marks
 abbrev pub mark_of : List ℕ → ℕ → List ℕ → Option Token
 mark_of word c rest =
     if is_dash c then Some token.Dash
@@ -105,8 +116,9 @@ mark_of word c rest =
     else (if c == 46 then mark_of_stop word rest
     else (if c == 40 then mark_of_round rest
     else (if is_blank c || (c == 44 || c == 41) then None
-    else (if c == 58 && is_month_name word then None
-    else Some token.Unknown)))))))))
+    else (if c == 58 && is_month_or_ordinal word then None
+    else (if c == 38 then Some token.And
+    else Some token.Unknown))))))))))
 
 -- the part of a word, which may be empty
 abbrev pub token_of_run : List ℕ → Option Token
@@ -130,17 +142,34 @@ is_passed_over word c rest =
     if c == 46 then is_letter_alone rest && (length word == 1 && is_name word)
     else c == 58 && (is_letter_next rest && is_month_name word)
 
+-- the next character and a word so far are both of a number, or both of a name
+abbrev pub are_alike : List ℕ → ℕ → Bool
+are_alike word next =
+    if is_digit next then all_ascii_digits word else is_letter next && is_name word
+
+-- a square bracket is within a word if both sides of it are digits or both are letters: `16[60]` is
+-- `1660`, and `Feb[ruary]` is `February`
+abbrev pub is_alike_next : List ℕ → List ℕ → Bool
+is_alike_next word [] = false
+is_alike_next word (next ∷ rest) = are_alike word next
+
+abbrev pub is_bracket_within : List ℕ → ℕ → List ℕ → Bool
+is_bracket_within word c rest =
+    (c == 91 || c == 93) && (not (length word == 0) && is_alike_next word rest)
+
 -- the word so far, after one more character
 abbrev pub word_after : List ℕ → ℕ → List ℕ → List ℕ
 word_after word c rest =
     if is_letter c || is_digit c then word ++ encode_utf8 (small c)
-    else (if is_passed_over word c rest then word else [])
+    else (if is_passed_over word c rest || is_bracket_within word c rest then word else [])
 
--- the parts that end with a character: a word, and the mark after it
+-- the parts that end with a character: a word, and the mark after it. A square bracket within a
+-- word comes before it
 abbrev pub tokens_ended : List ℕ → ℕ → List ℕ → List Token
 tokens_ended word c rest =
     if is_letter c || (is_digit c || is_passed_over word c rest) then []
-    else option_to_list (token_of_run word) ++ option_to_list (mark_of word c rest)
+    else (if is_bracket_within word c rest then token.Bracket ∷ []
+    else option_to_list (token_of_run word) ++ option_to_list (mark_of word c rest))
 
 -- the parts of a word so far and of the characters after it
 abbrev pub tokens_after : List ℕ → List ℕ → List Token

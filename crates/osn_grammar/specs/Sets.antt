@@ -1,10 +1,12 @@
 -- A set of dates, of which one is meant, as EDTF writes it at its level 2:
--- [1543-04-11,1544-04-11], [1731-04-05..1731-04-11,1732-03-12..1732-04-04].
-use Rattle.std.specs.Prelude.{ℕ, Bool, true, false, ◌==◌, if◌then◌else◌, List, [], ◌∷◌, Option}
+-- [1543-04-11,1544-04-11], [1731-04-05..1731-04-11,1732-03-12..1732-04-04], [1675..1677].
+use Rattle.std.specs.Prelude.{ℕ, Bool, true, false, nat_le, ◌==◌, if◌then◌else◌, List, [], ◌∷◌}
+use Rattle.std.specs.Prelude.{Option}
 use Rattle.std.specs.Prelude.{Some}
 use Rattle.std.specs.Prelude.{None, option_map, Result, Ok, Err}
 use Rattle.std.specs.List.{slice_split}
 use Rattle.std.specs.Option.{option_and_then}
+use Rattle.osn_grammar.specs.declared.token.Numeral.{Numeral}
 use Rattle.osn_grammar.specs.declared.token.Token.{Token}
 use Rattle.osn_grammar.specs.declared.token.Token.TheVariants as token
 use Rattle.osn_grammar.specs.declared.token.Token.TheVariants.{Number, Dash, Open}
@@ -13,7 +15,8 @@ use Rattle.osn_written.specs.declared.written_date.DateFault.TheVariants as faul
 use Rattle.osn_written.specs.declared.any_date.Extent.{Extent}
 use Rattle.osn_written.specs.declared.any_date.Extent.TheVariants as extent
 use Rattle.osn_written.specs.declared.any_date.PartialDate.{PartialDate}
-use Rattle.osn_grammar.specs.Simple.{◌>>=◌, one, day_in_digits}
+use Rattle.osn_grammar.specs.Forms.{date_in_digits}
+use Rattle.osn_grammar.specs.Simple.{◌>>=◌, one, day_in_digits, whole_year, year_and_month}
 
 -- ---- the text between the brackets
 
@@ -44,19 +47,46 @@ is_sign token.Doubt = true
 is_sign token.AboutAndDoubt = true
 is_sign _ = false
 
--- a day, or the days from it to the one after `..`
-abbrev pub from_day : Result PartialDate DateFault → List Token → Result Extent DateFault
-from_day first [] = do
-  day ← first
-  Ok (extent.On day)
-from_day first (Open ∷ Number y ∷ Dash ∷ Number m ∷ Dash ∷ Number d ∷ []) = do
+-- what is after the first date: nothing, `..`, or `..` and the last date
+abbrev pub from_date : Result PartialDate DateFault → List Token → Result Extent DateFault
+from_date first [] = do
+  date ← first
+  Ok (extent.On date)
+from_date first (Open ∷ []) = do
+  date ← first
+  Ok (extent.NotBefore date)
+from_date first (Open ∷ last) = do
   start ← first
-  end ← day_in_digits (one y) m d
+  end ← date_in_digits last
   Ok (extent.FromTo start end)
-from_day first _ = Err faults.Malformed
+from_date first _ = Err faults.Malformed
 
--- a day in digits, or the first and the last one with `..` between them
-abbrev pub days_in_digits : List Token → Result Extent DateFault
-days_in_digits (Number y ∷ Dash ∷ Number m ∷ Dash ∷ Number d ∷ rest) =
-    from_day (day_in_digits (one y) m d) rest
-days_in_digits _ = Err faults.Malformed
+-- a year of four digits or more
+abbrev pub long_year : Numeral → Result PartialDate DateFault
+long_year y = if nat_le 4 y.digits then whole_year (one y) else Err faults.Malformed
+
+abbrev pub from_month : Numeral → Numeral → List Token → Result Extent DateFault
+from_month y m rest = from_date (year_and_month y m) rest
+
+abbrev pub from_day : Numeral → Numeral → List Token → Result Extent DateFault
+from_day y m (Number d ∷ rest) = from_date (day_in_digits (one y) m d) rest
+from_day y m rest = Err faults.Malformed
+
+abbrev pub after_month : Numeral → Numeral → List Token → Result Extent DateFault
+after_month y m (Dash ∷ rest) = from_day y m rest
+after_month y m rest = from_month y m rest
+
+abbrev pub after_year : Numeral → List Token → Result Extent DateFault
+after_year y (Dash ∷ Number m ∷ rest) = after_month y m rest
+after_year y rest = from_date (long_year y) rest
+
+abbrev pub not_after : Result PartialDate DateFault → Result Extent DateFault
+not_after last = do
+  date ← last
+  Ok (extent.NotAfter date)
+
+-- a date in digits, or the first and the last one with `..` between them. Either may be open
+abbrev pub dates_in_digits : List Token → Result Extent DateFault
+dates_in_digits (Number y ∷ rest) = after_year y rest
+dates_in_digits (Open ∷ last) = not_after (date_in_digits last)
+dates_in_digits _ = Err faults.Malformed

@@ -1,5 +1,5 @@
--- Simple dates, a day, a month or a year, of the numbers with which they are written. This project's
--- profile.
+-- Simple dates, a day, a month or a year, of the numbers with which they are written. This
+-- project's profile.
 use Rattle.std.specs.Prelude.{ℕ, Bool, true, ◌&&◌, ◌||◌, not, nat_le, nat_lt, ◌==◌, ◌+◌, ◌%◌, ◌^◌}
 use Rattle.std.specs.Prelude.{if◌then◌else◌, Option, Some, None, is_some}
 use Rattle.std.specs.Prelude.{Result, Ok, Err}

@@ -59,7 +59,8 @@ one_in _ = None
 -- the years from one of four digits on
 abbrev pub years_on : Numeral → ℕ → Option Years
 years_on first more =
-    if first.digits == 4 && nat_le first.value 9999 then Some (years_from first.value more) else None
+    if first.digits == 4 && nat_le first.value 9999 then Some (years_from first.value more)
+    else None
 
 -- that of `années 1500` may be a century, too
 abbrev pub decade_from : Numeral → Option Years

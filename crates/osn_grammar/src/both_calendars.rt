@@ -7,9 +7,10 @@ ghost use Rattle.osn_territory.specs.Style as style;
 ghost use Rattle.osn_grammar.specs.BothCalendars as spec;
 
 use crate::forms::year_numbers;
+use crate::named_calendars::are_named;
 use crate::simple::{YearNumbers, is_long, one, year_of};
 use crate::token::Numeral;
-use crate::token::Token::{self, Month, Number, Reckoning as By, Round, Slash, Weekday};
+use crate::token::Token::{self, Month, Number, Round, Slash, Weekday};
 use crate::two_days::{date_in_other, two_days};
 use osn_days::{Calendar, Date};
 use osn_written::{DateFault, MonthDay, PartialDate, Reckoning, Year};
@@ -29,6 +30,13 @@ struct TwoDates {
     old: MonthDay,
     new: MonthDay,
     years: WrittenYears,
+}
+
+/// A date of the day, and by which calendar it is.
+#[derive(Clone, Copy)]
+pub struct ReckonedDay {
+    pub date: PartialDate,
+    pub reckoning: Reckoning,
 }
 
 /// Returns a day of a month, if a number of one or two digits is 1 to 31.
@@ -225,8 +233,8 @@ fn later_of(year: Year) -> Year
     }
 }
 
-/// Returns the Gregorian year of two dates with one year, which has to be double if a date is from
-/// 1 January to 24 March, and otherwise must not be.
+/// Returns the Gregorian year of two dates with one year, if it is sure: it is double if a date is
+/// from 1 January to 24 March, and otherwise it is not.
 fn shared_year(is_early: bool, years: YearNumbers) -> Option<Year>
     ensures { result ≡ spec.shared_year is_early years }
 {
@@ -290,18 +298,68 @@ fn are_one_day(year: Year, dates: TwoDates) -> bool
     }
 }
 
-/// Returns the Gregorian date of two dates, if they are those of one day.
-fn day_of_both(dates: TwoDates) -> Result<PartialDate, DateFault>
+/// Returns a day of a year by one of the calendars.
+fn reckoned(year: Year, day: MonthDay, reckoning: Reckoning) -> ReckonedDay
+    ensures { result ≡ spec.reckoned_day year day reckoning }
+{
+    ReckonedDay {
+        date: PartialDate::Day {
+            year,
+            month: day.month,
+            day: day.day,
+        },
+        reckoning,
+    }
+}
+
+/// Returns the first of two dates by the old calendar, if they are one day both in this year and in
+/// the next one: in either of them the place may have begun to count it.
+fn in_own_year(dates: TwoDates, year: Year) -> Result<ReckonedDay, DateFault>
+    requires { year.first ≤ 10000 }
+    ensures { result ≡ spec.in_own_year newest_rules dates year }
+{
+    let is_own = are_one_day(year, dates);
+    let is_next = are_one_day(later_of(year), dates);
+    if is_own && is_next {
+        Ok(reckoned(year, dates.old, Reckoning::OldStyle))
+    } else if is_own || is_next {
+        Err(DateFault::BothCalendars)
+    } else {
+        Err(two_days(year.first, dates.old, dates.new))
+    }
+}
+
+/// Returns whether two dates are of one year, and the first one is from 1 January to 24 March.
+fn are_of_one_year(dates: TwoDates) -> bool
+    ensures { result ≡ spec.are_of_one_year dates }
+{
+    is_early(dates.old) && dates.old.month <= dates.new.month
+}
+
+/// Returns the first of two dates by the old calendar, in the place's own year: `16/26 Febr. 1690`.
+fn day_of_own_year(dates: TwoDates) -> Result<ReckonedDay, DateFault>
+    ensures { result ≡ spec.day_of_own_year newest_rules dates dates.years }
+{
+    match dates.years {
+        WrittenYears::Shared(years) => match year_of(years) {
+            Ok(year) if are_of_one_year(dates) && !year.is_double => in_own_year(dates, year),
+            _ => Err(DateFault::BothCalendars),
+        },
+        WrittenYears::Each(_, _) => Err(DateFault::BothCalendars),
+    }
+}
+
+/// Returns the date of two dates, if they are those of one day: the Gregorian one, or the Julian
+/// one if its year is the place's own.
+fn day_of_both(dates: TwoDates) -> Result<ReckonedDay, DateFault>
     ensures { result ≡ spec.day_of_both newest_rules dates }
 {
     match gregorian_year(dates) {
-        Some(year) if are_one_day(year, dates) => Ok(PartialDate::Day {
-            year,
-            month: dates.new.month,
-            day: dates.new.day,
-        }),
+        Some(year) if are_one_day(year, dates) => {
+            Ok(reckoned(year, dates.new, Reckoning::NewStyle))
+        }
         Some(year) => Err(two_days(year.first, dates.old, dates.new)),
-        None => Err(DateFault::BothCalendars),
+        None => day_of_own_year(dates),
     }
 }
 
@@ -313,9 +371,9 @@ fn dates_in(tokens: &[Token], timed: &[Token]) -> Option<TwoDates>
     or_dates(slashed_dates(timed), if_round(tokens, beside(timed)))
 }
 
-/// Returns the Gregorian date of the day that parts are by both calendars, or why it is not sure.
-/// Parts of another form are `Malformed`. The parts `timed` are those that say which day is meant.
-pub fn day_by_both(tokens: &[Token], timed: &[Token]) -> Result<PartialDate, DateFault>
+/// Returns the date of the day that parts are by both calendars, or why it is not sure. Parts of
+/// another form are `Malformed`. The parts `timed` are those that say which day is meant.
+pub fn day_by_both(tokens: &[Token], timed: &[Token]) -> Result<ReckonedDay, DateFault>
     ensures { result ≡ spec.day_by_both newest_rules tokens.now timed.now }
 {
     match dates_in(tokens, timed) {
@@ -324,55 +382,9 @@ pub fn day_by_both(tokens: &[Token], timed: &[Token]) -> Result<PartialDate, Dat
     }
 }
 
-/// Returns whether parts are `N.S.` and a year, in this order or the other one.
-fn are_new_and_year(tokens: &[Token]) -> bool
-    ensures { result ≡ spec.are_new_and_year tokens.now }
-{
-    match tokens {
-        [By(Reckoning::NewStyle), year @ ..] => year_numbers(year).is_some(),
-        [Number(_), By(Reckoning::NewStyle)] => true,
-        [Number(_), Slash, Number(_), By(Reckoning::NewStyle)] => true,
-        _ => false,
-    }
-}
-
-/// Returns whether parts are the second of two dates, with `N.S.` beside it.
-fn is_new_last(tokens: &[Token]) -> bool
-    ensures { result ≡ spec.is_new_last tokens.now }
-{
-    match tokens {
-        [Number(_), Month(_), rest @ ..] => are_new_and_year(rest),
-        _ => false,
-    }
-}
-
-/// Returns whether parts are the rest of two dates after the month of the first one, with `O.S.`
-/// beside the first one and `N.S.` beside the second one.
-fn is_old_first(rest: &[Token]) -> bool
-    ensures { result ≡ spec.is_old_first rest.now }
-{
-    match rest {
-        [By(Reckoning::OldStyle), Slash, last @ ..] => is_new_last(last),
-        [Number(_), By(Reckoning::OldStyle), Slash, last @ ..] => is_new_last(last),
-        _ => false,
-    }
-}
-
-/// Returns whether parts are two dates by name, `O.S.` beside the first one and `N.S.` beside the
-/// second one.
-fn are_named(tokens: &[Token]) -> bool
-    ensures { result ≡ spec.are_named tokens.now }
-{
-    match tokens {
-        [Number(_), Month(_), rest @ ..] => is_old_first(rest),
-        [Weekday(_), Number(_), Month(_), rest @ ..] => is_old_first(rest),
-        _ => false,
-    }
-}
-
-/// Returns the Gregorian date of the day that parts are by both calendars, each of which is named
-/// beside its date: `3 June O.S./13 June N.S. 1675`.
-pub fn named_day(tokens: &[Token], timed: &[Token]) -> Result<PartialDate, DateFault>
+/// Returns the date of the day that parts are by both calendars, each of which is named beside its
+/// date: `3 June O.S./13 June N.S. 1675`.
+pub fn named_day(tokens: &[Token], timed: &[Token]) -> Result<ReckonedDay, DateFault>
     ensures { result ≡ spec.named_day newest_rules tokens.now timed.now }
 {
     if are_named(tokens) {

@@ -6,7 +6,8 @@ use crate::forms::{date_in_digits, partial_date};
 use crate::simple::{day_in, is_long, month_in};
 use crate::token::Numeral;
 use crate::token::Token::{
-    self, After, And, Before, Between, By, Dash, Dot, From, Month, Not, Number, Open, Or, Slash, To,
+    self, After, And, Before, Between, By, Dash, Dot, From, Month, Not, Number, Open, Or, Slash,
+    To, ToThe,
 };
 use crate::written::DateOrder;
 use osn_written::{DateFault, Extent, PartialDate};
@@ -14,9 +15,9 @@ use osn_written::{DateFault, Extent, PartialDate};
 /// By which parts the two dates of a range are joined.
 #[derive(Clone, Copy)]
 enum Joining {
-    /// By `to`, `or`, a dash or a `/`.
+    /// By `to`, `or`, `au`, a dash or a `/`.
     Any,
-    /// By `to` or a dash, after `from`.
+    /// By `to`, `au` or a dash, after `from`.
     To,
     /// By `and`, after `between`.
     And,
@@ -215,11 +216,43 @@ fn begins_short(last: &[Token]) -> bool
     }
 }
 
+/// Returns whether a year is the next one after that of a day from January to March.
+fn is_next_after(month: u8, year: Numeral, later: Numeral) -> bool
+    ensures { result ≡ spec.is_next_after month year later }
+{
+    month <= 3
+        && later.digits == 4
+        && is_long(year)
+        && year.value <= 10000
+        && later.value == year.value + 1
+}
+
+/// Returns whether parts are the year after that of a day from January to March.
+fn is_year_after(month: u8, year: Numeral, last: &[Token]) -> bool
+    ensures { result ≡ spec.is_year_after month year last.now }
+{
+    match last {
+        [Number(later)] => is_next_after(month, year, *later),
+        _ => false,
+    }
+}
+
+/// Returns whether a day and what is after the dash have a double year: `11 Feb. 1699-1700`.
+fn is_double_year(first: &[Token], last: &[Token]) -> bool
+    ensures { result ≡ spec.is_double_year first.now last.now }
+{
+    match first {
+        [Number(_), Month(m), Number(y)] => is_year_after(*m, *y, last),
+        [Month(m), Number(_), Number(y)] => is_year_after(*m, *y, last),
+        _ => false,
+    }
+}
+
 /// Returns the range of two dates with a dash between them.
 fn dashed_range(order: DateOrder, first: &[Token], last: &[Token]) -> Result<Extent, DateFault>
     ensures { result ≡ spec.dashed_range order first.now last.now }
 {
-    if is_whole_year(first) && begins_short(last) {
+    if is_whole_year(first) && begins_short(last) || is_double_year(first, last) {
         return Err(DateFault::Malformed);
     }
     range(order, first, last)
@@ -238,8 +271,8 @@ fn joined(
     match (joining, token) {
         (Joining::Any, Slash) => slashed_range(order, first, last),
         (Joining::Any | Joining::To, Dash) => dashed_range(order, first, last),
-        (Joining::Any, To | Or) => range(order, first, last),
-        (Joining::To, To) => range(order, first, last),
+        (Joining::Any, To | Or | ToThe) => range(order, first, last),
+        (Joining::To, To | ToThe) => range(order, first, last),
         (Joining::And, And) => range(order, first, last),
         _ => Err(DateFault::Malformed),
     }

@@ -4,9 +4,8 @@ ghost use Rattle.std.specs.List.{list_any};
 ghost use Rattle.osn_grammar.specs.Reading as spec;
 
 use crate::feasts::feast_in;
-use crate::reading::{
-    is_approximate, is_supplied, is_uncertain, reckoning_of, unless_open, weekday_of,
-};
+use crate::reading::unless_open;
+use crate::signs::{is_approximate, is_supplied, is_uncertain, reckoning_of, weekday_of};
 use crate::token::{FeastWord, Token};
 use osn_written::{AnyDate, DateFault, Extent, Reckoning};
 

@@ -3,21 +3,28 @@
 #![tactic(auto)]
 
 mod both_calendars;
+mod dashed_years;
 mod date_in_text;
 mod extent;
 mod feast_names;
 mod feast_reading;
 mod feasts;
 mod forms;
+mod more_names;
+mod named_calendars;
 mod names;
+mod open_digits;
 mod order;
 mod other_names;
+mod otherwise;
+mod part_ranges;
 mod period;
 mod reading;
 mod roman;
 mod roman_year;
 mod scan;
 mod set;
+mod signs;
 mod simple;
 mod token;
 mod two_days;

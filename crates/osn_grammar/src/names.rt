@@ -3,6 +3,7 @@ ghost use Rattle.std.specs.Prelude.{◌≡◌};
 ghost use Rattle.osn_grammar.specs.Names as spec;
 
 use crate::feast_names::feast_named;
+use crate::more_names::more_token_named;
 use crate::other_names::other_token_named;
 use crate::token::{Numeral, Token};
 use osn_days::Weekday;
@@ -728,13 +729,23 @@ fn usual_token_named(word: &str) -> Option<Token>
     first_named(&NAMES, word)
 }
 
+/// Returns the part that a name of earlier hands or that of a feast is, if it is one.
+fn more_or_feast(word: &str) -> Option<Token>
+    ensures { result ≡ spec.more_or_feast word.now }
+{
+    match more_token_named(word) {
+        Some(token) => Some(token),
+        None => feast_named(word),
+    }
+}
+
 /// Returns the part that another name or that of a feast is, if it is one.
 fn other_or_feast(word: &str) -> Option<Token>
     ensures { result ≡ spec.other_or_feast word.now }
 {
     match other_token_named(word) {
         Some(token) => Some(token),
-        None => feast_named(word),
+        None => more_or_feast(word),
     }
 }
 

@@ -4,7 +4,7 @@ ghost use Rattle.std.specs.List.{list_any};
 ghost use Rattle.osn_grammar.specs.Period as spec;
 
 use crate::forms::month_or_year;
-use crate::simple::{one, year_of};
+use crate::simple::{month_of, one, whole_year, year_of};
 use crate::token::Token::{self, Dash, Fraction, Nth, Number, Season};
 use crate::token::{Fraction as Share, Nth as Place, Numeral, Years};
 use crate::years::{by_word, one_in, or_years, range_of};
@@ -55,14 +55,14 @@ fn part_of_years(portion: Portion, years: Years) -> Years
 }
 
 /// Returns a day of a month.
-fn day_in(year: Year, month: u8, day: u8) -> PartialDate
+pub fn day_in(year: Year, month: u8, day: u8) -> PartialDate
     ensures { result ≡ spec.day_in year month day }
 {
     PartialDate::Day { year, month, day }
 }
 
 /// Returns the last day of a month, or the whole of February, whose last day differs.
-fn end_of(year: Year, month: u8) -> PartialDate
+pub fn end_of(year: Year, month: u8) -> PartialDate
     ensures { result ≡ spec.end_of year month }
 {
     match month {
@@ -73,7 +73,7 @@ fn end_of(year: Year, month: u8) -> PartialDate
 }
 
 /// Returns the days of a part of a month.
-fn part_of_month(portion: Portion, year: Year, month: u8) -> Extent
+pub fn part_of_month(portion: Portion, year: Year, month: u8) -> Extent
     ensures { result ≡ spec.part_of_month portion year month }
 {
     match portion {
@@ -118,7 +118,7 @@ fn part_after(portion: Portion, rest: &[Token]) -> Option<Extent>
 }
 
 /// Returns three months of a year.
-fn three_months(year: Result<Year, DateFault>, first: u8) -> Option<Extent>
+pub fn three_months(year: Result<Year, DateFault>, first: u8) -> Option<Extent>
     requires { first ≤ 10 }
     ensures { result ≡ spec.three_months year first }
 {
@@ -134,12 +134,23 @@ fn three_months(year: Result<Year, DateFault>, first: u8) -> Option<Extent>
     }
 }
 
-/// Returns the months of a season. Which year a winter is of is open.
+/// Returns the months of a season of a year. Which year a winter is of is open.
+fn season_of(first: u8, year: Numeral) -> Option<Extent>
+    ensures { result ≡ spec.season_of first year }
+{
+    if first <= 10 {
+        three_months(year_of(one(year)), first)
+    } else {
+        None
+    }
+}
+
+/// Returns the months of a season before its year.
 fn season_in(first: u8, year: &[Token]) -> Option<Extent>
     ensures { result ≡ spec.season_in first year.now }
 {
     match year {
-        [Number(year)] if first <= 10 => three_months(year_of(one(*year)), first),
+        [Number(year)] => season_of(first, *year),
         _ => None,
     }
 }
@@ -201,7 +212,31 @@ fn after_number(number: Numeral, rest: &[Token]) -> Option<Extent>
 {
     match rest {
         [Dash, Number(code)] => coded(number, *code),
+        [Token::Portion(portion)] => part_of_date(*portion, whole_year(one(number))),
+        [Season(first)] => season_of(*first, number),
         [Fraction(share), whole @ ..] => nth_part(nth_of(number.value), *share, whole),
+        _ => None,
+    }
+}
+
+/// Returns the part of a month that is after it: `Feb. 1675 (early)`.
+fn after_month(month: u8, rest: &[Token]) -> Option<Extent>
+    ensures { result ≡ spec.after_month month rest.now }
+{
+    match rest {
+        [Number(year), Token::Portion(portion)] => {
+            part_of_date(*portion, month_of(one(*year), u32::from(month)))
+        }
+        _ => None,
+    }
+}
+
+/// Returns the part of a decade or of the years of a century that is after it: `1580s, early`.
+fn after_years(years: Years, rest: &[Token]) -> Option<Extent>
+    ensures { result ≡ spec.after_years years rest.now }
+{
+    match rest {
+        [Token::Portion(portion)] => Some(range_of(part_of_years(*portion, years))),
         _ => None,
     }
 }
@@ -216,7 +251,25 @@ pub fn period_in(tokens: &[Token]) -> Option<Extent>
         [Nth(place), Fraction(share), whole @ ..] => nth_part(Some(*place), *share, whole),
         [Season(first), year @ ..] => season_in(*first, year),
         [Number(number), rest @ ..] => after_number(*number, rest),
+        [Token::Month(month), rest @ ..] => after_month(*month, rest),
+        [Token::Years(years), rest @ ..] => after_years(*years, rest),
         _ => None,
+    }
+}
+
+/// Returns whether parts are the code of a winter after its year, and not a range such as
+/// `1621-24`.
+pub fn is_winter(tokens: &[Token]) -> bool
+    ensures { result ≡ spec.is_winter tokens.now }
+{
+    match tokens {
+        [Number(year), Dash, Number(code)] => {
+            code.value == 24
+                && year.digits == 4
+                && code.digits == 2
+                && code.value <= year.value % 100
+        }
+        _ => false,
     }
 }
 

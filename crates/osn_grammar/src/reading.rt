@@ -8,88 +8,22 @@ ghost use Rattle.osn_grammar.specs.Names.{AreNamesDistinct};
 ghost use Rattle.osn_grammar.specs.Reading as spec;
 ghost use Rattle.osn_grammar.specs.SetsInDigits.{AreSetsRead};
 
-use crate::both_calendars::{day_by_both, named_day};
+use crate::both_calendars::{ReckonedDay, day_by_both, named_day};
 use crate::extent::extent_of;
 use crate::feast_reading::{feast_of, has_feast};
-use crate::period::{has_period, period_in};
+use crate::open_digits::open_in;
+use crate::otherwise::or_other_form;
+use crate::period::{has_period, is_winter, period_in};
 use crate::roman::{has_roman_numeral, roman_date};
 use crate::scan::tokens_in;
 use crate::set::set_in;
+use crate::signs::{is_approximate, is_supplied, is_uncertain, reckoning_of, weekday_of};
 use crate::simple::lacks_digit;
 use crate::token::Token;
 use crate::written::{DateOrder, Written};
 use crate::years::{has_open_year, range_of, years_in, years_of_text};
-use osn_days::Weekday;
-use osn_written::{AnyDate, DateFault, Extent, PartialDate, Reckoning};
+use osn_written::{AnyDate, DateFault, Extent, Reckoning};
 use std::alloc::{AllocError, Global};
-
-/// Returns the weekday so far, with that of one more part. No two may be named.
-fn with_weekday(before: Option<Weekday>, token: Token) -> Result<Option<Weekday>, DateFault>
-    ensures { result ≡ spec.with_weekday before token }
-{
-    match (before, token) {
-        (Some(_), Token::Weekday(_)) => Err(DateFault::Malformed),
-        (None, Token::Weekday(weekday)) => Ok(Some(weekday)),
-        _ => Ok(before),
-    }
-}
-
-/// Returns the weekday that parts name, if one does.
-pub fn weekday_of(tokens: &[Token]) -> Result<Option<Weekday>, DateFault>
-    ensures { result ≡ spec.weekday_after None tokens.now }
-{
-    let mut weekday = None;
-    for token in tokens {
-        weekday = with_weekday(weekday, *token)?;
-    }
-    Ok(weekday)
-}
-
-/// Returns the calendar so far, with that of one more part. No two may be named.
-fn with_reckoning(before: Option<Reckoning>, token: Token) -> Result<Option<Reckoning>, DateFault>
-    ensures { result ≡ spec.with_reckoning before token }
-{
-    match (before, token) {
-        (Some(_), Token::Reckoning(_)) => Err(DateFault::Malformed),
-        (None, Token::Reckoning(reckoning)) => Ok(Some(reckoning)),
-        _ => Ok(before),
-    }
-}
-
-/// Returns the calendar that parts name, if one does.
-pub fn reckoning_of(tokens: &[Token]) -> Result<Option<Reckoning>, DateFault>
-    ensures { result ≡ spec.reckoning_after None tokens.now }
-{
-    let mut reckoning = None;
-    for token in tokens {
-        reckoning = with_reckoning(reckoning, *token)?;
-    }
-    Ok(reckoning)
-}
-
-/// Returns whether a part says that a date is approximate.
-pub fn is_approximate(tokens: &[Token]) -> bool
-    ensures { result ≡ list_any spec.is_about tokens.now }
-{
-    tokens.iter().any(|token| matches!(
-        token,
-        Token::About | Token::AboutAndDoubt | Token::Estimated
-    ))
-}
-
-/// Returns whether a part says that a date is in doubt.
-pub fn is_uncertain(tokens: &[Token]) -> bool
-    ensures { result ≡ list_any spec.is_doubt tokens.now }
-{
-    tokens.iter().any(|token| matches!(token, Token::Doubt | Token::AboutAndDoubt))
-}
-
-/// Returns whether a part says that an editor supplied a date.
-pub fn is_supplied(tokens: &[Token]) -> bool
-    ensures { result ≡ list_any spec.is_bracket tokens.now }
-{
-    tokens.iter().any(|token| matches!(token, Token::Bracket))
-}
 
 /// What parts say of the time, by which calendar.
 #[derive(Clone, Copy)]
@@ -111,18 +45,16 @@ fn plain(extent: Extent, reckoning: Option<Reckoning>) -> ReckonedExtent
     }
 }
 
-/// Returns the day by both calendars, which is by the new one, unless parts name a calendar.
+/// Returns the day by both calendars, unless parts name a calendar.
 fn extent_by_both(
     reckoning: Option<Reckoning>,
     fault: DateFault,
-    day: Result<PartialDate, DateFault>,
+    day: Result<ReckonedDay, DateFault>,
 ) -> Result<ReckonedExtent, DateFault>
     ensures { result ≡ spec.extent_by_both reckoning fault day }
 {
     match day {
-        Ok(date) if reckoning.is_none() => {
-            Ok(plain(Extent::On(date), Some(Reckoning::NewStyle)))
-        }
+        Ok(day) if reckoning.is_none() => { Ok(plain(Extent::On(day.date), Some(day.reckoning))) }
         Ok(_) => Err(DateFault::NamedCalendar),
         Err(DateFault::Malformed) => Err(fault),
         Err(other) => Err(other),
@@ -155,8 +87,8 @@ fn after_estimated(order: DateOrder, tokens: &[Token], timed: &[Token]) -> Resul
     }
 }
 
-/// Returns what parts without a usual form say: an estimated date, a decade, a century, a part of a
-/// time, a day with a Roman numeral or a day by both calendars.
+/// Returns what parts without a usual form say: an estimated date, one with an open digit, a
+/// decade, a century, a part of a time, a day with a Roman numeral or a day by both calendars.
 fn extent_otherwise(
     order: DateOrder,
     tokens: &[Token],
@@ -166,6 +98,9 @@ fn extent_otherwise(
 ) -> Result<ReckonedExtent, DateFault>
     ensures { result ≡ spec.extent_otherwise order tokens.now timed.now reckoning fault }
 {
+    if let Some(extent) = open_in(timed) {
+        return Ok(plain(extent, reckoning));
+    }
     if let Ok(extent) = after_estimated(order, tokens, timed) {
         return Ok(plain(extent, reckoning));
     }
@@ -276,7 +211,7 @@ fn open_or(timed: &[Token], fault: DateFault) -> DateFault
 fn reason(tokens: &[Token], timed: &[Token], fault: DateFault) -> DateFault
     ensures { result ≡ spec.reason tokens.now timed.now fault }
 {
-    if has_period(tokens) {
+    if has_period(tokens) || is_winter(timed) {
         DateFault::OpenPart
     } else if has_roman_numeral(tokens) {
         DateFault::RomanNumeral
@@ -309,7 +244,7 @@ fn is_undated(timed: &[Token]) -> bool
 }
 
 /// Returns what parts say. The parts `timed` are those that say which day is meant.
-fn reading_of_tokens(
+pub fn reading_of_tokens(
     order: DateOrder,
     tokens: &[Token],
     timed: &[Token],
@@ -388,6 +323,16 @@ pub fn read_date(
         .collect(alloc)?;
     match reading_of_tokens(order, tokens.as_slice(), timed.as_slice()) {
         Ok(written) => Ok(Ok(written)),
-        Err(fault) => Ok(or_years(text, or_set(alloc, text, fault)?)),
+        Err(fault) => {
+            let read = or_years(text, or_set(alloc, text, fault)?);
+            or_other_form(
+                alloc,
+                order,
+                text,
+                tokens.as_slice(),
+                timed.as_slice(),
+                read,
+            )
+        }
     }
 }

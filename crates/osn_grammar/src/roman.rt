@@ -7,7 +7,7 @@ ghost use Rattle.osn_grammar.specs.Roman as spec;
 use crate::forms::year_numbers;
 use crate::simple::{YearNumbers, around_month, day_of_month, is_long, one};
 use crate::token::Numeral;
-use crate::token::Token::{self, Dash, Month, Number, Roman, Slash};
+use crate::token::Token::{self, Dash, Month, Number, Roman, RomanLetter, Slash};
 use osn_written::{DateFault, PartialDate};
 
 /// Returns the day of a Roman numeral in a month.
@@ -63,14 +63,15 @@ fn after_number(first: Numeral, rest: &[Token]) -> Result<PartialDate, DateFault
     match rest {
         [Month(m), Roman(d)] => year_first(first, *m, *d),
         [Roman(m), Number(b)] => around_roman(first, *m, *b),
+        [RomanLetter(m), Number(b)] => around_roman(first, *m, *b),
         [Dash, Roman(m), Dash, Number(b)] => around_roman(first, *m, *b),
         [Slash, Roman(m), Slash, Number(b)] => around_roman(first, *m, *b),
         _ => Err(DateFault::Malformed),
     }
 }
 
-/// Returns the day of parts with one Roman numeral, which is the day beside the name of a month, and
-/// the month between two numbers.
+/// Returns the day of parts with one Roman numeral, which is the day beside the name of a month,
+/// and the month between two numbers.
 pub fn roman_date(tokens: &[Token]) -> Result<PartialDate, DateFault>
     ensures { result ≡ spec.roman_date tokens.now }
 {
@@ -86,5 +87,5 @@ pub fn roman_date(tokens: &[Token]) -> Result<PartialDate, DateFault>
 pub fn has_roman_numeral(tokens: &[Token]) -> bool
     ensures { result ≡ list_any reading.is_roman_numeral tokens.now }
 {
-    tokens.iter().any(|token| matches!(token, Token::RomanNumeral | Token::Roman(_)))
+    tokens.iter().any(|token| matches!(token, Token::RomanNumeral | RomanLetter(_) | Roman(_)))
 }

@@ -33,12 +33,12 @@ fn is_blank(character: char) -> bool
     matches!(character, ' ' | '\t' | '\u{a0}' | '\u{2009}' | '\u{202f}')
 }
 
-/// Returns whether a character is a letter: of ASCII, `_`, or any other beyond ASCII except a dash
-/// or a blank.
+/// Returns whether a character is a letter: of ASCII, `_`, `@` or `#`, or any other beyond ASCII
+/// except a dash or a blank.
 fn is_letter(character: char) -> bool
     ensures { result ≡ spec.is_letter character }
 {
-    matches!(character, 'A'..='Z' | 'a'..='z' | '_')
+    matches!(character, '@'..='Z' | 'a'..='z' | '_' | '#')
         || (character > '\u{7f}' && !(is_dash(character) || is_blank(character)))
 }
 
@@ -148,11 +148,21 @@ fn mark_of_round(rest: &[char]) -> Option<Token>
     }
 }
 
-/// Returns whether a word is the name of a month, as in `Feb:`.
+/// Returns whether a word is the name of a month, as in `Feb:ry`.
 fn is_month_name(word: &str) -> bool
     ensures { result ≡ spec.is_month_name word.now }
 {
     matches!(token_named(word), Some(Token::Month(_)))
+}
+
+/// Returns whether a word is the name of a month or an ordinal, as in `11th: Feb:`.
+fn is_month_or_ordinal(word: &str) -> bool
+    ensures { result ≡ spec.is_month_or_ordinal word.now }
+{
+    matches!(
+        token_named(word),
+        Some(Token::Month(_)) | Some(Token::Number(_))
+    )
 }
 
 /// Returns the mark that a full stop is, after a word and before the rest of the text.
@@ -187,7 +197,8 @@ fn mark_of(word: &str, character: char, rest: &[char]) -> Option<Token>
         '.' => mark_of_stop(word, rest),
         '(' => mark_of_round(rest),
         ',' | ')' => None,
-        ':' if is_month_name(word) => None,
+        ':' if is_month_or_ordinal(word) => None,
+        '&' => Some(Token::And),
         _ => Some(Token::Unknown),
     }
 }
@@ -225,6 +236,35 @@ fn is_passed_over(word: &str, character: char, rest: &[char]) -> bool
     }
 }
 
+/// Returns whether the next character and a word so far are both of a number, or both of a name.
+fn are_alike(word: &str, next: char) -> bool
+    ensures { result ≡ spec.are_alike word.now next }
+{
+    if is_digit(next) {
+        are_digits(word.as_bytes())
+    } else {
+        is_letter(next) && !are_digits(word.as_bytes())
+    }
+}
+
+/// Returns whether the next character is so.
+fn is_alike_next(word: &str, rest: &[char]) -> bool
+    ensures { result ≡ spec.is_alike_next word.now rest.now }
+{
+    match rest {
+        [next, ..] => are_alike(word, *next),
+        [] => false,
+    }
+}
+
+/// Returns whether a character is a square bracket within a word, as in `16[60]` and `Feb[ruary]`:
+/// both sides of it are digits, or both are letters.
+fn is_bracket_within(word: &str, character: char, rest: &[char]) -> bool
+    ensures { result ≡ spec.is_bracket_within word.now character rest.now }
+{
+    (character == '[' || character == ']') && !word.is_empty() && is_alike_next(word, rest)
+}
+
 /// Takes one more character, before the rest of the text.
 fn take(
     tokens: &mut Vec<Token>,
@@ -243,6 +283,10 @@ fn take(
         return word.push(small(character));
     }
     if is_passed_over(word.as_str(), character, rest) {
+        return Ok(());
+    }
+    if is_bracket_within(word.as_str(), character, rest) {
+        tokens.push(Token::Bracket)?;
         return Ok(());
     }
     push_some(tokens, token_of_run(word.as_str()))?;

@@ -4,9 +4,11 @@ ghost use Rattle.std.specs.Result.{result_map_both};
 ghost use Rattle.osn_grammar.specs.Reading as reading;
 ghost use Rattle.osn_grammar.specs.Sets as spec;
 
-use crate::reading::{is_approximate, is_uncertain};
+use crate::forms::date_in_digits;
 use crate::scan::tokens_in;
-use crate::simple::{day_in_digits, one};
+use crate::signs::{is_approximate, is_uncertain};
+use crate::simple::{day_in_digits, one, whole_year, year_and_month};
+use crate::token::Numeral;
 use crate::token::Token::{self, About, AboutAndDoubt, Dash, Doubt, Number, Open};
 use osn_written::{AnyDate, DateFault, Extent, PartialDate};
 use std::alloc::{AllocError, Global};
@@ -32,28 +34,78 @@ pub fn inside_brackets(text: &str) -> Option<&str>
     before_bracket(after_bracket(text)?)
 }
 
-/// Returns a day, or the days from it to the one that these parts are after it.
-fn from_day(first: Result<PartialDate, DateFault>, rest: &[Token]) -> Result<Extent, DateFault>
-    ensures { result ≡ spec.from_day first rest.now }
+/// Returns a date, or the dates from it to the one that these parts are after it. The end may be
+/// open.
+fn from_date(first: Result<PartialDate, DateFault>, rest: &[Token]) -> Result<Extent, DateFault>
+    ensures { result ≡ spec.from_date first rest.now }
 {
     match rest {
         [] => Ok(Extent::On(first?)),
-        [Open, Number(y), Dash, Number(m), Dash, Number(d)] => {
+        [Open] => Ok(Extent::NotBefore(first?)),
+        [Open, last @ ..] => {
             let first = first?;
-            Ok(Extent::FromTo(first, day_in_digits(one(*y), *m, *d)?))
+            Ok(Extent::FromTo(first, date_in_digits(last)?))
         }
         _ => Err(DateFault::Malformed),
     }
 }
 
-/// Returns a day in digits, or the first and the last one with `..` between them.
-fn days_in_digits(tokens: &[Token]) -> Result<Extent, DateFault>
-    ensures { result ≡ spec.days_in_digits tokens.now }
+/// Returns the date that is a year of four digits or more.
+fn long_year(year: Numeral) -> Result<PartialDate, DateFault>
+    ensures { result ≡ spec.long_year year }
+{
+    if year.digits >= 4 {
+        whole_year(one(year))
+    } else {
+        Err(DateFault::Malformed)
+    }
+}
+
+/// Returns a month, or the dates from it to the one that these parts are after it.
+fn from_month(year: Numeral, month: Numeral, rest: &[Token]) -> Result<Extent, DateFault>
+    ensures { result ≡ spec.from_month year month rest.now }
+{
+    from_date(year_and_month(year, month), rest)
+}
+
+/// Returns the dates that these parts, a day and what is after it, are in a month.
+fn from_day(year: Numeral, month: Numeral, parts: &[Token]) -> Result<Extent, DateFault>
+    ensures { result ≡ spec.from_day year month parts.now }
+{
+    match parts {
+        [Number(d), rest @ ..] => from_date(day_in_digits(one(year), month, *d), rest),
+        _ => Err(DateFault::Malformed),
+    }
+}
+
+/// Returns the dates that these parts are after a year and a month.
+fn after_month(year: Numeral, month: Numeral, rest: &[Token]) -> Result<Extent, DateFault>
+    ensures { result ≡ spec.after_month year month rest.now }
+{
+    match rest {
+        [Dash, day @ ..] => from_day(year, month, day),
+        _ => from_month(year, month, rest),
+    }
+}
+
+/// Returns the dates that these parts are after a year.
+fn after_year(year: Numeral, rest: &[Token]) -> Result<Extent, DateFault>
+    ensures { result ≡ spec.after_year year rest.now }
+{
+    match rest {
+        [Dash, Number(m), rest @ ..] => after_month(year, *m, rest),
+        _ => from_date(long_year(year), rest),
+    }
+}
+
+/// Returns a date in digits, or the first and the last one with `..` between them, either of which
+/// may be open.
+fn dates_in_digits(tokens: &[Token]) -> Result<Extent, DateFault>
+    ensures { result ≡ spec.dates_in_digits tokens.now }
 {
     match tokens {
-        [Number(y), Dash, Number(m), Dash, Number(d), rest @ ..] => {
-            from_day(day_in_digits(one(*y), *m, *d), rest)
-        }
+        [Number(y), rest @ ..] => after_year(*y, rest),
+        [Open, last @ ..] => Ok(Extent::NotAfter(date_in_digits(last)?)),
         _ => Err(DateFault::Malformed),
     }
 }
@@ -61,9 +113,9 @@ fn days_in_digits(tokens: &[Token]) -> Result<Extent, DateFault>
 /// Returns the member of a set that parts are, or why they are not one. The parts `unsigned` are
 /// those without the signs.
 fn member_of(tokens: &[Token], unsigned: &[Token]) -> Result<AnyDate, DateFault>
-    ensures { result ≡ reading.member_by tokens.now (spec.days_in_digits unsigned.now) }
+    ensures { result ≡ reading.member_by tokens.now (spec.dates_in_digits unsigned.now) }
 {
-    let extent = days_in_digits(unsigned)?;
+    let extent = dates_in_digits(unsigned)?;
     Ok(AnyDate {
         extent,
         weekday: None,
@@ -138,8 +190,8 @@ pub fn set_in(alloc: Global, text: &str) -> Result<Members, AllocError>
 }
 
 /// Returns the dates of a set of EDTF, of which one is meant, such as `[1543-04-11,1544-04-11]`:
-/// those of a text that `read_date` returns as `Written::Set`. Each is a day or a range, and has
-/// its own signs. The list is empty if the text is not a set.
+/// those of a text that `read_date` returns as `Written::Set`. Each is a date, a range or a bound,
+/// and has its own signs. The list is empty if the text is not a set.
 ///
 /// # Errors
 ///

@@ -47,7 +47,7 @@ pub fn lacks_digit(year: Numeral) -> bool
 }
 
 /// Returns whether `later` is the last `digits` digits of the year that follows.
-fn ends_next_year(year: u32, later: u32, digits: u32) -> bool
+pub fn ends_next_year(year: u32, later: u32, digits: u32) -> bool
     requires { year ≤ 10000 }
     ensures { result ≡ (later == (year + 1) % 10 ^ digits) }
 {

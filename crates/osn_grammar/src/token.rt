@@ -80,7 +80,11 @@ pub enum Token {
     Open,
     /// A month or a day that is left open, `XX`.
     Blank,
+    /// The first digit of a month or a day whose second one is open, such as `1x`.
+    Tens(u8),
     To,
+    /// `au` or `al`, which join two dates and are other words except between them.
+    ToThe,
     Or,
     And,
     Between,
@@ -95,6 +99,8 @@ pub enum Token {
     Doubt,
     /// `%`: both of them.
     AboutAndDoubt,
+    /// `int`, which begins a date that was interpreted from a phrase.
+    Interpreted,
     /// A square bracket, of what an editor supplied.
     Bracket,
     /// The opening round bracket before a number of one or two digits alone, as in `3 (13) June`.
@@ -105,6 +111,9 @@ pub enum Token {
     Feast(FeastWord),
     /// A Roman numeral from 2 to 31 that is not another word, or an ordinal such as `XVIe`.
     Roman(u8),
+    /// One letter of Roman numerals, which is a month between two numbers and otherwise another
+    /// word.
+    RomanLetter(u8),
     /// Another word of the letters of Roman numerals.
     RomanNumeral,
     /// A decade or the years of a century, such as `158x`, `1580s` and `15xx`.

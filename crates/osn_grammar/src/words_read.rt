@@ -34,8 +34,8 @@ fn is_writable_date(date: PartialDate) -> bool
 }
 
 /// Returns whether each year of a date is at most 10000 and is not written with three digits, each
-/// month is 1 to 12 and each day 1 to 31, and the date is neither a part of a year nor a feast. Then
-/// `read_date` reads the words of the date as that date, in each order of day and month.
+/// month is 1 to 12 and each day 1 to 31, and the date is neither a part of a year nor a feast.
+/// Then `read_date` reads the words of the date as that date, in each order of day and month.
 #[tactic(auto, using(crate::proofs::WordsLaw::words_law))]
 pub fn is_writable(date: AnyDate) -> bool
     ensures value { result ≡ spec.is_writable date }

@@ -55,8 +55,8 @@ pub record DateModel : Type 0 where
 
 -- what is asked for the letters of a table: the names of the columns of places, of the date and of
 -- weekdays, if one is named; the file of the table of places, the separator of fields and the order
--- of a date's three numbers, if these are named; the edition, if one is named; whether a remark is a
--- refusal; and whether the number of rows with each remark is printed at the end
+-- of a date's three numbers, if these are named; the edition, if one is named; whether a remark is
+-- a refusal; and whether the number of rows with each remark is printed at the end
 pub record LettersModel : Type 0 where
   pub place : Text
   pub date : DateModel
@@ -70,8 +70,8 @@ pub record LettersModel : Type 0 where
 
 -- what a command is asked for. The service has a journal, where to save it, where to keep it, which
 -- one it follows, and the rest. A replay has readers and a schedule, a desk a script and questions.
--- A page has a journal, the edition if one is named, and says which page. An audit has a journal and
--- a transcript. A conversion has a calendar and a date. Letters have a journal, the file of the
+-- A page has a journal, the edition if one is named, and says which page. An audit has a journal
+-- and a transcript. A conversion has a calendar and a date. Letters have a journal, the file of the
 -- table if one is named, and the rest, and completions have a shell. The text of a register has a
 -- journal, the edition if one is named, and the code of its one territory if one is named. A plan
 -- and the edition that it makes have a journal and a text, a check has a text, and the list of

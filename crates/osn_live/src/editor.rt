@@ -172,7 +172,7 @@ impl Editor {
         self.draft.check(edit)
     }
 
-    /// Stages an edit that `check` has let in.
+    /// Stages an edit that `check` accepted.
     fn admit(&mut self, edit: Edit) -> Result<u32, AllocError>
         requires { stage_refusal newest_rules self.old.object edit ≡ None }
         ensures ok { OnOk result

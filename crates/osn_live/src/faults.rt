@@ -58,7 +58,7 @@ pub enum AskFault {
     /// A growth of memory was refused; the call may be tried again.
     #[error("memory ran out")]
     NoMemory,
-    /// The reader was not let in: the editor was closed.
+    /// The reader was not admitted: the editor was closed.
     #[error("the editor was closed")]
     NoPlace,
 }

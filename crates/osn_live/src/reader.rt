@@ -48,7 +48,7 @@ impl Model for Reader {
 /// A look at one moment: the batches that were published then, and the answer under them.
 type Look = (Certificate, Result<Reply, AllocError>);
 
-/// The place once it was left, and the look, if the reader was let in.
+/// The place once it was left, and the look, if the reader was admitted.
 type ReadResult = (Place, Option<Look>);
 
 fn look(place: Place, query: &Query) -> ReadResult

@@ -1,4 +1,5 @@
--- The answer of a page as a line of JSON: the line that the service writes to the query of the page.
+-- The answer of a page as a line of JSON: the line that the service writes to the query of the
+-- page.
 use Rattle.std.specs.Prelude.{ℕ, pos, List, Option, Some, None}
 use Rattle.osn_days.specs.declared.weekday.Weekday.{Weekday}
 use Rattle.osn_core.specs.Edition.{EditionModel, reply_in}

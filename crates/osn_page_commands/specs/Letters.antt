@@ -198,8 +198,8 @@ EndsWhole s settings rules i o e status =
 
 -- what was written and reported, by an edition: the table whole; or a part of it, and why it ended
 -- there
-abbrev pub WritesTable : EditionModel → SettingsModel → TableRules → Input → Output → Output → Status
-    → Type 0
+abbrev pub WritesTable : EditionModel → SettingsModel → TableRules → Input → Output → Output
+    → Status → Type 0
 WritesTable s settings rules i o e status =
     EndsWhole s settings rules i o e status
     ⊎ ((ended : LettersFault) × ReportsTable settings.names e ended status

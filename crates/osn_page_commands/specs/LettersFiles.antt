@@ -69,8 +69,8 @@ PrintsTable limits journal (Some path) settings rules CanFail d i o e status =
     × PrintsByPlaces limits journal file path settings rules CanFail
     (record { before = opened; after = d.after }) i o e status
 
--- what the options ask for was done, by the edition of a number, or the newest one; or one of them is
--- wrong, which was reported, and no file was opened and nothing written
+-- what the options ask for was done, by the edition of a number, or the newest one; or one of them
+-- is wrong, which was reported, and no file was opened and nothing written
 abbrev pub RunsNumbered : Limits → List ℕ → LettersModel → Option ℕ → (Bool → Type 0) → Folders
     → Input → Output → Output → Status → Type 0
 RunsNumbered limits journal options number CanFail d i o e status = MatchResult

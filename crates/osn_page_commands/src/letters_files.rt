@@ -34,7 +34,8 @@ fn rules_of(options: LettersOptions<'_>, number: Option<u32>) -> TableRules
 }
 
 /// Reads the table of places of a path, and does what `letters_command` does by it for the journal
-/// of this name, if it has no fault. If it could not be opened or has one, standard error reports why, and nothing is written.
+/// of this name, if it has no fault. If it could not be opened or has one, standard error reports
+/// why, and nothing is written.
 fn letters_by_places<D: Folder, R: Source, W: Sink, E: Sink, P: Progress>(
     alloc: Global,
     limits: Limits,

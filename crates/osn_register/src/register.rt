@@ -8,9 +8,8 @@ ghost use Rattle.osn_territory.specs.Changes.{regime_fault};
 ghost use Rattle.osn_register.specs.Code as form;
 ghost use Rattle.osn_register.specs.Plain.{refusal, add_land_refusal, code_refusal, refusal_in};
 ghost use Rattle.osn_register.specs.Plain.{with_entry, with_territory, effect, applied, folded};
-ghost use Rattle.osn_register.specs.Plain.{takes_memory};
 ghost use Rattle.osn_register.specs.Plain.{apply_takes_memory, entry_of, territory_of, sources_of};
-ghost use Rattle.osn_register.specs.Plain.{IsSoundTerritory, IsWellFormed};
+ghost use Rattle.osn_register.specs.Plain.{IsSoundTerritory, IsWellFormed, takes_memory};
 ghost use Rattle.osn_register.specs.Refusal.{IsCheckOf, IsRefusalOrNoMemory};
 ghost use Rattle.osn_register.specs.InsideChange.{change_refusal, territory_after};
 ghost use Rattle.osn_register.specs.InsideChange.{change_takes_memory, sources_after};
@@ -275,7 +274,7 @@ impl Register {
         }
     }
 
-    /// Applies an edit that `check` has let in.
+    /// Applies an edit that `check` accepted.
     ///
     /// # Errors
     ///

@@ -55,7 +55,7 @@ usual_text faults.NamedCalendar =
 usual_text faults.Feast = codes "this feast is not read: write its day"
 usual_text faults.RomanNumeral =
     codes "a Roman numeral is read as the day beside a month's name, such as xi February 1731, "
-    ++ codes "or as the month between two numbers; vi, xx and single letters are ordinary words "
+    ++ codes "or as the month between two numbers; xx, MD and single letters are ordinary words "
     ++ codes "too: write it in digits"
 usual_text faults.OpenPart =
     codes "early, mid, late and the halves are parts of a month, a year, a decade or a century, "

@@ -202,7 +202,8 @@ fn explanation(
 /// Writes the line that explains a fault, if there is one and there was memory for it.
 fn report_more<E: Sink>(errors: &mut E, text: Result<Option<String>, AllocError>)
     // Whatever text it is, if it was made.
-    ensures { (expected : Option (List ℕ)) → IfOk text (λ text. option_map string_bytes text ≡ expected)
+    ensures { (expected : Option (List ℕ))
+        → IfOk text (λ text. option_map string_bytes text ≡ expected)
         → ReportsMore (output_of E.contents E.has_failed E.holds_back errors.old errors.new)
         expected }
 {

@@ -104,7 +104,7 @@ from 1 January to 24 March a double year, such as 3/13 Feb. 1674/5"
         DateFault::Feast => "this feast is not read: write its day",
         DateFault::RomanNumeral => {
             "a Roman numeral is read as the day beside a month's name, such as xi February 1731, \
-or as the month between two numbers; vi, xx and single letters are ordinary words too: \
+or as the month between two numbers; xx, MD and single letters are ordinary words too: \
 write it in digits"
         }
         DateFault::OpenPart => {

@@ -110,8 +110,8 @@ pub(crate) fn target_if<D: Folder>(
     folder: &mut D,
     path: Option<&str>,
 ) -> Result<SaveTarget, TargetFault>
-    ensures ok { IfOk result (in_folder.FindsTarget limits (option_map (λ path. path.now) path.entry)
-        (D.known folder.old) (D.known folder.new)) }
+    ensures ok { IfOk result (in_folder.FindsTarget limits
+        (option_map (λ path. path.now) path.entry) (D.known folder.old) (D.known folder.new)) }
     ensures err { IfErr result (in_folder.FindsNoTarget limits
         (option_map (λ path. path.now) path.entry) (D.known folder.old) (D.known folder.new)) }
     ensures crash { Changes LeavesAllSafe (D.known folder.old) (D.known folder.new) }

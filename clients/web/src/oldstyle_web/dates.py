@@ -49,7 +49,7 @@ ADVICE = {
     "a feast, not read": N_("this feast is not read: write its day"),
     "a Roman numeral, not read": N_("a Roman numeral is read as the day beside a month's name, "
                                     "such as xi February 1731, or as the month between two "
-                                    "numbers; vi, xx and single letters are ordinary words too: "
+                                    "numbers; xx, MD and single letters are ordinary words too: "
                                     "write it in digits"),
     "an open part of a date, not read": N_("early, mid, late and the halves are parts of a month, "
                                            "a year, a decade or a century, and a winter is of two "

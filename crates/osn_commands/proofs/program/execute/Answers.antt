@@ -118,7 +118,11 @@ returns-in-Letters-clause-err g c =
     c.table_in_folder-done.ensures.err in (
       failed c.args.limits c.args.command _ _ _ _ _ c.in-Letters.is (
         h.2,
-        (h.0, h.3, if_failed c.table_in_folder-done.result h.0 _ h.1 c.table_in_folder-done.ensures.cause),
+        (
+          h.0,
+          h.3,
+          if_failed c.table_in_folder-done.result h.0 _ h.1 c.table_in_folder-done.ensures.cause,
+        ),
         why.0,
       ),
       why.1,
@@ -140,7 +144,12 @@ returns-in-Editions-clause-err g c =
     c.editions_in_folder-done.ensures.err in (
       failed c.args.limits c.args.command _ _ _ _ _ c.in-Editions.is (
         h.2,
-        (h.0, h.3, if_failed c.editions_in_folder-done.result h.0 _ h.1 c.editions_in_folder-done.ensures.cause),
+        (
+          h.0,
+          h.3,
+          if_failed c.editions_in_folder-done.result h.0 _ h.1
+              c.editions_in_folder-done.ensures.cause,
+        ),
         why.0,
       ),
       why.1,
@@ -161,7 +170,11 @@ returns-in-Diff-clause-err g c =
     let why = not_done c.diff_in_folder-done.result h.0 _ h.1 c.diff_in_folder-done.ensures.err in (
       failed c.args.limits c.args.command _ _ _ _ _ c.in-Diff.is (
         h.2,
-        (h.0, h.3, if_failed c.diff_in_folder-done.result h.0 _ h.1 c.diff_in_folder-done.ensures.cause),
+        (
+          h.0,
+          h.3,
+          if_failed c.diff_in_folder-done.result h.0 _ h.1 c.diff_in_folder-done.ensures.cause,
+        ),
         why.0,
       ),
       why.1,
@@ -182,7 +195,11 @@ returns-in-Text-clause-err g c =
     let why = not_done c.text_in_folder-done.result h.0 _ h.1 c.text_in_folder-done.ensures.err in (
       failed c.args.limits c.args.command _ _ _ _ _ c.in-Text.is (
         h.2,
-        (h.0, h.3, if_failed c.text_in_folder-done.result h.0 _ h.1 c.text_in_folder-done.ensures.cause),
+        (
+          h.0,
+          h.3,
+          if_failed c.text_in_folder-done.result h.0 _ h.1 c.text_in_folder-done.ensures.cause,
+        ),
         why.0,
       ),
       why.1,
@@ -200,10 +217,15 @@ pub returns-in-Check-clause-err : goal.returns-in-Check-clause-err
 returns-in-Check-clause-err g c =
     IfErr-weaker c.opened-in-Check.result _ _
     (λ failure h.
-    let why = not_done c.check_in_folder-done.result h.0 _ h.1 c.check_in_folder-done.ensures.err in (
+    let why =
+    not_done c.check_in_folder-done.result h.0 _ h.1 c.check_in_folder-done.ensures.err in (
       failed c.args.limits c.args.command _ _ _ _ _ c.in-Check.is (
         h.2,
-        (h.0, h.3, if_failed c.check_in_folder-done.result h.0 _ h.1 c.check_in_folder-done.ensures.cause),
+        (
+          h.0,
+          h.3,
+          if_failed c.check_in_folder-done.result h.0 _ h.1 c.check_in_folder-done.ensures.cause,
+        ),
         why.0,
       ),
       why.1,
@@ -224,7 +246,11 @@ returns-in-Plan-clause-err g c =
     let why = not_done c.plan_in_folder-done.result h.0 _ h.1 c.plan_in_folder-done.ensures.err in (
       failed c.args.limits c.args.command _ _ _ _ _ c.in-Plan.is (
         h.2,
-        (h.0, h.3, if_failed c.plan_in_folder-done.result h.0 _ h.1 c.plan_in_folder-done.ensures.cause),
+        (
+          h.0,
+          h.3,
+          if_failed c.plan_in_folder-done.result h.0 _ h.1 c.plan_in_folder-done.ensures.cause,
+        ),
         why.0,
       ),
       why.1,
@@ -246,7 +272,12 @@ returns-in-Publish-clause-err g c =
     c.publish_in_folder-done.ensures.err in (
       failed c.args.limits c.args.command _ _ _ _ _ c.in-Publish.is (
         h.2,
-        (h.0, h.3, if_failed c.publish_in_folder-done.result h.0 _ h.1 c.publish_in_folder-done.ensures.cause),
+        (
+          h.0,
+          h.3,
+          if_failed c.publish_in_folder-done.result h.0 _ h.1
+              c.publish_in_folder-done.ensures.cause,
+        ),
         why.0,
       ),
       why.1,

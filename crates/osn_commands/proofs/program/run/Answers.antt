@@ -9,7 +9,8 @@ use Rattle.osn_commands.proofs.program.run.Goals as goal
 pub returns-in-Ok : goal.returns-in-Ok
 returns-in-Ok g c =
     let lent : c.deref.result.now ≡ c.in-Ok.words.items = search rules in
-    subst (λ args. RunsWords (map g.S.AsStr.text c.args.args.now) args (MayFail g.D.File.Source.has_failed)
+    subst (λ args. RunsWords (map g.S.AsStr.text c.args.args.now) args
+    (MayFail g.D.File.Source.has_failed)
     (CanStay g.D.Keeper.KeptFile.cut_back_may_fail)
     (folders_of g.D.Folder.known c.args.folder.now c.run_words.new.folder)
     (input_of g.R.Source.remaining g.R.Source.has_failed c.args.input.now c.run_words.new.input)

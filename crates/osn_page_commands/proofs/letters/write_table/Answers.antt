@@ -8,7 +8,8 @@ use Rattle.osn_page_commands.proofs.letters.write_table.Goals as goal
 pub returns-in-Ok : goal.returns-in-Ok
 returns-in-Ok g c =
     let new = c.write_letters.new in
-    inl (whole_table (edition_model c.args.edition.now) (settings_model c.args.settings) c.args.rules _ _ _
+    inl (whole_table (edition_model c.args.edition.now) (settings_model c.args.settings)
+    c.args.rules _ _ _
     (input_of g.R.Source.remaining g.R.Source.has_failed c.args.input.now new.source)
     (output_of g.W.Sink.contents g.W.Sink.has_failed g.W.Sink.holds_back c.args.output.now
     new.sink)

@@ -21,7 +21,8 @@ returns-in-Err g c =
 
 pub returns-in-Ok-save_file : goal.returns-in-Ok-save_file
 returns-in-Ok-save_file g c =
-    rw c.if-beside.false (inl ((refl, (refl, refl)), (c.in-Ok-save_file.ensures.ok, c.in-Ok-save_file.ensures.safe)))
+    rw c.if-beside.false
+    (inl ((refl, (refl, refl)), (c.in-Ok-save_file.ensures.ok, c.in-Ok-save_file.ensures.safe)))
 
 pub returns-in-Err-save_file : goal.returns-in-Err-save_file
 returns-in-Err-save_file g c =

@@ -1,0 +1,206 @@
+//! Forms that are tried last: a double year after a dash, a range of parts of a time, and a date
+//! that was interpreted from a phrase.
+ghost use Rattle.std.specs.Prelude.{◌≡◌, IfOk, filter, option_map};
+ghost use Rattle.osn_grammar.specs.Reading as spec;
+ghost use Rattle.osn_grammar.specs.Scan as scan;
+ghost use Rattle.osn_grammar.specs.Tokens.{is_of_time};
+ghost use Rattle.osn_written.specs.WrittenDate.{parts_at as parts_of};
+
+use crate::dashed_years::{may_be_double, slashed};
+use crate::part_ranges::part_range;
+use crate::period::has_period;
+use crate::reading::{reading_of_tokens, unless_open};
+use crate::scan::tokens_in;
+use crate::signs::{is_supplied, is_uncertain, reckoning_of, weekday_of};
+use crate::token::Token;
+use crate::written::{DateOrder, Written};
+use osn_days::Weekday;
+use osn_written::{AnyDate, DateFault, Extent, Reckoning, parts_at};
+use std::alloc::{AllocError, Global};
+
+/// What a text says of a date, or why it is not a date.
+type Read = Result<Written, DateFault>;
+
+/// Returns a reading, or else the first fault.
+fn or_this(read: Read, fault: DateFault) -> Read
+    ensures { result ≡ spec.or_this read fault }
+{
+    match read {
+        Ok(written) => Ok(written),
+        Err(_) => Err(fault),
+    }
+}
+
+/// Returns the date with a double year after a dash that parts are, or else the fault.
+fn read_slashed(
+    alloc: Global,
+    order: DateOrder,
+    tokens: &[Token],
+    timed: &[Token],
+    fault: DateFault,
+) -> Result<Read, AllocError>
+    ensures { IfOk result (λ read. read ≡ spec.read_slashed order tokens.now timed.now fault) }
+{
+    if !may_be_double(timed) {
+        return Ok(Err(fault));
+    }
+    let slashed = slashed(alloc, timed)?;
+    Ok(or_this(reading_of_tokens(order, tokens, slashed.as_slice()), fault))
+}
+
+/// Returns the date of a range of parts of a time.
+fn of_parts(
+    tokens: &[Token],
+    weekday: Option<Weekday>,
+    reckoning: Option<Reckoning>,
+    range: Option<Extent>,
+) -> Result<AnyDate, DateFault>
+    ensures { result ≡ spec.of_parts tokens.now weekday reckoning range }
+{
+    match range {
+        Some(extent) => unless_open(AnyDate {
+            extent,
+            weekday,
+            reckoning,
+            is_approximate: true,
+            is_uncertain: is_uncertain(tokens),
+            is_supplied: is_supplied(tokens),
+        }),
+        None => Err(DateFault::OpenPart),
+    }
+}
+
+/// Returns the date that parts are, from one part of a time to another one.
+fn date_of_parts(tokens: &[Token], timed: &[Token]) -> Result<AnyDate, DateFault>
+    ensures { result ≡ spec.date_of_parts tokens.now timed.now }
+{
+    let weekday = weekday_of(tokens)?;
+    let reckoning = reckoning_of(tokens)?;
+    of_parts(tokens, weekday, reckoning, part_range(timed))
+}
+
+/// Returns a date as what a text says.
+fn as_date(read: Result<AnyDate, DateFault>) -> Read
+    ensures { result ≡ spec.as_date read }
+{
+    Ok(Written::Date(read?))
+}
+
+/// Returns the range of parts of a time, or the date with a double year after a dash, that parts
+/// are, or else the fault.
+fn read_parts(
+    alloc: Global,
+    order: DateOrder,
+    tokens: &[Token],
+    timed: &[Token],
+    fault: DateFault,
+) -> Result<Read, AllocError>
+    ensures { IfOk result (λ read. read ≡ spec.read_parts order tokens.now timed.now fault) }
+{
+    if has_period(tokens) {
+        Ok(or_this(as_date(date_of_parts(tokens, timed)), fault))
+    } else {
+        read_slashed(alloc, order, tokens, timed, fault)
+    }
+}
+
+/// Returns the date that parts say after `int`, or else the fault.
+fn interpreted(order: DateOrder, tokens: &[Token], timed: &[Token], fault: DateFault) -> Read
+    ensures { result ≡ spec.interpreted order tokens.now timed.now fault }
+{
+    match timed {
+        [Token::Interpreted, timed @ ..] => {
+            or_this(reading_of_tokens(order, tokens, timed), fault)
+        }
+        _ => Err(fault),
+    }
+}
+
+/// Returns the date that a text before a phrase says after `int`, or else the fault.
+fn read_before(
+    alloc: Global,
+    order: DateOrder,
+    text: &str,
+    fault: DateFault,
+) -> Result<Read, AllocError>
+    ensures { IfOk result (λ read. read ≡ spec.interpreted order (scan.tokens_in text.now)
+        (filter is_of_time (scan.tokens_in text.now)) fault) }
+{
+    let tokens = tokens_in(alloc, text)?;
+    let timed: Vec<Token> = tokens
+        .iter()
+        .copied()
+        .filter(|token| token.is_of_time())
+        .collect(alloc)?;
+    Ok(interpreted(order, tokens.as_slice(), timed.as_slice(), fault))
+}
+
+/// Returns whether the first `)` ends a text.
+fn is_closed(phrase: &str) -> bool
+    ensures { result ≡ spec.is_closed (parts_of 41 phrase.now) }
+{
+    match parts_at(phrase, ')') {
+        Some((_, rest)) => rest.is_empty(),
+        None => false,
+    }
+}
+
+/// Returns the date that a text says before a phrase in round brackets, or else the fault.
+fn before_phrase(
+    alloc: Global,
+    order: DateOrder,
+    text: &str,
+    fault: DateFault,
+) -> Result<Read, AllocError>
+    ensures { IfOk result (λ read.
+        read ≡ spec.before_phrase order (parts_of 40 text.now) fault) }
+{
+    match parts_at(text, '(') {
+        Some((date, phrase)) if is_closed(phrase) => read_before(alloc, order, date, fault),
+        _ => Ok(Err(fault)),
+    }
+}
+
+/// Returns what parts say by other forms, or else as a range of parts of a time or with a double
+/// year after a dash.
+fn or_parts(
+    alloc: Global,
+    order: DateOrder,
+    tokens: &[Token],
+    timed: &[Token],
+    read: Read,
+) -> Result<Read, AllocError>
+    ensures { IfOk result (λ found.
+        found ≡ spec.or_parts order tokens.now timed.now read) }
+{
+    match read {
+        Ok(written) => Ok(Ok(written)),
+        Err(fault) => read_parts(alloc, order, tokens, timed, fault),
+    }
+}
+
+/// Returns what a text says by other forms, or else before a phrase.
+fn or_phrase(alloc: Global, order: DateOrder, text: &str, read: Read) -> Result<Read, AllocError>
+    ensures { IfOk result (λ found. found ≡ spec.or_phrase order text.now read) }
+{
+    match read {
+        Ok(written) => Ok(Ok(written)),
+        Err(fault) => before_phrase(alloc, order, text, fault),
+    }
+}
+
+/// Returns what a text says by other forms, or else by those that are tried last.
+pub fn or_other_form(
+    alloc: Global,
+    order: DateOrder,
+    text: &str,
+    tokens: &[Token],
+    timed: &[Token],
+    read: Read,
+) -> Result<Read, AllocError>
+    ensures { IfOk result (λ found. found
+        ≡ spec.or_phrase order text.now (spec.or_parts order tokens.now timed.now read)) }
+{
+    let read = or_parts(alloc, order, tokens, timed, read)?;
+    or_phrase(alloc, order, text, read)
+}
