@@ -160,6 +160,7 @@ more_words_known : AreMoreWordsKnown
 unfolding names other_names more_names feast_names lib.Utf8.encode
 more_words_known = record {
   bounds = refl;
+  filler = refl;
   about = refl;
   estimated = refl;
   interpreted = refl;

@@ -2,46 +2,52 @@
 use Rattle.std.proofs.Common.{◌≡◌, ℕ, List, [], ◌∷◌, ◌++◌, Option, Some, None, Bor, MatchOption}
 use Rattle.std.proofs.Common.{Result, Ok, Err}
 use Rattle.std.proofs.Common.{option_map, refl, ap, ◌∙◌, sym, append_assoc}
-use Rattle.std.proofs.lemmas.Bool.{ne_eqb}
+use Rattle.std.proofs.lemmas.Bool.{eq-eqb, ne_eqb}
 use Rattle.osn_written.specs.declared.written_date.DateFault.{DateFault}
 use Rattle.osn_written.specs.declared.any_date.AnyDate.{AnyDate}
 use Rattle.osn_grammar.specs.Simple.{◌>>=◌}
 use Rattle.osn_grammar.specs.Sets.{without_first, without_last}
 
--- ---- brackets
+-- ---- brackets and braces
 
-no_first : (bs : List ℕ) → ((rest : List ℕ) → bs ≡ 91 ∷ rest → ⊥) → without_first 91 bs ≡ None
-no_first [] none = refl
-no_first (b ∷ rest) none =
-    rw (ne_eqb b 91 (λ same. none rest (ap (λ c. c ∷ rest) same))) refl
+no_first : (c : ℕ) (bs : List ℕ) → ((rest : List ℕ) → bs ≡ c ∷ rest → ⊥)
+    → without_first c bs ≡ None
+no_first c [] none = refl
+no_first c (b ∷ rest) none =
+    rw (ne_eqb b c (λ same. none rest (ap (λ c. c ∷ rest) same))) refl
 
-pub first_stripped : (bs : List ℕ) (r : Option (Bor (List ℕ)))
-    → MatchOption r ((rest : List ℕ) → bs ≡ 91 ∷ rest → ⊥) (λ x. bs ≡ 91 ∷ x.now)
-    → option_map (λ x. x.now) r ≡ without_first 91 bs
-first_stripped bs None none = sym (no_first bs none)
-first_stripped bs (Some x) found = sym (ap (without_first 91) found)
+-- a text that begins with a character
+first_without : (c : ℕ) (rest : List ℕ) → without_first c (c ∷ rest) ≡ Some rest
+first_without c rest = rw (eq-eqb c c refl) refl
 
--- what comes before a bracket at the end
-pub last_without : (front : List ℕ) → without_last 93 (front ++ 93 ∷ []) ≡ Some front
-last_without [] = refl
-last_without (b ∷ []) = refl
-last_without (b ∷ next ∷ rest) =
-    ap (option_map (λ front. b ∷ front)) (last_without (next ∷ rest))
+pub first_stripped : (c : ℕ) (bs : List ℕ) (r : Option (Bor (List ℕ)))
+    → MatchOption r ((rest : List ℕ) → bs ≡ c ∷ rest → ⊥) (λ x. bs ≡ c ∷ x.now)
+    → option_map (λ x. x.now) r ≡ without_first c bs
+first_stripped c bs None none = sym (no_first c bs none)
+first_stripped c bs (Some x) found =
+    sym (ap (without_first c) found ∙ first_without c x.now)
 
-no_last : (bs : List ℕ) → ((front : List ℕ) → bs ≡ front ++ 93 ∷ [] → ⊥)
-    → without_last 93 bs ≡ None
-no_last [] none = refl
-no_last (b ∷ []) none =
-    rw (ne_eqb b 93 (λ same. none [] (ap (λ c. c ∷ []) same))) refl
-no_last (b ∷ next ∷ rest) none =
+-- what comes before a character at the end
+pub last_without : (c : ℕ) (front : List ℕ) → without_last c (front ++ c ∷ []) ≡ Some front
+last_without c [] = rw (eq-eqb c c refl) refl
+last_without c (b ∷ []) = rw (eq-eqb c c refl) refl
+last_without c (b ∷ next ∷ rest) =
+    ap (option_map (λ front. b ∷ front)) (last_without c (next ∷ rest))
+
+no_last : (c : ℕ) (bs : List ℕ) → ((front : List ℕ) → bs ≡ front ++ c ∷ [] → ⊥)
+    → without_last c bs ≡ None
+no_last c [] none = refl
+no_last c (b ∷ []) none =
+    rw (ne_eqb b c (λ same. none [] (ap (λ c. c ∷ []) same))) refl
+no_last c (b ∷ next ∷ rest) none =
     ap (option_map (λ front. b ∷ front))
-    (no_last (next ∷ rest) (λ front is. none (b ∷ front) (ap (λ bs. b ∷ bs) is)))
+    (no_last c (next ∷ rest) (λ front is. none (b ∷ front) (ap (λ bs. b ∷ bs) is)))
 
-pub last_stripped : (bs : List ℕ) (r : Option (Bor (List ℕ)))
-    → MatchOption r ((front : List ℕ) → bs ≡ front ++ 93 ∷ [] → ⊥) (λ x. bs ≡ x.now ++ 93 ∷ [])
-    → option_map (λ x. x.now) r ≡ without_last 93 bs
-last_stripped bs None none = sym (no_last bs none)
-last_stripped bs (Some x) found = sym (ap (without_last 93) found ∙ last_without x.now)
+pub last_stripped : (c : ℕ) (bs : List ℕ) (r : Option (Bor (List ℕ)))
+    → MatchOption r ((front : List ℕ) → bs ≡ front ++ c ∷ [] → ⊥) (λ x. bs ≡ x.now ++ c ∷ [])
+    → option_map (λ x. x.now) r ≡ without_last c bs
+last_stripped c bs None none = sym (no_last c bs none)
+last_stripped c bs (Some x) found = sym (ap (without_last c) found ∙ last_without c x.now)
 
 -- ---- members
 

@@ -27,7 +27,7 @@ use Rattle.osn_grammar.specs.InDigits.{HasFourDigits, sign, signed}
 use Rattle.osn_grammar.specs.Tokens.{is_of_time}
 use Rattle.osn_grammar.specs.Reading.{all_members, member_by, member_in, member_of, or_set}
 use Rattle.osn_grammar.specs.Reading.{or_years}
-use Rattle.osn_grammar.specs.Reading.{or_parts, or_phrase}
+use Rattle.osn_grammar.specs.Reading.{list_in, or_list, or_parts, or_phrase, set_or_list}
 use Rattle.osn_grammar.specs.Reading.{read_date, reading_of_tokens, set_in, set_inside, with_signs}
 use Rattle.osn_grammar.specs.Scan.{first_of, is_letter_alone, next_is, token_of_run, tokens_after}
 use Rattle.osn_grammar.specs.Scan.{tokens_in}
@@ -286,7 +286,7 @@ members_are : (a u : Bool) (first : Days) (rest : List Days) → All HaveFourDig
     → set_in (set_text a u (first ∷ rest)) ≡ Ok (map (member a u) (first ∷ rest))
 unfolding set_in
 members_are a u first rest all =
-    ap set_inside (last_without (body a u (first ∷ rest))) ∙ texts_read a u first rest all
+    ap set_inside (last_without 93 (body a u (first ∷ rest))) ∙ texts_read a u first rest all
 
 set_said : (ws : List AnyDate) (r : Result Written DateFault) → is_err r ≡ true
     → or_set (Ok ws) r ≡ Ok say.Set
@@ -313,10 +313,10 @@ sets_law o a u first next rest all =
     (said_refused o Bracket inside (timed days) filtered (dated first (next ∷ rest))
     (other_refused first next rest) (extent_refused o first next rest)) in
     record {
-      is = ap (λ read. or_phrase o text
-          (or_parts o (tokens_in text) (filter is_of_time (tokens_in text)) (or_years text read)))
+      is = ap (λ read. or_list (list_in text) (or_phrase o text
+          (or_parts o (tokens_in text) (filter is_of_time (tokens_in text)) (or_years text read))))
           (ap (λ found. or_set found
           (reading_of_tokens o (tokens_in text) (filter is_of_time (tokens_in text)))) dates
           ∙ set_said (map (member a u) days) _ wrong);
-      dates = ap (λ found. unwrap_or (result_ok found) []) dates;
+      dates = ap (λ found. unwrap_or (result_ok (set_or_list found (list_in text))) []) dates;
     }

@@ -18,7 +18,7 @@ use Rattle.osn_written.specs.AnyDate.{has_three_digits}
 use Rattle.osn_grammar.specs.Tokens.{is_of_time}
 use Rattle.osn_grammar.specs.Reading.{read_date, reading_of_tokens, weekday_after, with_weekday}
 use Rattle.osn_grammar.specs.Reading.{reckoning_after, with_reckoning, is_about, is_doubt}
-use Rattle.osn_grammar.specs.Reading.{is_bracket, is_feast, is_undated, or_parts, or_phrase}
+use Rattle.osn_grammar.specs.Reading.{is_bracket, is_feast, is_undated, list_in, or_list, or_parts, or_phrase}
 use Rattle.osn_grammar.specs.Reading.{or_set, or_years, set_in}
 use Rattle.osn_grammar.specs.Scan.{tokens_in}
 use Rattle.osn_grammar.specs.Simple.{◌>>=◌}
@@ -215,7 +215,8 @@ pub text_read : {text : List ℕ} {ts : List Token} {w : Option Weekday} {r : Op
 unfolding read_date
 text_read {text} o e scanned dated sure is =
     let tokens = tokens_in text in
-    ap (λ read. or_phrase o text (or_parts o tokens (filter is_of_time tokens) read))
+    ap (λ read. or_list (list_in text)
+    (or_phrase o text (or_parts o tokens (filter is_of_time tokens) read)))
     (ap (λ ps. or_years text (or_set (set_in text) (reading_of_tokens o ps (filter is_of_time ps))))
     (tokens_scanned scanned.scans)
     ∙ ap (λ read. or_years text (or_set (set_in text) read))

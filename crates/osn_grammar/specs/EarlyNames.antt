@@ -62,8 +62,8 @@ pub record AreMoreMonthsKnown : Type 0 where
 
 -- words of genealogists, of other languages and of earlier hands
 pub record AreMoreWordsKnown : Type 0 where
-  pub bounds : Reads (codes "earlier later than ye")
-      (token.Before ∷ token.After ∷ times 2 token.Filler)
+  pub bounds : Reads (codes "earlier later than") (token.Earlier ∷ token.Later ∷ token.Than ∷ [])
+  pub filler : Reads (codes "ye") (times 1 token.Filler)
   pub about : Reads (codes "cerca") (times 1 token.About)
   pub estimated : Reads (codes "um") (times 1 token.Estimated)
   pub interpreted : Reads (codes "INT") (times 1 token.Interpreted)

@@ -12,7 +12,7 @@ use Rattle.osn_grammar.specs.declared.token.Token.{Token}
 use Rattle.osn_grammar.specs.declared.token.Token.TheVariants.{Number, Month, Dash, Slash}
 use Rattle.osn_grammar.specs.declared.token.Token.TheVariants.{Dot, Open, To, ToThe}
 use Rattle.osn_grammar.specs.declared.token.Token.TheVariants.{Or, And, Between, From, Before}
-use Rattle.osn_grammar.specs.declared.token.Token.TheVariants.{After, Not, By}
+use Rattle.osn_grammar.specs.declared.token.Token.TheVariants.{After, Not, By, Earlier, Later, Than}
 use Rattle.osn_written.specs.declared.written_date.DateFault.{DateFault}
 use Rattle.osn_written.specs.declared.written_date.DateFault.TheVariants as faults
 use Rattle.osn_grammar.specs.declared.written.DateOrder.{DateOrder}
@@ -201,19 +201,31 @@ range_unless o tokens (Err f) = Err f
 unfoldable pub date_or_range : DateOrder → List Token → Result Extent DateFault
 date_or_range o tokens = range_unless o tokens (partial_date o tokens)
 
+-- from one date to another, or from one date on
+abbrev pub range_or_first : DateOrder → List Token → Result Extent DateFault
+range_or_first o tokens = first_read (range_after o joins.To [] tokens) (not_before o tokens)
+
 abbrev pub extent_of : DateOrder → List Token → Result Extent DateFault
 extent_of o (Before ∷ tokens) = do
+  d ← partial_date o tokens
+  Ok (extent.Before d)
+extent_of o (Earlier ∷ Than ∷ tokens) = do
   d ← partial_date o tokens
   Ok (extent.Before d)
 extent_of o (After ∷ tokens) = do
   d ← partial_date o tokens
   Ok (extent.After d)
+extent_of o (Later ∷ Than ∷ tokens) = do
+  d ← partial_date o tokens
+  Ok (extent.After d)
 extent_of o (Not ∷ Before ∷ tokens) = not_before o tokens
+extent_of o (Not ∷ Earlier ∷ Than ∷ tokens) = not_before o tokens
 extent_of o (Not ∷ After ∷ tokens) = not_after o tokens
+extent_of o (Not ∷ Later ∷ Than ∷ tokens) = not_after o tokens
 extent_of o (Or ∷ Before ∷ tokens) = not_after o tokens
 extent_of o (Or ∷ After ∷ tokens) = not_before o tokens
 extent_of o (By ∷ tokens) = not_after o tokens
 extent_of o (To ∷ tokens) = not_after o tokens
 extent_of o (Between ∷ tokens) = range_after o joins.And [] tokens
-extent_of o (From ∷ tokens) = range_after o joins.To [] tokens
+extent_of o (From ∷ tokens) = range_or_first o tokens
 extent_of o tokens = date_or_range o tokens

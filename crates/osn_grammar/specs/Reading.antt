@@ -29,7 +29,8 @@ use Rattle.osn_written.specs.AnyDate.{has_three_digits}
 use Rattle.osn_written.specs.WrittenDate.{parts_at}
 use Rattle.osn_grammar.specs.Tokens.{is_of_time}
 use Rattle.osn_grammar.specs.Scan.{tokens_in}
-use Rattle.osn_grammar.specs.Sets.{inside_brackets, between_commas, is_sign, dates_in_digits}
+use Rattle.osn_grammar.specs.Sets.{inside_braces, inside_brackets, between_commas, is_sign}
+use Rattle.osn_grammar.specs.Sets.{dates_in_digits}
 use Rattle.osn_grammar.specs.Simple.{◌>>=◌, lacks_digit}
 use Rattle.osn_grammar.specs.BothCalendars.{day_by_both, named_day}
 use Rattle.osn_grammar.specs.DashedYears.{may_be_double, slashed}
@@ -292,9 +293,27 @@ set_inside (Some inside) = all_members (between_commas inside)
 unfoldable pub set_in : List ℕ → Result (List AnyDate) DateFault
 set_in text = set_inside (inside_brackets text)
 
--- the members of the set that a text is; empty if the text is not a set
+-- the members of the list that a text is, 1640, 1642 or {1640,1642}, or why it is not a list. A list
+-- without braces has two members or more
+abbrev pub list_of : List (List ℕ) → Result (List AnyDate) DateFault
+list_of (text ∷ next ∷ texts) = all_members (text ∷ next ∷ texts)
+list_of texts = Err faults.Malformed
+
+abbrev pub list_inside : Option (List ℕ) → List ℕ → Result (List AnyDate) DateFault
+list_inside None text = list_of (between_commas text)
+list_inside (Some inside) text = all_members (between_commas inside)
+
+unfoldable pub list_in : List ℕ → Result (List AnyDate) DateFault
+list_in text = list_inside (inside_braces text) text
+
+-- the members of the set or the list that a text is; empty if the text is neither
+abbrev pub set_or_list : Result (List AnyDate) DateFault → Result (List AnyDate) DateFault
+    → Result (List AnyDate) DateFault
+set_or_list (Ok ws) list = Ok ws
+set_or_list (Err fault) list = list
+
 abbrev pub members : List ℕ → List AnyDate
-members text = unwrap_or (result_ok (set_in text)) []
+members text = unwrap_or (result_ok (set_or_list (set_in text) (list_in text))) []
 
 -- a text that says nothing else of a date may be a set. If it has the form of a set, the reason is
 -- that of its first member that is not a day
@@ -380,11 +399,19 @@ abbrev pub or_parts : DateOrder → List Token → List Token → Result Written
 or_parts o tokens timed (Ok w) = Ok w
 or_parts o tokens timed (Err fault) = read_parts o tokens timed fault
 
+-- a text that is nothing else may be a list of dates
+abbrev pub or_list : Result (List AnyDate) DateFault → Result Written DateFault
+    → Result Written DateFault
+or_list list (Ok w) = Ok w
+or_list (Ok ws) (Err fault) = Ok say.Set
+or_list (Err other) (Err fault) = Err fault
+
 -- what a text says of a date, or why it is not a date
 unfoldable pub read_date : DateOrder → List ℕ → Result Written DateFault
 read_date o text =
-    or_phrase o text
+    or_list (list_in text)
+    (or_phrase o text
     (or_parts o (tokens_in text) (filter is_of_time (tokens_in text))
     (or_years text
     (or_set (set_in text)
-    (reading_of_tokens o (tokens_in text) (filter is_of_time (tokens_in text))))))
+    (reading_of_tokens o (tokens_in text) (filter is_of_time (tokens_in text)))))))

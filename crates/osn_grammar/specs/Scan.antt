@@ -73,15 +73,23 @@ mark_of_stop word rest =
     if next_is (λ c. c == 46) (first_of rest) then Some token.Open
     else (if is_number word && is_number_next rest then Some token.Dot else None)
 
--- a round bracket before one or two digits and another one, as in `3 (13) June`, is a mark
-abbrev pub ends_round : ℕ → ℕ → List ℕ → Bool
-ends_round a b [] = false
-ends_round a b (c ∷ rest) = c == 41 && (is_digit a && is_digit b)
+-- a round bracket before one or two digits and another one, as in `3 (13) June` and `3. (13.) Juni`,
+-- is a mark
+abbrev pub is_round_next : List ℕ → Bool
+is_round_next [] = false
+is_round_next (c ∷ rest) = c == 41
+
+abbrev pub ends_round : List ℕ → Bool
+ends_round [] = false
+ends_round (c ∷ rest) = c == 41 || (c == 46 && is_round_next rest)
+
+abbrev pub is_last_digit_next : List ℕ → Bool
+is_last_digit_next [] = false
+is_last_digit_next (c ∷ rest) = is_digit c && ends_round rest
 
 abbrev pub is_in_round : List ℕ → Bool
 is_in_round [] = false
-is_in_round (a ∷ []) = false
-is_in_round (a ∷ b ∷ rest) = if b == 41 then is_digit a else ends_round a b rest
+is_in_round (c ∷ rest) = is_digit c && (ends_round rest || is_last_digit_next rest)
 
 abbrev pub mark_of_round : List ℕ → Option Token
 mark_of_round rest = if is_in_round rest then Some token.Round else None

@@ -34,6 +34,10 @@ without_last c (b ∷ next ∷ rest) = option_map (λ front. b ∷ front) (witho
 abbrev pub inside_brackets : List ℕ → Option (List ℕ)
 inside_brackets text = option_and_then (without_last 93) (without_first 91 text)
 
+-- the text between braces, {1640,1642}
+abbrev pub inside_braces : List ℕ → Option (List ℕ)
+inside_braces text = option_and_then (without_last 125) (without_first 123 text)
+
 -- the texts between commas
 abbrev pub between_commas : List ℕ → List (List ℕ)
 between_commas text = slice_split (λ b. b == 44) text
@@ -76,9 +80,16 @@ abbrev pub after_month : Numeral → Numeral → List Token → Result Extent Da
 after_month y m (Dash ∷ rest) = from_day y m rest
 after_month y m rest = from_month y m rest
 
+abbrev pub in_months : Numeral → List Token → Result Extent DateFault
+in_months y (Number m ∷ rest) = after_month y m rest
+in_months y rest = Err faults.Malformed
+
+abbrev pub from_year : Numeral → List Token → Result Extent DateFault
+from_year y rest = from_date (long_year y) rest
+
 abbrev pub after_year : Numeral → List Token → Result Extent DateFault
-after_year y (Dash ∷ Number m ∷ rest) = after_month y m rest
-after_year y rest = from_date (long_year y) rest
+after_year y (Dash ∷ rest) = in_months y rest
+after_year y rest = from_year y rest
 
 abbrev pub not_after : Result PartialDate DateFault → Result Extent DateFault
 not_after last = do

@@ -6,8 +6,8 @@ use crate::forms::{date_in_digits, partial_date};
 use crate::simple::{day_in, is_long, month_in};
 use crate::token::Numeral;
 use crate::token::Token::{
-    self, After, And, Before, Between, By, Dash, Dot, From, Month, Not, Number, Open, Or, Slash,
-    To, ToThe,
+    self, After, And, Before, Between, By, Dash, Dot, Earlier, From, Later, Month, Not, Number,
+    Open, Or, Slash, Than, To, ToThe,
 };
 use crate::written::DateOrder;
 use osn_written::{DateFault, Extent, PartialDate};
@@ -335,20 +335,34 @@ fn date_or_range(order: DateOrder, tokens: &[Token]) -> Result<Extent, DateFault
     }
 }
 
+/// Returns the range that parts are after `from`, or the dates from one on.
+fn range_or_first(order: DateOrder, dates: &[Token]) -> Result<Extent, DateFault>
+    ensures { result ≡ spec.range_or_first order dates.now }
+{
+    first_read(
+        range_in(order, Joining::To, dates),
+        not_before(order, dates),
+    )
+}
+
 /// Returns from when to when parts say that a date may be.
 pub fn extent_of(order: DateOrder, tokens: &[Token]) -> Result<Extent, DateFault>
     ensures { result ≡ spec.extent_of order tokens.now }
 {
     match tokens {
         [Before, date @ ..] => Ok(Extent::Before(partial_date(order, date)?)),
+        [Earlier, Than, date @ ..] => Ok(Extent::Before(partial_date(order, date)?)),
         [After, date @ ..] => Ok(Extent::After(partial_date(order, date)?)),
+        [Later, Than, date @ ..] => Ok(Extent::After(partial_date(order, date)?)),
         [Not, Before, date @ ..] => not_before(order, date),
+        [Not, Earlier, Than, date @ ..] => not_before(order, date),
         [Not, After, date @ ..] => not_after(order, date),
+        [Not, Later, Than, date @ ..] => not_after(order, date),
         [Or, Before, date @ ..] => not_after(order, date),
         [Or, After, date @ ..] => not_before(order, date),
         [By | To, date @ ..] => not_after(order, date),
         [Between, dates @ ..] => range_in(order, Joining::And, dates),
-        [From, dates @ ..] => range_in(order, Joining::To, dates),
+        [From, dates @ ..] => range_or_first(order, dates),
         _ => date_or_range(order, tokens),
     }
 }

@@ -1,6 +1,6 @@
 //! Forms that are tried last: a double year after a dash, a range of parts of a time, and a date
 //! that was interpreted from a phrase.
-ghost use Rattle.std.specs.Prelude.{◌≡◌, IfOk, filter, option_map};
+ghost use Rattle.std.specs.Prelude.{◌≡◌, Err, IfOk, filter, option_map};
 ghost use Rattle.osn_grammar.specs.Reading as spec;
 ghost use Rattle.osn_grammar.specs.Scan as scan;
 ghost use Rattle.osn_grammar.specs.Tokens.{is_of_time};
@@ -11,6 +11,7 @@ use crate::part_ranges::part_range;
 use crate::period::has_period;
 use crate::reading::{reading_of_tokens, unless_open};
 use crate::scan::tokens_in;
+use crate::set::list_in;
 use crate::signs::{is_supplied, is_uncertain, reckoning_of, weekday_of};
 use crate::token::Token;
 use crate::written::{DateOrder, Written};
@@ -135,6 +136,26 @@ fn read_before(
     Ok(interpreted(order, tokens.as_slice(), timed.as_slice(), fault))
 }
 
+/// Returns that a text is a list of dates, or else the fault.
+fn read_list(alloc: Global, text: &str, fault: DateFault) -> Result<Read, AllocError>
+    ensures { IfOk result (λ read. read ≡ spec.or_list (spec.list_in text.now) (Err fault)) }
+{
+    match list_in(alloc, text)? {
+        Ok(_) => Ok(Ok(Written::Set)),
+        Err(_) => Ok(Err(fault)),
+    }
+}
+
+/// Returns what a text says by other forms, or else as a list of dates.
+fn or_list(alloc: Global, text: &str, read: Read) -> Result<Read, AllocError>
+    ensures { IfOk result (λ found. found ≡ spec.or_list (spec.list_in text.now) read) }
+{
+    match read {
+        Ok(written) => Ok(Ok(written)),
+        Err(fault) => read_list(alloc, text, fault),
+    }
+}
+
 /// Returns whether the first `)` ends a text.
 fn is_closed(phrase: &str) -> bool
     ensures { result ≡ spec.is_closed (parts_of 41 phrase.now) }
@@ -198,9 +219,10 @@ pub fn or_other_form(
     timed: &[Token],
     read: Read,
 ) -> Result<Read, AllocError>
-    ensures { IfOk result (λ found. found
-        ≡ spec.or_phrase order text.now (spec.or_parts order tokens.now timed.now read)) }
+    ensures { IfOk result (λ found. found ≡ spec.or_list (spec.list_in text.now)
+        (spec.or_phrase order text.now (spec.or_parts order tokens.now timed.now read))) }
 {
     let read = or_parts(alloc, order, tokens, timed, read)?;
-    or_phrase(alloc, order, text, read)
+    let read = or_phrase(alloc, order, text, read)?;
+    or_list(alloc, text, read)
 }

@@ -126,14 +126,45 @@ fn is_number_next(rest: &[char]) -> bool
     false
 }
 
+/// Returns whether a closing round bracket comes next.
+fn is_round_next(rest: &[char]) -> bool
+    ensures { result ≡ spec.is_round_next rest.now }
+{
+    match rest {
+        [next, ..] => *next == ')',
+        [] => false,
+    }
+}
+
+/// Returns whether a closing round bracket comes next, or a full stop before one.
+fn ends_round(rest: &[char]) -> bool
+    ensures { result ≡ spec.ends_round rest.now }
+{
+    match rest {
+        [next, after @ ..] => *next == ')' || (*next == '.' && is_round_next(after)),
+        [] => false,
+    }
+}
+
+/// Returns whether a digit comes next that ends a number in round brackets.
+fn is_last_digit_next(rest: &[char]) -> bool
+    ensures { result ≡ spec.is_last_digit_next rest.now }
+{
+    match rest {
+        [digit, after @ ..] => is_digit(*digit) && ends_round(after),
+        [] => false,
+    }
+}
+
 /// Returns whether a number of one or two digits comes next, with a closing round bracket after it.
 fn is_in_round(rest: &[char]) -> bool
     ensures { result ≡ spec.is_in_round rest.now }
 {
     match rest {
-        [a, b, ..] if *b == ')' => is_digit(*a),
-        [a, b, c, ..] if *c == ')' => is_digit(*a) && is_digit(*b),
-        _ => false,
+        [digit, after @ ..] => {
+            is_digit(*digit) && (ends_round(after) || is_last_digit_next(after))
+        }
+        [] => false,
     }
 }
 

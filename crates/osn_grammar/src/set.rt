@@ -1,6 +1,7 @@
 //! A set of dates, of which one is meant, as EDTF writes it.
-ghost use Rattle.std.specs.Prelude.{◌≡◌, map, option_map, IfOk};
-ghost use Rattle.std.specs.Result.{result_map_both};
+ghost use Rattle.std.specs.Prelude.{◌≡◌, [], map, option_map, IfOk};
+ghost use Rattle.std.specs.Option.{unwrap_or};
+ghost use Rattle.std.specs.Result.{result_map_both, result_ok};
 ghost use Rattle.osn_grammar.specs.Reading as reading;
 ghost use Rattle.osn_grammar.specs.Sets as spec;
 
@@ -25,6 +26,20 @@ fn before_bracket(text: &str) -> Option<&str>
     ensures { option_map (λ front. front.now) result ≡ spec.without_last 93 text.now }
 {
     text.strip_suffix(']')
+}
+
+/// Returns what comes after the opening brace of a text, if it begins with one.
+fn after_brace(text: &str) -> Option<&str>
+    ensures { option_map (λ rest. rest.now) result ≡ spec.without_first 123 text.now }
+{
+    text.strip_prefix('{')
+}
+
+/// Returns what comes before the closing brace of a text, if it ends with one.
+fn before_brace(text: &str) -> Option<&str>
+    ensures { option_map (λ front. front.now) result ≡ spec.without_last 125 text.now }
+{
+    text.strip_suffix('}')
 }
 
 /// Returns the text between square brackets, if a text is in brackets.
@@ -88,13 +103,30 @@ fn after_month(year: Numeral, month: Numeral, rest: &[Token]) -> Result<Extent, 
     }
 }
 
+/// Returns the dates that these parts, a month and what is after it, are in a year.
+fn in_months(year: Numeral, parts: &[Token]) -> Result<Extent, DateFault>
+    ensures { result ≡ spec.in_months year parts.now }
+{
+    match parts {
+        [Number(m), rest @ ..] => after_month(year, *m, rest),
+        _ => Err(DateFault::Malformed),
+    }
+}
+
+/// Returns a year, or the dates from it to the one that these parts are after it.
+fn from_year(year: Numeral, rest: &[Token]) -> Result<Extent, DateFault>
+    ensures { result ≡ spec.from_year year rest.now }
+{
+    from_date(long_year(year), rest)
+}
+
 /// Returns the dates that these parts are after a year.
 fn after_year(year: Numeral, rest: &[Token]) -> Result<Extent, DateFault>
     ensures { result ≡ spec.after_year year rest.now }
 {
     match rest {
-        [Dash, Number(m), rest @ ..] => after_month(year, *m, rest),
-        _ => from_date(long_year(year), rest),
+        [Dash, months @ ..] => in_months(year, months),
+        _ => from_year(year, rest),
     }
 }
 
@@ -189,9 +221,62 @@ pub fn set_in(alloc: Global, text: &str) -> Result<Members, AllocError>
     }
 }
 
-/// Returns the dates of a set of EDTF, of which one is meant, such as `[1543-04-11,1544-04-11]`:
-/// those of a text that `read_date` returns as `Written::Set`. Each is a date, a range or a bound,
-/// and has its own signs. The list is empty if the text is not a set.
+/// Returns the text between braces, if a text is in braces.
+fn inside_braces(text: &str) -> Option<&str>
+    ensures { option_map (λ inside. inside.now) result ≡ spec.inside_braces text.now }
+{
+    before_brace(after_brace(text)?)
+}
+
+/// Returns the members of a list of these texts, or why they are not a list.
+fn list_of(alloc: Global, texts: &[&str]) -> Result<Members, AllocError>
+    ensures { IfOk result (λ members. result_map_both (λ members. members.items) (λ fault. fault)
+        members
+        ≡ reading.list_of (map (λ text. text.now) texts.now)) }
+{
+    match texts {
+        [_, _, ..] => all_members(alloc, texts),
+        _ => Ok(Err(DateFault::Malformed)),
+    }
+}
+
+/// Returns the members of the list that a text without braces is, or why it is not a list.
+fn list_without_braces(alloc: Global, text: &str) -> Result<Members, AllocError>
+    ensures { IfOk result (λ members. result_map_both (λ members. members.items) (λ fault. fault)
+        members
+        ≡ reading.list_of (spec.between_commas text.now)) }
+{
+    let texts = between_commas(alloc, text)?;
+    list_of(alloc, texts.as_slice())
+}
+
+/// Returns the members of the list that a text is, or why it is not a list.
+#[tactic(auto, unfolding(crate::specs::Reading::list_in))]
+pub fn list_in(alloc: Global, text: &str) -> Result<Members, AllocError>
+    ensures { IfOk result (λ members. result_map_both (λ members. members.items) (λ fault. fault)
+        members
+        ≡ reading.list_in text.now) }
+{
+    match inside_braces(text) {
+        Some(inside) => members_inside(alloc, inside),
+        None => list_without_braces(alloc, text),
+    }
+}
+
+/// Returns the members of the list that a text is, and none if it is not a list.
+fn listed_members(alloc: Global, text: &str) -> Result<Vec<AnyDate>, AllocError>
+    ensures { IfOk result (λ members. members.items
+        ≡ unwrap_or (result_ok (reading.list_in text.now)) []) }
+{
+    match list_in(alloc, text)? {
+        Ok(members) => Ok(members),
+        Err(_) => Ok(Vec::new(alloc)),
+    }
+}
+
+/// Returns the dates of a list, or of a set of EDTF, of which one is meant, such as
+/// `[1543-04-11,1544-04-11]`: those of a text that `read_date` returns as `Written::Set`. Each is a
+/// date, a range or a bound, and has its own signs. There are none if the text is neither.
 ///
 /// # Errors
 ///
@@ -201,6 +286,6 @@ pub fn members_of(alloc: Global, text: &str) -> Result<Vec<AnyDate>, AllocError>
 {
     match set_in(alloc, text)? {
         Ok(members) => Ok(members),
-        Err(_) => Ok(Vec::new(alloc)),
+        Err(_) => listed_members(alloc, text),
     }
 }

@@ -91,6 +91,11 @@ pub enum Token {
     From,
     Before,
     After,
+    /// `earlier`, before `than`.
+    Earlier,
+    /// `later`, before `than`.
+    Later,
+    Than,
     Not,
     By,
     About,
