@@ -135,6 +135,7 @@ others_known = record {
   doubt = refl;
   old_style = refl;
   new_style = refl;
+  no = refl;
   undated = refl;
   blank = refl;
   fillers = refl;
@@ -160,7 +161,9 @@ more_words_known : AreMoreWordsKnown
 unfolding names other_names more_names feast_names lib.Utf8.encode
 more_words_known = record {
   bounds = refl;
-  filler = refl;
+  fillers = refl;
+  middle = refl;
+  doubt = refl;
   about = refl;
   estimated = refl;
   interpreted = refl;

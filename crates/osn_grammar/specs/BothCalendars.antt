@@ -12,9 +12,9 @@ use Rattle.osn_days.specs.declared.date.Date.{Date}
 use Rattle.osn_days.specs.Rules.{Rules}
 use Rattle.osn_territory.specs.Style.{is_before_25_march}
 use Rattle.osn_grammar.specs.declared.both_calendars.ReckonedDay.{ReckonedDay}
-use Rattle.osn_grammar.specs.declared.both_calendars.TwoDates.{TwoDates}
-use Rattle.osn_grammar.specs.declared.both_calendars.WrittenYears.{WrittenYears}
-use Rattle.osn_grammar.specs.declared.both_calendars.WrittenYears.TheVariants as years
+use Rattle.osn_grammar.specs.declared.date_pairs.TwoDates.{TwoDates}
+use Rattle.osn_grammar.specs.declared.date_pairs.WrittenYears.{WrittenYears}
+use Rattle.osn_grammar.specs.declared.date_pairs.WrittenYears.TheVariants as years
 use Rattle.osn_grammar.specs.declared.token.Numeral.{Numeral}
 use Rattle.osn_grammar.specs.declared.token.Token.{Token}
 use Rattle.osn_grammar.specs.declared.token.Token.TheVariants.{Number, Month, Slash, Round, Weekday}
@@ -77,6 +77,12 @@ with_months (old ∷ month ∷ Slash ∷ new ∷ other ∷ year) =
     two_dates (day_and_month old month) (day_and_month new other) (shared_by_both year)
 with_months _ = None
 
+-- Sept. 24/Oct. 4, 1657
+abbrev pub with_days : List Token → Option TwoDates
+with_days (month ∷ old ∷ Slash ∷ other ∷ new ∷ year) =
+    two_dates (day_and_month old month) (day_and_month new other) (shared_by_both year)
+with_days _ = None
+
 -- 27 Dec. 1675/6 Jan. 1676
 abbrev pub year_of_each : Token → Token → Option WrittenYears
 year_of_each (Number first) (Number last) = Some (years.Each first last)
@@ -87,14 +93,25 @@ with_years (old ∷ month ∷ first ∷ Slash ∷ new ∷ other ∷ last ∷ [])
     two_dates (day_and_month old month) (day_and_month new other) (year_of_each first last)
 with_years _ = None
 
+-- Dec. 27, 1675/Jan. 6, 1676
+abbrev pub with_days_and_years : List Token → Option TwoDates
+with_days_and_years (month ∷ old ∷ first ∷ Slash ∷ other ∷ new ∷ last ∷ []) =
+    two_dates (day_and_month old month) (day_and_month new other) (year_of_each first last)
+with_days_and_years _ = None
+
 abbrev pub or_dates : Option TwoDates → Option TwoDates → Option TwoDates
 or_dates (Some dates) other = Some dates
 or_dates None other = other
 
+abbrev pub months_between : List Token → Option TwoDates
+months_between tokens =
+    or_dates (or_dates (with_months tokens) (with_years tokens))
+    (or_dates (with_days tokens) (with_days_and_years tokens))
+
 abbrev pub slashed_dates : List Token → Option TwoDates
 slashed_dates tokens =
     or_dates (or_dates (before_their_month tokens) (after_their_month tokens))
-    (or_dates (with_months tokens) (with_years tokens))
+    (months_between tokens)
 
 -- 3 (13) June 1675, June 3 (13), 1675: a number is before the one in round brackets, after a
 -- weekday or the month or after nothing

@@ -3,6 +3,7 @@ use Rattle.std.specs.Prelude.{◌≡◌, ℕ, List, [], ◌∷◌, ◌++◌, map
 use Rattle.std.specs.List.{range_with_len}
 use Rattle.osn_grammar.specs.declared.token.Token.{Token}
 use Rattle.osn_grammar.specs.declared.token.Token.TheVariants as token
+use Rattle.osn_written.specs.declared.portion.Portion.TheVariants.{MiddleThird}
 use Rattle.osn_written.specs.declared.any_date.Reckoning.TheVariants.{OldStyle, NewStyle}
 use Rattle.osn_grammar.specs.Scan.{tokens_after}
 
@@ -63,7 +64,11 @@ pub record AreMoreMonthsKnown : Type 0 where
 -- words of genealogists, of other languages and of earlier hands
 pub record AreMoreWordsKnown : Type 0 where
   pub bounds : Reads (codes "earlier later than") (token.Earlier ∷ token.Later ∷ token.Than ∷ [])
-  pub filler : Reads (codes "ye") (times 1 token.Filler)
+  pub fillers : Reads (codes "ye mensis") (times 2 token.Filler)
+  pub middle : Reads (codes "mi") (times 1 (token.Portion MiddleThird))
+  pub doubt : Reads
+      (codes "wohl vermutlich wahrscheinlich probablement waarschijnlijk")
+      (times 5 token.Doubt)
   pub about : Reads (codes "cerca") (times 1 token.About)
   pub estimated : Reads (codes "um") (times 1 token.Estimated)
   pub interpreted : Reads (codes "INT") (times 1 token.Interpreted)

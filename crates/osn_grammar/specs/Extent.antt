@@ -12,7 +12,7 @@ use Rattle.osn_grammar.specs.declared.token.Token.{Token}
 use Rattle.osn_grammar.specs.declared.token.Token.TheVariants.{Number, Month, Dash, Slash}
 use Rattle.osn_grammar.specs.declared.token.Token.TheVariants.{Dot, Open, To, ToThe}
 use Rattle.osn_grammar.specs.declared.token.Token.TheVariants.{Or, And, Between, From, Before}
-use Rattle.osn_grammar.specs.declared.token.Token.TheVariants.{After, Not, By, Earlier, Later, Than}
+use Rattle.osn_grammar.specs.declared.token.Token.TheVariants.{After, No, Not, By, Earlier, Later, Than}
 use Rattle.osn_written.specs.declared.written_date.DateFault.{DateFault}
 use Rattle.osn_written.specs.declared.written_date.DateFault.TheVariants as faults
 use Rattle.osn_grammar.specs.declared.written.DateOrder.{DateOrder}
@@ -220,8 +220,10 @@ extent_of o (Later ∷ Than ∷ tokens) = do
   Ok (extent.After d)
 extent_of o (Not ∷ Before ∷ tokens) = not_before o tokens
 extent_of o (Not ∷ Earlier ∷ Than ∷ tokens) = not_before o tokens
+extent_of o (No ∷ Earlier ∷ Than ∷ tokens) = not_before o tokens
 extent_of o (Not ∷ After ∷ tokens) = not_after o tokens
 extent_of o (Not ∷ Later ∷ Than ∷ tokens) = not_after o tokens
+extent_of o (No ∷ Later ∷ Than ∷ tokens) = not_after o tokens
 extent_of o (Or ∷ Before ∷ tokens) = not_after o tokens
 extent_of o (Or ∷ After ∷ tokens) = not_before o tokens
 extent_of o (By ∷ tokens) = not_after o tokens

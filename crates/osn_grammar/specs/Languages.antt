@@ -207,7 +207,8 @@ pub record AreOtherWordsKnown : Type 0 where
   pub doubt : Reads (codes "probably perhaps possibly") (times 3 token.Doubt)
   pub old_style : Reads (codes "O.S. OS old") (times 3 (token.Reckoning OldStyle))
   pub new_style : Reads (codes "N.S. NS new") (times 3 (token.Reckoning NewStyle))
-  pub undated : Reads (codes "n.d. s.d. undated no unknown") (times 5 token.Undated)
+  pub no : Reads (codes "no") (times 1 token.No)
+  pub undated : Reads (codes "n.d. s.d. undated unknown") (times 4 token.Undated)
   pub blank : Reads (codes "XX") (times 1 token.Blank)
   pub fillers : Reads
       (codes "the of on in de del di le den der die dies anno date style feira")

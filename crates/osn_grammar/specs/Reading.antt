@@ -190,6 +190,7 @@ date_of o tokens timed = do
 -- `n.d.`, `undated`
 abbrev pub is_undated : List Token → Bool
 is_undated (token.Undated ∷ []) = true
+is_undated (token.No ∷ []) = true
 is_undated _ = false
 
 -- a year of three digits and a dash or two full stops after it: 173-, 11 Feb. 173..

@@ -6,7 +6,7 @@ use crate::forms::{date_in_digits, partial_date};
 use crate::simple::{day_in, is_long, month_in};
 use crate::token::Numeral;
 use crate::token::Token::{
-    self, After, And, Before, Between, By, Dash, Dot, Earlier, From, Later, Month, Not, Number,
+    self, After, And, Before, Between, By, Dash, Dot, Earlier, From, Later, Month, No, Not, Number,
     Open, Or, Slash, Than, To, ToThe,
 };
 use crate::written::DateOrder;
@@ -355,9 +355,9 @@ pub fn extent_of(order: DateOrder, tokens: &[Token]) -> Result<Extent, DateFault
         [After, date @ ..] => Ok(Extent::After(partial_date(order, date)?)),
         [Later, Than, date @ ..] => Ok(Extent::After(partial_date(order, date)?)),
         [Not, Before, date @ ..] => not_before(order, date),
-        [Not, Earlier, Than, date @ ..] => not_before(order, date),
+        [Not | No, Earlier, Than, date @ ..] => not_before(order, date),
         [Not, After, date @ ..] => not_after(order, date),
-        [Not, Later, Than, date @ ..] => not_after(order, date),
+        [Not | No, Later, Than, date @ ..] => not_after(order, date),
         [Or, Before, date @ ..] => not_after(order, date),
         [Or, After, date @ ..] => not_before(order, date),
         [By | To, date @ ..] => not_after(order, date),

@@ -5,6 +5,7 @@
 mod both_calendars;
 mod dashed_years;
 mod date_in_text;
+mod date_pairs;
 mod extent;
 mod feast_names;
 mod feast_reading;

@@ -5,11 +5,11 @@ ghost use Rattle.osn_grammar.specs.Names as spec;
 
 use crate::names::first_named;
 use crate::token::{Numeral, Token};
-use osn_written::Reckoning;
+use osn_written::{Portion, Reckoning};
 
 /// Each of these names with the part of a date that it is, in small letters. It is sought after the
 /// other names.
-pub const MORE_NAMES: [(&str, Token); 128] = [
+pub const MORE_NAMES: [(&str, Token); 135] = [
     ("ianvary", Token::Month(1)),
     ("ianvarie", Token::Month(1)),
     ("ianvarii", Token::Month(1)),
@@ -117,6 +117,13 @@ pub const MORE_NAMES: [(&str, Token); 128] = [
     ("later", Token::Later),
     ("than", Token::Than),
     ("ye", Token::Filler),
+    ("mensis", Token::Filler),
+    ("mi", Token::Portion(Portion::MiddleThird)),
+    ("wohl", Token::Doubt),
+    ("vermutlich", Token::Doubt),
+    ("wahrscheinlich", Token::Doubt),
+    ("probablement", Token::Doubt),
+    ("waarschijnlijk", Token::Doubt),
     ("cerca", Token::About),
     ("um", Token::Estimated),
     ("int", Token::Interpreted),

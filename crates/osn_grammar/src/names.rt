@@ -418,7 +418,7 @@ pub const NAMES: [(&str, Token); 469] = [
     ("data", Token::Filler),
     ("nd", Token::Undated),
     ("sd", Token::Undated),
-    ("no", Token::Undated),
+    ("no", Token::No),
     ("undated", Token::Undated),
     ("unknown", Token::Undated),
     ("undatiert", Token::Undated),

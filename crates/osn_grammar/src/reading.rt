@@ -240,7 +240,7 @@ fn or_reason(
 fn is_undated(timed: &[Token]) -> bool
     ensures { result ≡ spec.is_undated timed.now }
 {
-    matches!(timed, [Token::Undated])
+    matches!(timed, [Token::Undated | Token::No])
 }
 
 /// Returns what parts say. The parts `timed` are those that say which day is meant.

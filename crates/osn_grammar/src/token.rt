@@ -112,6 +112,8 @@ pub enum Token {
     Round,
     /// A word that says nothing of the day, such as `of`.
     Filler,
+    /// `no`, which says that a date is lacking, or denies a bound, as in `no later than`.
+    No,
     Undated,
     Feast(FeastWord),
     /// A Roman numeral from 2 to 31 that is not another word, or an ordinal such as `XVIe`.
