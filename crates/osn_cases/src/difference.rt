@@ -4,7 +4,7 @@ ghost use Rattle.std.specs.Prelude.{◌≡◌, IfNone, IfOk};
 use crate::actual::Actual;
 use crate::case_file::Step;
 use crate::escapes::shown;
-use crate::expected::{Expected, Stream};
+use crate::expected::Stream;
 use std::alloc::{AllocError, Global};
 
 /// The first difference: the number of its line in the file, and the texts there.

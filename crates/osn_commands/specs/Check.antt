@@ -1,5 +1,5 @@
 -- What the command `check` prints of a text, or why it prints nothing.
-use Rattle.std.specs.Prelude.{◌≡◌, ◌⊎◌, ◌==◌, ◌++◌, ℕ, if◌then◌else◌, List, Option, codes, length}
+use Rattle.std.specs.Prelude.{◌⊎◌, ◌==◌, ◌++◌, ℕ, if◌then◌else◌, List, Option, codes, length}
 use Rattle.std.specs.Fmt.{decimal}
 use Rattle.osn_lines.specs.Streams.{Input, Output}
 use Rattle.osn_register.specs.Plain.{RegisterModel}

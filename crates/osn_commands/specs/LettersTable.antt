@@ -1,5 +1,5 @@
 -- What the command `letters` has done with the file of its table, or with standard input.
-use Rattle.std.specs.Prelude.{◌⊎◌, ◌≡◌, Bool, ℕ, List, [], ◌∷◌, Option, Some, None, codes}
+use Rattle.std.specs.Prelude.{◌⊎◌, Bool, ℕ, List, [], ◌∷◌, Option, Some, None, codes}
 use Rattle.std.specs.Prelude.{if◌then◌else◌}
 use Rattle.std.specs.Str.{bytes_eq}
 use Rattle.osn_folder.specs.Folder.{Changes, Known, Opens}

@@ -2,7 +2,7 @@
 ghost use Rattle.std.specs.Prelude.{◌≡◌, ◌≢◌, ◌∷◌, [], IfErr, IfOk, OnErr, option_map};
 ghost use Rattle.osn_folder.specs.Folder.{CannotOpen, IsCauseAt, MayFail};
 ghost use Rattle.osn_folder.specs.declared.fault.OpenFailed.{OpenFailed};
-ghost use Rattle.osn_lines.specs.Streams.{input_of, output_of};
+ghost use Rattle.osn_lines.specs.Streams.{output_of};
 ghost use Rattle.osn_report.specs.Folders.{ReadsOne, folders_of};
 ghost use Rattle.osn_serve_commands.specs.Serve.{input_if};
 ghost use Rattle.osn_commands.specs.InFolder as spec;

@@ -1,5 +1,5 @@
 //! The command `text`: the territories that a journal published, as a text that an editor changes.
-ghost use Rattle.std.specs.Prelude.{◌≡◌, option_map};
+ghost use Rattle.std.specs.Prelude.{option_map};
 ghost use Rattle.osn_core.specs.Edition.{edition_model};
 ghost use Rattle.osn_page_commands.specs.Editions.{OnEdition};
 ghost use Rattle.osn_lines.specs.Streams.{input_of, output_of};

@@ -62,23 +62,6 @@ module _ (live : ℕ) (phase : Phase) (n : ℕ) where
   leave_placed (Entered q s k) h = h
   leave_placed (Answered s k) h = tt
 
--- a publish is taken in Ready: whoever is in a side is in the live one, and it is the standby then
-published_in : (live n m s k : ℕ) → live < 2 → m ≡ n + 1 → IsIn live Ready n s k →
-    IsIn (1 - live) Draining m s k
-published_in live n m s k two more h = elim h [
-  | inl (side, all) ↦ inr (omega (arith, two, side), refl, omega (arith, more, all))
-  | inr (side, draining, all) ↦ cc
-]
-
-pub published_placed : (live n m : ℕ) → live < 2 → m ≡ n + 1 → (at : Option ReaderState) →
-    IsPlaced live Ready n at → IsPlaced (1 - live) Draining m at
-published_placed live n m two more None h = tt
-published_placed live n m two more (Some Idle) h = tt
-published_placed live n m two more (Some (Noted q s)) h = tt
-published_placed live n m two more (Some (Marked q s)) h = tt
-published_placed live n m two more (Some (Entered q s k)) h = published_in live n m s k two more h
-published_placed live n m two more (Some (Answered s k)) h = published_in live n m s k two more h
-
 -- whoever is in a side is in one of the two
 pub in_two : (live : ℕ) (phase : Phase) (n s k : ℕ) → live < 2 → IsIn live phase n s k → s < 2
 in_two live phase n s k two h = elim h [
@@ -132,19 +115,6 @@ pub claimed_placed : (live n : ℕ) (readers : List ReaderState) →
     (r : ℕ) → IsPlaced live Claimed n (reader_at readers r)
 claimed_placed live n readers none all r = claimed_at live n (reader_at readers r)
     (λ x is. unmarked (1 - live) readers r x none is) (all r)
-
--- from Claimed on nobody is in the standby
-ready_in : (live n s k : ℕ) → IsIn live Claimed n s k → IsIn live Ready n s k
-ready_in live n s k h = elim h [ inl there ↦ inl there | inr (side, draining, all) ↦ cc ]
-
-pub ready_placed : (live n : ℕ) (at : Option ReaderState) → IsPlaced live Claimed n at →
-    IsPlaced live Ready n at
-ready_placed live n None h = tt
-ready_placed live n (Some Idle) h = tt
-ready_placed live n (Some (Noted q s)) h = tt
-ready_placed live n (Some (Marked q s)) h = tt
-ready_placed live n (Some (Entered q s k)) h = ready_in live n s k h
-ready_placed live n (Some (Answered s k)) h = ready_in live n s k h
 
 -- what the standby shows, by the phase
 lagging_is : (s : ObjectState) (lag : ℕ) → s.pending ≡ [] →

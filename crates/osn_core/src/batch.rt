@@ -33,11 +33,4 @@ impl Batch {
     {
         self.edits.as_slice()
     }
-
-    /// Returns the edits, moved out.
-    pub fn into_edits(self) -> Vec<Edit>
-        ensures { result.items ≡ self }
-    {
-        self.edits
-    }
 }

@@ -2,7 +2,6 @@
 use Rattle.std.proofs.Common.{◌≡◌, ◌≢◌, ℕ, [], ◌∷◌, zero, suc, ◌+◌, ◌-◌, ◌*◌, ◌<◌, ◌≤◌, ◌⊎◌, inl}
 use Rattle.std.proofs.Common.{inr, Bool, true, false, nat_lt, if◌then◌else◌, refl, sym, ap, ◌∙◌}
 use Rattle.std.proofs.Common.{arith, ℤ, pos, ◌+ℤ◌, ◌*ℤ◌, ◌<ℤ◌, ◌≤ℤ◌}
-use Rattle.std.proofs.lemmas.Bool.{cases_order}
 use Rattle.std.proofs.lemmas.Bool.{false_from_ne_true}
 use Rattle.std.proofs.lemmas.Bool.Decides.{Decides-and, Decides-eqb, Decides-int_eq}
 use Rattle.std.proofs.lemmas.Int.{ints}
@@ -224,15 +223,3 @@ unfolding days_with_date line
 days_none p c date none =
     filter_none (λ e. same_date (date_of c e) date) 1 p.high
     (λ d low high. none d (low, omega arith))
-
--- a day at which each earlier day and this one have failed
-pub none_before : (c : Calendar) (date : Date) (n : ℕ)
-    → ((d : ℕ) → 1 ≤ d → d < n → same_date (date_of c d) date ≡ false)
-    → same_date (date_of c n) date ≡ false → (d : ℕ) → 1 ≤ d → d < n + 1
-    → same_date (date_of c d) date ≡ false
-none_before c date n before here d low high =
-    elim (cases_order d n) [
-      | inl same ↦ rw same here
-      | inr (inl lt) ↦ before d low lt
-      | inr (inr gt) ↦ absurd (omega arith)
-    ]

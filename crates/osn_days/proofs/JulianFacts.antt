@@ -47,9 +47,6 @@ february : (y : ℤ) → pos 1 ≤ℤ y
     → 1461 * unsigned_abs y / 4 ≡ 1461 * (unsigned_abs y - 1) / 4 + 337 + month_length Julian y 2
 february y h = let low : 1 ≤ unsigned_abs y = omega (arith, ints) in grind (arith, nat_tests)
 
-december : (y : ℤ) → month_length Julian y 12 ≡ 31
-december y = refl
-
 next_month : (d : Date) → IsReal Julian d → d.day ≡ month_length Julian d.year d.month
     → d.month < 12 → julian_count (record {
       year = d.year;

@@ -1,7 +1,6 @@
 -- The seven weekdays by their numbers in Calendrical Calculations, chapter 1, and their English
 -- names.
-use Rattle.std.specs.Prelude.{ℕ, ◌==◌, if◌then◌else◌, List, [], ◌∷◌, codes, Option}
-use Rattle.osn_days.specs.Keyword.{written_by}
+use Rattle.std.specs.Prelude.{ℕ, ◌==◌, if◌then◌else◌, List, codes}
 use Rattle.osn_days.specs.declared.weekday.Weekday.{Weekday}
 use Rattle.osn_days.specs.declared.weekday.Weekday.TheVariants.{Sunday, Monday, Tuesday, Wednesday}
 use Rattle.osn_days.specs.declared.weekday.Weekday.TheVariants.{Thursday, Friday, Saturday}
@@ -25,8 +24,3 @@ weekday_name Wednesday = codes "Wednesday"
 weekday_name Thursday = codes "Thursday"
 weekday_name Friday = codes "Friday"
 weekday_name Saturday = codes "Saturday"
-
--- the weekday that has a name
-abbrev pub weekday_named : List ℕ → Option Weekday
-weekday_named = written_by weekday_name
-    (Sunday ∷ Monday ∷ Tuesday ∷ Wednesday ∷ Thursday ∷ Friday ∷ Saturday ∷ [])

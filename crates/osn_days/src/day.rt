@@ -1,5 +1,5 @@
 //! The days of the line by their numbers, with the ends of the line.
-ghost use Rattle.std.specs.Prelude.{◌≡◌, ◌↔◌, ◌≤◌, ℕ, pos, ◌+ℤ◌, IsSome, IfSome};
+ghost use Rattle.std.specs.Prelude.{◌≡◌, ◌↔◌, ℕ, pos, ◌+ℤ◌, IsSome, IfSome};
 ghost use Rattle.osn_days.specs.Rules.{newest_rules};
 ghost use Rattle.osn_days.specs.Line.{IsDay, IsOnLine, weekday, julian_day};
 ghost use Rattle.osn_days.specs.Weekday.{weekday_numbered};

@@ -1,5 +1,5 @@
 //! The years counted from 1 January by their numbers, with the first and the last.
-ghost use Rattle.std.specs.Prelude.{◌≡◌, ◌↔◌, pos, ◌≤ℤ◌, IsSome, IfSome};
+ghost use Rattle.std.specs.Prelude.{◌≡◌, ◌↔◌, pos, IsSome, IfSome};
 ghost use Rattle.osn_days.specs.Rules.{newest_rules};
 ghost use Rattle.osn_days.specs.Line.{IsYear, IsYearNumber};
 

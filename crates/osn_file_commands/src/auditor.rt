@@ -33,18 +33,14 @@ impl Auditor {
 }
 
 impl LineFold for Auditor {
-    ghost use Rattle.std.specs.Prelude.{ℕ, List, is_ok};
-    ghost use Rattle.osn_request.specs.Field.{◌>>=◌};
-    ghost use Rattle.osn_file_commands.specs.TranscriptAudit.{after_object, checked, entry_in};
+    ghost use Rattle.std.specs.Prelude.{ℕ, List};
+    ghost use Rattle.osn_file_commands.specs.TranscriptAudit.{after_object};
 
     ghost State = { List ℕ };
 
     ghost state = { λ auditor. auditor.followers.last };
 
     ghost step = { λ auditor. after_object auditor.followers.object };
-
-    ghost is_formed = { λ auditor _ d.
-        is_ok (entry_in d >>= checked auditor.followers.object auditor.followers.last) };
 
     fn take_object(
         &mut self,

@@ -1,5 +1,5 @@
 //! The commands over the files of a folder, which are opened by their paths first.
-ghost use Rattle.std.specs.Prelude.{◌≡◌, IfErr, IfOk, string_bytes};
+ghost use Rattle.std.specs.Prelude.{IfErr, IfOk, string_bytes};
 ghost use Rattle.osn_folder.specs.Folder.{MayFail};
 ghost use Rattle.osn_file_commands.specs.Audit.{Audits, AuditFails};
 ghost use Rattle.osn_file_commands.specs.Replay.{Replays, ReplayFails};

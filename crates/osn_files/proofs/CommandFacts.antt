@@ -13,7 +13,7 @@ use Rattle.osn_lines.specs.Lines.{lines}
 use Rattle.osn_register.specs.declared.refusal.Refusal.{Refusal}
 use Rattle.osn_register.specs.Code.{is_code}
 use Rattle.osn_register.specs.Plain as plain
-use Rattle.osn_register.specs.Plain.{EntryModel, refusal}
+use Rattle.osn_register.specs.Plain.{EntryModel}
 use Rattle.osn_register.specs.Refusal.{or_else}
 use Rattle.osn_core.specs.declared.command.Command.{Command}
 use Rattle.osn_request.specs.declared.version.Version.{Version}

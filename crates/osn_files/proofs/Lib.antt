@@ -17,7 +17,4 @@ mod NewerFacts
 mod RuleFacts
 mod GreaterFacts
 mod Greater
-mod WholeLemmas
-mod MeasureLemmas
 mod LastLineLemmas
-mod FirstLemmas

@@ -1,10 +1,9 @@
 -- The result of a file that is being read, by its lines and at their end.
 use Rattle.std.proofs.Common.{◌≡◌, ℕ, ◌+◌, ◌<◌, List, [], ◌∷◌, ◌++◌, length, take, drop, zero, suc}
 use Rattle.std.proofs.Common.{Option, Some, None, Result, Ok, Err, IfSome, IfErr, refl, sym, ap}
-use Rattle.std.proofs.Common.{unwrap_or, Bool, true, false, ◌∙◌, arith, append-nil, append_assoc}
+use Rattle.std.proofs.Common.{unwrap_or, Bool, ◌∙◌, arith, append-nil, append_assoc}
 use Rattle.std.proofs.Common.{length-append, subst}
 use Rattle.std.proofs.lemmas.List.{take-append-drop}
-use Rattle.std.specs.Bool.{MatchBool}
 use Rattle.std.specs.Prelude.{slice_get}
 use Rattle.serde_json.specs.Data.{Data}
 use Rattle.osn_lines.specs.Lines.{lines}
@@ -211,17 +210,6 @@ pub Stops-object : {A : Type 0} (make : Data → Result A LineFault) (r : Result
     (d : Data) (why : LineStop) → r ≡ Ok d → Stops (make d) why → Stops (on_read r make) why
 Stops-object make r d NoMemory read stop = tt
 Stops-object make r d (Fault f) read stop = ap (λ o. on_read o make) read ∙ stop
-
--- a line that was not taken by its text left the value as it was
-pub passed : (P Q : Type 0) (b : Bool) → b ≡ false → MatchBool b P Q → Q
-passed P Q true is h = absurd (cc)
-passed P Q false is h = h
-
-pub same-after_line : {A : Type 0} (t s : Version → A → Data → Result A LineFault)
-    (version : Option Version) (b a : A) → t ≡ s → b ≡ a
-    → after_line t version b ≡ after_line s version a
-same-after_line t s version b a rule kept =
-    ap (λ r. after_line r version b) rule ∙ ap (after_line s version) kept
 
 stays_so : (version : Option Version) → StaysKnown version version
 stays_so None = tt

@@ -179,10 +179,6 @@ regime_by version d r has h =
     style_by (rules_of version) d style
     (ap (has_style (rules_of version)) (sym same) ∙ has) is))
 
-some_read : (r : Result (List ℕ) WireFault) → (r >>= λ source. Ok (Some source)) ≡ Ok None → ⊥
-some_read (Ok source) h = cc
-some_read (Err f) h = cc
-
 none_read : (has there : Bool) (d : Data) → source_if there d ≡ Ok None
     → source_if (has && there) d ≡ Ok None
 none_read true there d h = h

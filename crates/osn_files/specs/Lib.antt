@@ -15,7 +15,5 @@ pub mod EarlierRules
 pub mod Loaded
 pub mod GreaterLimits
 pub mod LastLine
-pub mod LastLineInside
 pub mod CountedPrefix
-pub mod CountedPrefixInside
 pub mod WrittenInside

@@ -4,6 +4,7 @@ ghost use Rattle.osn_files.specs.Faults.{line_fault_number, line_fault_name};
 
 use osn_register::Refusal;
 use osn_request::WireFault;
+use std::alloc::AllocError;
 use thiserror::Error;
 
 /// What a file is read as.
@@ -71,4 +72,15 @@ pub enum FileFault {
         /// Why it is refused.
         fault: LineFault,
     },
+}
+
+impl From<AllocError> for FileFault {
+    ghost use Rattle.std.specs.Prelude.{◌≡◌};
+    ghost use Rattle.osn_files.specs.declared.fault.FileFault.TheVariants.{NoMemory};
+
+    ghost from_gives = { λ _ fault. fault ≡ NoMemory };
+
+    fn from(_: AllocError) -> FileFault {
+        FileFault::NoMemory
+    }
 }

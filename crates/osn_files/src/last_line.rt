@@ -1,10 +1,9 @@
 //! The state of a file's last line: whether its line feed is there, or it was not finished.
-ghost use Rattle.std.specs.Prelude.{◌≡◌, ◌≤◌, ℕ, List, [], ◌++◌, IfOk, OnOk, length, nat_eq};
+ghost use Rattle.std.specs.Prelude.{◌≡◌, ◌≤◌, IfOk, length, nat_eq};
 ghost use Rattle.std.specs.List.{starts_with};
 ghost use Rattle.osn_request.specs.Version.{plain_version};
 ghost use Rattle.osn_files.specs.JournalText.{line_text};
 ghost use Rattle.osn_files.specs.LastLine as spec;
-ghost use Rattle.osn_files.specs.LastLineInside.{IsFrontOf};
 ghost use Rattle.osn_files.specs.Version.{head_data};
 
 use crate::written::head_line;
@@ -12,9 +11,6 @@ use json::Scratch;
 use osn_lines::{LONGEST_LINE, Line};
 use osn_request::{RequestError, WireFault, object_of};
 use std::alloc::{AllocError, Global};
-
-/// The room that a head gets at first.
-const HEAD_ROOM: usize = 32;
 
 /// The state of a file's last line.
 #[derive(Clone, Copy, Debug, PartialEq, Eq)]
@@ -45,7 +41,7 @@ fn is_head_front(alloc: Global, bytes: &[u8]) -> Result<bool, AllocError>
     ensures { IfOk result (λ is.
         is ≡ starts_with nat_eq (line_text (head_data plain_version)) bytes.now) }
 {
-    let head = head_line(alloc, HEAD_ROOM)?;
+    let head = head_line(alloc)?;
     Ok(head.starts_with(bytes))
 }
 
@@ -60,53 +56,18 @@ fn is_unfinished(alloc: Global, lines: u64, bytes: &[u8]) -> Result<bool, AllocE
     is_no_json(alloc, bytes)
 }
 
-/// The first bytes after the last line feed, as many as a line has at most and one more. No more
-/// are needed for the state of the last line.
-#[derive(Drop)]
-pub(crate) struct PartialLine {
-    bytes: Vec<u8>,
-}
-
-impl PartialLine {
-    /// Returns one without bytes.
-    pub(crate) fn new(alloc: Global) -> PartialLine
-        ensures { IsFrontOf result [] }
-    {
-        PartialLine {
-            bytes: Vec::new(alloc),
-        }
+/// Returns the state of the last line, by the lines that a line feed ends and the bytes after them.
+pub(crate) fn state_of(alloc: Global, lines: u64, line: &[u8]) -> Result<LastLine, AllocError>
+    ensures { IfOk result (λ last. last ≡ spec.last_line lines line.now) }
+{
+    if line.is_empty() {
+        return Ok(LastLine::Ended);
     }
-
-    /// Adds the next bytes.
-    pub(crate) fn add(&mut self, more: &[u8]) -> Result<(), AllocError>
-        ensures { OnOk result ((line : List ℕ) → IsFrontOf self.old line →
-            IsFrontOf self.new (line ++ more.now)) }
-    {
-        let room = (LONGEST_LINE + 1).saturating_sub(self.bytes.len());
-        self.bytes.extend_from_slice(&more[..room.min(more.len())])
+    if line.len() > LONGEST_LINE {
+        return Ok(LastLine::LacksFeed);
     }
-
-    /// Clears the bytes.
-    pub(crate) fn clear(&mut self)
-        ensures { IsFrontOf self.new [] }
-    {
-        self.bytes.clear();
+    if is_unfinished(alloc, lines, line)? {
+        return Ok(LastLine::Unfinished);
     }
-
-    /// Returns the state of the last line, after this many lines.
-    pub(crate) fn last_line(&self, alloc: Global, lines: u64) -> Result<LastLine, AllocError>
-        ensures { IfOk result (λ last. (line : List ℕ) → IsFrontOf self.now line →
-            last ≡ spec.last_line lines line) }
-    {
-        if self.bytes.is_empty() {
-            return Ok(LastLine::Ended);
-        }
-        if self.bytes.len() > LONGEST_LINE {
-            return Ok(LastLine::LacksFeed);
-        }
-        if is_unfinished(alloc, lines, &self.bytes)? {
-            return Ok(LastLine::Unfinished);
-        }
-        Ok(LastLine::LacksFeed)
-    }
+    Ok(LastLine::LacksFeed)
 }

@@ -70,9 +70,8 @@ impl Lists {
 }
 
 impl LineFold for Lists {
-    ghost use Rattle.std.specs.Prelude.{List, is_ok};
+    ghost use Rattle.std.specs.Prelude.{List};
     ghost use Rattle.osn_register.specs.declared.query.Query.{Query};
-    ghost use Rattle.osn_files.specs.Questions.{question_in};
     ghost use Rattle.osn_files.specs.QuestionsInside.{with_object};
 
     ghost State = { List (List Query) };
@@ -80,8 +79,6 @@ impl LineFold for Lists {
     ghost state = { λ lists. lists };
 
     ghost step = { λ _. with_object };
-
-    ghost is_formed = { λ _ _ d. is_ok (question_in d) };
 
     fn take_object(
         &mut self,

@@ -1,7 +1,6 @@
 //! The lines of a file, taken one after another.
 ghost use Rattle.std.specs.Prelude.{◌≡◌, ◌<◌, ◌^◌, Result, Ok, IfOk, IfErr, IfSome, OnOk};
-ghost use Rattle.std.specs.Prelude.{length, List, ℕ, Bool, true, Some, None};
-ghost use Rattle.std.specs.Bool.{MatchBool};
+ghost use Rattle.std.specs.Prelude.{length, List, ℕ, Some, None};
 ghost use Rattle.serde_json.specs.Data.{Data};
 ghost use Rattle.serde_json.specs.Read.{read};
 ghost use Rattle.osn_lines.specs.Lines.{IsLine, lines};
@@ -13,7 +12,6 @@ ghost use Rattle.osn_files.specs.Files.{ReadsFile};
 ghost use Rattle.osn_files.specs.Loaded.{IsOfVersion};
 ghost use Rattle.osn_files.specs.Stops.{Stops, file_fault};
 ghost use Rattle.osn_files.specs.Turns.{in_turn, on_read};
-ghost use Rattle.osn_files.specs.declared.stop.LineStop.TheVariants.{NoMemory};
 
 use crate::fault::{FileFault, LineFault, Role};
 use crate::stop::LineStop;
@@ -21,7 +19,7 @@ use crate::version::version_of;
 use json::Scratch;
 use osn_lines::{EndedEarly, Line, LineTaker, Source, TakeFault, take_lines};
 use osn_request::{LineObject, Version, WireFault, object_in, text_of};
-use std::alloc::{AllocError, Global};
+use std::alloc::Global;
 
 /// What makes a value of the lines of a file, one after another.
 pub trait LineFold {
@@ -34,15 +32,11 @@ pub trait LineFold {
     // What the object of a line makes of that by the rules of a version, or the line's fault.
     ghost step: { Self → LineVersion → State → Data → Result State Fault };
 
-    // Whether the object of a line has what is required of it before memory is taken.
-    ghost is_formed: { Self → LineVersion → Data → Bool };
-
     /// Takes the object of a line, which is read by the rules of a version.
     ///
     /// # Errors
     ///
-    /// Returns the line's fault, or `NoMemory` for an object that has what is required of it before
-    /// memory is taken. No other line is given to it then.
+    /// Returns the line's fault, or `NoMemory`. No other line is given to it then.
     fn take_object(
         &mut self,
         alloc: Global,
@@ -53,35 +47,9 @@ pub trait LineFold {
             (step self.old version (state self.old) (line_data object.now) ≡ Ok (state self.new)) }
         ensures err { IfErr result
             (Stops (step self.old version (state self.old) (line_data object.now))) }
-        ensures memory { IfErr result (λ stop. stop ≡ NoMemory
-            → is_formed self.old version (line_data object.now) ≡ true) }
 
         // The rule stays the same.
         ensures same { OnOk result (step self.new ≡ step self.old) };
-
-    /// Takes a line by its text, without its object, if it knows what the object gives. Returns
-    /// whether it did.
-    ///
-    /// # Errors
-    ///
-    /// Returns `AllocError` if memory runs out. No other line is given to it then.
-    fn take_text(
-        &mut self,
-        _alloc: Global,
-        version: Version,
-        _scratch: &mut Scratch,
-        text: &str,
-    ) -> Result<bool, AllocError>
-        ensures takes { IfOk result (λ is_taken. MatchBool is_taken
-            (on_read (spec.object_in (read text.now)) (step self.old version (state self.old))
-            ≡ Ok (state self.new))
-            (state self.new ≡ state self.old)) }
-
-        // The rule stays the same.
-        ensures same { OnOk result (step self.new ≡ step self.old) }
-    {
-        Ok(false)
-    }
 }
 
 /// A file that is being read: what reads its lines, the version by which they are read, once that
@@ -119,27 +87,6 @@ impl<F: LineFold> Reading<F> {
         }
     }
 
-    /// Returns whether a line was taken by its text, which is tried once a version is known.
-    fn is_taken(
-        alloc: Global,
-        scratch: &mut Scratch,
-        version: Option<Version>,
-        fold: &mut F,
-        text: &str,
-    ) -> Result<bool, AllocError>
-        ensures takes { IfOk result (λ is_taken. MatchBool is_taken
-            (on_read (spec.object_in (read text.now))
-            (after_line (F.step fold.old) version (F.state fold.old))
-            ≡ Ok (version, F.state fold.new))
-            (F.state fold.new ≡ F.state fold.old)) }
-        ensures same { OnOk result (F.step fold.new ≡ F.step fold.old) }
-    {
-        match version {
-            Some(version) => fold.take_text(alloc, version, scratch, text),
-            None => Ok(false),
-        }
-    }
-
     /// Takes the text of a line. Its object is dropped before the next line is read.
     fn take_text(
         alloc: Global,
@@ -155,9 +102,6 @@ impl<F: LineFold> Reading<F> {
         ensures err { IfErr result (Stops (on_read (spec.object_in (read text.now))
             (after_line (F.step fold.old) version.old (F.state fold.old)))) }
     {
-        if Reading::is_taken(alloc, scratch, *version, fold, text)? {
-            return Ok(());
-        }
         let object = object_in(alloc, scratch, text)?;
         Reading::take_object(alloc, version, fold, &object)
     }

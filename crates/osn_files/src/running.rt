@@ -1,10 +1,9 @@
 //! Runs the lines of a journal on its object.
-ghost use Rattle.std.specs.Prelude.{◌≡◌, Ok, OnOk, IfErr, is_ok, true};
+ghost use Rattle.std.specs.Prelude.{◌≡◌, Ok, OnOk, IfErr};
 ghost use Rattle.osn_days.specs.Rules.{newest_rules};
 ghost use Rattle.osn_core.specs.declared.command.Command.TheVariants.{Stage, Publish};
 ghost use Rattle.osn_files.specs.Journal.{after_command};
 ghost use Rattle.osn_files.specs.Stops.{Stops};
-ghost use Rattle.osn_files.specs.declared.stop.LineStop.TheVariants.{NoMemory};
 
 use crate::command_line::command_in;
 use crate::reading::LineFold;
@@ -18,8 +17,6 @@ fn stage(object: &mut Object, edit: Edit) -> Result<(), LineStop>
     ensures ok { OnOk result
         (after_command newest_rules object.old (Stage edit) ≡ Ok object.new) }
     ensures err { IfErr result (Stops (after_command newest_rules object.old (Stage edit))) }
-    ensures memory { IfErr result (λ stop. stop ≡ NoMemory
-        → is_ok (after_command newest_rules object.old (Stage edit)) ≡ true) }
 {
     object.check(&edit)?;
     object.admit(edit)?;
@@ -29,20 +26,16 @@ fn stage(object: &mut Object, edit: Edit) -> Result<(), LineStop>
 fn publish(object: &mut Object) -> Result<(), LineStop>
     ensures ok { OnOk result (after_command newest_rules object.old Publish ≡ Ok object.new) }
     ensures err { IfErr result (Stops (after_command newest_rules object.old Publish)) }
-    ensures memory { IfErr result (λ stop. stop ≡ NoMemory
-        → is_ok (after_command newest_rules object.old Publish) ≡ true) }
 {
     object.check_publish()?;
     object.make_edition()?;
     Ok(())
 }
 
-/// Runs a command on the object. It needs memory only if the command is not refused.
+/// Runs a command on the object.
 fn run(object: &mut Object, command: Command) -> Result<(), LineStop>
     ensures ok { OnOk result (after_command newest_rules object.old command ≡ Ok object.new) }
     ensures err { IfErr result (Stops (after_command newest_rules object.old command)) }
-    ensures memory { IfErr result (λ stop. stop ≡ NoMemory
-        → is_ok (after_command newest_rules object.old command) ≡ true) }
 {
     match command {
         Command::Stage(edit) => stage(object, edit),
@@ -51,10 +44,8 @@ fn run(object: &mut Object, command: Command) -> Result<(), LineStop>
 }
 
 impl LineFold for Object {
-    ghost use Rattle.std.specs.Prelude.{is_ok};
     ghost use Rattle.osn_days.specs.Rules.{newest_rules};
     ghost use Rattle.osn_core.specs.Sequential.{ObjectState};
-    ghost use Rattle.osn_files.specs.Commands.{command_in};
     ghost use Rattle.osn_files.specs.Journal.{after_object};
 
     ghost State = { ObjectState };
@@ -62,8 +53,6 @@ impl LineFold for Object {
     ghost state = { λ object. object };
 
     ghost step = { λ _. after_object newest_rules };
-
-    ghost is_formed = { λ _ version d. is_ok (command_in version d) };
 
     fn take_object(
         &mut self,

@@ -20,17 +20,15 @@ struct Steps {
 }
 
 impl LineFold for Steps {
-    ghost use Rattle.std.specs.Prelude.{List, is_ok};
+    ghost use Rattle.std.specs.Prelude.{List};
     ghost use Rattle.osn_core.specs.declared.step.Step.{Step};
-    ghost use Rattle.osn_files.specs.Schedule.{with_step, step_in};
+    ghost use Rattle.osn_files.specs.Schedule.{with_step};
 
     ghost State = { List Step };
 
     ghost state = { λ s. s.steps.items };
 
     ghost step = { λ s. with_step s.readers };
-
-    ghost is_formed = { λ s version d. is_ok (step_in version s.readers d) };
 
     fn take_object(
         &mut self,

@@ -13,9 +13,8 @@ use osn_request::{LineObject, Version};
 use std::alloc::Global;
 
 impl LineFold for Vec<Command> {
-    ghost use Rattle.std.specs.Prelude.{List, is_ok};
+    ghost use Rattle.std.specs.Prelude.{List};
     ghost use Rattle.osn_core.specs.declared.command.Command.{Command};
-    ghost use Rattle.osn_files.specs.Commands.{command_in};
     ghost use Rattle.osn_files.specs.Script.{with_command};
 
     ghost State = { List Command };
@@ -23,8 +22,6 @@ impl LineFold for Vec<Command> {
     ghost state = { λ commands. commands.items };
 
     ghost step = { λ _. with_command };
-
-    ghost is_formed = { λ _ version d. is_ok (command_in version d) };
 
     fn take_object(
         &mut self,

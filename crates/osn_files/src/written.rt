@@ -1,5 +1,5 @@
 //! Writes a journal.
-ghost use Rattle.std.specs.Prelude.{◌≡◌, ◌++◌, Ok, IfOk, OnOk, string_bytes, codes};
+ghost use Rattle.std.specs.Prelude.{◌≡◌, ◌++◌, Ok, IfOk, OnOk, string_bytes};
 ghost use Rattle.std.specs.List.{list_any};
 ghost use Rattle.serde_json.specs.Data.{Data, Members};
 ghost use Rattle.osn_days.specs.Rules.{newest_rules};
@@ -24,6 +24,9 @@ use std::alloc::{AllocError, Global};
 
 /// The room that a journal gets at first.
 const ROOM: usize = 65_536;
+
+/// The room that a head gets at first.
+const HEAD_ROOM: usize = 32;
 
 /// A member of the object of a line.
 #[derive(Clone, Copy)]
@@ -241,17 +244,16 @@ fn head_of(alloc: Global, version: Version, room: usize) -> Result<Vec<u8>, Allo
     end_line(out)
 }
 
-/// Returns the bytes of the first line of a new journal: a head of the plain version. They get this
-/// room at first, so that more can be put after them.
+/// Returns the bytes of the first line of a new journal: a head of the plain version.
 ///
 /// # Errors
 ///
 /// Returns `AllocError` if memory runs out.
-pub fn head_line(alloc: Global, room: usize) -> Result<Vec<u8>, AllocError>
+pub fn head_line(alloc: Global) -> Result<Vec<u8>, AllocError>
     ensures { IfOk result (λ bytes.
         bytes.items ≡ spec.line_text (head_data plain_version)) }
 {
-    head_of(alloc, Version::plain(), room)
+    head_of(alloc, Version::plain(), HEAD_ROOM)
 }
 
 /// Returns the bytes, and after them an edit as a line of a journal.

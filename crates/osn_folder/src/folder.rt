@@ -1,10 +1,10 @@
 //! Files by their paths: those that are read, those that are kept, and those that a text is saved
 //! to.
-ghost use Rattle.std.specs.Prelude.{◌≡◌, ◌∷◌, [], ℕ, List, Option, Some, None, IfOk, IfErr};
+ghost use Rattle.std.specs.Prelude.{◌≡◌, ◌∷◌, [], Option, Some, None, IfOk, IfErr};
 ghost use Rattle.std.specs.Prelude.{IfSome, OnOk, OnErr, false, string_bytes};
 ghost use Rattle.osn_folder.specs.Folder.{Known, Changes, Stays, Fails, IsFileOf, HasNoFile, Opens};
 ghost use Rattle.osn_folder.specs.Folder.{IsCauseAt};
-ghost use Rattle.osn_folder.specs.Folder.{KeepsOthers, Becomes, IsKeptAt, Keeps, CannotKeep};
+ghost use Rattle.osn_folder.specs.Folder.{Becomes, IsKeptAt, Keeps, CannotKeep};
 ghost use Rattle.osn_folder.specs.Folder.{Leaves};
 ghost use Rattle.osn_folder.specs.Folder.{Locks, CannotLock, IsPlaceOf, LeavesAll, WritesBeside};
 ghost use Rattle.osn_folder.specs.Folder.{Compares, Moves, CannotMove, Spoils, Syncs};

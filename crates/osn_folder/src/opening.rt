@@ -1,5 +1,5 @@
 //! Opens the files that are read, in their order.
-ghost use Rattle.std.specs.Prelude.{◌≡◌, ◌∷◌, [], IfErr, IfOk, OnOk, OnErr, option_map};
+ghost use Rattle.std.specs.Prelude.{◌∷◌, [], IfErr, IfOk, OnOk, OnErr, option_map};
 ghost use Rattle.osn_folder.specs.Crash.{LeavesAllSafe};
 ghost use Rattle.osn_folder.specs.Folder.{Changes, IsCauseAt, IsFileOf, IsFileIf, IsOpenFailure};
 ghost use Rattle.osn_folder.specs.Folder.{Opens, CannotOpen, path_if};

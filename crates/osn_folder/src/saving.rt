@@ -1,6 +1,6 @@
 //! Saves a text in a file that was locked, whole or not at all.
 ghost use Rattle.std.specs.Prelude.{◌≡◌, Some, IfErr, OnErr, OnOk, option_map};
-ghost use Rattle.osn_folder.specs.Folder.{Changes, Stays, Fails, Saves, CannotSave};
+ghost use Rattle.osn_folder.specs.Folder.{Changes, Fails, Saves, CannotSave};
 ghost use Rattle.osn_folder.specs.Folder.{SavesAt, CannotSaveAt, Syncs};
 ghost use Rattle.osn_folder.specs.Crash.{IsSafelySaved, CannotSafelySave, IsSafelySavedAt};
 ghost use Rattle.osn_folder.specs.Crash.{IsSafelyLeftAt, IsSafelyLeft, LeavesText};

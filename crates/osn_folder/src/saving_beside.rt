@@ -1,5 +1,5 @@
 //! Saves a text in the place of a file, which is left beside it.
-ghost use Rattle.std.specs.Prelude.{◌≡◌, IfErr, IfOk, string_bytes};
+ghost use Rattle.std.specs.Prelude.{IfErr, IfOk, string_bytes};
 ghost use Rattle.osn_folder.specs.Folder.{Changes};
 ghost use Rattle.osn_folder.specs.Crash.{SavesBeside, CannotSaveBeside, GivesUp};
 

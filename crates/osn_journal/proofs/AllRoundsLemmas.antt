@@ -3,10 +3,8 @@ use Rattle.std.proofs.Common.{◌≡◌, ◌∙◌, ◌+◌, ℕ, Bool, true, fa
 use Rattle.std.proofs.Common.{◌++◌}
 use Rattle.std.proofs.Common.{Option, Result, Ok, Err, refl, sym, ap}
 use Rattle.std.proofs.Common.{subst}
-use Rattle.std.proofs.Common.{arith, inl, inr}
+use Rattle.std.proofs.Common.{inl, inr}
 use Rattle.std.proofs.lemmas.List.Elements.{All-nil}
-use Rattle.std.specs.Io.KnownBytes.{Appends}
-use Rattle.osn_core.specs.Sequential.{ObjectState}
 use Rattle.osn_register.specs.declared.limits.Limits.{Limits}
 use Rattle.osn_lines.specs.Ended.{unended_bytes}
 use Rattle.osn_lines.specs.declared.fault.EndedEarly.{EndedEarly}
@@ -36,7 +34,7 @@ use Rattle.osn_journal.specs.RoundInside.{Answers, Comes, ComesNot, EndsAfter}
 use Rattle.osn_journal.specs.RoundInside.{RefusesLine, is_end, waiting_after, GoesOn}
 use Rattle.osn_journal.specs.RoundInside.{IsOver, IsEarlyEnd, IsReadOf, IsUnloaded, LoadsNot}
 use Rattle.osn_journal.specs.Outcomes.{outcomes, outcomes_of}
-use Rattle.osn_journal.proofs.OutcomeLemmas.{Arrive-then, Arrive-nothing, round_of}
+use Rattle.osn_journal.proofs.OutcomeLemmas.{Arrive-then, round_of}
 use Rattle.osn_journal.proofs.RoundLemmas.{Round, next-following, ends-all, ends-refused}
 use Rattle.osn_journal.proofs.RoundLemmas.{ends-early}
 
@@ -97,9 +95,6 @@ Round-come rules f m g before after lines h journal requests = record {
 module _ (rules : ServeRules) (f m g : Follower) (before after : Option (List Arrival))
     (lines : RequestLines) (h : Comes f m before after lines) (journal : g.journal ≡ m.journal)
     (requests : g.requests ≡ m.requests) (old now : Option (List ℕ)) (done : Served) where
-  abbrev object_at : ObjectState
-  object_at = m.journal.object
-
   answers_here : (result : Result Served (EndedEarly ServeFault))
       → Answers rules m.journal.object lines.text.items old now result
       → Answers rules g.journal.object lines.text.items old now result
@@ -220,20 +215,6 @@ Follows-after rules limits before mid after o old f arrivals next all result sam
           (outcomes_of rules l [] [] (arrivals ++ next)) o.old o.new result) same
           (ends o.old arrivals all following);
     }
-
--- there was no memory to begin with
-pub Follows-none : (rules : ServeRules) (limits : Limits) (before : Option (List Arrival))
-    (o : Output) → o.new ≡ o.old
-    → Follows rules limits before before o (Err (record { lines = 0; cause = Serve NoMemory }))
-Follows-none rules limits before o same = record {
-  arrivals = [];
-  arrive = Arrive-nothing before;
-  ended = record {
-    enough = omega arith;
-    written = subst (λ (n : Option (List ℕ)). Appends o.old n []) (sym same)
-        (Appends-nothing o.old);
-  };
-}
 
 -- what holds after another round
 pub next_invariant : (rules : ServeRules) (before mid after : Option (List Arrival))

@@ -7,7 +7,7 @@ use Rattle.std.proofs.Common.{length-append}
 use Rattle.std.proofs.lemmas.Bool.{eqb-true}
 use Rattle.serde_json.specs.Data.{Data}
 use Rattle.osn_days.specs.Rules.{newest_rules}
-use Rattle.osn_core.specs.Sequential.{ObjectState, opened}
+use Rattle.osn_core.specs.Sequential.{ObjectState}
 use Rattle.osn_register.specs.declared.limits.Limits.{Limits}
 use Rattle.osn_lines.specs.Ended.{with_byte, ended_length}
 use Rattle.osn_lines.specs.Faults.{IsReadFault}
@@ -163,19 +163,6 @@ most_later : (n k j : ℕ) → j ≡ min n 18446744073709551615
 most_later n k j is = omega (arith, is)
 
 -- ---- the journal
-
--- no line has come
-pub IsJournalOf-none : (limits : Limits) (j : FollowedJournal) → j.version ≡ None → j.lines ≡ 0
-    → j.object ≡ opened limits → IsJournalOf limits [] j
-IsJournalOf-none limits j version lines object = record {
-  whole = refl;
-  object = ap Ok (sym object);
-  fresh = λ none. refl;
-  goes_on = λ more.
-      ap (λ s. in_turn (after_object newest_rules) 1 None s more) (sym object)
-      ∙ ap (λ v. in_turn (after_object newest_rules) 1 v j.object more) (sym version);
-  count = lines;
-}
 
 -- what comes next continues from more lines
 next_from : (limits : Limits) (file gained : List ℕ) (j : FollowedJournal) (part : JournalPart)

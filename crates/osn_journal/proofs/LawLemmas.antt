@@ -21,7 +21,6 @@ use Rattle.osn_files.specs.Version.{version_of}
 use Rattle.osn_files.specs.declared.fault.LineFault.{LineFault}
 use Rattle.osn_folder.specs.FollowedFile.{IsOfWholeLines}
 use Rattle.osn_journal.specs.FollowerLaw.{BeginsWith, DoEditionsNeverFall, DoSyncedEditionsStay}
-use Rattle.osn_journal.specs.FollowerLaw.{IsBetween}
 use Rattle.osn_journal.specs.Outcomes as specs
 use Rattle.osn_journal.proofs.FollowedJournalLemmas.{goes, goes_on_from, lines-whole, whole-append}
 

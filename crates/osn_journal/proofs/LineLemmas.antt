@@ -5,11 +5,11 @@ use Rattle.std.proofs.Common.{arith}
 use Rattle.std.proofs.Common.{inl, inr, append-nil, append_assoc, length-append, map, Err}
 use Rattle.std.proofs.Math.Seq.{take-append-add, drop-append-add}
 use Rattle.std.proofs.lemmas.Bool.{eqb-true, lt-ltb}
-use Rattle.std.proofs.lemmas.List.{length-drop, length-take-le}
+use Rattle.std.proofs.lemmas.List.{length-drop}
 use Rattle.osn_core.specs.Sequential.{ObjectState}
 use Rattle.osn_lines.specs.Ended.{with_byte, ended_length, ended_bytes, unended_bytes}
 use Rattle.osn_lines.specs.Lines.{lines, onto_first, longest_line}
-use Rattle.osn_lines.proofs.EndedLemmas.{ended-before, ended-within, ended-le}
+use Rattle.osn_lines.proofs.EndedLemmas.{ended-before, ended-within}
 use Rattle.osn_request.specs.Version.{newest_version}
 use Rattle.osn_request.specs.declared.wire_fault.WireFault.TheVariants.{LineTooLong}
 use Rattle.osn_request.specs.Field.{◌>>=◌}
@@ -247,27 +247,10 @@ with_feed-some waiting old h some =
     waits (inl same) = subst (λ (l : List ℕ). 0 < length l) same some
     waits (inr both) = omega (arith, both.1)
 
-pub with_feed-none : (waiting : List ℕ) (old : LineFront) → IsFrontOf waiting old
-    → length old.bytes.items ≡ 0 → waiting ≡ []
-with_feed-none waiting old h none = empty waiting (waits h.is)
-  where
-    waits : (old.bytes.items ≡ waiting) ⊎ (IsLong old.bytes.items × IsLong waiting)
-        → length waiting ≡ 0
-    waits (inl same) = ap length (sym same) ∙ none
-    waits (inr both) = absurd (omega (arith, both.0, none))
-
-    empty : (l : List ℕ) → length l ≡ 0 → l ≡ []
-    empty [] e = refl
-    empty (b ∷ bs) e = absurd (omega (arith, e))
-
 -- ---- how long they are
 
 pub unended-le : (bytes : List ℕ) → length (unended_bytes bytes) ≤ length bytes
 unended-le bytes = omega (arith, length-drop (ended_length bytes) bytes)
-
-pub ended-length : (bytes : List ℕ) → length (ended_bytes bytes) ≤ length bytes
-ended-length bytes =
-    omega (arith, length-take-le (ended_length bytes) bytes (ended-le bytes), ended-le bytes)
 
 -- if a line of the last bytes has ended, no more is after it than those
 pub unended-last : (front bytes : List ℕ) → (ended_length bytes ≡ 0 → ⊥)

@@ -1,6 +1,6 @@
 -- The outcomes of a follower: at each look at the file, the lines that have come whole since the
 -- look before are answered from the journal that the file then contains.
-use Rattle.std.specs.Prelude.{ℕ, true, Bool, List, [], ◌∷◌, ◌++◌, take, map}
+use Rattle.std.specs.Prelude.{ℕ, true, Bool, List, [], ◌∷◌, ◌++◌, map}
 use Rattle.std.specs.Prelude.{Result, Ok, Err}
 use Rattle.std.specs.List.{flat_map}
 use Rattle.osn_days.specs.Rules.{newest_rules}

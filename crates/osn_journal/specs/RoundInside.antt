@@ -1,7 +1,6 @@
 -- What one round of a follower has done: it reads once, looks once, and answers.
 use Rattle.std.specs.Prelude.{◌≡◌, ◌≤◌, ◌⊎◌, ℕ, Bool, true, false, List, [], ◌∷◌, ◌++◌, length}
 use Rattle.std.specs.Prelude.{Option, Result, Ok, Err}
-use Rattle.std.specs.List.{All}
 use Rattle.osn_core.specs.Sequential.{ObjectState}
 use Rattle.osn_lines.specs.Ended.{ended_bytes, unended_bytes}
 use Rattle.osn_lines.specs.declared.fault.EndedEarly.{EndedEarly}

@@ -1,12 +1,10 @@
 //! The follower: at each look at the file, the lines that have come since are answered from the
 //! journal that it contains then.
-ghost use Rattle.std.specs.Prelude.{◌≡◌, ◌≤◌, ◌<◌, ◌+◌, ◌^◌, ℕ, List, [], true, false, length};
+ghost use Rattle.std.specs.Prelude.{◌≡◌, ◌≤◌, ◌<◌, ◌+◌, ◌^◌, true, length};
 ghost use Rattle.std.specs.Prelude.{IfOk, IfErr, MatchResult, OnOk, MatchOption};
 ghost use Rattle.osn_lines.specs.Streams.{output_of};
-ghost use Rattle.osn_service.specs.declared.outcome.Outcome.{Outcome};
-ghost use Rattle.osn_journal.specs.Arrivals.{Arrival, Arrive};
 ghost use Rattle.osn_journal.specs.Follows.{Follows};
-ghost use Rattle.osn_journal.specs.FollowerInside.{HasFew, IsFollowing};
+ghost use Rattle.osn_journal.specs.FollowerInside.{HasFew};
 ghost use Rattle.osn_journal.specs.FollowerLaw.{DoEditionsNeverFall, DoSyncedEditionsStay};
 ghost use Rattle.osn_journal.specs.RoundInside.{Answers, Comes, ComesNot, IsReadOf, IsUnreadOf};
 ghost use Rattle.osn_journal.specs.RoundInside.{Loads, LoadsNot, IsUnloaded, GoesOn, IsOver};

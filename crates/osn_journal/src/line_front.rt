@@ -1,7 +1,7 @@
 //! What has come of a request line that has not ended yet.
 ghost use Rattle.std.specs.Prelude.{◌≡◌, ◌++◌, ◌≤◌, ◌<◌, ◌+◌, ℕ, List, [], length, IfOk, OnOk};
 ghost use Rattle.osn_lines.specs.Ended.{ended_bytes, unended_bytes};
-ghost use Rattle.osn_journal.specs.FollowerInside.{HasFew, HasNoLine, IsFrontOf, GivesSameLines};
+ghost use Rattle.osn_journal.specs.FollowerInside.{HasFew, IsFrontOf, GivesSameLines};
 ghost use Rattle.osn_journal.specs.Outcomes.{with_feed};
 
 use osn_lines::{LONGEST_LINE, ended_length};

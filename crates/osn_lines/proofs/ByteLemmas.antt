@@ -16,13 +16,6 @@ Appends-then (Some ps) (Some qs) None xs ys h k = absurd k
 Appends-then (Some ps) (Some qs) (Some rs) xs ys h k =
     k ∙ (ap (λ l. l ++ ys) h ∙ append_assoc ps xs ys)
 
-pub Appends-keeps : (a b c : Option (List ℕ)) (xs : List ℕ) → Appends a b xs → Keeps b c →
-    Appends a c xs
-Appends-keeps None b c xs h k = tt
-Appends-keeps (Some ps) None c xs h k = absurd h
-Appends-keeps (Some ps) (Some qs) None xs h k = absurd k
-Appends-keeps (Some ps) (Some qs) (Some rs) xs h k = k ∙ h
-
 pub Consumes-nothing : (a : Option (List ℕ)) → Consumes a a []
 Consumes-nothing None = tt
 Consumes-nothing (Some xs) = refl

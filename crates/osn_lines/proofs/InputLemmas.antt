@@ -223,20 +223,3 @@ StopsAfter-from after stopped s t a b bytes n why h consumed =
           known (λ input. slice_get (lines input) n ≡ Some h.line) a b bytes consumed
           (λ more. slice_get_at _ h.lines_taken h.line _ n (from_none n _ h.count) (all more));
     }
-
--- if the taker stops before a read
-pub StopsAfter-between : {S W : Type 0} (after : S → List (List ℕ) → S → Type 0)
-    (stopped : S → List (List ℕ) → Option (List ℕ) → S → W → Type 0) (s t u : S)
-    (a b : Option (List ℕ)) (bytes : List ℕ) (n : ℕ) (Left : List ℕ → Type 0) (why : W) →
-    IsTaken after s t bytes 0 n Left → Consumes a b bytes → Stops after stopped t u None why →
-    StopsAfter after stopped s u a n why
-StopsAfter-between after stopped s t u a b bytes n Left why h consumed stops = record {
-  lines_taken = h.lines_taken;
-  at = None;
-  stops = λ begun before x. stops begun (before ++ h.lines_taken) (h.takes begun before x);
-  count = from_none n _ h.count;
-  first =
-      known (λ input. take n (lines input) ≡ h.lines_taken) a b bytes consumed
-      (λ more. take_front _ h.lines_taken _ n (from_none n _ h.count) (h.cuts.whole more));
-  next = known (λ input. Unit {0}) a b bytes consumed (λ more. tt);
-}

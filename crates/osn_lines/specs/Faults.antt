@@ -13,10 +13,6 @@ MatchFault (Stopped why) P Q R = R why
 abbrev pub IsReadFault : Bool → Option (List ℕ) → Type 0
 IsReadFault failed input = (failed ≡ true) ⊎ IfSome input (λ bytes. 4294967295 ≤ length bytes)
 
--- the sink failed, or it may take the text in more writes than the 4,294,967,295 that are made
-abbrev pub IsWriteFault : Bool → List ℕ → Type 0
-IsWriteFault failed text = (failed ≡ true) ⊎ (4294967295 ≤ length text)
-
 -- the sink failed, or it is as sound as it was and the writes that are made did not suffice
 abbrev pub WriteFails : Bool → Bool → List ℕ → Type 0
 WriteFails old new text = (new ≡ true) ⊎ ((new ≡ old) × (4294967295 ≤ length text))

@@ -1,6 +1,6 @@
 //! Gives all lines of a source to a taker, each as soon as it is read.
-ghost use Rattle.std.specs.Prelude.{◌≡◌, ◌+◌, ◌^◌, ◌<◌, ◌≤◌, ◌⊎◌, ℕ, List, Some, length, true};
-ghost use Rattle.std.specs.Prelude.{IfOk, IfErr, IfSome, OnOk, ⊤, [], ◌∷◌};
+ghost use Rattle.std.specs.Prelude.{◌≡◌, ◌+◌, ◌^◌, ◌<◌, ◌⊎◌, ℕ, List, Some, length};
+ghost use Rattle.std.specs.Prelude.{IfOk, IfErr, OnOk, ⊤, [], ◌∷◌};
 ghost use Rattle.std.specs.Io.KnownBytes.{IsAtEnd};
 ghost use Rattle.osn_lines.specs.Faults.{MatchFault, IsReadFault};
 ghost use Rattle.osn_lines.specs.Inside.{IsUnended};

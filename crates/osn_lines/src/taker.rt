@@ -1,5 +1,5 @@
 //! What takes lines.
-ghost use Rattle.std.specs.Prelude.{◌≡◌, ℕ, List, [], ◌∷◌, Option, Some, None, OnOk, IfErr, ⊤};
+ghost use Rattle.std.specs.Prelude.{ℕ, List, [], ◌∷◌, Option, Some, None, OnOk, IfErr, ⊤};
 ghost use Rattle.osn_lines.specs.Lines.{IsLine};
 ghost use Rattle.osn_lines.specs.Taking.{Takes, Rests, Stops};
 

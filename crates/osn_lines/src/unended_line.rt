@@ -1,5 +1,5 @@
 //! The beginning of a line that has not ended, from one piece to the next.
-ghost use Rattle.std.specs.Prelude.{◌≡◌, ◌<◌, ℕ, List, [], ◌++◌, IsTrue, length, true, false, OnOk};
+ghost use Rattle.std.specs.Prelude.{◌≡◌, ◌<◌, ℕ, List, [], ◌++◌, length, true, false, OnOk};
 ghost use Rattle.osn_lines.specs.Inside.{Holds};
 ghost use Rattle.osn_lines.specs.Lines.{IsLine};
 

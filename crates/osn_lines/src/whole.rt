@@ -1,5 +1,5 @@
 //! Reads a source to its end, with all its bytes in memory.
-ghost use Rattle.std.specs.Prelude.{◌≡◌, List, ℕ, IfOk, IfErr, IfSome, OnOk};
+ghost use Rattle.std.specs.Prelude.{◌≡◌, IfOk, IfErr, IfSome, OnOk};
 ghost use Rattle.std.specs.Io.KnownBytes.{IsAtEnd};
 ghost use Rattle.osn_lines.specs.Whole.{WhyNotRead};
 ghost use Rattle.osn_lines.specs.declared.whole.ReadAllFault.{ReadAllFault};

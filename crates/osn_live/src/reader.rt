@@ -1,6 +1,6 @@
 //! A reader of a running register: it answers without waiting, and never from less than it has
 //! seen.
-ghost use Rattle.std.specs.Prelude.{◌≡◌, true, length, IfOk, IfErr, OnErr, Some};
+ghost use Rattle.std.specs.Prelude.{◌≡◌, true, length, IfOk, IfErr, Some};
 ghost use Rattle.left_right.specs.Sides.{view};
 ghost use Rattle.osn_days.specs.Rules.{newest_rules};
 ghost use Rattle.osn_register.specs.Answer.{takes_memory};

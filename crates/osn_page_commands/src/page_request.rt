@@ -10,7 +10,7 @@ use crate::day_number::{day_by_julian, day_by_number, is_julian_word};
 use crate::month_word::month_of_word;
 use crate::order::order_of_word;
 use osn_days::{Calendar, Day, Keyword, Weekday, Year};
-use osn_grammar::{DateOrder, Written, parse_day, read_date};
+use osn_grammar::{Written, parse_day, read_date};
 use osn_invocation::PageRequest;
 use osn_pages::{Page, day_of_written};
 use osn_report::Misuse;

@@ -1,5 +1,5 @@
 //! The lines on standard error about a refused page.
-ghost use Rattle.std.specs.Prelude.{◌≡◌, ◌++◌, IfOk, OnOk, string_bytes, codes};
+ghost use Rattle.std.specs.Prelude.{◌≡◌, ◌++◌, IfOk, OnOk, string_bytes};
 ghost use Rattle.osn_page_commands.specs.Page as spec;
 
 use crate::page_request::Topic;

@@ -1,15 +1,12 @@
 -- Days in pieces, and the lines of grids.
-use Rattle.std.proofs.Common.{◌≡◌, ◌≤◌, ◌<◌, ◌-◌, ◌*◌, ℕ, zero, suc, Bool, true, false}
+use Rattle.std.proofs.Common.{◌≡◌, ◌≤◌, ◌<◌, ◌-◌, ℕ, zero, suc, Bool, true, false}
 use Rattle.std.proofs.Common.{if◌then◌else◌, List, [], ◌∷◌, ◌++◌, length, take, drop, get_or}
-use Rattle.std.proofs.Common.{refl, sym, ap, ◌∙◌, arith, append_assoc, append-nil, lit<}
-use Rattle.std.specs.Prelude.{◌^◌, replicate}
+use Rattle.std.proofs.Common.{refl, sym, ap, ◌∙◌, arith, append-nil, lit<}
+use Rattle.std.specs.Prelude.{◌^◌}
 use Rattle.std.specs.List.{flat_map}
 use Rattle.std.specs.Fmt.{styled_decimal, format_spec, decimal}
-use Rattle.std.proofs.Math.Seq.{take-length}
 use Rattle.std.proofs.Padding.{padded_integral_right}
 use Rattle.std.proofs.lemmas.List.{get_or_default}
-use Rattle.std.proofs.lemmas.List.Concat.{flat_map-cons}
-use Rattle.osn_days.specs.Line.{weekday}
 use Rattle.osn_territory.specs.declared.dated.DatedDay.{DatedDay}
 use Rattle.osn_pages.specs.Grid as spec
 
@@ -63,16 +60,6 @@ one_piece goes_on days some within =
 
 -- ---- lines
 
--- of the texts that are left the first one is pushed
-pub next_of_flat_map : {X : Type 0} (f : X → List ℕ) (whole now new : List ℕ) (x : X)
-    (left xs : List X) → whole ≡ now ++ flat_map f left → left ≡ x ∷ xs
-    → new ≡ now ++ f x → whole ≡ new ++ flat_map f xs
-next_of_flat_map f whole now new x left xs is first pushed =
-    is ∙ ap (λ ys. now ++ flat_map f ys) first
-    ∙ ap (λ t. now ++ t) (flat_map-cons f x xs)
-    ∙ sym (append_assoc now (f x) (flat_map f xs))
-    ∙ ap (λ t. t ++ flat_map f xs) (sym pushed)
-
 -- no day is left
 pub no_weeks : (whole now : List ℕ) (days : List DatedDay) → length days ≡ 0
     → whole ≡ now ++ flat_map spec.week_line (spec.weeks_of days) → now ≡ whole
@@ -87,25 +74,6 @@ no_runs whole now [] none is = rw is (sym (append-nil now))
 no_runs whole now (day ∷ days) none is = absurd (omega (arith, none))
 
 -- ---- a first day
-
-pub title_of_first : (run : List DatedDay) (first : DatedDay) → 0 < length run
-    → first ≡ get_or run 0 first → spec.centred (spec.month_year first) ≡ spec.title_line run
-title_of_first [] first some is = absurd (omega (arith, some))
-title_of_first (x ∷ run) first some is = ap (λ f. spec.centred (spec.month_year f)) is
-
-pub week_of_first : (week : List DatedDay) (first : DatedDay) → 0 < length week
-    → first ≡ get_or week 0 first → replicate (3 * weekday first.day) 32 ++ (spec.cell first
-    ++ (flat_map spec.next_cell (take (length week - 1) (drop 1 week)) ++ 10 ∷ []))
-    ≡ spec.week_line week
-week_of_first [] first some is = absurd (omega (arith, some))
-week_of_first (x ∷ days) first some is =
-    let count : suc (length days) - 1 ≡ length days = omega arith in
-    let others : take (suc (length days) - 1) days ≡ days =
-    ap (λ n. take n days) count ∙ take-length days in
-    ap (λ f. replicate (3 * weekday f.day) 32 ++ (spec.cell f
-    ++ (flat_map spec.next_cell (take (suc (length days) - 1) days) ++ 10 ∷ []))) is
-    ∙ ap (λ ds. replicate (3 * weekday x.day) 32
-    ++ (spec.cell x ++ (flat_map spec.next_cell ds ++ 10 ∷ []))) others
 
 -- what `{:>2}` writes of a number
 pub two_right : (n : ℕ)

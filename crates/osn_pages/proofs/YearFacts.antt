@@ -78,9 +78,3 @@ year_of_runs p t year (r ∷ rs) first last are some is_first is_last =
     ∙ ap (λ e. spec.year_ends_line year (dated_on p t r.first) (dated_on p t e))
     (at_end ∙ sym both.ends)
     ∙ ap (spec.year_line p t year) (sym both.begins)
-
--- a year with no run has no day
-pub year_of_none : (p : Rules) (t : TerritoryModel) (year : ℕ) (runs : List Run)
-    → length runs ≡ 0 → spec.no_year_line year ≡ spec.year_line p t year (days_in runs)
-year_of_none p t year [] none = refl
-year_of_none p t year (r ∷ rs) none = absurd (omega (arith, none))

@@ -7,7 +7,7 @@ use Rattle.osn_register.specs.declared.change.TerritoryEdit.TheVariants.{AddExce
 use Rattle.osn_register.specs.declared.change.TerritoryEdit.TheVariants.{DropException}
 use Rattle.osn_register.specs.InsideChange.{sources_after}
 use Rattle.osn_register.specs.Sources.{SourcesModel, AreSources, HasSources, IsGiven, is_source}
-use Rattle.osn_register.specs.Sources.{with_source, opening_sources}
+use Rattle.osn_register.specs.Sources.{with_source}
 
 are_without : (test : ℕ × List ℕ → Bool) (ss : List (ℕ × List ℕ)) → AreSources ss →
     AreSources (filter test ss)
@@ -29,10 +29,6 @@ are_with n None ss here given = are_without (λ s. not (s.0 == n)) ss given
 are_with n (Some text) ss here given =
     are_more (filter (λ s. not (s.0 == n)) ss) (n, text)
     (are_without (λ s. not (s.0 == n)) ss given) here
-
-pub has_opening : (source : Option (List ℕ)) → IsGiven source →
-    HasSources (opening_sources source)
-has_opening source given = record { periods = are_with 1 source [] given tt; easters = tt }
 
 pub has_after : (change : TerritoryEdit) (source : Option (List ℕ)) (s : SourcesModel) →
     IsGiven source → HasSources s → HasSources (sources_after change source s)

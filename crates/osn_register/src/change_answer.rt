@@ -3,7 +3,6 @@ ghost use Rattle.std.specs.Prelude.{◌≡◌, ◌<◌, ◌-◌, ◌++◌, Some,
 ghost use Rattle.std.specs.List.{flat_map};
 ghost use Rattle.std.specs.Option.{option_to_list};
 ghost use Rattle.osn_days.specs.Rules.{newest_rules};
-ghost use Rattle.osn_territory.specs.Territory.{periods_of};
 ghost use Rattle.osn_register.specs.Answer as spec;
 ghost use Rattle.osn_register.specs.Inside.{sources_in};
 

@@ -1,6 +1,6 @@
 //! The register: its edits, and why one is refused.
-ghost use Rattle.std.specs.Prelude.{◌≡◌, ◌++◌, [], ◌∷◌, true, Some, None, IfOk, IfErr, OnOk, OnErr};
-ghost use Rattle.std.specs.Prelude.{◌<◌, ◌||◌, length, is_some, option_copied, option_map};
+ghost use Rattle.std.specs.Prelude.{◌≡◌, [], true, Some, None, IfOk, IfErr, OnOk, OnErr};
+ghost use Rattle.std.specs.Prelude.{◌<◌, ◌||◌, length, is_some, option_map};
 ghost use Rattle.std.specs.Prelude.{string_bytes};
 ghost use Rattle.osn_days.specs.Rules.{newest_rules};
 ghost use Rattle.osn_territory.specs.Territory.{opened};

@@ -7,7 +7,6 @@ use osn_files::read_script;
 use osn_lines::Plain;
 use osn_live::{DeskFault, Gate, OpenGate, run_desk};
 use osn_register::{Limits, Query};
-use osn_test_texts::joined;
 use std::alloc::Global;
 use std::process::Abort;
 use std::sync::Wait;

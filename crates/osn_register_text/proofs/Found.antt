@@ -27,9 +27,6 @@ use Rattle.osn_register_text.proofs.Fresh.{pair_of, cited_after, IsFresh, AreFre
 pub code_itself : (code : List ℕ) → bytes_eq code code ≡ true
 code_itself code = (bytes_eq-Decides code code).1 refl
 
-pub codes_apart : (a b : List ℕ) → bytes_eq a b ≡ false → a ≡ b → ⊥
-codes_apart a b apart e = false≢true (sym apart ∙ (bytes_eq-Decides a b).1 e)
-
 -- a change of the territory that has a code
 
 abbrev pub changed : (TerritoryModel → TerritoryModel) → (SourcesModel → SourcesModel) → EntryModel

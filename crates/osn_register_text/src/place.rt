@@ -1,5 +1,4 @@
 //! A table of a text by its place, to which its faults belong.
-ghost use Rattle.std.specs.Prelude.{◌≡◌};
 
 use crate::fault::{KeyFault, Reason, TextFault, ValueFault};
 use crate::key::{Key, Part};

@@ -1,5 +1,5 @@
 -- The message about a fault is what its contract says.
-use Rattle.std.proofs.Common.{◌≡◌, ℕ, List, ◌++◌, Option, Some, None, codes, refl, sym, subst}
+use Rattle.std.proofs.Common.{◌≡◌, ℕ, List, ◌++◌, codes, refl, sym, subst}
 use Rattle.std.proofs.Common.{◌∙◌, inl, inr}
 use Rattle.osn_folder.specs.declared.fault.OpenFailed.{OpenFailed}
 use Rattle.osn_lines.specs.Streams.{Output}
@@ -10,7 +10,7 @@ use Rattle.osn_register.specs.declared.refusal.Refusal.{Refusal}
 use Rattle.osn_register.specs.declared.refusal.Refusal.TheVariants as refusals
 use Rattle.osn_report.specs.Fault.{fault_status, fault_line, hinted_line, refusal_end}
 use Rattle.osn_report.specs.Messages.{EndsBy, Reports, ReportsAt, ReportsExplanation, ReportsIfMade}
-use Rattle.osn_report.specs.Messages.{ReportsMore, ReportsNothing, WritesLine}
+use Rattle.osn_report.specs.Messages.{WritesLine}
 use Rattle.osn_report.specs.declared.fault.CommandFault.{CommandFault}
 use Rattle.osn_report.specs.declared.fault.CommandFault.TheVariants.{NoMemory, Refused}
 use Rattle.osn_report.specs.declared.fault.CommandFault.TheVariants.{Desk, NotOpened}
@@ -63,8 +63,3 @@ pub reports_explanation : (path : List ℕ) (e : Output) (fault : CommandFault) 
     → ReportsAt path e fault status
 reports_explanation path e (NotOpened cause) status other h = absurd (other cause refl)
 reports_explanation path e fault status other h = h
-
--- a text that was not made was not written
-pub reports_none : (e : Output) (wanted : Option (List ℕ)) → ReportsNothing e → ReportsMore e wanted
-reports_none e None h = h
-reports_none e (Some text) h = inr h

@@ -1,5 +1,5 @@
 -- Why a write of standard output failed, and how that is reported. This project's profile.
-use Rattle.std.specs.Prelude.{◌≡◌, ℕ, List, Option, Some, None, codes, unwrap_or}
+use Rattle.std.specs.Prelude.{◌≡◌, Option, Some, None, codes, unwrap_or}
 use Rattle.std.specs.declared.io.ErrorKind.{ErrorKind}
 use Rattle.std.specs.declared.io.ErrorKind.TheVariants.{BrokenPipe, StorageFull, QuotaExceeded}
 use Rattle.osn_lines.specs.Streams as streams

@@ -1,6 +1,5 @@
 pub mod WriteLemmas
-mod FewLemmas
 mod FlatLemmas
 mod QueryLemmas
 mod TextLemmas
-pub mod TreeLemmas
+mod TreeLemmas

@@ -21,7 +21,7 @@ parts_of_some r s None b e = absurd (cc)
 parts_of_some r s (Some y) b e =
     let same = ap (either (y, r)) e in (ap (λ p. p.1) same, ap (λ p. Some p.0) same)
 
-pub converted_some : {A B : Type 0} (f : A → Option B) (o : Option (A × List Token)) (b : B)
+converted_some : {A B : Type 0} (f : A → Option B) (o : Option (A × List Token)) (b : B)
     (r : List Token) → converted f o ≡ Some (b, r) → (a : A) × (o ≡ Some (a, r)) × (f a ≡ Some b)
 converted_some f None b r e = absurd (cc)
 converted_some f (Some p) b r e =

@@ -1,5 +1,5 @@
 -- How values are written as JSON: the tokens of each, one after another.
-use Rattle.std.specs.Prelude.{ℕ, ℤ, List, [], ◌∷◌, Option, None, Some, codes}
+use Rattle.std.specs.Prelude.{ℕ, ℤ, List, ◌∷◌, Option, None, Some, codes}
 use Rattle.json.specs.Token.{Token, key}
 use Rattle.json.specs.Tree.{json_tokens}
 use Rattle.serde_json.specs.Data.{Data, number, unsigned, array, string, Members, member}
@@ -28,8 +28,3 @@ member_tokens name d = key name ∷ value_tokens d
 abbrev pub source_member : Option (List ℕ) → Members → Members
 source_member None ms = ms
 source_member (Some source) ms = member (codes "source") (string source) ms
-
--- the tokens of the member of a source, if one is given
-abbrev pub source_tokens : Option (List ℕ) → List Token
-source_tokens None = []
-source_tokens (Some source) = member_tokens (codes "source") (string source)

@@ -15,9 +15,9 @@ mod write_json;
 pub use member::Member;
 pub use request::{
     EditOp, FlatObject, JsonObject, LineObject, LineQuery, LineRequest, Op, QueryOp, Request,
-    RequestError, edit_of, flat_object_in, line_query_of, line_request_of, object_in, object_of,
-    op_of, query_of, read_request, reader_in, request_of_line, text_at, text_of, whole_at,
+    RequestError, edit_of, line_query_of, line_request_of, object_in, object_of, op_of, query_of,
+    read_request, reader_in, request_of_line, text_at, text_of, whole_at,
 };
 pub use version::Version;
 pub use wire_fault::WireFault;
-pub use write_json::{write_number, write_signed, write_text};
+pub use write_json::{write_signed, write_text};

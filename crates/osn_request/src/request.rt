@@ -1,13 +1,11 @@
 //! Reads one line into a request, or returns its first fault.
 ghost use Rattle.std.specs.Prelude.{◌≡◌, ◌<◌, ℕ, List, length, MatchResult, IfErr, IfOk, Ok, Err};
-ghost use Rattle.std.specs.Prelude.{Some, ◌≤◌, true, is_ok};
-ghost use Rattle.json.specs.Scratch.{room};
+ghost use Rattle.std.specs.Prelude.{Some};
 ghost use Rattle.std.specs.Str.{IsUtf8};
 ghost use Rattle.serde_json.specs.Read.{read};
 ghost use Rattle.serde_json.specs.View.{view};
 ghost use Rattle.osn_request.specs.Version.{newest_version};
 ghost use Rattle.osn_lines.specs.Lines.{IsLine};
-ghost use Rattle.osn_request.specs.Flat.{is_flat};
 ghost use Rattle.osn_request.specs.LineObject.{line_data};
 ghost use Rattle.osn_request.specs.Request as spec;
 ghost use Rattle.osn_request.specs.declared.request.RequestError.TheVariants.{NoMemory};
@@ -25,8 +23,8 @@ mod query;
 use crate::wire_fault::WireFault;
 pub use edit::edit_of;
 pub use field::{text_at, whole_at};
+pub use flat::FlatObject;
 use flat::flat_object_of;
-pub use flat::{FlatObject, flat_object_in};
 use json::Scratch;
 pub use json_object::JsonObject;
 pub use line_object::LineObject;
@@ -118,8 +116,7 @@ fn tree_of(alloc: Global, text: &str) -> Result<Value, RequestError>
 /// of the longest one. The object may borrow from it.
 ///
 /// # Errors
-/// Returns `NotJson`, `NotObject` or `NoMemory`. An empty text takes no memory, and neither does a
-/// flat object if the scratch has room for its text.
+/// Returns `NotJson`, `NotObject` or `NoMemory`. An empty text takes no memory.
 pub fn object_in<'a>(
     alloc: Global,
     scratch: &'a mut Scratch,
@@ -131,8 +128,6 @@ pub fn object_in<'a>(
     ensures text { MatchResult result
         (λ _. 0 < length text.now)
         (λ e. e ≡ NoMemory → 0 < length text.now) }
-    ensures memory { IfErr result (λ e. e ≡ NoMemory → is_flat text.now ≡ true →
-        room scratch.old < length text.now) }
 {
     match flat_object_of(text, scratch)? {
         Some(object) => Ok(LineObject::Flat(object)),
@@ -189,8 +184,6 @@ pub fn object_of<'a>(
     ensures memory { (whole : List ℕ) → IsLine line.entry whole → MatchResult result
         (λ _. spec.IsReadable whole)
         (λ e. e ≡ NoMemory → spec.IsReadable whole) }
-    ensures flat { (whole : List ℕ) → IsLine line.entry whole → IfErr result (λ e.
-        e ≡ NoMemory → is_flat whole ≡ true → room scratch.old < length whole) }
 {
     let text = text_of(line)?;
     object_in(alloc, scratch, text)
@@ -201,8 +194,7 @@ pub fn object_of<'a>(
 ///
 /// # Errors
 /// Returns the first fault of the line, or `NoMemory`. Only a line that is a text, not empty and
-/// not too long takes memory. A flat object for which the scratch has room takes memory only for
-/// the texts of the request, after no fault was found.
+/// not too long takes memory.
 pub fn request_of_line(
     alloc: Global,
     scratch: &mut Scratch,
@@ -213,9 +205,6 @@ pub fn request_of_line(
         spec.Gives result (spec.request newest_version readers whole) }
     ensures memory { (whole : List ℕ) → IsLine line.entry whole →
         IfErr result (λ e. e ≡ NoMemory → spec.IsReadable whole) }
-    ensures last { (whole : List ℕ) → IsLine line.entry whole → IfErr result (λ e.
-        e ≡ NoMemory → is_flat whole ≡ true → length whole ≤ room scratch.old →
-        is_ok (spec.request newest_version readers whole) ≡ true) }
 {
     let object = object_of(alloc, scratch, line)?;
     Ok(line_request_of(alloc, readers, &object)?.to_request(alloc)?)

@@ -1,24 +1,10 @@
 //! How the members of an object are written as JSON: by their tokens, one after another.
 ghost use Rattle.std.specs.Prelude.{◌≡◌, ◌++◌, OnOk};
 ghost use Rattle.serde_json.specs.Data.{string};
-ghost use Rattle.osn_request.specs.Json.{whole, signed, member_tokens};
+ghost use Rattle.osn_request.specs.Json.{signed, member_tokens};
 
 use json::Writer;
 use std::alloc::AllocError;
-
-/// Writes a member that is a number.
-///
-/// # Errors
-///
-/// Returns `AllocError` if memory runs out.
-pub fn write_number(out: &mut Writer, name: &str, number: u32) -> Result<(), AllocError>
-    ensures tokens { OnOk result (out.new.tokens
-        ≡ out.old.tokens ++ member_tokens name.now (whole number)) }
-    ensures before { out.new.before ≡ out.old.before }
-{
-    out.key(name)?;
-    out.u64(u64::from(number))
-}
 
 /// Writes a member that is a number, which may be negative.
 ///

@@ -1,25 +1,24 @@
 -- The parts of a service that keeps a file did what their contracts say.
-use Rattle.std.proofs.Common.{◌≡◌, ◌==◌, ◌≤◌, ℕ, zero, suc, Bool, true, false}
-use Rattle.std.proofs.Common.{List, [], ◌∷◌, length, cond, take, Option, Some, Result, Ok, Err}
+use Rattle.std.proofs.Common.{◌≡◌, ◌==◌, ◌≤◌, ℕ, Bool, false}
+use Rattle.std.proofs.Common.{List, [], ◌∷◌, length, take, Option, Some, Result, Ok, Err}
 use Rattle.std.proofs.Common.{IfErr, refl, sym, ap, subst, inl, inr, arith, length-take}
 use Rattle.osn_days.specs.Rules.{newest_rules}
 use Rattle.osn_register.specs.declared.limits.Limits.{Limits}
 use Rattle.osn_core.specs.Sequential.{ObjectState}
 use Rattle.osn_lines.specs.Bytes.{rest_of}
-use Rattle.osn_lines.specs.Faults.{IsReadFault}
 use Rattle.osn_lines.specs.Lines.{lines}
 use Rattle.osn_lines.specs.Streams.{Input}
 use Rattle.osn_lines.specs.Whole.{WhyNotRead}
 use Rattle.osn_lines.specs.declared.bytes.Bytes.{Bytes}
 use Rattle.osn_lines.specs.declared.whole.ReadAllFault.{ReadAllFault}
 use Rattle.osn_lines.specs.declared.whole.ReadAllFault.TheVariants as read_faults
-use Rattle.osn_files.specs.Faults.{MatchFileFault}
 use Rattle.osn_files.specs.Files.{ReadsFile}
 use Rattle.osn_folder.specs.declared.fault.KeptFileFault.{KeptFileFault}
 use Rattle.osn_request.specs.declared.version.Version.{Version}
 use Rattle.osn_files.specs.Journal.{load}
 use Rattle.osn_files.specs.Loaded.{IsOfVersion}
-use Rattle.osn_lines.specs.Ended.{ended_length, with_byte}
+use Rattle.osn_lines.specs.Ended.{ended_length}
+use Rattle.osn_lines.proofs.EndedLemmas.{ended-le}
 use Rattle.osn_files.specs.CountedPrefix.{IsCountedPrefix, by_last, last_line_of}
 use Rattle.osn_files.specs.CountedPrefix.{whole_bytes, whole_length}
 use Rattle.osn_files.specs.declared.fault.FileFault.{FileFault}
@@ -111,17 +110,6 @@ not_read limits held before failed read_faults.NoMemory fault is h = inr is
 not_read limits held before failed read_faults.ReadFault fault is h =
     inl (file_faults.ReadFault, is, h)
 
--- nor measured
-pub not_measured : (limits : Limits) (read held : List ℕ) (failed : Bool)
-    (P : Type 0) (why : FileFault) → read ≡ held
-    → MatchFileFault why P (IsReadFault false (Some read)) (λ _ _ _. ⊥)
-    → IsUnread limits held failed why
-not_measured limits read held failed P file_faults.NoMemory is h = tt
-not_measured limits read held failed P file_faults.ReadFault is (inl h) = absurd (cc)
-not_measured limits read held failed P file_faults.ReadFault is (inr h) =
-    inr (subst (λ l. 4294967295 ≤ length l) is h)
-not_measured limits read held failed P (file_faults.BadLine role line why) is h = absurd h
-
 -- the bytes of the lines that count, of the bytes that were read
 pub whole_read : (part : CountedPrefix) (read held : List ℕ) → read ≡ held
     → IsCountedPrefix part read → take part.bytes read ≡ whole_bytes held
@@ -130,18 +118,6 @@ whole_read part read held is whole =
     (ap (λ (n : ℕ). take n read) whole.bytes)
 
 -- they are no more than were read
-byte_within : (b n m : ℕ) → n ≤ m → with_byte b n ≤ suc m
-byte_within b zero m low =
-    elim (b == 10) as (λ (t : Bool). cond t 1 0 ≤ suc m) [
-      | true ↦ omega arith
-      | false ↦ omega arith
-    ]
-byte_within b (suc n) m low = omega (arith, low)
-
-ended_within : (xs : List ℕ) → ended_length xs ≤ length xs
-ended_within [] = omega arith
-ended_within (x ∷ xs) = byte_within x (ended_length xs) (length xs) (ended_within xs)
-
 by_last_within : (last : LastLine) (ended all : ℕ) → ended ≤ all → by_last last ended all ≤ all
 by_last_within Ended ended all h = h
 by_last_within LacksFeed ended all h = omega arith
@@ -151,7 +127,7 @@ pub whole_within : (part : CountedPrefix) (read : List ℕ) → IsCountedPrefix 
     → part.bytes ≤ length read
 whole_within part read whole =
     subst (λ (n : ℕ). n ≤ length read) (sym whole.bytes)
-    (by_last_within (last_line_of read) (ended_length read) (length read) (ended_within read))
+    (by_last_within (last_line_of read) (ended_length read) (length read) (ended-le read))
 
 -- a file contains what the bytes do that were read of it
 pub held_as_read : (limits : Limits) (given : Option (List ℕ)) (held bytes : List ℕ)

@@ -1,6 +1,5 @@
 //! The command `serve` with a journal that another run keeps: each line is answered from the newest
 //! edition that the file contains.
-ghost use Rattle.osn_journal.specs.Follows.{MatchFollower};
 ghost use Rattle.osn_invocation.specs.Invocation.{service_model};
 ghost use Rattle.osn_lines.specs.Streams.{output_of};
 ghost use Rattle.osn_report.specs.declared.fault.CommandFault.{CommandFault};

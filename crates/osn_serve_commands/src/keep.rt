@@ -1,11 +1,11 @@
 //! The command `serve` with a journal that is kept: the service begins with what the file contains,
 //! and each change is in it before its reply is written.
 ghost use Rattle.std.specs.Prelude.{◌≡◌, ◌^◌, ◌<◌, ◌+◌, ℕ, List, Option, IfOk, IfErr, OnOk};
-ghost use Rattle.std.specs.Prelude.{string_bytes, option_map, take};
+ghost use Rattle.std.specs.Prelude.{string_bytes};
 ghost use Rattle.osn_files.specs.CountedPrefix.{IsCountedPrefix, whole_bytes};
 ghost use Rattle.osn_journal.specs.KeptJournal.{file_of};
 ghost use Rattle.osn_lines.specs.Streams.{input_of, output_of};
-ghost use Rattle.osn_report.specs.Messages.{Reports, ReportsAt, WritesLine};
+ghost use Rattle.osn_report.specs.Messages.{Reports, ReportsAt};
 ghost use Rattle.osn_report.specs.declared.fault.CommandFault.{CommandFault};
 ghost use Rattle.osn_serve_commands.specs.Keep.{cut_line, for_version, missing_head};
 ghost use Rattle.osn_serve_commands.specs.Keep.{missing_text, ReportsCut, IsChangeFault};
@@ -25,9 +25,6 @@ use osn_report::{CommandFault, Status, report, report_at, write_line};
 use osn_request::Version;
 use osn_service::{ServeRules, ServiceFault};
 use std::alloc::{AllocError, Global};
-
-/// The room that a head gets at first.
-const HEAD_ROOM: usize = 32;
 
 /// Returns the line on a line that is cut off.
 pub(crate) fn cut_text(alloc: Global, line: u64) -> Result<String, AllocError>
@@ -70,7 +67,7 @@ fn missing_head(alloc: Global, part: CountedPrefix) -> Result<Vec<u8>, AllocErro
         → head.items ≡ missing_head (whole_bytes held)) }
 {
     if part.bytes == 0 {
-        return head_line(alloc, HEAD_ROOM);
+        return head_line(alloc);
     }
     Ok(Vec::new(alloc))
 }

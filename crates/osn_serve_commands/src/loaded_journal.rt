@@ -1,5 +1,5 @@
 //! What a file that will be kept contains: the journal of its lines that count.
-ghost use Rattle.std.specs.Prelude.{◌≡◌, ◌^◌, ◌<◌, ℕ, List, Ok, IfOk, IfErr, OnOk, IfSome, true};
+ghost use Rattle.std.specs.Prelude.{◌≡◌, ◌^◌, ◌<◌, ℕ, List, Ok, IfOk, IfErr, OnOk, true};
 ghost use Rattle.std.specs.Prelude.{false};
 ghost use Rattle.osn_files.specs.CountedPrefix.{whole_bytes};
 ghost use Rattle.osn_report.specs.declared.fault.CommandFault.{CommandFault};
@@ -42,7 +42,7 @@ fn kept_object(alloc: Global, limits: Limits, lines: &[u8]) -> Result<(Object, V
     load_with_version(alloc, limits, &mut Bytes::new(lines))
 }
 
-/// Returns what these bytes of a file contain. They are measured and loaded.
+/// Returns what these bytes of a file contain. Their lines are counted and loaded.
 fn held_journal(alloc: Global, limits: Limits, bytes: Vec<u8>) -> Result<LoadedJournal, FileFault>
     ensures few { IfOk result (λ held. held.part.lines < 2 ^ 63) }
     ensures bytes { IfOk result (λ held. held.bytes.items ≡ bytes.items) }
@@ -50,7 +50,7 @@ fn held_journal(alloc: Global, limits: Limits, bytes: Vec<u8>) -> Result<LoadedJ
         (λ held. IsHeldIn limits bytes.items held.part held.version held.object) }
     ensures err { IfErr result (IsUnread limits bytes.items false) }
 {
-    let part = counted_prefix(alloc, &mut Bytes::new(&bytes))?;
+    let part = counted_prefix(alloc, &bytes)?;
     let (object, version) = kept_object(alloc, limits, &bytes[..part.bytes as usize])?;
     Ok(LoadedJournal {
         bytes,
@@ -61,7 +61,7 @@ fn held_journal(alloc: Global, limits: Limits, bytes: Vec<u8>) -> Result<LoadedJ
 }
 
 /// Reads what a file that will be kept contains, from the source that gives it. It is read once,
-/// then measured and loaded.
+/// then its lines are counted and loaded.
 ///
 /// # Errors
 ///

@@ -19,7 +19,7 @@ mod store;
 
 pub use fault::{ServeFault, ServiceFault};
 pub use outcome::Outcome;
-pub use reply::{compact_reply, out_text, push_reply, reply_text, transcript_text};
+pub use reply::{out_text, push_reply, reply_text, transcript_text};
 pub use rules::ServeRules;
 pub use service::{Served, serve, serve_from, serve_store};
 pub use store::{Change, Store, StoreFault};

@@ -9,7 +9,6 @@ ghost use Rattle.serde_json.specs.Written.{compact_text};
 
 mod answer;
 mod change;
-mod compact;
 mod date;
 mod figures;
 mod found;
@@ -22,7 +21,6 @@ mod written;
 use crate::line_writer::LineWriter;
 use crate::outcome::Outcome;
 use answer::write_reply;
-pub use compact::compact_reply;
 use osn_core::{Out, Reply};
 use osn_register::Query;
 use osn_request::WireFault;

@@ -1,5 +1,5 @@
 //! The service: every request line of a source is answered, in order.
-ghost use Rattle.std.specs.Prelude.{◌≡◌, ◌≤◌, ◌<◌, ◌^◌, ℕ, [], length, IfOk};
+ghost use Rattle.std.specs.Prelude.{◌≡◌, ◌≤◌, ◌<◌, ◌^◌, [], length, IfOk};
 ghost use Rattle.osn_core.specs.Sequential.{ObjectState, opened};
 ghost use Rattle.osn_lines.specs.Streams.{Input, input_of, output_of};
 ghost use Rattle.osn_service.specs.Law.{MayEachInputBeCut};

@@ -12,7 +12,7 @@ use Rattle.osn_territory.specs.declared.period.Period.{Period}
 use Rattle.osn_territory.specs.Territory.{Covers}
 use Rattle.osn_territory.specs.Changes.{with_start}
 use Rattle.osn_territory.specs.PeriodList.{start_of, has_start}
-use Rattle.osn_territory.proofs.CoverFacts.{at_place, begins, begins_later}
+use Rattle.osn_territory.proofs.CoverFacts.{at_place, begins}
 
 abbrev alter : ℕ → Regime → ℕ × Regime → ℕ × Regime
 alter d regime s = if s.0 == d then (d, regime) else s
@@ -145,12 +145,6 @@ module _ (ps : List Period) (i first last d : ℕ) (p : Period) (within : i < le
   starts_on-at low high =
       ap (λ qs. list_any (is_on d) (map start_of qs)) split
       ∙ starts_on-is (take i ps) (drop (i + 1) ps) p first last d covers_split_list low high
-
-  pub later-at : 0 < i → first < p.first
-  later-at some =
-      let front : length (take i ps) ≡ i = length-take-le i ps (omega arith) in
-      begins_later (take i ps) (drop (i + 1) ps) p first last (omega (arith, front))
-      covers_split_list
 
   pub no_sooner-at : first ≤ p.first
   no_sooner-at = begins (take i ps) (drop (i + 1) ps) p first last covers_split_list

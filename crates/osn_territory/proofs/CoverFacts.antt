@@ -60,14 +60,6 @@ begins (q ∷ front) rest p first last covers =
     let later : q.last + 1 ≤ p.first = begins front rest p (q.last + 1) last covers.2 in
     omega (arith, covers.0, covers.1)
 
--- and one after others begins later
-pub begins_later : (front rest : List Period) (p : Period) (first last : ℕ) → 0 < length front →
-    Covers first last (front ++ p ∷ rest) → first < p.first
-begins_later [] rest p first last some covers = absurd (omega arith)
-begins_later (q ∷ front) rest p first last some covers =
-    let later : q.last + 1 ≤ p.first = begins front rest p (q.last + 1) last covers.2 in
-    omega (arith, covers.0, covers.1)
-
 -- a period is split
 pub covers_split : (front rest : List Period) (p before after : Period) (first last : ℕ) →
     before.first ≡ p.first → before.first ≤ before.last → before.last + 1 ≡ after.first →

@@ -41,11 +41,6 @@ runs_after a b (r ∷ rs) lie = (lie.0, lie.1, runs_after r.last b rs lie.2)
 pub are_runs : (b : ℕ) (rs : List Run) → LieBetween 0 b rs → AreRuns rs
 are_runs b rs lie = runs_after 0 b rs lie
 
-pub no_days : (ds : List ℕ) (first end : ℕ) → end ≤ first →
-    ds ≡ ds ++ range_with_len first (end - first)
-no_days ds first end none =
-    let empty : end - first ≡ 0 = omega arith in rw empty (sym (append-nil ds))
-
 covers_until : (first last : ℕ) (ps : List Period) → Covers first last ps → first ≤ last + 1
 covers_until first last [] covers = omega (arith, covers)
 covers_until first last (p ∷ ps) covers =

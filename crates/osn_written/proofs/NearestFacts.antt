@@ -27,22 +27,6 @@ next_years f whole [] y most low so_far is none =
     (sym is)
 next_years f whole (d ∷ ds) y most low so_far is none = absurd (omega (arith, none))
 
--- the days of the first year that has some
-pub first_years : (f : ℕ → List ℕ) (whole days : List ℕ) (y most : ℕ) → y < most + 1
-    → whole ≡ left f y most → days ≡ f y → 0 < length days → days ≡ whole
-first_years f whole [] y most low so_far is some = absurd (omega (arith, some))
-first_years f whole (d ∷ ds) y most low so_far is some =
-    sym (so_far ∙ one_more f y most low
-    ∙ ap (λ es. spec.first_with_days (es ∷ map f (range_with_len (y + 1) (most + 1 - (y + 1)))))
-    (sym is))
-
--- no year has a day
-pub no_years : (f : ℕ → List ℕ) (whole : List ℕ) (y most : ℕ) → y ≡ most + 1
-    → whole ≡ left f y most → [] ≡ whole
-no_years f whole y most last so_far =
-    let count : most + 1 - y ≡ 0 = omega (arith, last) in
-    sym (so_far ∙ ap (λ n. spec.first_with_days (map f (range_with_len y n))) count)
-
 pub begin_years : (p : Rules) (t : TerritoryModel) (w : WrittenDate) (most : ℕ)
     → spec.nearest_within p t w most ≡ left (spec.days_apart p t w) 1 most
 unfolding spec.nearest_within

@@ -19,9 +19,6 @@ use Rattle.osn_territory.specs.declared.runs.Run.{Run}
 use Rattle.osn_territory.specs.Runs.{days_in, days_of_run}
 use Rattle.osn_written.specs.Runs.{HaveDays, runs_of}
 use Rattle.osn_written.specs.Union.{EndOnLine, first_from, has_day, rest_from, union, with_rest}
-use Rattle.osn_written.specs.SetsMeant.{before_others}
-use Rattle.osn_written.specs.declared.any_date.AnyDate.{AnyDate}
-use Rattle.osn_written.specs.declared.finding.NoDay.{NoDay}
 use Rattle.osn_written.specs.declared.set.AbsentMember.{AbsentMember}
 
 -- ---- runs by their first days
@@ -244,13 +241,6 @@ no_rest p runs rest next i r first within at so_far high is none =
 abbrev pub after_runs : List Run → Result (List Run) AbsentMember → Result (List Run) AbsentMember
 after_runs front (Ok runs) = Ok (front ++ runs)
 after_runs front (Err absent) = Err absent
-
-pub runs_added : (front runs : List Run) (w : AnyDate) (date : Result (List Run) NoDay)
-    (rest : Result (List Run) AbsentMember) → date ≡ Ok runs
-    → after_runs front (before_others w date rest) ≡ after_runs (front ++ runs) rest
-runs_added front runs w date (Ok others) is =
-    rw is (ap Ok (sym (append_assoc front runs others)))
-runs_added front runs w date (Err absent) is = rw is refl
 
 -- what is joined of the rest is the union
 pub joined_is : {E : Type 0} (p : Rules) (runs : List Run) (days : List ℕ)

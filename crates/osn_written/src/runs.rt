@@ -1,5 +1,5 @@
 //! The runs of days that a written day, month or year means in a territory.
-ghost use Rattle.std.specs.Prelude.{◌≡◌, ◌++◌, ◌+◌, map, filter, pos, IfOk, OnOk, true};
+ghost use Rattle.std.specs.Prelude.{◌≡◌, ◌++◌, ◌+◌, map, filter, IfOk, OnOk, true};
 ghost use Rattle.osn_days.specs.Rules.{newest_rules};
 ghost use Rattle.osn_territory.specs.Dated.{dated_on};
 ghost use Rattle.osn_territory.specs.Runs.{days_in, days_of_run};

@@ -1,10 +1,9 @@
 //! What the register answers to queries.
-ghost use Rattle.std.specs.Prelude.{◌≡◌, true, None, IfOk, OnErr, ◌<◌, length, map};
+ghost use Rattle.std.specs.Prelude.{◌≡◌, true, IfOk, OnErr, ◌<◌, length, map};
 ghost use Rattle.osn_days.specs.Rules.{first_rules, newest_rules};
 ghost use Rattle.osn_register.specs.Answer as spec;
 ghost use Rattle.osn_register.specs.BorrowedQuery.{as_query};
 ghost use Rattle.osn_register.specs.EarlierRules.{KeepsAnswer};
-ghost use Rattle.osn_register.specs.Refusal.{IsCheckOf};
 ghost use Rattle.osn_register.specs.Plain.{code_refusal};
 ghost use Rattle.osn_register.specs.InsideQuery.{IsAnswered};
 
@@ -78,21 +77,6 @@ impl Register {
             Err(Unanswered::Refused(refusal)) => Ok(Answer::Refused(refusal)),
             Err(Unanswered::NoMemory) => Err(AllocError),
         }
-    }
-
-    /// Checks whether the Easters of a year may be asked of a territory. It needs no query and no
-    /// memory.
-    ///
-    /// # Errors
-    ///
-    /// The first refusal that applies.
-    pub fn check_easter(&self, code: &str, year: i64) -> Result<(), Refusal>
-        ensures { IsCheckOf (spec.easter_refusal newest_rules self.now.territories code.now year)
-            result }
-    {
-        self.known_territory(code)?;
-        year_in_range(year)?;
-        Ok(())
     }
 
     fn lawful_answer(&self, query: BorrowedQuery<'_>) -> Result<Answer, Unanswered>

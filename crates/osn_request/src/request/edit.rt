@@ -1,5 +1,5 @@
 //! The edit of a line's object. A journal, a script and a schedule read theirs by the same call.
-ghost use Rattle.std.specs.Prelude.{◌≡◌, true, Err, IsOk, IfOk, IfSome, option_map};
+ghost use Rattle.std.specs.Prelude.{◌≡◌, true, IfOk, IfSome, option_map};
 ghost use Rattle.osn_request.specs.EditRequest as spec;
 ghost use Rattle.osn_request.specs.Request.{GivesLast};
 ghost use Rattle.osn_register.specs.Sources.{is_source};

@@ -6,7 +6,6 @@ mod reading;
 
 use crate::request::json_object::JsonObject;
 use arrayvec::ArrayVec;
-pub use reading::flat_object_in;
 pub(crate) use reading::flat_object_of;
 
 /// The most members of a flat object. No line that a format asks for has more.

@@ -1,101 +1,42 @@
-use Rattle.std.proofs.Common.{◌≡◌, ◌<◌, ◌∙◌, [], ◌++◌, inr, length, take, refl, sym, ap, subst}
-use Rattle.std.proofs.Common.{arith, length-append}
-use Rattle.std.proofs.lemmas.List.{take_at, length-take}
-use Rattle.osn_lines.proofs.ByteLemmas.{Consumes-nothing, Consumes-then, Consumes-end}
-use Rattle.osn_files.specs.CountedPrefix.{IsCountedPrefix}
-use Rattle.osn_files.specs.CountedPrefixInside.{IsMeasureOf}
-use Rattle.osn_files.proofs.WholeLemmas.{nothing_measured, read_whole, input_long}
+use Rattle.std.proofs.Common.{◌+◌, ◌<◌, ◌==◌, ◌^◌, ◌∙◌, ℕ, ap, length, arith, rules}
+use Rattle.std.proofs.lemmas.List.Sums.{count_by-le-length}
+use Rattle.osn_files.specs.CountedPrefix.{by_last, last_line_of}
+use Rattle.osn_files.proofs.LastLineLemmas.{state_found, whole_count-le}
 use Rattle.osn_files.proofs.whole_lines.counted_prefix.Goals as goal
 
-pub loop-call-init : goal.loop-call-init
-loop-call-init g c = record {
-  buffer = c.in-Ok.ensures;
-  most = omega arith;
-  few = omega arith;
-  within = omega arith;
-  source = refl;
-  progress = ([], omega arith, Consumes-nothing _, nothing_measured _ c.new.ensures);
-}
+pub part_by-requires : goal.part_by-requires
+part_by-requires c =
+    let bytes = c.args.bytes.now in
+    let fits : length bytes < 2 ^ 63 = search rules in
+    omega (arith, fits, c.ended_count-lines.ensures, count_by-le-length (λ b. b == 10) bytes)
 
-pub returns-then-read-eq0-clause-ok : goal.returns-then-read-eq0-clause-ok
-returns-then-read-eq0-clause-ok g c =
-    let inv = c.loop-call.invariant.progress in
-    let bytes = c.in-Ok-read.ensures.bytes in
-    let some : 0 < length c.read.new.buffer =
-    omega (
-      arith,
-      c.loop-call.invariant.buffer,
-      ap length c.deref_mut.ensures.value,
-      c.read.auto.buffer,
-    ) in
-    let consumed =
-    Consumes-end _ _ _ inv.0 c.read.new.buffer c.in-Ok-read.read c.if-read-eq0.true inv.2
-    bytes.0 in
-    read_whole _ _ inv.0 consumed (bytes.1 c.if-read-eq0.true some) (IsCountedPrefix _)
-    (c.in-Ok-part_of.ensures.part inv.0 inv.3)
-
-pub returns-then-read-eq0-clause-end : goal.returns-then-read-eq0-clause-end
-returns-then-read-eq0-clause-end g c =
-    let some : 0 < length c.read.new.buffer =
-    omega (
-      arith,
-      c.loop-call.invariant.buffer,
-      ap length c.deref_mut.ensures.value,
-      c.read.auto.buffer,
-    ) in
-    c.in-Ok-read.ensures.bytes.1 c.if-read-eq0.true some
-
-pub returns-then-read-eq0-clause-sound : goal.returns-then-read-eq0-clause-sound
-returns-then-read-eq0-clause-sound g c =
-    c.in-Ok-read.ensures.failed ∙ c.loop-call.invariant.source
-
-pub loop-call-preserved : goal.loop-call-preserved
-loop-call-preserved g c =
-    let inv = c.loop-call.invariant.progress in
-    let measured = c.in-Ok-measure_piece.ensures in
-    let read = c.in-Ok-read.read in
-    let got = take read c.read.new.buffer in
-    let full : length c.read.new.buffer ≡ c.loop-call.buffer.len =
-    omega (
-      arith,
-      ap length c.deref_mut.ensures.value,
-      c.read.auto.buffer,
-      c.loop-call.buffer.ok.0,
-    ) in
-    let here : c.deref.result.now ≡ c.read.new.buffer =
-    c.deref.ensures.value ∙ take_at c.read.new.buffer _ c.loop-call.buffer.len full in
-    let same : take read c.deref.result.now ≡ got = ap (take read) here in
-    let size : length got ≡ read =
-    omega (arith, length-take read c.read.new.buffer, c.in-Ok-read.ensures.bound) in
+pub returns-clause-ok : goal.returns-clause-ok
+returns-clause-ok c =
+    let bytes = c.args.bytes.now in
+    let lines = c.ended_count-lines.result in
+    let ended = c.ended_length-ended in
+    let part = c.part_by.ensures in
+    let last =
+    state_found bytes lines ended.result c.in_ok-last.last c.ended_count-lines.ensures
+    ended.ensures.value c.in_ok-last.ensures in
     record {
-      buffer =
-          ap length (sym c.deref.ensures.value ∙ here)
-          ∙ omega (arith, full, c.loop-call.invariant.buffer, c.loop-call.buffer.ok.0);
-      most =
-          omega (
-            arith,
-            measured.read,
-            ap length same,
-            size,
-            full,
-            c.in-Ok-read.ensures.bound,
-            c.loop-call.invariant.most,
-            c.loop-call.invariant.buffer,
-            c.loop-call.buffer.ok.0,
-          );
-      few = measured.few;
-      within = measured.within;
-      source = c.in-Ok-read.ensures.failed ∙ c.loop-call.invariant.source;
-      progress = (
-        inv.0 ++ got,
-        omega (arith, inv.1, size, length-append inv.0 got, c.if-read-eq0.false),
-        Consumes-then _ _ _ inv.0 got inv.2 c.in-Ok-read.ensures.bytes.0,
-        subst (λ l. IsMeasureOf c.measure_piece.new.measure (inv.0 ++ l)) same
-            (measured.measure inv.0 inv.3),
-      );
+      bytes =
+          part.bytes ∙ ap (λ l. by_last l ended.result (length bytes)) last
+          ∙ ap (λ (n : ℕ). by_last (last_line_of bytes) n (length bytes)) ended.ensures.value;
+      lines =
+          part.lines ∙ ap (λ l. by_last l lines (lines + 1)) last
+          ∙ ap (λ (n : ℕ). by_last (last_line_of bytes) n (n + 1)) c.ended_count-lines.ensures;
+      last = part.last ∙ last;
     }
 
-pub returns-clause-reason : goal.returns-clause-reason
-returns-clause-reason g c =
-    let inv = c.loop-call.invariant.progress in
-    inr (input_long _ _ inv.0 4294967295 (omega (arith, inv.1, c.loop-call-test.false)) inv.2)
+pub returns-clause-few : goal.returns-clause-few
+returns-clause-few c =
+    let bytes = c.args.bytes.now in
+    let fits : length bytes < 2 ^ 63 = search rules in
+    let lines = c.ended_count-lines.result in
+    let last =
+    state_found bytes lines c.ended_length-ended.result c.in_ok-last.last
+    c.ended_count-lines.ensures c.ended_length-ended.ensures.value c.in_ok-last.ensures in
+    let is = c.part_by.ensures.lines ∙ ap (λ l. by_last l lines (lines + 1)) last
+    ∙ ap (λ (n : ℕ). by_last (last_line_of bytes) n (n + 1)) c.ended_count-lines.ensures in
+    omega (arith, fits, is, whole_count-le bytes)

@@ -7,7 +7,6 @@ use Rattle.osn_journal.proofs.AllRoundsLemmas.{GoesOn-round, IsEarlyEnd-round, I
 use Rattle.osn_journal.proofs.RoundLemmas.{not_received}
 use Rattle.osn_journal.proofs.follower.answer_next.Goals as goal
 use Rattle.osn_journal.proofs.follower.answer_next.Goals.{then-served-via-then-served}
-use Rattle.osn_journal.proofs.follower.answer_next.Goals.{}
 use Rattle.osn_journal.proofs.follower.answer_next.Goals.{then-served-via-else-served+then-requests}
 
 pub returns-in-Err-clause-err : goal.returns-in-Err-clause-err

@@ -1,6 +1,6 @@
 //! Reads a flat object, and each token of its text once.
-ghost use Rattle.std.specs.Prelude.{◌≡◌, ◌<◌, ◌∷◌, ℕ, IfSome, IfNone, IfOk, OnErr, List, length};
-ghost use Rattle.std.specs.Prelude.{Some, None, is_some, option_and_then, true, false, IsTrue};
+ghost use Rattle.std.specs.Prelude.{◌≡◌, ◌<◌, ◌∷◌, ℕ, IfSome, IfOk, OnErr, List, length, Some};
+ghost use Rattle.std.specs.Prelude.{true, false, IsTrue};
 ghost use Rattle.std.specs.Prelude.{slice_index, ◌==◌};
 ghost use Rattle.fast_float.specs.Text.{scan};
 ghost use Rattle.json.specs.Json.{members, value};
@@ -8,11 +8,10 @@ ghost use Rattle.json.specs.Reads.{token_of};
 ghost use Rattle.json.specs.Scratch.{room};
 ghost use Rattle.json.specs.Token.{Token as Lexed};
 ghost use Rattle.serde_json.specs.Data.{no_members, object};
-ghost use Rattle.serde_json.specs.Find.{as_i64, of_integer};
+ghost use Rattle.serde_json.specs.Find.{of_integer};
 ghost use Rattle.serde_json.specs.Read.{converted, number_from, number_of};
 ghost use Rattle.serde_json.specs.Read.{of_json, of_members, read};
-ghost use Rattle.osn_request.specs.Flat.{few_read, flat_members, flat_read, is_flat};
-ghost use Rattle.osn_request.specs.Flat.{most_members, scalar_data, scalar_read};
+ghost use Rattle.osn_request.specs.Flat.{flat_members, scalar_data};
 
 use crate::request::flat::{FlatObject, Scalar};
 use arrayvec::ArrayVec;
@@ -22,18 +21,14 @@ use std::alloc::AllocError;
 
 /// Returns the number, unless it is minus zero or has more than 64 bits.
 fn negative_of(digits: &[u8]) -> Option<i64>
-    ensures some { IfSome result (λ z. number_from true (scan digits.now) ≡ Some (of_integer z)) }
-    ensures none { IfNone result
-        (option_and_then as_i64 (number_from true (scan digits.now)) ≡ None) }
+    ensures { IfSome result (λ z. number_from true (scan digits.now) ≡ Some (of_integer z)) }
 {
     let number = Numeral::scan(digits).to_i64(true)?;
     if number < 0 { Some(number) } else { None }
 }
 
 fn positive_of(digits: &[u8]) -> Option<i64>
-    ensures some { IfSome result (λ z. number_from false (scan digits.now) ≡ Some (of_integer z)) }
-    ensures none { IfNone result
-        (option_and_then as_i64 (number_from false (scan digits.now)) ≡ None) }
+    ensures { IfSome result (λ z. number_from false (scan digits.now) ≡ Some (of_integer z)) }
 {
     Numeral::scan(digits).to_i64(false)
 }
@@ -47,8 +42,7 @@ fn has_minus(bytes: &[u8]) -> bool
 
 /// Returns the whole number of a number's text, if it fits in 64 bits.
 fn whole_of(text: &str) -> Option<i64>
-    ensures some { IfSome result (λ z. number_of text.now ≡ Some (of_integer z)) }
-    ensures none { IfNone result (option_and_then as_i64 (number_of text.now) ≡ None) }
+    ensures { IfSome result (λ z. number_of text.now ≡ Some (of_integer z)) }
 {
     let bytes = text.as_bytes();
     if has_minus(bytes) {
@@ -60,11 +54,9 @@ fn whole_of(text: &str) -> Option<i64>
 
 /// Returns the text or the whole number of a token.
 fn scalar_of<'a>(token: Token<'a>) -> Option<Scalar<'a>>
-    ensures value { IfSome result (λ s. (depth : ℕ) (rest : List Lexed) →
+    ensures { IfSome result (λ s. (depth : ℕ) (rest : List Lexed) →
         converted of_json (value depth (token_of token.entry ∷ rest))
         ≡ Some (scalar_data s, rest)) }
-    ensures scalar { (depth : ℕ) (rest : List Lexed) →
-        scalar_read (value depth (token_of token.entry ∷ rest)) ≡ is_some result }
 {
     match token {
         Token::String(text) => Some(Scalar::Text(text)),
@@ -75,12 +67,10 @@ fn scalar_of<'a>(token: Token<'a>) -> Option<Scalar<'a>>
 
 /// Returns the members of an object whose brace was read, if they are few texts and whole numbers.
 fn members_in<'a>(reader: &mut Reader<'a>) -> Option<FlatObject<'a>>
-    ensures some { IfSome result (λ found. (depth : ℕ) →
+    ensures { IfSome result (λ found. (depth : ℕ) →
         converted (λ ms. of_members ms no_members)
         (members (value depth) (length reader.old) reader.old)
         ≡ Some (flat_members found, reader.new)) }
-    ensures none { IfNone result ((depth : ℕ) → few_read most_members
-        (members (value depth) (length reader.old) reader.old) ≡ false) }
 {
     let mut members = ArrayVec::new();
     while let Some(name) = reader.next_key().ok()? {
@@ -95,12 +85,10 @@ fn members_in<'a>(reader: &mut Reader<'a>) -> Option<FlatObject<'a>>
 
 /// Returns the next object of a reader, if its members are few texts and whole numbers. Otherwise
 /// the reader is after the tokens that were tried.
-pub fn flat_object_in<'a>(reader: &mut Reader<'a>) -> Option<FlatObject<'a>>
-    ensures some { IfSome result (λ found. (depth : ℕ) → 0 < depth →
+fn flat_object_in<'a>(reader: &mut Reader<'a>) -> Option<FlatObject<'a>>
+    ensures { IfSome result (λ found. (depth : ℕ) → 0 < depth →
         converted of_json (value depth reader.old)
         ≡ Some (object (flat_members found), reader.new)) }
-    ensures none { IfNone result ((depth : ℕ) → 0 < depth →
-        flat_read (value depth reader.old) ≡ false) }
 {
     match reader.next()? {
         Token::BeginObject => members_in(reader),
@@ -118,7 +106,6 @@ pub(crate) fn flat_object_of<'a>(
 ) -> Result<Option<FlatObject<'a>>, AllocError>
     ensures object { IfOk result (λ found. IfSome found (λ f.
         read text.now ≡ Some (object (flat_members f)))) }
-    ensures none { IfOk result (λ found. IfNone found (is_flat text.now ≡ false)) }
     ensures full { OnErr result (room scratch.old < length text.now) }
 {
     let mut reader = Reader::new(text, scratch)?;

@@ -1,4 +1,4 @@
-use Rattle.std.proofs.Common.{◌++◌, filter, sym, ap, ◌∙◌, rules}
+use Rattle.std.proofs.Common.{◌++◌, filter, sym, ap, ◌∙◌}
 use Rattle.std.proofs.lemmas.List.{append-nil}
 use Rattle.osn_days.specs.Rules.{newest_rules}
 use Rattle.osn_territory.specs.PeriodList.{is_held}

@@ -4,7 +4,6 @@ use Rattle.osn_journal.specs.FollowerInside.{GivesSameLines}
 use Rattle.osn_journal.proofs.FrontLemmas.{ended-added, few-added, long_of, not_long, rest-added}
 use Rattle.osn_journal.proofs.LineLemmas.{rest-pass, no_line-pass}
 use Rattle.osn_journal.proofs.line_front.LineFront.read.Goals as goal
-use Rattle.osn_journal.proofs.line_front.LineFront.read.Goals.{}
 use Rattle.osn_journal.proofs.line_front.LineFront.read.Goals.{else-len-gt-LONGEST_LINE-via-then-len-gt-LONGEST_LINE+else-ended_length-eq0}
 use Rattle.osn_journal.proofs.line_front.LineFront.read.Goals.{else-len-gt-LONGEST_LINE-via-else-len-gt-LONGEST_LINE}
 

@@ -7,7 +7,6 @@ use Rattle.osn_service.proofs.SessionLemmas.{Served-answered, Stopped-unwritten,
 use Rattle.osn_service.proofs.SessionLemmas.{Stopped-unanswered}
 use Rattle.osn_service.proofs.session.SessionLineTaker.take.Goals as goal
 use Rattle.osn_service.proofs.session.SessionLineTaker.take.Goals.{else-refused-via-else-refused}
-use Rattle.osn_service.proofs.session.SessionLineTaker.take.Goals.{}
 use Rattle.osn_service.proofs.session.SessionLineTaker.take.Goals.{else-refused-via-then-refused+else-self}
 
 pub returns-in_err-make_room-clause-stop : goal.returns-in_err-make_room-clause-stop

@@ -1,4 +1,4 @@
-use Rattle.std.proofs.Common.{sym, ap, ◌∙◌, rules}
+use Rattle.std.proofs.Common.{sym, ap, ◌∙◌}
 use Rattle.osn_territory.specs.Exceptions.{exception_of}
 use Rattle.osn_territory.proofs.ExceptionFacts.{is_elsewhere, same_lookup}
 use Rattle.osn_territory.proofs.territory.Territory.insert_exception.Goals as goal

@@ -12,5 +12,5 @@ returns-clause-object c =
     let over : c.flat_object_in.new.reader ≡ [] = search rules in
     whole_read (value 127 (tokens c.args.text.now)) _
     (ap (λ ts. converted of_json (value 127 ts)) (sym c.in_ok-reader.ensures.ok)
-    ∙ c.in-Some.ensures.some 127 (omega arith)
+    ∙ c.in-Some.ensures 127 (omega arith)
     ∙ ap (λ rest. Some (object (flat_members c.in-Some.object), rest)) over)

@@ -1,13 +1,13 @@
-use Rattle.std.proofs.Common.{◌≡◌, ◌==◌, IfSome, IfNone, Some, None, drop, get_or, true, false}
-use Rattle.std.proofs.Common.{sym, ap, ◌∙◌, option_and_then, subst, arith, take_all, length-drop}
+use Rattle.std.proofs.Common.{◌≡◌, ◌==◌, IfSome, Some, drop, get_or, true, false}
+use Rattle.std.proofs.Common.{sym, ap, ◌∙◌, subst, arith, take_all, length-drop}
 use Rattle.fast_float.specs.Text.{scan}
-use Rattle.serde_json.specs.Find.{as_i64, of_integer}
+use Rattle.serde_json.specs.Find.{of_integer}
 use Rattle.serde_json.specs.Read.{number_of, number_from}
 use Rattle.osn_request.proofs.request.flat.reading.whole_of.Goals as goal
 
-pub returns-then-has_minus-clause-some : goal.returns-then-has_minus-clause-some
+pub returns-then-has_minus : goal.returns-then-has_minus
 unfolding number_of
-returns-then-has_minus-clause-some c =
+returns-then-has_minus c =
     let s = c.as_bytes-bytes.result.now in
     let signed : (get_or s 0 0 == 45) ≡ true = sym c.if-has_minus.ensures.value in
     let read : number_from true (scan (drop 1 s)) ≡ number_of s = rw signed in
@@ -15,36 +15,14 @@ returns-then-has_minus-clause-some c =
     let whole = ap (λ t. number_from true (scan t)) behind ∙ read
     ∙ ap number_of c.as_bytes-bytes.ensures.value in
     subst (λ n. IfSome c.negative_of.result (λ z. n ≡ Some (of_integer z))) whole
-    c.negative_of.ensures.some
+    c.negative_of.ensures
 
-pub returns-then-has_minus-clause-none : goal.returns-then-has_minus-clause-none
+pub returns-else-has_minus : goal.returns-else-has_minus
 unfolding number_of
-returns-then-has_minus-clause-none c =
-    let s = c.as_bytes-bytes.result.now in
-    let signed : (get_or s 0 0 == 45) ≡ true = sym c.if-has_minus.ensures.value in
-    let read : number_from true (scan (drop 1 s)) ≡ number_of s = rw signed in
-    let behind = take_all _ (drop 1 s) (omega (arith, length-drop 1 s)) in
-    let whole = ap (λ t. number_from true (scan t)) behind ∙ read
-    ∙ ap number_of c.as_bytes-bytes.ensures.value in
-    subst (λ n. IfNone c.negative_of.result (option_and_then as_i64 n ≡ None)) whole
-    c.negative_of.ensures.none
-
-pub returns-else-has_minus-clause-some : goal.returns-else-has_minus-clause-some
-unfolding number_of
-returns-else-has_minus-clause-some c =
+returns-else-has_minus c =
     let s = c.as_bytes-bytes.result.now in
     let unsigned : (get_or s 0 0 == 45) ≡ false = sym c.if-has_minus.ensures.value in
     let read : number_from false (scan s) ≡ number_of s = rw unsigned in
     let whole = read ∙ ap number_of c.as_bytes-bytes.ensures.value in
     subst (λ n. IfSome c.positive_of.result (λ z. n ≡ Some (of_integer z))) whole
-    c.positive_of.ensures.some
-
-pub returns-else-has_minus-clause-none : goal.returns-else-has_minus-clause-none
-unfolding number_of
-returns-else-has_minus-clause-none c =
-    let s = c.as_bytes-bytes.result.now in
-    let unsigned : (get_or s 0 0 == 45) ≡ false = sym c.if-has_minus.ensures.value in
-    let read : number_from false (scan s) ≡ number_of s = rw unsigned in
-    let whole = read ∙ ap number_of c.as_bytes-bytes.ensures.value in
-    subst (λ n. IfNone c.positive_of.result (option_and_then as_i64 n ≡ None)) whole
-    c.positive_of.ensures.none
+    c.positive_of.ensures
