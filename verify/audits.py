@@ -2,8 +2,8 @@
 """Audits transcripts of random journals, as they are and with one digit of a reply changed.
 
 A journal of random edits is served, edition by edition, to readers who ask in between; each query
-and its reply are put down as a transcript, or the journal is worked through at a desk, whose
-transcript is taken. The audit must agree to all replies. Then one digit within a reply is
+and its reply are written down as a transcript, or the journal is worked through at a desk, whose
+transcript is taken. The audit must agree with all replies. Then one digit within a reply is
 changed, and the audit must name that line. In the end a transcript of over 128 MiB is audited,
 which must say on a terminal how far it is, and only there.
 """

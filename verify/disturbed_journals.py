@@ -2,15 +2,15 @@
 """Disturbs the service at random moments while it keeps its journal: no edition is reported that
 is not in the file at the path that was named.
 
-A run of `serve --keep` is sent edits and publishes, one after the reply to the other. Between two
-of them another run would keep the file or save to it, which is refused and changes nothing; or its
-permissions are taken away, which changes nothing either; or another program moves the file, puts
-another one in its place, cuts it or adds to it. Then the run ends by the fault that says so, it
-reports no edition that is sent after that, and the file that it kept has each edition that it
+A run of `serve --keep` is sent edits and publishes, each after the reply to the one before. Between
+two of them another run would keep the file or save to it, which is refused and changes nothing; or
+its permissions are taken away, which changes nothing either; or another program moves the file,
+puts another one in its place, cuts it or adds to it. Then the run ends with the fault that says so,
+it reports no edition that is sent after that, and the file that it kept has each edition that it
 reported before. Two runs that save to one path at the same time are tried too: one is refused, and
 nothing is left beside it. So is a run that saves to the file that it loaded, after another program
 has changed its bytes, cut it, lengthened it, taken it away, or put another file of the same bytes
-in its place. And one that keeps a file through a link, which leads then to a file of the same
+in its place. And one that keeps a file through a link, which then leads to a file of the same
 number on another disk; disks in memory are used for these, which only root may mount.
 """
 import os

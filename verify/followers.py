@@ -2,12 +2,12 @@
 """Follows a journal with 20 followers while it is kept, and audits every reply that they gave.
 
 A run of `serve --keep` is sent edits and publishes, and is killed (SIGKILL) and started again at
-random moments; at some of them a line is left after the last one that was not finished, as by a
-machine that stopped. Runs of `serve --follow` are asked meanwhile, some of them from before the
-file exists: eight through pipes, six through a socket, and six on two copies. One of these grows in
-random pieces, and one by `rsync --append`, if that is installed. Both are made again once the
-keeper has cut a line off. The socket is `socat`'s if that is installed, otherwise Python's.
-Connections end at random, by SIGKILL too.
+random moments; at some of them an unfinished line is left after the last one, as by a machine that
+stopped. Runs of `serve --follow` are asked meanwhile, some of them from before the file exists:
+eight through pipes, six through a socket, and six on two copies. One of these grows in random
+pieces, and one by `rsync --append`, if that is installed. Both are made again once the keeper has
+cut a line off. The socket is `socat`'s if that is installed, otherwise Python's. Connections end at
+random, by SIGKILL too.
 
 In each connection the edition never falls, and whoever was given an edition of a file is given it
 or a later one by any follower of the file that is asked after that. An edit is refused by 45

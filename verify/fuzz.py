@@ -12,9 +12,9 @@ says what is tried:
 
 No run may end by a signal, with another status than 0 to 4, or with a fault that isn't reported.
 Each line has one reply. If a program that was written independently knows the answer, it must be
-that one: reference.py, date_meaning.py, letter_rows.py and territory_texts.py of lib/, and a
-reader of CSV.
-An input at which something is wrong is kept in a file, which is named, and 20 of them end the run.
+that one: reference.py, date_meaning.py, letter_rows.py and territory_texts.py of lib/, and a reader
+of CSV. An input that shows a fault is kept in a file, whose name is printed. After 20 of them the
+run ends.
 
 All that is tried follows from the seed: the rounds of a long run are those of a short one and more.
 """

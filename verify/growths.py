@@ -2,9 +2,9 @@
 """Refuses each growth of memory in turn to the calls of the libraries and to the program.
 
 A call that is refused a growth answers that it lacks memory, or what it answers with ample memory;
-and made again with memory, it answers as if the refused one had never been. Each growth of a call
-is refused in a run of its own. A row is written for each call: how many growths it made, at how
-many of them it was refused, at how many it answered the same as with ample memory, and how many
+and made again with memory, it answers as if the refused call had never been made. Each growth of a
+call is refused in a run of its own. A row is written for each call: how many growths it made, at
+how many of them it was refused, at how many it answered the same as with ample memory, and how many
 calls that were made again answered right. What a run did otherwise is printed above the rows.
 
 The calls are made by the programs in growths/, of which each says how it is run: `requests` makes

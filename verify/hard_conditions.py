@@ -6,10 +6,10 @@ error full as well; standard input that is closed or a folder; a folder in the p
 that is read or saved; a file that can't be read, one whose first line is longer than any line, one
 that grows shorter while it is read; a full disk under `--save`, and a limit on the length of files;
 and 6 MB of addresses. Under each one every command that it concerns is run. The status and what is
-written are compared with docs/PAGES.md and docs/SERVING.md. The files of the folder must be as they
-were, their permissions too, with none beside them. Once the condition is over, the same command
-must save what it should. A row is written for each condition. What went otherwise is printed above
-the rows; so is what could not be tried.
+written are compared with docs/ERRORS.md and docs/SERVING.md. The files of the folder must be as
+they were, their permissions too, with none beside them. Once the condition is over, the same
+command must save what it should. A row is written for each condition. What went otherwise is
+printed above the rows; so is what could not be tried.
 
 A disk that is full is one in memory, which only root may mount.
 """

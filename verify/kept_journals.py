@@ -1,20 +1,20 @@
 #!/usr/bin/env python3
 """Stops the service at random moments while it keeps its journal, and looks at what the file holds.
 
-A run of `serve --keep` is sent edits and publishes, some of them refused, one after the reply to
-the other or many together, and is killed (SIGKILL) at a random moment. The next run keeps the same
-file and continues. After each stop the file has every edition and every pending edit that a reply
-reported, in order, and nothing that was not sent; its whole lines are loaded by `--journal`, with
-the last edition and the number of pending edits. Half of the files are then cut off after their
-last edition, in the middle of a line or not: the next run must say so if a line was not finished,
-and not otherwise.
+A run of `serve --keep` is sent edits and publishes, some of them refused, each after the reply to
+the one before or many together, and is killed (SIGKILL) at a random moment. The next run keeps the
+same file and continues. After each stop the file has every edition and every pending edit that a
+reply reported, in order, and nothing that was not sent; its whole lines are loaded by `--journal`,
+with the last edition and the number of pending edits. Half of the files are then cut off after
+their last edition, in the middle of a line or not: the next run must say so if a line was not
+finished, and not otherwise.
 
 While a journal is kept another run that would keep it is refused, and others read it again and
 again: each reads an edition that was reported before it began, or a later one; or it is refused
 because a last line is still being written, which is counted.
 
-Then: a full disk and a disk that is read alone (which only root can mount), and a limit on the
-length of files. One line reports each, the file has what was reported, and the next run continues.
+Then: a full disk and a read-only disk (which only root can mount), and a limit on the length of
+files. One line reports each, the file has what was reported, and the next run continues.
 """
 import json
 import os

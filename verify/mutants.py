@@ -7,10 +7,10 @@ say what it breaks, or that repeats another.
 
 `try` clones what is committed, proves each crate, and then checks it with the mutants of
 mutants/CRATE.edits: of each function one, as many in one check as there are functions. A mutant
-counts as refused if the prover refuses a function that it changes, and not for one that this calls;
-what is left open is tried alone. A mutant that is proved is reported, unless mutants/survivors.txt
-gives the reason. If all of a crate went as they should, the first line of its file gets the commit
-and the date. With --part K/N only each Nth crate is tried, from the Kth on.
+counts as refused if the prover refuses a function that it changes, and not because of one that this
+calls; what is left open is tried alone. A mutant that is proved is reported, unless
+mutants/survivors.txt gives the reason. If all of a crate went as they should, the first line of its
+file gets the commit and the date. With --part K/N only each Nth crate is tried, from the Kth on.
 """
 import argparse
 import datetime

@@ -1,14 +1,14 @@
 #!/usr/bin/env python3
 """Compares what an older program and a newer one make of random journals of versions 1 and 2.
 
-Each journal has edits of all six kinds and publishes, in any spelling that is allowed,
-and mostly edits that are pending. Some edits have a member `source`, which these versions ignore,
-whatever it is. Some journals have a line that is refused or no request, so that nothing
-is loaded. Both programs load each journal, answer queries of all six kinds, make some more
-edits, and save. They must agree in their statuses and messages, their replies, and what they
-save, except the head: the newer one writes {"journal":2}, and the older one may write
-{"journal":1}. Lines of a message that begin with `help: ` or `note: ` are not compared. If the
-older one knows no version 2, all journals are of version 1.
+Each journal has edits of all six kinds and publishes, in any spelling that is allowed, and mostly
+edits that are pending. Some edits have a member `source`, which these versions ignore, whatever it
+is. Some journals have a line that is refused or is not a request, so that nothing is loaded. Both
+programs load each journal, answer queries of all six kinds, make some more edits, and save. They
+must agree in their statuses and messages, their replies, and what they save, except the head: the
+newer one writes {"journal":2}, and the older one may write {"journal":1}. Lines of a message that
+begin with `help: ` or `note: ` are not compared. If the older one knows no version 2, all journals
+are of version 1.
 
 By the older program's rules the line ends on 31 December 2999, and by the newer one's on that of
 9999; the journals and queries are of days and years that both have, or neither. In a reply of the

@@ -1,8 +1,8 @@
 #!/usr/bin/env python3
-"""Checks that the Rattle programs compile that the gate doesn't see, since they end in .rattle.
+"""Checks that the Rattle programs compile whose names end in .rattle: the gate doesn't see them.
 
 They are those of bench/ and of verify/growths/. What is committed is cloned, each is added to it,
-and `rt try` runs it there without a proof, with no words and no input.
+and `rt try` runs it there without a proof, without arguments and input.
 """
 import glob
 import os

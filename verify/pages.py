@@ -2,12 +2,12 @@
 """Compares the pages that people read with pages written independently.
 
 Random territories are put into a journal, with their changes near one another, listed Easters and
-edits that wait. For each date the page of `read` is compared with the one of `page_texts.py`, which
-asks every day of the line that has the month and day. So are those of months, years, ranges,
-bounds and sets in random forms, by `spans.py`, with the answer of the query `written`, and the
-pages of days about the changes, of the date's month and year, of conversions, and of the
-territories. No line of these pages and of almanacs may end with a space. Wrong arguments, unknown
-codes and missing files must be reported as docs/PAGES.md says.
+pending edits. For each date the page of `read` is compared with the one of `page_texts.py`, which
+asks every day of the line that has the month and day. So are those of months, years, ranges, bounds
+and sets in random forms, by `spans.py`, with the answer of the query `written`, and the pages of
+days about the changes, of the date's month and year, of conversions, and of the territories. No
+line of these pages and of almanacs may end with a space. Wrong arguments, unknown codes and missing
+files must be reported as docs/ERRORS.md says.
 """
 import os
 import random
@@ -97,7 +97,7 @@ def untrimmed(words, page):
 
 
 def on_word(text, why):
-    """The lines on an argument that is not what its place asks for."""
+    """The lines on an argument that is wrong."""
     return [f"oldstyle: {text}: {why}"] + [f"help: {word}: did you mean {name}?"
                                            for word, name in MEANT.items() if word in text.split()]
 

@@ -8,8 +8,8 @@ rule and by Meeus, *Astronomical Algorithms*, for the Julian one; Sunday letters
 Months: `ncal -p | examples/from_ncal.py` makes a text of the countries that ncal knows, which is
 published. For each the six months about its change and three of other centuries are printed by
 `month` and by `ncal -S -s`, which has a line for each weekday while `month` has one for each week:
-so the weeks are turned round, and compared line by line, without the spaces at ends. The British
-months are compared with those of `ncal -b` too, as they are.
+so the rows of `month` are transposed, and compared line by line without the spaces at their ends.
+The British months are compared with those of `ncal -b` too, as they are.
 
 Countries: if `ncal -p` knows a country, the last day of its Julian calendar is that of
 examples/europe.toml. It requires the Debian package ncal.

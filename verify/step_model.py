@@ -4,7 +4,7 @@
 The model has two copies of the territories, each with its edits made one by one, and a list of the
 edits that the standby lacks. It was written from docs/FORMATS.md alone, and shares the rules of
 edits and queries with reference.py. With --replay it prints what the model gives at the steps of
-one schedule, of which each is a line of standard input.
+one schedule, each of which is a line of standard input.
 """
 import json
 import random

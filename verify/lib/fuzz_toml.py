@@ -2,8 +2,8 @@
 
 Each text goes through `plan`, and one that is taken is published into a new journal. `text` of that
 journal is a text of the same register: it plans nothing there, and another journal that it is
-published into is written as the same text. A run ends with a status that docs/TERRITORIES.md
-names, within a minute, and reports a fault in one line that has no control character.
+published into is written as the same text. A run ends with a status that docs/ERRORS.md names,
+within a minute, and reports a fault in one line that has no control character.
 
 What a text says, or its first fault, is by territory_texts.py, if Python's own reader of TOML
 reads the text. Readers differ in numbers that 64 bits don't hold, and in how deep they go.

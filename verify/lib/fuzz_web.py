@@ -1,9 +1,9 @@
 """Requests to the page in the browser, changed at random: a target of fuzz.py.
 
 A run of `oldstyle-web` is sent requests, as bytes that were changed and by addresses whose words
-were. Each has a reply with a status that docs/SERVING.md names, never 500, and a body as long as
-its head says. The page reports no fault of its own, and the next good request is answered. What it
-answers to a date is what the query `written` answers.
+were. Each has a reply with a status that clients/web/README.md names, never 500, and a body as long
+as its head says. The page reports no fault of its own, and the next good request is answered. What
+it answers to a date is what the query `written` answers.
 """
 import json
 import re

@@ -32,7 +32,7 @@ fn register_line(alloc: Global, register: &Register) -> Result<String, AllocErro
     checked_line(alloc, territories.len())
 }
 
-/// Runs the command `check`: prints how many territories the text of this path says under these
+/// Runs the command `check`: prints how many territories the text of this path has, under these
 /// limits. The text is read whole before anything is printed.
 ///
 /// If the text has a fault, standard error reports the first one, and the status says so.

@@ -10,7 +10,7 @@ use std::alloc::Global;
 /// Runs the command `completions`: prints the text by which the shell of this word completes the
 /// arguments.
 ///
-/// If it is the word of no shell, a line on standard error reports that, and the status says so.
+/// If the word names no shell, a line on standard error reports that, and the status says so.
 pub(crate) fn completions_command<W: Sink, E: Sink>(
     alloc: Global,
     shell: &str,

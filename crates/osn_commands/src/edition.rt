@@ -50,8 +50,8 @@ pub(crate) fn make_edition(object: &mut Object, edits: Vec<Edit>) -> Result<u32,
     Ok(object.make_edition()?)
 }
 
-/// Returns what a file of which this part counts gets: what is missing there, then the lines of
-/// edits and that of their publish.
+/// Returns what is appended to a file of which this part counts: what is missing there, then the
+/// lines of the edits and that of their publish.
 fn edition_lines(alloc: Global, part: CountedPrefix, edits: &[Edit]) -> Result<Vec<u8>, AllocError>
     ensures { IfOk result (λ lines. inside.AreLinesOf part edits.now lines.items) }
 {

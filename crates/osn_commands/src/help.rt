@@ -90,7 +90,7 @@ fn words_taken(command: &str) -> usize
     }
 }
 
-/// Returns whether words of a command say a date or a year.
+/// Returns whether the arguments of a command have a date or a year.
 fn takes_date(command: &str) -> bool
     ensures { result ≡ spec.takes_date command.now }
 {
@@ -160,7 +160,7 @@ fn has_json<S: AsStr>(words: &[S]) -> bool
     some_json(words)
 }
 
-/// Returns whether the words have the option `--json` after a command that hasn't.
+/// Returns whether the words have the option `--json` after a command that lacks it.
 fn has_json_elsewhere<S: AsStr>(words: &[S]) -> bool
     ensures { result ≡ spec.has_json_elsewhere (map S.text words.now) }
 {
@@ -174,7 +174,7 @@ fn is_named_twice<S: AsStr>(words: &[S]) -> bool
     has_journal_option(words) && plain_count(words) == words_taken(command_in(words))
 }
 
-/// Returns the help on a word too many.
+/// Returns the help on an argument too many.
 fn surplus_help(command: &str) -> &'static str
     ensures { result.now ≡ spec.surplus_help command.now }
 {

@@ -56,7 +56,7 @@ fn is_journal_option(word: &str) -> bool
     word == "--journal" || file_after_equals(word).is_some()
 }
 
-/// Returns where the first of these words is that is the option.
+/// Returns the place of the first of these words that is the option.
 fn place_of_option<S: AsStr>(words: &[S]) -> Option<usize>
     ensures { result ≡ position (λ word. spec.is_journal_option (S.text word)) words.now }
 {

@@ -19,9 +19,9 @@ pub(crate) enum KeepCause {
     NoFile,
     /// It may not be read.
     Denied,
-    /// It can't be opened or read, by any other cause.
+    /// It can't be opened or read, for any other cause.
     NotRead,
-    /// It can be read, and not be opened to be written to, for this cause.
+    /// It can be read, but not opened for writing, for this cause.
     NotWritten(OpenFailed),
     /// It is not there, and neither is its folder.
     NoFolder,
@@ -109,7 +109,7 @@ fn hindrance<D: Folder>(folder: &mut D, path: &str, is_there: bool) -> Option<Ke
     }
     match folder.keep(path) {
         Ok((kept, journal)) => {
-            // What reads the file has its lock too.
+            // The source that reads the file has its lock too.
             drop(journal);
             folder.release(path, kept);
             None

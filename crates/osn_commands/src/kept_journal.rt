@@ -84,7 +84,7 @@ fn keep_and_publish<D: Folder, W: Sink, E: Sink>(
         output,
         errors,
     );
-    // What reads the file has its lock too.
+    // The source that reads the file has its lock too.
     drop(journal);
     folder.release(path, keeper);
     match published {

@@ -101,7 +101,7 @@ fn report_refused<E: Sink>(alloc: Global, errors: &mut E, refusal: Refusal) -> S
 
 /// Writes a note on the journal of this path to standard error. Returns the status.
 pub(crate) fn report_note<E: Sink>(alloc: Global, errors: &mut E, path: &str, note: Note) -> Status
-    // Whatever note was to be found.
+    // For any note that was expected.
     ensures { (expected : Note) → spec.IsNoteOf expected note
         → spec.ReportsNote (spec.note_line path.now expected)
         (output_of E.contents E.has_failed E.holds_back errors.old errors.new) result }

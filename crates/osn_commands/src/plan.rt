@@ -36,8 +36,8 @@ fn plan_text(
     Ok(text)
 }
 
-/// Reports on standard error that the text of a plan is behind an edition, or else writes a note on
-/// its edits for the journal of this version. Returns the status.
+/// Reports on standard error that a later edition changed what the text of a plan changes, or else
+/// writes a note on its edits for the journal of this version. Returns the status.
 fn report_edits<E: Sink>(
     alloc: Global,
     request: PublishRequest<'_>,

@@ -21,7 +21,7 @@ use osn_serve_commands::{LoadedJournal, read_journal_to_keep};
 use std::alloc::Global;
 
 /// Publishes the edits of a plan, unless they change again what editions after that of the text
-/// changed and that hinders the publish.
+/// changed, and the request does not allow that.
 ///
 /// # Errors
 ///
@@ -38,7 +38,7 @@ fn publish_unless_behind<K: KeptFile, W: Sink, E: Sink>(
 ) -> Result<Status, NeedsRewrite>
     requires few { held.part.lines < 2 ^ 63 }
     requires pending { held.object.pending ≡ [] }
-    // Whatever a source gave of which the part counts.
+    // For whatever a source gave of which the part counts.
     ensures ok { IfOk result (λ status. (given : Option (List ℕ))
         → inside.IsPartOf held.part given
         → spec.PublishesUnlessBehind
@@ -75,7 +75,7 @@ fn publish_unless_behind<K: KeptFile, W: Sink, E: Sink>(
     }
 }
 
-/// Publishes what changes the published register of a journal into the target register,
+/// Publishes the edits that change the published register of a journal into the target register,
 /// unless edits are pending, or the text is of an edition that the journal lacks.
 ///
 /// # Errors
@@ -91,7 +91,7 @@ fn publish_held<K: KeptFile, W: Sink, E: Sink>(
     errors: &mut E,
 ) -> Result<Status, NeedsRewrite>
     requires { held.part.lines < 2 ^ 63 }
-    // Whatever a source gave of which the part counts.
+    // For whatever a source gave of which the part counts.
     ensures ok { IfOk result (λ status. (given : Option (List ℕ))
         → inside.IsPartOf held.part given
         → spec.PublishesUnlessPending (inside.CanStay K.cut_back_may_fail) held.version held.object
@@ -124,18 +124,19 @@ fn publish_held<K: KeptFile, W: Sink, E: Sink>(
     }
 }
 
-/// Runs the command `publish`: makes the edits that change what a journal published into a register
-/// that is target one edition of the journal, under these limits. The request names the paths of
-/// the journal and of the text that says the register, and the edition that the text was made of.
-/// The source gives the bytes of the journal's file.
+/// Runs the command `publish`: makes one edition of the journal, under these limits, of the edits
+/// that change what it published into the target register. The request names the paths of the
+/// journal and of the text that says the register, and the edition that the text was made from. The
+/// source gives the bytes of the journal's file.
 ///
 /// What the edits do is printed once all their lines are in the file with that of their publish,
 /// and on the disk. They are appended together. If nothing is to change, the file is left as it is.
 ///
 /// If the file contains no object, or one with pending edits, or an edit is refused, the file is
 /// left as it is. So is a journal of the first version, and one whose editions after that of the
-/// text changed what the edits change, unless that is asked for. If the file can't be changed, it
-/// is cut back to what it contained. Standard error reports why, and the status says so.
+/// text changed what the edits change, unless the request allows that. If the file can't be
+/// changed, it is cut back to what it contained. Standard error reports why, and the status says
+/// so.
 ///
 /// # Errors
 ///

@@ -70,7 +70,7 @@ fn publish_edition<K: KeptFile, W: Sink, E: Sink>(
     errors: &mut E,
 ) -> Status
     requires { part.lines < 2 ^ 63 }
-    // Whatever a source gave of which the part counts, and whatever edits the lines are of.
+    // For whatever a source gave of which the part counts, and any edits that the lines are of.
     ensures { (given : Option (List ℕ)) → inside.IsPartOf part given
         → (edits : List Edit) → inside.AreLinesOf part edits edition.now.lines.items
         → spec.WritesEdition (inside.CanStay K.cut_back_may_fail) path.now
@@ -99,7 +99,7 @@ fn append_edits<K: KeptFile, W: Sink, E: Sink>(
     errors: &mut E,
 ) -> Status
     requires { part.lines < 2 ^ 63 }
-    // Whatever a source gave of which the part counts.
+    // For whatever a source gave of which the part counts.
     ensures { (given : Option (List ℕ)) → inside.IsPartOf part given
         → spec.AppendsEdits (inside.CanStay K.cut_back_may_fail) path.now object.old target.now
         (file_of K.contents K.synced K.fault keeper.old)
@@ -192,7 +192,7 @@ pub(crate) fn publish_edits<K: KeptFile, W: Sink, E: Sink>(
 ) -> Result<Status, NeedsRewrite>
     requires few { held.part.lines < 2 ^ 63 }
     requires pending { held.object.pending ≡ [] }
-    // Whatever a source gave of which the part counts.
+    // For whatever a source gave of which the part counts.
     ensures ok { IfOk result (λ status. (given : Option (List ℕ))
         → inside.IsPartOf held.part given
         → spec.PublishesEdits (needs_sources held.version edits.items)

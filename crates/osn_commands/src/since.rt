@@ -1,4 +1,4 @@
-//! What a publish is asked for, and whether the edits of its plan would change again what editions
+//! The request of a publish, and whether the edits of its plan would change again what editions
 //! after that of the text changed.
 ghost use Rattle.std.specs.Prelude.{◌≡◌, ◌++◌, drop, IfOk, OnOk, string_bytes};
 ghost use Rattle.std.specs.List.{list_any};
@@ -12,16 +12,16 @@ use osn_register_text::plan_page;
 use std::alloc::{AllocError, Global};
 use std::fmt::Write;
 
-/// What a publish is asked for.
+/// The request of a publish.
 #[derive(Clone, Copy, Debug)]
 pub struct PublishRequest<'a> {
     /// The path of the journal.
     pub journal: &'a str,
     /// The path of the text.
     pub text: &'a str,
-    /// The edition that the text was made of, if it names one.
+    /// The edition that the text was made from, if it names one.
     pub edition: Option<u64>,
-    /// Whether editions after that of the text don't hinder the publish.
+    /// Whether the publish may change again what editions after that of the text changed.
     pub onto_newest: bool,
 }
 
@@ -118,7 +118,7 @@ pub(crate) fn behind(edition: Option<u64>, batches: &[Batch], edits: &[Edit]) ->
     }
 }
 
-/// Returns the same, but only if that hinders a publish.
+/// Returns the same, but only if the publish may not do that.
 pub(crate) fn hindered(
     request: PublishRequest<'_>,
     batches: &[Batch],

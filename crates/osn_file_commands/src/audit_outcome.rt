@@ -17,8 +17,8 @@ fn agreed_line(alloc: Global, replies: u64) -> Result<String, AllocError>
 }
 
 /// Runs the command `audit`: compares a transcript with what a journal published under these
-/// limits. The text is how many replies it has, which all agree. The journal is read whole before
-/// the transcript.
+/// limits. The text says how many replies it has, all of which agree. The journal is read whole
+/// before the transcript.
 ///
 /// # Errors
 ///

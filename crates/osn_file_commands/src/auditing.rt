@@ -128,7 +128,7 @@ fn check_entry(followers: &Followers, entry: &TranscriptLine) -> Result<(), Wire
     Ok(())
 }
 
-/// Compares an entry with the journal. The line that is due replaces the one before.
+/// Compares an entry with the journal. The expected line replaces the one before.
 ///
 /// # Errors
 /// Returns the entry's fault, or `NoMemory` for an entry that `check_entry` accepts.

@@ -13,7 +13,7 @@ use std::alloc::{AllocError, Global};
 #[derive(Drop)]
 pub(crate) struct Auditor {
     followers: Followers,
-    /// The reply line that was due last. The next one reuses its memory.
+    /// The last expected reply line. The next one reuses its memory.
     due: Vec<u8>,
 }
 

@@ -13,7 +13,7 @@ use osn_report::CommandFault;
 use osn_service::out_text;
 use std::alloc::{AllocError, Global};
 
-/// Returns the lines of what steps gave, one for each.
+/// Returns a line for what each step gave.
 fn out_lines(alloc: Global, outs: &[Out]) -> Result<String, AllocError>
     ensures { IfOk result (λ text. string_bytes text ≡ flat_map out_line outs.now) }
 {

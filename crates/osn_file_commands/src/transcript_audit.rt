@@ -44,7 +44,7 @@ fn audit_lines<S: Source>(
 ///
 /// Besides the object, memory contains a register of the greatest edition that a reply named, and
 /// one for each reader with a reply of an earlier edition. It also contains what `take_lines` has,
-/// the value of one line, and the texts of its reply and of the reply that is due.
+/// the value of one line, and the texts of its reply and of the expected one.
 ///
 /// # Errors
 ///

@@ -98,9 +98,9 @@ and remark.",
   ./oldstyle serve --journal examples/samples.journal --save new.journal < examples/added.jsonl
 
 Requests and replies are JSON lines. With --save, the journal is saved only if all lines were
-answered. With --keep, each change is in the journal before its reply is written. A journal of an
-earlier version than 4 accepts no source of an edit: --upgrade saves it as version 4, whole or not
-at all. With --follow, edits are refused, and FILE need not exist yet. With --stop-at-refusal, a
+answered. With --keep, each change is in the journal before its reply is written. A journal of a
+version before 4 accepts no edit with a source: --upgrade saves it as version 4, whole or not at
+all. With --follow, edits are refused, and FILE need not exist yet. With --stop-at-refusal, a
 batch of edits is published whole or not at all.",
         arguments: &[
             Valued(
@@ -168,7 +168,7 @@ is 1. The command plan says whether a journal accepts what TEXT says.",
     },
     CommandRow {
         name: "plan",
-        about: "Prints the edits that make the territories of a journal what a text says they are",
+        about: "Prints the edits that would make a journal agree with a text of territories",
         examples: "Example:
   ./oldstyle plan examples/samples.journal territories.toml
 
@@ -189,7 +189,7 @@ nothing. Nor does a text that would undo what an edition later than its own has 
             TEXT,
             Flag(
                 "onto-newest",
-                "Publishes even if that undoes or again changes what later editions changed",
+                "Publishes even if that undoes or changes again what later editions changed",
             ),
             JOURNAL_OPTION,
             LIMITS,
@@ -227,7 +227,7 @@ Each change is a line, in the words of the command plan. What later editions und
     },
     CommandRow {
         name: "replay",
-        about: "Runs the steps of one editor and of readers, and prints what each of them returns",
+        about: "Runs a schedule of steps by an editor and readers, and prints each result",
         examples: "Example:
   ./oldstyle replay --readers 2 examples/two_readers.schedule
 
@@ -269,7 +269,7 @@ The command year prints a single year.",
         arguments: &[
             JOURNAL,
             CODE,
-            Year("The year, 1 to 9999: for the months as counted there, otherwise from 1 January"),
+            Year("The year, 1 to 9999: as counted there for the months, otherwise from 1 January"),
             EDITION,
             DEFAULT_JOURNAL,
             LIMITS,

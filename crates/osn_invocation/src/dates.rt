@@ -17,7 +17,7 @@ A date is written 1731-02-11, \"11 February 1731\" or \"11 February 1731/2\", wi
 weekday before it, or in another form, such as \"11 Feb. 1731/32\". Its year is that of the
 document, or both years are given. It may be a month, a year, a range or a bound, such as
 \"March 1731\", \"3-10 May 1640\" or \"before 1640\", and be qualified, as in \"[about 1640?]\" or
-\"11 February 1731 N.S.\". If a date means several days, those on the weekday come first.",
+\"11 February 1731 N.S.\". If a date means several days, those on DAY come first.",
         arguments: &[
             JOURNAL,
             PLACE,
@@ -85,7 +85,7 @@ is the day number plus 1721425.",
         examples: "Example:
   ./oldstyle month examples/samples.journal GB 1752 September
 
-A month that the year has at its beginning and at its end is printed twice.",
+A month that is partly at the beginning and partly at the end of the year has two parts.",
         arguments: &[
             JOURNAL,
             PLACE,
@@ -110,8 +110,8 @@ A month that the year has at its beginning and at its end is printed twice.",
         examples: "Example:
   ./oldstyle year examples/samples.journal GB 1731
 
-The year runs from its first day there to its last one. Its feasts are those that the territory
-dated in it. The figures are those of the year from 1 January, as the page says.",
+The year is the territory's own, with the feasts that it dated in that year. The figures are those
+of the year from 1 January, as the page says.",
         arguments: &[
             JOURNAL,
             PLACE,

@@ -1,4 +1,4 @@
-//! What the commands that only read files are asked for, by their arguments.
+//! What the commands that only read files have to do, by their arguments.
 
 ghost use Rattle.std.specs.Prelude.{◌≡◌};
 ghost use Rattle.clap.specs.Words.{found_of, rows_of};

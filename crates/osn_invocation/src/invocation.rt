@@ -36,7 +36,7 @@ pub struct ServeOptions<'a> {
     pub upgrade: bool,
     /// The journal that another run keeps and this one follows, if any.
     pub follow: Option<&'a str>,
-    /// How many readers ask.
+    /// The number of readers.
     pub readers: u32,
     /// Whether edits and publishes are refused.
     pub read_only: bool,
@@ -64,7 +64,7 @@ pub enum PageRequest<'a> {
         weekday: Option<&'a str>,
         /// The word of the order in which a date's three numbers are read, if it is named.
         order: Option<&'a str>,
-        /// Whether a date without a day is a refusal.
+        /// Whether a date that means no day is a refusal.
         strict: bool,
         /// Whether the answer is printed as a line of JSON.
         json: bool,
@@ -78,7 +78,7 @@ pub enum PageRequest<'a> {
         /// Whether the answer is printed as a line of JSON.
         json: bool,
     },
-    /// A month as a territory lived it.
+    /// A month as a territory dated its days.
     Month {
         /// The territory, by its code or its name.
         code: &'a str,
@@ -103,7 +103,7 @@ pub enum PageRequest<'a> {
     },
 }
 
-/// What a command is asked for. Files are named by their paths.
+/// What a command has to do. Files are named by their paths.
 #[derive(Clone, Copy, Debug, PartialEq, Eq)]
 pub enum CommandWords<'a> {
     /// To answer request lines.

@@ -1,4 +1,4 @@
-//! What the command `letters` is asked for, by its arguments.
+//! What the command `letters` has to do, by its arguments.
 
 ghost use Rattle.std.specs.Prelude.{◌≡◌};
 ghost use Rattle.clap.specs.Words.{found_of, rows_of};
@@ -23,7 +23,7 @@ pub struct DateOptions<'a> {
     pub day: Option<&'a str>,
 }
 
-/// What the letters of a table are asked for.
+/// How a table of letters is read, and what is reported of it.
 #[derive(Clone, Copy, Debug, PartialEq, Eq)]
 pub struct LettersOptions<'a> {
     /// The name of the column of places.

@@ -1,4 +1,4 @@
-//! Which page a command is asked for, by its arguments.
+//! Which page a command prints, by its arguments.
 
 ghost use Rattle.std.specs.Prelude.{◌≡◌};
 ghost use Rattle.clap.specs.Words.{found_of, rows_of};

@@ -1,4 +1,4 @@
-//! What the commands of the register's text are asked for, by their arguments.
+//! What the commands for editions and for the register as a text have to do, by their arguments.
 
 ghost use Rattle.std.specs.Prelude.{◌≡◌};
 ghost use Rattle.clap.specs.Words.{found_of, rows_of};

@@ -13,7 +13,7 @@ pub enum Shell {
     Fish,
 }
 
-/// Returns the shell of a word, if it is the word of a shell.
+/// Returns the shell that a word names, if it names one.
 pub fn shell_named(word: &str) -> Option<Shell>
     ensures { result ≡ spec.shell_named word.now }
 {

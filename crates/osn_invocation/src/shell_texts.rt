@@ -4,8 +4,8 @@
 /// The text before the rows in GNU Bash.
 pub(crate) const BASH_HEAD: &str = r#"# Made by `oldstyle completions bash`.
 
-# A row of the grammar: a command; or with it the word argument, or an option, and what the value
-# may be, FILE, TEXT or one of some words.
+# Takes a row of the grammar: a command; or a command, then the word argument or an option, and what
+# its value may be, if it has one: FILE, TEXT, or one of the words that follow.
 _oldstyle_row() {
     if [ $# = 1 ]; then
         commands+=("$1")
@@ -62,8 +62,8 @@ complete -F _oldstyle oldstyle
 pub(crate) const ZSH_HEAD: &str = r#"#compdef oldstyle
 # Made by `oldstyle completions zsh`.
 
-# A row of the grammar: a command; or with it the word argument, or an option, and what the value
-# may be, FILE, TEXT or one of some words.
+# Takes a row of the grammar: a command; or a command, then the word argument or an option, and what
+# its value may be, if it has one: FILE, TEXT, or one of the words that follow.
 _oldstyle_row() {
     local values="${argv[3,-1]}"
     case $values in
@@ -136,8 +136,8 @@ function _oldstyle_wants -a command number
     test $count = $number -a $in_option = 0
 end
 
-# A row of the grammar: a command; or with it the word argument, or an option, and what the value
-# may be, FILE, TEXT or one of some words.
+# Takes a row of the grammar: a command; or a command, then the word argument or an option, and what
+# its value may be, if it has one: FILE, TEXT, or one of the words that follow.
 function _oldstyle_row -a command place
     set -l values "$argv[3..]"
     set -l wanted -x -a $values

@@ -11,7 +11,7 @@ use osn_pages::conversion_page;
 use osn_report::{Misuse, Status, print, report_no_memory};
 use std::alloc::Global;
 
-/// Returns which of the words of a conversion is not what its place asks for.
+/// Returns the argument of a conversion that is wrong.
 fn wrong_word_of_conversion<'a>(calendar: &'a str, date: &'a str, misuse: Misuse) -> &'a str
     ensures { result.now ≡ spec.wrong_word_of_conversion calendar.now date.now misuse }
 {
@@ -22,10 +22,10 @@ fn wrong_word_of_conversion<'a>(calendar: &'a str, date: &'a str, misuse: Misuse
 }
 
 /// Runs the command `convert`: prints a day by every calendar and by its numbers. The day is that
-/// of a date in the calendar of that word. After the word `day` in place of a calendar's, it is
-/// that of a number.
+/// of a date in the calendar that the first argument names; after the word `day` it is that of a
+/// number.
 ///
-/// If the words name no day, a line on standard error reports why, and the status says so.
+/// If the arguments name no day, a line on standard error reports why, and the status says so.
 pub fn convert_command<W: Sink, E: Sink>(
     alloc: Global,
     calendar: &str,

@@ -1,4 +1,4 @@
-//! Reports on standard error a word that is not what its place asks for, and what may be meant.
+//! Reports on standard error an argument that is wrong, and what may be meant.
 ghost use Rattle.std.specs.Prelude.{◌≡◌, ◌++◌, find, map, IfOk, OnOk, option_map, string_bytes};
 ghost use Rattle.osn_lines.specs.Streams.{output_of};
 ghost use Rattle.osn_lines.specs.Near.{is_near as is_name_near};
@@ -35,7 +35,7 @@ const NAMES: [&str; 19] = [
     "Saturday",
 ];
 
-/// Returns whether a date may have the word in the place of its month or its weekday.
+/// Returns whether a date may have the word as its month or its weekday.
 fn is_date_word(alloc: Global, word: &str) -> Result<bool, AllocError>
     ensures { IfOk result (λ is. is ≡ spec.is_date_word word.now) }
 {
@@ -163,8 +163,8 @@ fn misuse_lines(alloc: Global, misuse: Misuse, typed: &str) -> Result<String, Al
     Ok(lines)
 }
 
-/// Reports on standard error what the place of a word asks for, and what may be meant by the word
-/// as it was typed. Returns the status.
+/// Reports on standard error what an argument must be, and what may be meant by it as it was typed.
+/// Returns the status.
 pub(crate) fn report_word<E: Sink>(
     alloc: Global,
     errors: &mut E,

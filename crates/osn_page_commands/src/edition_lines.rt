@@ -25,7 +25,8 @@ pub fn report_edition_word<E: Sink>(alloc: Global, errors: &mut E, word: &str) -
     report_line(errors, Status::Misused, word_line(alloc, word))
 }
 
-/// Returns what to do about a number that a journal has no edition of, whose newest one is this.
+/// Returns what to do about a number that is not that of an edition of the journal, whose newest
+/// edition is this.
 fn late_help(alloc: Global, newest: usize) -> Result<String, AllocError>
     ensures { IfOk result (λ help. string_bytes help ≡ spec.late_help newest) }
 {
@@ -35,7 +36,8 @@ fn late_help(alloc: Global, newest: usize) -> Result<String, AllocError>
     }
 }
 
-/// Returns the lines on a number that a journal has no edition of, whose newest one is this.
+/// Returns the lines on a number that is not that of an edition of the journal, whose newest
+/// edition is this.
 #[tactic(auto, unfolding(crate::specs::Editions::late_lines))]
 fn late_lines(alloc: Global, number: u32, newest: usize) -> Result<String, AllocError>
     ensures { IfOk result (λ lines. string_bytes lines ≡ spec.late_lines number newest) }
@@ -46,7 +48,7 @@ fn late_lines(alloc: Global, number: u32, newest: usize) -> Result<String, Alloc
     )
 }
 
-/// Reports on standard error why an edition can't be had. Returns the status.
+/// Reports on standard error why there is no such edition. Returns the status.
 pub fn report_edition_fault<E: Sink>(alloc: Global, errors: &mut E, fault: EditionFault) -> Status
     ensures { spec.ReportsEditionFault fault
         (output_of E.contents E.has_failed E.holds_back errors.old errors.new) result }

@@ -1,4 +1,4 @@
-//! The command of a page over the files of a folder: the words are read before the journal is
+//! The command of a page over the files of a folder: the arguments are read before the journal is
 //! opened by its path.
 ghost use Rattle.std.specs.Prelude.{◌≡◌, IfErr, IfOk, option_map};
 ghost use Rattle.osn_page_commands.specs.Editions.{OnEdition};
@@ -112,13 +112,12 @@ fn numbered_page_in_folder<'a, D: Folder, W: Sink, E: Sink>(
 }
 
 /// Runs the command `almanac`, `read`, `day`, `month`, `year` or `territory`: opens the journal of
-/// a path, and prints the page that the words ask for, of the edition that a word names, under
-/// these limits. Without such a word it is the newest one. The journal is read whole before
-/// anything is printed.
+/// a path, and prints the page that the arguments ask for, under these limits, of the edition that
+/// is named or of the newest one. The journal is read whole before anything is printed.
 ///
-/// If a word is not what its place asks for, standard error says so before a file is opened. If no
-/// page is printed, standard error says why, and the status says it too. With `--strict` a date
-/// that means no day has its page, and the status of a refusal.
+/// If an argument is wrong, standard error says so before a file is opened. If no page is printed,
+/// standard error says why, and the status says it too. With `--strict` a date that means no day
+/// has its page, and the status of a refusal.
 ///
 /// # Errors
 ///

@@ -15,14 +15,14 @@ use osn_register::Limits;
 use osn_report::{CommandFault, Status, report_at, report_line};
 use std::alloc::Global;
 
-/// What is asked for a table besides its columns.
+/// The options of a table besides those that name its columns.
 #[derive(Clone, Copy, Debug, PartialEq, Eq)]
 pub struct TableRules {
-    /// The number of the edition of which it is made, or none for the newest one.
+    /// The number of the edition that is read, or none for the newest one.
     pub edition: Option<u32>,
     /// Whether a remark is a refusal.
     pub strict: bool,
-    /// Whether it is reported how many rows have each remark.
+    /// Whether the number of rows with each remark is reported.
     pub summary: bool,
 }
 
@@ -104,10 +104,10 @@ fn write_numbered<R: Source, W: Sink, E: Sink, P: Progress>(
 
 /// Runs the command `letters`: writes the table of the input, CSV with a header, with twelve
 /// columns more after its own. These say for each row what its date means, by an edition of the
-/// journal of this path under these limits. The journal is read whole before a record is, and what
-/// comes of a read is written before the next one. The settings name the columns that are read,
-/// what separates the fields, the order of a date's three numbers and the table of places. The
-/// progress shows how much of the table was read.
+/// journal of this path under these limits. The journal is read whole before the first record, and
+/// the rows of each read are written before the next read. The settings name the columns that are
+/// read, what separates the fields, the order of a date's three numbers and the table of places.
+/// The progress shows how much of the table was read.
 ///
 /// If it ends early, a line on standard error reports why, and the status says so. If it is written
 /// whole and a remark is a refusal, `Refused` says that a row has one. If that is asked for,

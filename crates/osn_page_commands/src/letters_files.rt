@@ -21,7 +21,7 @@ use osn_register::Limits;
 use osn_report::{ReadProgress, Status, report_misuse, report_open_failure};
 use std::alloc::Global;
 
-/// Returns what is asked for a table besides its columns, by the options and the number of the
+/// Returns the options of a table besides those that name its columns, with the number of the
 /// edition.
 fn rules_of(options: LettersOptions<'_>, number: Option<u32>) -> TableRules
     ensures { result ≡ spec.rules_of (letters_model options.entry) number }
@@ -33,9 +33,9 @@ fn rules_of(options: LettersOptions<'_>, number: Option<u32>) -> TableRules
     }
 }
 
-/// Reads the table of places of a path, and does what `letters_command` does by it for the journal
-/// of this name, if it has no fault. If it could not be opened or has one, standard error reports
-/// why, and nothing is written.
+/// Reads the table of places of a path. If it has no fault, does what `letters_command` does with
+/// it for the journal of this name. If it could not be opened or has a fault, standard error
+/// reports why, and nothing is written.
 fn letters_by_places<D: Folder, R: Source, W: Sink, E: Sink, P: Progress>(
     alloc: Global,
     limits: Limits,

@@ -18,8 +18,8 @@ fn month_of(date: Result<WrittenDate, DateFault>) -> Option<u8>
     }
 }
 
-/// Returns the month in whose place a date may have the word, in any language in which dates are
-/// read, in full or short.
+/// Returns the month that the word names in a date, in any language in which dates are read, in
+/// full or short.
 pub(crate) fn month_in_date(alloc: Global, word: &str) -> Result<Option<u8>, AllocError>
     ensures { IfOk result (λ month. month ≡ spec.month_in_date word.now) }
 {

@@ -23,7 +23,7 @@ use osn_register::{BorrowedQuery, Refusal, Register};
 use osn_report::{Status, print, print_or_report, report_line, report_no_memory};
 use std::alloc::{AllocError, Global};
 
-/// Returns the number of an edition, and how many edits wait.
+/// Returns the number of an edition, and how many edits are pending.
 fn heading_of(edition: &Edition) -> Published
     ensures { result ≡ spec.heading_of (edition_model edition.now) }
 {
@@ -158,7 +158,7 @@ fn lacks_set(alloc: Global, register: &Register, code: &str, date: &str) -> Resu
     Ok(set_has_no_day(alloc, territory, date)?)
 }
 
-/// Does the same if the words ask for a day.
+/// Does the same if the arguments ask for a date.
 fn lacks_strict_day(
     alloc: Global,
     edition: &Edition,

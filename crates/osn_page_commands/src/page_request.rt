@@ -1,4 +1,4 @@
-//! What the words of a command line ask for, if each is what its place asks for.
+//! What the arguments of a command ask for, if none of them is wrong.
 ghost use Rattle.std.specs.Prelude.{◌≡◌, option_map, true, IfOk, OnErr};
 ghost use Rattle.osn_invocation.specs.Invocation.{page_request};
 ghost use Rattle.osn_written.specs.WrittenDate.{number_of as number_in};
@@ -26,7 +26,7 @@ pub(crate) struct Form {
     pub(crate) is_json: bool,
 }
 
-/// What a command prints a page on.
+/// The subject of a page.
 #[derive(Clone, Copy, Debug, PartialEq, Eq)]
 pub(crate) enum Topic {
     /// A year of a territory, as an almanac.
@@ -38,7 +38,7 @@ pub(crate) enum Topic {
         page: Page,
         form: Form,
     },
-    /// Which days the set of dates means that the text of the date is.
+    /// Which days a set of dates means, by its text.
     Set {
         /// The weekday that is given beside it, if any.
         weekday: Option<Weekday>,
@@ -51,7 +51,7 @@ pub(crate) enum Topic {
     },
 }
 
-/// Returns the date of one day that a text is.
+/// Returns the date of one day that a text contains.
 fn date_of_word(alloc: Global, text: &str) -> Result<Result<WrittenDate, Misuse>, AllocError>
     ensures { IfOk result (λ date. date ≡ spec.date_of_word text.now) }
 {
@@ -61,7 +61,7 @@ fn date_of_word(alloc: Global, text: &str) -> Result<Result<WrittenDate, Misuse>
     }
 }
 
-/// Returns the date that was read of a text, which must contain one that is not a set.
+/// Returns the date that was read from a text, which must contain one that is not a set.
 fn any_date_or_misuse(read: Result<Written, DateFault>) -> Result<AnyDate, Misuse>
     ensures { result ≡ spec.any_date_or_misuse read }
 {
@@ -119,7 +119,7 @@ fn topic_of_set(name: Option<&str>, form: Form) -> Result<Topic, Misuse>
     })
 }
 
-/// Returns the page on what was read of a text, by the weekday of that name, if there is a name.
+/// Returns the page on what was read from a text, by the weekday of that name, if there is a name.
 fn topic_of_read(
     read: Result<Written, DateFault>,
     name: Option<&str>,
@@ -312,7 +312,7 @@ fn form_of(is_strict: bool, is_json: bool) -> Form
     Form { is_strict, is_json }
 }
 
-/// Returns what words ask for a page on.
+/// Returns the subject of the page that the arguments ask for.
 pub(crate) fn topic_of_words(
     alloc: Global,
     words: PageRequest<'_>,
@@ -373,7 +373,7 @@ pub(crate) fn territory_word<'a>(words: PageRequest<'a>) -> &'a str
     }
 }
 
-/// Returns which of the words of a page is not what its place asks for.
+/// Returns the argument of a page that is wrong.
 pub(crate) fn wrong_word<'a>(words: PageRequest<'a>, misuse: Misuse) -> &'a str
     ensures { result.now ≡ spec.wrong_word (page_request words.entry) misuse }
 {

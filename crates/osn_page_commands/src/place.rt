@@ -12,7 +12,7 @@ use std::alloc::{AllocError, Global};
 pub(crate) enum Place {
     /// The territory of this code, and no other.
     One(Text),
-    /// No territory, or these, of which it may be any.
+    /// No territory, or several, each of which it may be.
     NotOne(LandList),
 }
 

@@ -155,8 +155,8 @@ fn report_record<E: Sink>(alloc: Global, errors: &mut E, line: u64, text: &str) 
     report_line(errors, Status::Refused, record_line(alloc, line, text))
 }
 
-/// Reports on standard error why a table ended early. Writes nothing if the output failed, which
-/// the status alone says.
+/// Reports on standard error why a table ended early. Writes nothing if the output failed: only the
+/// status says that.
 pub(crate) fn report_table<E: Sink>(
     alloc: Global,
     errors: &mut E,

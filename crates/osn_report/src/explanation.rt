@@ -27,7 +27,7 @@ fn change_text(cause: ChangeCause) -> &'static str
     }
 }
 
-/// Returns the note that says this of the file of a path.
+/// Returns the note that says this about the file of a path.
 fn note(alloc: Global, path: &str, message: &str) -> Result<Option<String>, AllocError>
     ensures { IfOk result (λ text.
         option_map string_bytes text ≡ Some (spec.note path.now message.now)) }
@@ -56,7 +56,7 @@ fn torn_text(alloc: Global, line: u64, path: &str) -> Result<String, AllocError>
     )
 }
 
-/// Returns the help with the first line of a journal, if it is not a head.
+/// Returns the help on the first line of a journal, if it is not a head.
 fn head_help(alloc: Global, path: &str, fault: WireFault) -> Result<Option<String>, AllocError>
     ensures { IfOk result (λ text.
         option_map string_bytes text ≡ spec.head_help path.now fault) }
@@ -69,7 +69,7 @@ fn head_help(alloc: Global, path: &str, fault: WireFault) -> Result<Option<Strin
     }
 }
 
-/// Returns the help with a later line, if it is not JSON.
+/// Returns the help on a later line, if it is not JSON.
 fn torn_help(
     alloc: Global,
     path: &str,
@@ -85,7 +85,7 @@ fn torn_help(
     }
 }
 
-/// Returns the help with a bad line of a journal.
+/// Returns the help on a bad line of a journal.
 fn line_help(
     alloc: Global,
     path: &str,
@@ -105,7 +105,7 @@ fn line_help(
     }
 }
 
-/// Returns the help with a bad line of a file, if it is a journal.
+/// Returns the help on a bad line of a file, if it is a journal.
 fn role_help(
     alloc: Global,
     path: &str,
@@ -201,7 +201,7 @@ fn explanation(
 
 /// Writes the line that explains a fault, if there is one and there was memory for it.
 fn report_more<E: Sink>(errors: &mut E, text: Result<Option<String>, AllocError>)
-    // Whatever text it is, if it was made.
+    // For any text that was made.
     ensures { (expected : Option (List ℕ))
         → IfOk text (λ text. option_map string_bytes text ≡ expected)
         → ReportsMore (output_of E.contents E.has_failed E.holds_back errors.old errors.new)

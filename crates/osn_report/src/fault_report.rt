@@ -83,7 +83,7 @@ pub fn report_line<E: Sink>(
     status: Status,
     line: Result<String, AllocError>,
 ) -> Status
-    // Whatever text it is, if it is one.
+    // For any text that was made.
     ensures { (expected : List ℕ) → IfOk line (λ text. string_bytes text ≡ expected) → ReportsIfMade
         (output_of E.contents E.has_failed E.holds_back errors.old errors.new)
         status expected result }

@@ -1,4 +1,4 @@
-//! Arguments that are not what their places ask for.
+//! Arguments that are wrong.
 ghost use Rattle.std.specs.Prelude.{◌≡◌, Some, IfOk, string_bytes};
 ghost use Rattle.osn_lines.specs.Streams.{output_of};
 ghost use Rattle.osn_report.specs.Misuse as spec;
@@ -12,7 +12,7 @@ use osn_written::DateFault;
 use std::alloc::{AllocError, Global};
 use std::fmt;
 
-/// How an argument is not what its place asks for. Its text says what is asked for.
+/// Why an argument is wrong. Its text says what the argument must be.
 #[derive(Clone, Copy, Debug, PartialEq, Eq)]
 pub enum Misuse {
     /// It must be a date, or a part of one, and has this fault.
@@ -57,7 +57,7 @@ pub enum Misuse {
     Shell,
 }
 
-/// Returns the text on what a date asks for, if it has no dates of its own.
+/// Returns the text on how a date must be written, if the text names no date that was read.
 fn usual_text(fault: DateFault) -> &'static str
     ensures { result.now ≡ spec.usual_text fault }
 {
@@ -114,7 +114,7 @@ and a winter is of two years: write the months, such as December 1675 to Februar
     }
 }
 
-/// What a date asks for.
+/// How a date must be written.
 #[derive(Clone, Copy)]
 struct DateText(DateFault);
 
@@ -214,8 +214,8 @@ pub fn misuse_line(alloc: Global, misuse: Misuse, typed: &str) -> Result<String,
     format!(in alloc; "oldstyle: {}: {misuse}\n", Escaped(typed))
 }
 
-/// Reports on standard error what the place of an argument asks for, with the argument as it was
-/// typed. Returns the status.
+/// Reports on standard error what an argument must be, with the argument as it was typed. Returns
+/// the status.
 pub fn report_misuse<E: Sink>(alloc: Global, errors: &mut E, misuse: Misuse, typed: &str) -> Status
     ensures { ReportsMisuse
         (output_of E.contents E.has_failed E.holds_back errors.old errors.new) misuse typed.now

@@ -28,7 +28,7 @@ pub fn print<W: Sink, E: Sink>(
     output: &mut W,
     errors: &mut E,
 ) -> Status
-    // Whatever text it is, if it was made.
+    // For any text that was made.
     ensures { (expected : List ℕ) → IfOk made (λ text. string_bytes text ≡ expected)
         → PrintsIfMade expected
         (output_of W.contents W.has_failed W.holds_back output.old output.new)
@@ -46,7 +46,7 @@ pub fn print_or_report<W: Sink, E: Sink>(
     output: &mut W,
     errors: &mut E,
 ) -> Status
-    // Whatever text it is, if it was made.
+    // For any text that was made.
     ensures { (expected : List ℕ) → IfOk made (λ text. string_bytes text ≡ expected)
         → PrintsOrReports expected
         (output_of W.contents W.has_failed W.holds_back output.old output.new)

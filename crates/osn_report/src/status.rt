@@ -9,7 +9,7 @@ pub enum Status {
     Done,
     /// The input was refused.
     Refused,
-    /// The arguments ask for nothing that the program does.
+    /// An argument is wrong.
     Misused,
     /// A read failed, or a file could not be opened, or is kept by another run of the program.
     ReadFault,

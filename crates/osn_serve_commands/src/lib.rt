@@ -1,6 +1,6 @@
 //! The command `serve`: answers request lines, and saves, keeps or follows the journal. What the
 //! crate promises to those above: the lines are answered as the service does, from the object that
-//! the journal contains. The journal that is left is saved whole or not at all. One that is kept
+//! the journal contains. The journal that results is saved whole or not at all. One that is kept
 //! has each change before its reply is written, and one that another run keeps is followed. One of
 //! an older version is rewritten, whole or not at all.
 #![tactic(auto)]

@@ -32,7 +32,7 @@ pub struct LoadedJournal {
 fn kept_object(alloc: Global, limits: Limits, lines: &[u8]) -> Result<(Object, Version), FileFault>
     ensures object { IfOk result (λ read. object_of limits lines.now ≡ Ok read.0) }
     ensures version { IfOk result (λ read. SaysVersion read.1 lines.now) }
-    // Whatever is after the lines that count.
+    // For whatever follows the lines that count.
     ensures err { IfErr result (λ fault. (held : List ℕ) → lines.now ≡ whole_bytes held →
         IsUnread limits held false fault) }
 {

@@ -122,9 +122,9 @@ fn save_journal<D: Folder, E: Sink>(
     }
 }
 
-/// Saves the journal that the service left, if any, or reports on standard error why it could not.
-/// A journal that it replaces is left beside it, if that is asked for. Otherwise the file that it
-/// replaces must still contain what was loaded, if that is given.
+/// Saves the journal that the service returned, if any, or reports on standard error why it could
+/// not. A journal that it replaces is left beside it, if that is asked for. Otherwise the file that
+/// it replaces must still contain what was loaded, if that is given.
 pub(crate) fn finish<D: Folder, E: Sink>(
     alloc: Global,
     folder: &mut D,

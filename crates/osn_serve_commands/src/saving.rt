@@ -32,7 +32,7 @@ fn unsaved_line(alloc: Global, editions: usize) -> Result<String, AllocError> {
     )
 }
 
-/// Shows a terminal, if there is one, how many editions were published and not saved, if any.
+/// Shows on a terminal, if there is one, how many editions were published and not saved, if any.
 fn report_lost_editions<T: Sink + Drop>(
     alloc: Global,
     terminal: Option<T>,
@@ -47,7 +47,7 @@ fn report_lost_editions<T: Sink + Drop>(
     }
 }
 
-/// Answers the request lines from the journal, if any, and saves the journal that is left.
+/// Answers the request lines from the journal, if any, and saves the journal that results.
 fn serve_opened<D: Folder, J: Source, R: Source, W: Sink, E: Sink, T: Sink + Drop>(
     alloc: Global,
     limits: Limits,
@@ -123,7 +123,7 @@ fn serve_replacing<D: Folder, J: Source, R: Source, W: Sink, E: Sink, T: Sink + 
     )
 }
 
-/// Returns the path that a journal is loaded from and saved to, if it is one.
+/// Returns the path that a journal is both loaded from and saved to, if there is one.
 fn replaced_path<'a>(journal: Option<&'a str>, save: Option<&str>) -> Option<&'a str>
     ensures { option_map (λ path. path.now) result
         ≡ spec.replaced_path (option_map (λ path. path.now) journal.entry)
@@ -135,7 +135,7 @@ fn replaced_path<'a>(journal: Option<&'a str>, save: Option<&str>) -> Option<&'a
     }
 }
 
-/// Returns a path that may be given, or an empty one if it is not.
+/// Returns an optional path, or an empty one if it is not given.
 fn path_or_none<'a>(path: Option<&'a str>) -> &'a str
     ensures { result.now ≡ unwrap_or (option_map (λ path. path.now) path.entry) [] }
 {
@@ -145,11 +145,12 @@ fn path_or_none<'a>(path: Option<&'a str>) -> &'a str
     }
 }
 
-/// Opens the journal, if any, answers the request lines, and saves the journal that is left. The
-/// file that this replaces is locked from before the journal is opened until it is replaced.
+/// Opens the journal, if any, answers the request lines, and saves the journal that results. The
+/// file that it replaces is locked before the journal is opened, until it is replaced.
 ///
-/// A journal that is loaded from another path, or from none, leaves one that is at the path of the
-/// save beside it. Any other contents of a file there are refused before a line is answered.
+/// If the journal is loaded from another path, or from none, a journal at the path of the save is
+/// left beside the new one. Any other contents of a file there are refused before a line is
+/// answered.
 pub(crate) fn serve<'a, D: Folder, R: Source, W: Sink, E: Sink, T: Sink + Drop>(
     alloc: Global,
     limits: Limits,

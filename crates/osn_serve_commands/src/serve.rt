@@ -15,7 +15,7 @@ use osn_service::{ServeRules, ServiceFault, serve_store};
 use std::alloc::Global;
 use std::convert::Infallible;
 
-/// What the service of a command line leaves.
+/// The result of a service.
 #[derive(Debug, Drop)]
 pub struct ServeResult {
     /// How it ended.
@@ -70,7 +70,7 @@ fn fault_of(cause: ServiceFault<Infallible>) -> CommandFault
     }
 }
 
-/// Leaves the journal of an object, if it must be saved.
+/// Returns the journal of an object, if it must be saved.
 fn leave_journal<E: Sink>(
     alloc: Global,
     object: &Object,

@@ -29,7 +29,7 @@ pub enum SaveTarget {
 pub enum TargetFault {
     /// It contains something that is not a journal under the limits.
     NoJournal,
-    /// It can't be opened, by this cause, so that it isn't known whether a file is there.
+    /// It can't be opened, for this cause, so that it isn't known whether a file is there.
     NotOpened(ChangeCause),
     /// It could not be read.
     NotRead,

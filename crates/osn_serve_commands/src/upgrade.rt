@@ -174,7 +174,7 @@ pub fn upgrade_file<D: Folder, E: Sink>(
         Err(fault) => return Err(report_at(alloc, errors, path, CommandFault::Keep(fault))),
     };
     let outcome = older_journal(alloc, limits, &mut journal);
-    // What reads the file has its lock too.
+    // The source that reads the file has its lock too.
     drop(journal);
     folder.release(path, keeper);
     match outcome {
