@@ -18,7 +18,8 @@ use Rattle.osn_written.specs.AnyDate.{has_three_digits}
 use Rattle.osn_grammar.specs.Tokens.{is_of_time}
 use Rattle.osn_grammar.specs.Reading.{read_date, reading_of_tokens, weekday_after, with_weekday}
 use Rattle.osn_grammar.specs.Reading.{reckoning_after, with_reckoning, is_about, is_doubt}
-use Rattle.osn_grammar.specs.Reading.{is_bracket, is_feast, is_undated, list_in, or_list, or_parts, or_phrase}
+use Rattle.osn_grammar.specs.Reading.{is_bracket, is_feast, is_undated, list_in, or_list, or_parts}
+use Rattle.osn_grammar.specs.Reading.{or_phrase}
 use Rattle.osn_grammar.specs.Reading.{or_set, or_years, set_in}
 use Rattle.osn_grammar.specs.Scan.{tokens_in}
 use Rattle.osn_grammar.specs.Simple.{◌>>=◌}

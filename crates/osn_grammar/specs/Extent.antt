@@ -12,7 +12,8 @@ use Rattle.osn_grammar.specs.declared.token.Token.{Token}
 use Rattle.osn_grammar.specs.declared.token.Token.TheVariants.{Number, Month, Dash, Slash}
 use Rattle.osn_grammar.specs.declared.token.Token.TheVariants.{Dot, Open, To, ToThe}
 use Rattle.osn_grammar.specs.declared.token.Token.TheVariants.{Or, And, Between, From, Before}
-use Rattle.osn_grammar.specs.declared.token.Token.TheVariants.{After, No, Not, By, Earlier, Later, Than}
+use Rattle.osn_grammar.specs.declared.token.Token.TheVariants.{After, No, Not, By, Earlier, Later}
+use Rattle.osn_grammar.specs.declared.token.Token.TheVariants.{Than}
 use Rattle.osn_written.specs.declared.written_date.DateFault.{DateFault}
 use Rattle.osn_written.specs.declared.written_date.DateFault.TheVariants as faults
 use Rattle.osn_grammar.specs.declared.written.DateOrder.{DateOrder}

@@ -294,8 +294,8 @@ set_inside (Some inside) = all_members (between_commas inside)
 unfoldable pub set_in : List ℕ → Result (List AnyDate) DateFault
 set_in text = set_inside (inside_brackets text)
 
--- the members of the list that a text is, 1640, 1642 or {1640,1642}, or why it is not a list. A list
--- without braces has two members or more
+-- the members of the list that a text is, 1640, 1642 or {1640,1642}, or why it is not a list. A
+-- list without braces has two members or more
 abbrev pub list_of : List (List ℕ) → Result (List AnyDate) DateFault
 list_of (text ∷ next ∷ texts) = all_members (text ∷ next ∷ texts)
 list_of texts = Err faults.Malformed

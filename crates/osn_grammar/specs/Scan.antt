@@ -73,8 +73,8 @@ mark_of_stop word rest =
     if next_is (λ c. c == 46) (first_of rest) then Some token.Open
     else (if is_number word && is_number_next rest then Some token.Dot else None)
 
--- a round bracket before one or two digits and another one, as in `3 (13) June` and `3. (13.) Juni`,
--- is a mark
+-- a round bracket before one or two digits and another one, as in `3 (13) June` and `3. (13.)
+-- Juni`, is a mark
 abbrev pub is_round_next : List ℕ → Bool
 is_round_next [] = false
 is_round_next (c ∷ rest) = c == 41

@@ -37,7 +37,8 @@ use Rattle.osn_register.specs.declared.query.Query.{Query}
 use Rattle.osn_register.specs.declared.query.Query.TheVariants as queries
 use Rattle.osn_register.specs.declared.answer.Answer.{Answer}
 use Rattle.osn_register.specs.declared.answer.Answer.TheVariants.{Reading, OnDay, Easters, Figures}
-use Rattle.osn_register.specs.declared.answer.Answer.TheVariants.{Lands, Periods, Exceptions, Changes}
+use Rattle.osn_register.specs.declared.answer.Answer.TheVariants.{Lands, Periods, Exceptions}
+use Rattle.osn_register.specs.declared.answer.Answer.TheVariants.{Changes}
 use Rattle.osn_register.specs.declared.answer.Answer.TheVariants.{Written, Refused}
 use Rattle.osn_register.specs.declared.answer.Exception.{Exception}
 use Rattle.osn_register.specs.declared.answer.Found.{Found}

@@ -60,8 +60,8 @@ KeepsDay before now =
 -- what an answer keeps of the answer of these rules to the same query, if they have its year or its
 -- day. The Easters and the figures of a year and the territories are the same. A reading and a day
 -- keep what the rules' own line has, and periods keep their starts. The listed Easters and
--- the changes of a territory and a date as it is written are refused alike, and nothing more is said
--- of them
+-- the changes of a territory and a date as it is written are refused alike, and nothing more is
+-- said of them
 abbrev pub KeepsAnswer : Rules → List EntryModel → Query → Answer → Type 0
 KeepsAnswer p territories (queries.Read code year month day) now =
     IsLabelYear p year

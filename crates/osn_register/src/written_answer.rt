@@ -51,7 +51,8 @@ fn runs_and_reason(
     outcome: Result<Vec<Run>, NoDay>,
 ) -> Result<(Vec<FoundRun>, Option<Reason>), AllocError>
     ensures runs { IfOk result (λ pair. pair.0.items
-        ≡ map (spec.found_run newest_rules territory.now) (remark.runs_in (finding.list_of outcome))) }
+        ≡ map (spec.found_run newest_rules territory.now)
+        (remark.runs_in (finding.list_of outcome))) }
     ensures reason { IfOk result (λ pair. pair.1 ≡ remark.reason_in (finding.list_of outcome)) }
 {
     match outcome {
@@ -156,7 +157,8 @@ fn set_runs_and_reason(
     outcome: Result<Vec<Run>, AbsentMember>,
 ) -> Result<(Vec<FoundRun>, Option<Reason>), AllocError>
     ensures runs { IfOk result (λ pair. pair.0.items
-        ≡ map (spec.found_run newest_rules territory.now) (remark.set_runs_in (set_list_of outcome))) }
+        ≡ map (spec.found_run newest_rules territory.now)
+        (remark.set_runs_in (set_list_of outcome))) }
     ensures reason { IfOk result (λ pair. pair.1 ≡ remark.set_reason_in (set_list_of outcome)) }
 {
     match outcome {

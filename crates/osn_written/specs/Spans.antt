@@ -68,8 +68,8 @@ not_before p None = Err NoDay
 not_before p (Some d) = Ok (record { first = d; last = p.high })
 
 -- from the first day that a date or a range may mean to the last one. A range lasts from the first
--- day of its first date to the last day of its last date, and a bound reaches to an end of the line.
--- A part of a date is that of the days from its first to its last one
+-- day of its first date to the last day of its last date, and a bound reaches to an end of the
+-- line. A part of a date is that of the days from its first to its last one
 abbrev pub span_meant : Rules → TerritoryModel → Extent → Result Run NoSpan
 span_meant p t (extent.On date) = from_to (first_meant p t date) (last_meant p t date)
 span_meant p t (extent.FromTo a b) = from_to (first_meant p t a) (last_meant p t b)
