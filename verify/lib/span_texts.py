@@ -27,9 +27,15 @@ RANGES = [r"from (.+) to (.+)", r"between (.+) (?:and|&) (.+)", r"(.+) to (.+)",
 OLD_NEW = r"(?P<old>\d{1,2})/(?P<new>\d{1,2})"
 OTHER = NAME.replace("name", "other")
 BOTH = [f"{OLD_NEW} {NAME} {YEARS}", f"{NAME} {OLD_NEW},? {YEARS}",
-        rf"(?P<old>\d{{1,2}}) {NAME}/(?P<new>\d{{1,2}}) {OTHER} {YEARS}"]
+        rf"(?P<old>\d{{1,2}}) {NAME}/(?P<new>\d{{1,2}}) {OTHER} {YEARS}",
+        rf"{NAME} (?P<old>\d{{1,2}})/{OTHER} (?P<new>\d{{1,2}}),? {YEARS}"]
 BOUND = r"(before|not after|by|after|not before) (.+)"
-THAN = {"earlier than ": "before ", "later than ": "after "}
+THAN = {"no earlier than ": "not before ", "no later than ": "not after ",
+        "earlier than ": "before ", "later than ": "after "}
+START = r"(?:from|since) (.+)"
+# A range of days after its month.
+MONTH_FIRST = (rf"(?P<month>{NAME}) (?P<days>\d{{1,2}}(?: ?[-\u2013] ?| to | or )\d{{1,2}}),? "
+               rf"(?P<rest>{YEARS})")
 
 # A double year after a dash, with what is before or after it.
 DASHED = r"(?P<year>\d{4,5})[-\u2013](?P<last>\d+)"
@@ -60,6 +66,7 @@ SUPPLIED = r"\[(.*)\]"
 SET_DAY = r"(?:\d{3,5}-\d\d-\d\d|\d{4}(?:-\d\d)?)[?~%]?"
 SET_MEMBER = rf"(?:{SET_DAY}(?:\.\.(?:{SET_DAY})?)?|\.\.{SET_DAY})"
 SET = rf"\[(?:{SET_DAY}\.\.(?:{SET_DAY})?|\.\.{SET_DAY})\]|\[{SET_MEMBER}(?:,{SET_MEMBER})+\]"
+LIST = rf"\{{{SET_MEMBER}(?:,{SET_MEMBER})*\}}|{SET_MEMBER}(?:, ?{SET_MEMBER})+"
 # A square bracket between two digits or two letters.
 WITHIN = r"(?<=\d)[][](?=\d)|(?<=[a-z])[][](?=[a-z])"
 UNCERTAIN = r"(?:probably|perhaps) (.*)|(.*?) ?(?:\?|\(\?\))"
@@ -226,7 +233,7 @@ def extent_of(text):
     """One date, a range or a bound."""
     if found := years_of(text) or open_in(text):
         return found
-    text = with_slash(text)
+    text = re.sub(MONTH_FIRST, r"\g<days> \g<month> \g<rest>", with_slash(text), flags=re.I)
     if parts := matched(DATES, text):
         return Span("on", simple_of(parts, text))
     if parts := matched([rf"{FEAST} {YEARS}"], text):
@@ -240,6 +247,8 @@ def extent_of(text):
         if match := re.fullmatch(form, text, re.I):
             last = date_of(match[2])
             return Span("range", front_of(match[1], last), last)
+    if match := re.fullmatch(START, text, re.I):
+        return Span("not before", date_of(match[1]))
     raise Unread(text)
 
 
@@ -281,12 +290,12 @@ def without(form, text):
 
 
 def set_of(text):
-    """The set that a text is, or None. Its days have one sign, or none."""
-    if not re.fullmatch(SET, text):
+    """The set or the list that a text is, or None. Its days have one sign, or none."""
+    if not re.fullmatch(f"{SET}|{LIST}", text):
         return None
     members = []
-    for member in text[1:-1].split(","):
-        first, dots, last = (part.rstrip("?~%") for part in member.partition(".."))
+    for member in text.strip("[]{}").split(","):
+        first, dots, last = (part.strip(" ?~%") for part in member.partition(".."))
         kind = "range" if first and last else "not before" if first else "not after"
         days = [date_of(day) for day in (first, last) if day]
         members.append(Span(kind if dots else "on", *days))

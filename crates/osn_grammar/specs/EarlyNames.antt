@@ -26,8 +26,8 @@ pub record AreMoreMonthsKnown : Type 0 where
       ++ codes "febrvarii febrvarij")
       (times 9 (token.Month 2))
   pub march : Reads
-      (codes "martz marcius marcio lenzing tormåned tormaaned")
-      (times 6 (token.Month 3))
+      (codes "martz mart marcius marcio lenzing tormåned tormaaned")
+      (times 7 (token.Month 3))
   pub april : Reads
       (codes "aprell apprill apryl apprilis abrill")
       (times 5 (token.Month 4))
@@ -64,17 +64,17 @@ pub record AreMoreMonthsKnown : Type 0 where
 -- words of genealogists, of other languages and of earlier hands
 pub record AreMoreWordsKnown : Type 0 where
   pub bounds : Reads (codes "earlier later than") (token.Earlier ∷ token.Later ∷ token.Than ∷ [])
-  pub fillers : Reads (codes "ye mensis") (times 2 token.Filler)
+  pub fillers : Reads (codes "ye mensis month mois monats em") (times 6 token.Filler)
   pub middle : Reads (codes "mi") (times 1 (token.Portion MiddleThird))
   pub doubt : Reads
-      (codes "wohl vermutlich wahrscheinlich probablement waarschijnlijk")
-      (times 5 token.Doubt)
-  pub about : Reads (codes "cerca") (times 1 token.About)
+      (codes "wohl vermutlich wahrscheinlich probablement waarschijnlijk prob poss")
+      (times 7 token.Doubt)
+  pub about : Reads (codes "cerca approx") (times 2 token.About)
   pub estimated : Reads (codes "um") (times 1 token.Estimated)
   pub interpreted : Reads (codes "INT") (times 1 token.Interpreted)
   pub old_style : Reads (codes "@#DJULIAN@ Julian") (times 2 (token.Reckoning OldStyle))
   pub new_style : Reads (codes "@#DGREGORIAN@ Gregorian") (times 2 (token.Reckoning NewStyle))
-  pub from : Reads (codes "desde dal") (times 2 token.From)
+  pub from : Reads (codes "desde dal since seit depuis sinds sedan") (times 7 token.From)
   pub to : Reads (codes "hasta") (times 1 token.To)
   pub to_the : Reads (codes "au al") (times 2 token.ToThe)
   pub first : tokens_after [] (codes "primo") ≡ tokens_after [] (codes "1")

@@ -7,6 +7,7 @@ use Rattle.std.specs.Option.{unwrap_or}
 use Rattle.std.specs.Result.{result_ok}
 use Rattle.osn_days.specs.declared.weekday.Weekday.{Weekday}
 use Rattle.osn_days.specs.Rules.{newest_rules}
+use Rattle.osn_grammar.specs.MonthFirst.{has_month_first, month_moved}
 use Rattle.osn_grammar.specs.declared.token.FeastWord.TheVariants as word
 use Rattle.osn_grammar.specs.declared.token.Token.{Token}
 use Rattle.osn_grammar.specs.declared.token.Token.TheVariants as token
@@ -341,12 +342,19 @@ abbrev pub or_this : Result Written DateFault → DateFault → Result Written D
 or_this (Ok w) fault = Ok w
 or_this (Err other) fault = Err fault
 
+-- a range of days after its month, May 3-10, 1640
+abbrev pub read_month_first : DateOrder → List Token → List Token → DateFault
+    → Result Written DateFault
+read_month_first o tokens timed fault =
+    if has_month_first timed then or_this (reading_of_tokens o tokens (month_moved timed)) fault
+    else Err fault
+
 -- a double year after a dash, 11 Feb. 1675-6
 abbrev pub read_slashed : DateOrder → List Token → List Token → DateFault
     → Result Written DateFault
 read_slashed o tokens timed fault =
     if may_be_double timed then or_this (reading_of_tokens o tokens (slashed timed)) fault
-    else Err fault
+    else read_month_first o tokens timed fault
 
 -- from one part of a time to another one, early 1675 - late 1676
 abbrev pub of_parts : List Token → Option Weekday → Option Reckoning → Option Extent

@@ -11,6 +11,7 @@ mod feast_names;
 mod feast_reading;
 mod feasts;
 mod forms;
+mod month_first;
 mod more_names;
 mod named_calendars;
 mod names;

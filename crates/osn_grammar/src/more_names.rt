@@ -9,7 +9,7 @@ use osn_written::{Portion, Reckoning};
 
 /// Each of these names with the part of a date that it is, in small letters. It is sought after the
 /// other names.
-pub const MORE_NAMES: [(&str, Token); 135] = [
+pub const MORE_NAMES: [(&str, Token); 147] = [
     ("ianvary", Token::Month(1)),
     ("ianvarie", Token::Month(1)),
     ("ianvarii", Token::Month(1)),
@@ -118,6 +118,19 @@ pub const MORE_NAMES: [(&str, Token); 135] = [
     ("than", Token::Than),
     ("ye", Token::Filler),
     ("mensis", Token::Filler),
+    ("month", Token::Filler),
+    ("mois", Token::Filler),
+    ("monats", Token::Filler),
+    ("em", Token::Filler),
+    ("prob", Token::Doubt),
+    ("poss", Token::Doubt),
+    ("approx", Token::About),
+    ("since", Token::From),
+    ("seit", Token::From),
+    ("depuis", Token::From),
+    ("sinds", Token::From),
+    ("sedan", Token::From),
+    ("mart", Token::Month(3)),
     ("mi", Token::Portion(Portion::MiddleThird)),
     ("wohl", Token::Doubt),
     ("vermutlich", Token::Doubt),

@@ -1,5 +1,5 @@
-//! Forms that are tried last: a double year after a dash, a range of parts of a time, and a date
-//! that was interpreted from a phrase.
+//! Forms that are tried last: a double year after a dash, a range of days after its month or of
+//! parts of a time, a date that was interpreted from a phrase, and a list of dates.
 ghost use Rattle.std.specs.Prelude.{◌≡◌, Err, IfOk, filter, option_map};
 ghost use Rattle.osn_grammar.specs.Reading as spec;
 ghost use Rattle.osn_grammar.specs.Scan as scan;
@@ -7,6 +7,7 @@ ghost use Rattle.osn_grammar.specs.Tokens.{is_of_time};
 ghost use Rattle.osn_written.specs.WrittenDate.{parts_at as parts_of};
 
 use crate::dashed_years::{may_be_double, slashed};
+use crate::month_first::{has_month_first, month_moved};
 use crate::part_ranges::part_range;
 use crate::period::has_period;
 use crate::reading::{reading_of_tokens, unless_open};
@@ -32,7 +33,25 @@ fn or_this(read: Read, fault: DateFault) -> Read
     }
 }
 
-/// Returns the date with a double year after a dash that parts are, or else the fault.
+/// Returns the range of days after its month that parts are, or else the fault.
+fn read_month_first(
+    alloc: Global,
+    order: DateOrder,
+    tokens: &[Token],
+    timed: &[Token],
+    fault: DateFault,
+) -> Result<Read, AllocError>
+    ensures { IfOk result (λ read. read ≡ spec.read_month_first order tokens.now timed.now fault) }
+{
+    if !has_month_first(timed) {
+        return Ok(Err(fault));
+    }
+    let moved = month_moved(alloc, timed)?;
+    Ok(or_this(reading_of_tokens(order, tokens, moved.as_slice()), fault))
+}
+
+/// Returns the date with a double year after a dash, or the range of days after its month, that
+/// parts are, or else the fault.
 fn read_slashed(
     alloc: Global,
     order: DateOrder,
@@ -43,7 +62,7 @@ fn read_slashed(
     ensures { IfOk result (λ read. read ≡ spec.read_slashed order tokens.now timed.now fault) }
 {
     if !may_be_double(timed) {
-        return Ok(Err(fault));
+        return read_month_first(alloc, order, tokens, timed, fault);
     }
     let slashed = slashed(alloc, timed)?;
     Ok(or_this(reading_of_tokens(order, tokens, slashed.as_slice()), fault))
