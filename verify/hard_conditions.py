@@ -290,7 +290,7 @@ def try_full_disk():
         compare("a full disk", words, (status, errors, replies, texts), expected)
         os.remove(os.path.join(disk, "other"))
         path = "a.folder/saved.journal"
-        note = f"note: {path} held another journal, which is now {path}.~1~\n"
+        note = f"note: {path} contained another journal, which is now {path}.~1~\n"
         compare("a full disk", words, run(folder, words, INPUT), (0, stdout, note))
 
 

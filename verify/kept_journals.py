@@ -104,7 +104,7 @@ def is_front(rest, expected, lines):
 
 
 def cut_line(known):
-    return f"oldstyle: journal line {len(known) + 1} was not finished, and is cut off\n"
+    return f"oldstyle: journal line {len(known) + 1} was unfinished, and is cut off\n"
 
 
 def is_loaded(program, path, lines):

@@ -33,8 +33,8 @@ from lib.strace_lines import traced
 MODE = 0o640
 # How long a call is delayed, in microseconds, and how many seconds the others wait for it to begin.
 DELAY, WAIT = 3_000_000, 60
-CHANGED = "oldstyle: the file has changed meanwhile and is left as it is: the journal is in "
-NOTED = " held another journal, which is now "
+CHANGED = "oldstyle: the file was changed meanwhile, and is left as it is: the journal is in "
+NOTED = " contained another journal, which is now "
 NOT_SYNCED = "oldstyle: the journal is saved, but may not be on the disk yet\n"
 FAULTS = ["oldstyle: read fault\n", "oldstyle: write fault\n"]
 # What is reported after one of them is not checked: the cause, which is that of the refused call,
@@ -133,7 +133,7 @@ def cut_line(way):
     if kind_of(way) != "keep" or way.old is None or not is_unfinished(way.old):
         return ""
     number = 1 + way.old.count(b"\n")
-    return f"oldstyle: journal line {number} was not finished, and is cut off\n"
+    return f"oldstyle: journal line {number} was unfinished, and is cut off\n"
 
 
 def is_noted(stderr):
@@ -214,7 +214,7 @@ def check_keep(what, way, found, refused):
     changes, edition = reported_changes(done.out)
     content, new = after.get(way.place, (0, None))[1], journal([*way.begun, *way.session.accepted])
     known = [LOCKED[2], REPLACED, *FAULTS]
-    message = done.err.split("was not finished, and is cut off\n")[-1]
+    message = done.err.split("was unfinished, and is cut off\n")[-1]
     check(f"{what}: {done.status} {done.err!r}", message in ("", *known)
           and done.status == (3 if message else 0))
     check(f"{what}: other files", {**after, way.place: 0} == {**before, way.place: 0})

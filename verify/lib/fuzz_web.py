@@ -6,15 +6,20 @@ as its head says. The page reports no fault of its own, and the next good reques
 it answers to a date is what the query `written` answers.
 """
 import json
+import os
 import re
 import socket
+import sys
 from urllib.parse import quote, urlencode
 
-from lib.common import compact
+from lib.common import TOP, compact
 from lib.fuzz_dates import CODES, SAMPLES as DATES, WEEKDAYS, WORDS as DATE_WORDS
 from lib.fuzz_letters import JOURNAL, SAMPLES as TABLES
 from lib.mutations import Run, mutated
-from lib.web_runs import Page
+
+sys.path.append(os.path.join(TOP, "clients", "checks"))
+
+from web_runs import Page
 
 AT_ONCE = 40
 SECONDS = 40

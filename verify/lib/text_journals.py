@@ -13,7 +13,7 @@ from lib.territory_texts import lands_of
 from lib.text_files import LAND, bytes_of, published, refused
 
 AT_ONCE = 8
-CHANGED = "oldstyle: the file has changed meanwhile and is left as it is: the journal is in "
+CHANGED = "oldstyle: the file was changed meanwhile, and is left as it is: the journal is in "
 EDIT = {"op": "add_change", "code": "GB", "day": 5, "calendar": "gregorian", "style": "january",
         "rule": "julian"}
 
@@ -145,7 +145,7 @@ def try_cut(files):
     journal = files.write("journal", HEAD + "\n" + PUBLISH[:9])
     result = result_of(files, "publish", journal, files.write("text", LAND.format("GB")))
     check(f"a prefix of a line gives {result}",
-          result == (0, "oldstyle: journal line 2 was not finished, and is cut off\n", False))
+          result == (0, "oldstyle: journal line 2 was unfinished, and is cut off\n", False))
     check("the beginning of a line is left", published(journal)[0].edition == 1)
 
 

@@ -24,6 +24,8 @@ SAMPLES = str(TOP / "examples" / "samples.journal")
 BUILT = TOP / "crates" / "oldstyle" / "out" / "oldstyle"
 VARIABLES = {**os.environ, "PYTHONPATH": os.pathsep.join(sys.path)}
 COMMAND = [sys.executable, "-m", "oldstyle_web"]
+# (a shell has its background jobs ignore Ctrl-C, and what they start would too)
+signal.signal(signal.SIGINT, signal.default_int_handler)
 
 
 class Served:

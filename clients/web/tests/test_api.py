@@ -2,6 +2,7 @@
 from __future__ import annotations
 
 import json
+import re
 import subprocess
 from pathlib import Path
 from typing import Any, Callable
@@ -14,6 +15,7 @@ from oldstyle_web import api
 from oldstyle_web.context import Page
 
 jsonschema = pytest.importorskip("jsonschema")
+README = Path(__file__).resolve().parents[1] / "README.md"
 SOURCE = Path(api.__file__).with_name("openapi.json")
 DESCRIBED = json.loads(SOURCE.read_text(encoding="utf-8"))
 ASKED: list[tuple[str, dict[str, str], int]] = [
@@ -99,6 +101,18 @@ def test_a_reply_is_the_line_of_the_service(client: Any, program: str) -> None:
     replies = [client.get(f"/api/v1/written?place={code}&date=11+Feb.+1731/32").text
                for code in ("GB", "ZZ")]
     assert "".join(replies) == done.stdout
+
+
+def test_the_formula_for_a_spreadsheet_finds_the_first_day(client: Any) -> None:
+    text = README.read_text(encoding="utf-8")
+    quoted, = re.findall(r'REGEX\(C2;"((?:[^"]|"")*)"\)', text)
+    found = {}
+    for date in ("11 Feb. 1731/32", "March 1731", "5 September 1752", "n.d."):
+        reply = client.get(f"/api/v1/written?{urlencode({'place': 'GB', 'date': date})}").text
+        part = re.search(quoted.replace('""', '"'), reply)
+        found[date] = part and part[0].rpartition('"')[2]
+    assert found == {"11 Feb. 1731/32": "1732-02-22", "March 1731": "1731-04-05",
+                     "5 September 1752": None, "n.d.": None}
 
 
 def test_a_reply_that_is_held_is_not_sent_again(client: Any) -> None:

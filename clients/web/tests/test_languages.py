@@ -67,6 +67,16 @@ def test_each_page_is_in_each_language(client: Any, path: str) -> None:
         assert f'<nav aria-label="{expected[language]}">' in text
 
 
+@pytest.mark.parametrize("path", ["/?code=gb", "/?code=ZZ&date=1", "/month?code=GB&year=abc",
+                                  "/?code=GB&date=1731&weekday=Fryday", "/nowhere",
+                                  "/edition?edition=99", "/day?code=GB"])
+def test_a_refusal_is_in_the_language_of_the_request(client: Any, path: str) -> None:
+    sentences = [client.get(path, headers={"Accept-Language": language}).text
+                 for language in LANGUAGES]
+    assert len(set(sentences)) == len(LANGUAGES) and all(sentences)
+    assert client.get(path).text == sentences[0]
+
+
 def test_how_a_language_is_chosen(client: Any) -> None:
     def language(accepted: str, words: dict[str, str]) -> str:
         reply = client.get(f"/?{urlencode(words)}", headers={"Accept-Language": accepted})

@@ -59,7 +59,10 @@ def test_a_file_is_kept_by_its_version(client: Any) -> None:
     ("/?code=gb", 400), ("/?code=ZZ&date=1", 404), ("/?code=GB&date=1731&weekday=Fryday", 400),
     ("/?date=%ff", 400), ("/?" + "x" * 5000, 414), ("/?" + "&a=1" * 40, 400),
     ("/month?code=GB&year=99999", 400), ("/day?code=GB", 400), ("/day?code=GB&day=0", 400),
-    ("/place?edition=abc", 400), ("/?code=GB&date=1+May%E2%80%AE+1700", 400), ("/nowhere", 404)])
+    ("/place?edition=abc", 400), ("/?code=GB&date=1+May%E2%80%AE+1700", 400), ("/nowhere", 404),
+    ("/static/none.css", 404), ("/?code=GB&date=1&order=x", 400), ("/?date=%00&code=GB", 400),
+    ("/?code=GB&date=" + "x" * 201, 400), ("/month?code=GB&year=1&month=13", 400),
+    ("/day?code=GB&day=3652060", 400), ("/year?code=GB&year=0", 400), ("/place?code=ZZ", 404)])
 def test_wrong_words_have_a_status_and_a_sentence(client: Any, path: str, status: int) -> None:
     for accept, kind in (("*/*", "text/plain"), ("text/html", "text/html"),
                          ("application/json", "application/json")):
@@ -80,6 +83,8 @@ def test_other_methods_are_refused(client: Any) -> None:
     reply = client.post("/")
     assert reply.status_code == 405 and "GET" in reply.headers["Allow"]
     assert client.head("/").status_code == 200
+    for method, path in (("PUT", "/"), ("DELETE", "/letters"), ("BREW", "/")):
+        assert client.open(path, method=method).status_code == 405
 
 
 def test_a_fault_of_the_page_is_reported_and_logged(client: Any, page: Page, caplog: Any,
@@ -145,6 +150,8 @@ def test_a_table_over_the_limit_is_refused(page_of: Callable[..., Page], program
     for data, kind in ((table, "text/csv"), ({"table": (io.BytesIO(table), "t.csv")}, None)):
         reply = client.post("/letters", data=data, content_type=kind or "multipart/form-data")
         assert reply.status_code == 413 and "larger than 1 MB" in reply.text
+    reply = client.post("/letters", data=table[:1024 * 1024 - 5], content_type="text/csv")
+    assert reply.status_code == 200 and reply.data.count(b"\n") == 131_071
 
 
 def test_a_reply_with_a_table_has_its_length(page: Page) -> None:

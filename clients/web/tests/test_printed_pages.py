@@ -18,8 +18,9 @@ from oldstyle_web.settings import Settings
 NAME = "A\u2028B\x85C"
 
 
-def asking(*editions: int) -> SimpleNamespace:
-    return SimpleNamespace(editions=set(editions), lands=lambda: None)
+def asking(*editions: int, periods: str = "") -> Any:
+    return SimpleNamespace(editions=set(editions), periods=lambda code: list(periods),
+                           exceptions=lambda code: [])
 
 
 def test_a_name_with_line_separators_is_one_line(script: Callable[[str], str]) -> None:
@@ -60,14 +61,24 @@ def test_the_page_that_was_asked_for_last_stays(monkeypatch: pytest.MonkeyPatch)
     monkeypatch.setattr(printer, "print_page",
                         lambda _asking, words: runs.append(words[0]) or Page([words[0]], ""))
     for name in "abacab":
-        assert printer.page(asking(1), name).lines == [name]
+        assert printer.page(asking(1), name, "AA").lines == [name]
     assert runs == ["a", "b", "c", "b"]
+
+
+def test_a_page_is_printed_again_if_its_territory_changed(monkeypatch: pytest.MonkeyPatch) -> None:
+    printer = Printer(Settings(SAMPLES, "/bin/true"))
+    runs: list[str] = []
+    monkeypatch.setattr(printer, "print_page",
+                        lambda _asking, words: runs.append(words[1]) or Page([], ""))
+    for edition, code, periods in ((1, "AA", "x"), (2, "AA", "x"), (3, "AA", "xy"), (3, "BB", "x")):
+        printer.page(asking(edition, periods=periods), "year", code)
+    assert runs == ["AA", "AA", "BB"]
 
 
 def test_a_page_between_two_editions_is_not_kept(monkeypatch: pytest.MonkeyPatch) -> None:
     printer = Printer(Settings(SAMPLES, "/bin/true"))
     monkeypatch.setattr(printer, "print_page", lambda _asking, _words: Page(["x"], ""))
-    printer.page(asking(1, 2), "almanac")
+    printer.page(asking(1, 2), "almanac", "AA")
     assert not printer.cache
 
 

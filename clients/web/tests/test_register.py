@@ -23,20 +23,32 @@ class Answering(Register):
     def __init__(self, *editions: int, journal: str = SAMPLES):
         super().__init__(Settings(journal, "/none"))
         self.editions = iter(editions)
-        self.answer: dict[str, Any] = {"lands": [{"code": "GB", "name": "x", "new": 1}]}
+        self.asked: list[Sequence[bytes]] = []
+        self.answer: dict[str, Any] = {"lands": [{"code": "GB", "name": "x", "new": 1}],
+                                       "periods": []}
 
     def replies(self, pool: object, lines: Sequence[bytes]) -> list[bytes]:
+        self.asked.append(lines)
         return [json.dumps({"answer": self.answer, "edition": next(self.editions), "new": 1,
                             "reader": 1}).encode() for _ in lines]
 
 
 def twice(asking: Asking) -> str:
-    asking.lands()
+    asking.periods("GB")
     return asking.lands()[0].name
 
 
 def test_an_answer_is_of_one_edition() -> None:
     assert Answering(1, 2, 2, 2).of_one_edition(twice) == (2, "x")
+
+
+def test_each_question_is_asked_once_and_those_of_a_territory_together() -> None:
+    register = Answering(*[1] * 5)
+    asking = Asking(register)
+    asking.lands("GB", [{"op": "day", "code": "GB", "day": 1}])
+    assert asking.periods("GB") == [] and asking.lands()[0].code == "GB"
+    assert [[json.loads(line)["op"] for line in lines] for lines in register.asked] == [
+        ["lands", "periods", "changes", "exceptions", "day"]]
 
 
 def test_editions_of_answers_never_fall() -> None:
@@ -82,12 +94,10 @@ def test_members_that_a_newer_program_adds_are_ignored() -> None:
     register.answer = {"exceptions": [{"found": DAY, "year": 1732, "source": "A table", "new": 1}]}
     easter, = asking.exceptions("GB")
     assert (easter.found.label, easter.year, easter.source) == ("1731-02-11", 1732, "A table")
-    register.answer = {"found": DAY, "regime": {"calendar": "julian", "rule": "julian",
-                                                "style": "annunciation", "new": 1},
-                       "first": 1, "last": 639550, "new": 1}
-    found, = asking.dated_days("GB", [632287])
+    register.answer = {"found": DAY, "new": 1}
+    found, = asking.dated_days("GB", asking.days("GB", [632287]))
     assert (found.found.label, found.period.style, found.period.source) == (
-        "1731-02-11", "annunciation", None)
+        "1731-02-11", "annunciation", "A book")
     register.answer = {"runs": [{"first": DAY, "last": DAY, "new": 1}]}
     assert asking.runs("GB", ["x"])[0][0].first.day == 632287
 

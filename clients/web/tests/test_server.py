@@ -1,7 +1,6 @@
 """The command and its server: hosts, slow and idle clients, its log, and how it starts and ends."""
 from __future__ import annotations
 
-import os
 import re
 import signal
 import subprocess
@@ -82,17 +81,35 @@ def test_each_request_has_a_line_and_a_fault_its_traceback(served: Callable[...,
     assert '"PU<U+001B> / HTTP/1.0" 405' in errors, errors
 
 
-@pytest.mark.parametrize("number", [signal.SIGTERM, signal.SIGINT])
+@pytest.mark.parametrize("data, status", [
+    (b"nonsense\r\n\r\n", "404"), (b"GET /?" + b"x" * 10_000 + b" HTTP/1.1\r\n\r\n", "414"),
+    (b"GET / HTTP/1.1\r\nX: " + b"y" * 40_000 + b"\r\n\r\n", "431"),
+    (b"GET / HTTP/1.1\r\nHost: example.org\r\n\r\n", "421"),
+    ("GET /?code=GB&date=11+février+1650 HTTP/1.1\r\n\r\n".encode(), "400"),
+    (b"POST /letters HTTP/1.1\r\n\r\n", "411"), (POST % 99_999_999_999, "413"),
+    (b"POST /letters HTTP/1.1\r\nContent-Length: many\r\n\r\n", "400"),
+    (b"POST /letters HTTP/1.1\r\nTransfer-Encoding: chunked\r\n\r\n"
+     b"13\r\nplace,date\nGB,1731\n\r\n0\r\n\r\n", "200")],
+    ids=["no request", "long address", "long head", "other host", "not encoded", "no length",
+         "too large", "no number", "chunked"])
+def test_broken_requests_have_a_status(served: Callable[..., Served], data: bytes,
+                                       status: str) -> None:
+    with served().connect(data) as connection:
+        assert connection.recv(4096).split(b" ")[1].decode() == status
+
+
+@pytest.mark.parametrize("number", [signal.SIGTERM, signal.SIGINT, signal.SIGKILL])
 def test_it_ends_by_signals_and_leaves_no_run(served: Callable[..., Served], number: int) -> None:
     one = served()
     one.ask("/?code=GB&date=11+February+1731")
     children = Path(f"/proc/{one.process.pid}/task/{one.process.pid}/children")
     below = [int(name) for name in children.read_text().split()]
     errors = one.end(number)
-    assert "Traceback" not in errors and one.process.returncode == 0
-    for process in below:
-        with pytest.raises(ProcessLookupError):
-            os.kill(process, 0)
+    status = -number if number == signal.SIGKILL else 0
+    assert "Traceback" not in errors and one.process.returncode == status
+    last = time.monotonic() + 5
+    while any(Path(f"/proc/{process}").exists() for process in below):
+        assert time.monotonic() < last
 
 
 def test_ctrl_c_while_the_journal_is_loaded(script: Callable[[str], str]) -> None:
@@ -106,12 +123,24 @@ def test_ctrl_c_while_the_journal_is_loaded(script: Callable[[str], str]) -> Non
 @pytest.mark.parametrize("words, expected", [
     ([SAMPLES, "--address", ""], "--address: name an address"),
     ([SAMPLES, "--port", "x"], "--port: x is not a whole number from 0 to 65535"),
+    ([SAMPLES, "--port", "70000"], "--port: 70000 is not a whole number"),
+    ([SAMPLES, "--connections", "1"], "--connections: 1 is not a whole number"),
+    ([SAMPLES, "--max-upload", "0"], "--max-upload: 0 is not a whole number"),
     (["none.journal"], "none.journal: no such file"), ([], "JOURNAL"),
     ([SAMPLES, "--program", "/none"], "/none is not a program")])
 def test_wrong_arguments_are_reported_in_a_line_or_two(words: list[str], expected: str) -> None:
     done: Any = subprocess.run([*COMMAND, *words], env={**VARIABLES, "OLDSTYLE": "/bin/true"},
                                capture_output=True, text=True, check=False)
     assert done.returncode and expected in done.stderr and "Traceback" not in done.stderr
+
+
+def test_a_port_in_use_and_a_broken_journal_are_reported(served: Callable[..., Served],
+                                                         program: str) -> None:
+    for words, expected in (([SAMPLES, "--port", str(served().port)], "is in use: name another"),
+                            ([__file__], "the program doesn't load it: journal line 1")):
+        done = subprocess.run([*COMMAND, *words, "--program", program], env=VARIABLES, text=True,
+                              capture_output=True, check=False, timeout=60)
+        assert done.returncode == 1 and expected in done.stderr
 
 
 def test_a_large_table_takes_bounded_memory(program: str, script: Callable[[str], str]) -> None:

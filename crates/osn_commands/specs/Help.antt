@@ -17,7 +17,7 @@ use Rattle.osn_commands.specs.Typed.{begins_with_journal, command_in, plain_coun
 -- the first word is not a command
 abbrev pub command_help : Text
 command_help =
-    codes "help: the first word is a command, such as read: oldstyle --help lists them\n"
+    codes "help: the first argument is a command, such as read: oldstyle --help lists them\n"
 
 -- a word that is not a number: a year, or how many readers there are
 abbrev pub number_help : Text → Text
@@ -116,7 +116,7 @@ unknown_help words =
     then codes
     "help: read, day and territory have --json: the command serve answers other questions in JSON\n"
     else (if is_named_twice words
-    then codes "help: the journal is named twice: leave out the first word or --journal\n"
+    then codes "help: the journal is named twice: leave out the first argument or --journal\n"
     else (if has_surplus words then surplus_help (command_in words) else [])))
 
 -- the help after a fault of this kind, if there is any

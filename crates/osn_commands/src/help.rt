@@ -11,7 +11,7 @@ use clap::error::ErrorKind;
 use std::convert::AsStr;
 
 const COMMAND: &str =
-    "help: the first word is a command, such as read: oldstyle --help lists them\n";
+    "help: the first argument is a command, such as read: oldstyle --help lists them\n";
 
 const YEAR: &str = "help: write one year, 1 to 9999, counted from 1 January, such as 1731\n";
 
@@ -25,7 +25,7 @@ const JOURNAL_OR_DEFAULT: &str =
 const FILE: &str = "help: write the file of the journal after the option: --journal FILE\n";
 
 const NAMED_TWICE: &str =
-    "help: the journal is named twice: leave out the first word or --journal\n";
+    "help: the journal is named twice: leave out the first argument or --journal\n";
 
 const NEGATIVE: &str = "help: a year is 1 to 9999, and no date begins with a hyphen\n";
 

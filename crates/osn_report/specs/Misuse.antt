@@ -44,7 +44,7 @@ usual_text faults.Qualifier = codes
 usual_text faults.ShortYear =
     codes "a year of one or two digits needs leading zeros, such as 0045"
 usual_text faults.OpenYear = codes
-    "173? may be any year of a decade: write the year in four digits, such as 1731 or 0173"
+    "a year with an open digit may be any of several: write it in four digits, such as 1731 or 0173"
 usual_text faults.DayOrMonth = codes
     "a date such as 11/2/1731 may be 11 February or 2 November: write the month by its name"
 usual_text faults.BothCalendars = both_calendars
@@ -59,7 +59,7 @@ usual_text faults.RomanNumeral =
     ++ codes "too: write it in digits"
 usual_text faults.OpenPart =
     codes "early, mid, late and the halves are parts of a month, a year, a decade or a century, "
-    ++ codes "and a winter is of two years: write the months, such as December 1675 to February "
+    ++ codes "and a winter spans two years: write the months, such as December 1675 to February "
     ++ codes "1676"
 
 -- what a date asks for: 3 June old style was 13 June new style, not 14 June

@@ -50,7 +50,8 @@ fn torn_text(alloc: Global, line: u64, path: &str) -> Result<String, AllocError>
     ensures { IfOk result (λ text. string_bytes text ≡ spec.torn_text line path.now) }
 {
     format!(in alloc;
-        "help: if line {line} is the last, a stop left it unfinished: oldstyle serve --keep {} \
+        "help: if line {line} is the last, a run that was stopped left it unfinished: \
+oldstyle serve --keep {} \
 < /dev/null cuts it off\n",
         Escaped(path)
     )

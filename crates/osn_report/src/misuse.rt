@@ -87,7 +87,8 @@ such as 1640-1645"
         }
         DateFault::ShortYear => "a year of one or two digits needs leading zeros, such as 0045",
         DateFault::OpenYear => {
-            "173? may be any year of a decade: write the year in four digits, such as 1731 or 0173"
+            "a year with an open digit may be any of several: \
+write it in four digits, such as 1731 or 0173"
         }
         DateFault::DayOrMonth => {
             "a date such as 11/2/1731 may be 11 February or 2 November: \
@@ -109,7 +110,7 @@ write it in digits"
         }
         DateFault::OpenPart => {
             "early, mid, late and the halves are parts of a month, a year, a decade or a century, \
-and a winter is of two years: write the months, such as December 1675 to February 1676"
+and a winter spans two years: write the months, such as December 1675 to February 1676"
         }
     }
 }

@@ -102,7 +102,7 @@ unfinished_line held = if_unfinished (last_line_of held) (whole_count held + 1)
 -- the line on a line that was cut off
 abbrev pub cut_line : ℕ → List ℕ
 cut_line line = codes "oldstyle: journal line "
-    ++ (decimal line ++ codes " was not finished, and is cut off\n")
+    ++ (decimal line ++ codes " was unfinished, and is cut off\n")
 
 -- which line was cut off was reported, if one was
 abbrev pub ReportsCut : Output → Option ℕ → Type 0

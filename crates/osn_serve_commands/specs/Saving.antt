@@ -28,7 +28,7 @@ CannotLockIf (Some path) fault before after = Changes (CannotLock path fault) be
 -- the line on a file that is not what it was, and on the one that has the journal
 abbrev pub changed_line : List ℕ → List ℕ
 changed_line unfinished =
-    codes "oldstyle: the file has changed meanwhile and is left as it is: the journal is in "
+    codes "oldstyle: the file was changed meanwhile, and is left as it is: the journal is in "
     ++ (escaped unfinished ++ codes "\n")
 
 -- the line on a journal that is in its file, but maybe not on the disk
@@ -50,7 +50,7 @@ ReportsUnsaved path e (faults.Changed unfinished) status =
 abbrev pub beside_line : List ℕ → List ℕ → List ℕ
 beside_line path backup = codes "note: "
     ++ (escaped path
-    ++ (codes " held another journal, which is now " ++ (escaped backup ++ codes "\n")))
+    ++ (codes " contained another journal, which is now " ++ (escaped backup ++ codes "\n")))
 
 -- a journal was saved at a path, and what was loaded was unchanged, if that is given; or in place
 -- of another journal, which is beside it now, and its path was reported

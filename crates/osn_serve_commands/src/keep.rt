@@ -30,7 +30,7 @@ use std::alloc::{AllocError, Global};
 pub(crate) fn cut_text(alloc: Global, line: u64) -> Result<String, AllocError>
     ensures { IfOk result (λ text. string_bytes text ≡ cut_line line) }
 {
-    format!(in alloc; "oldstyle: journal line {line} was not finished, and is cut off\n")
+    format!(in alloc; "oldstyle: journal line {line} was unfinished, and is cut off\n")
 }
 
 /// Cuts off the last line of a kept file, if it was not finished, and reports that on standard

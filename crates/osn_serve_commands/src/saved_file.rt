@@ -45,7 +45,7 @@ fn changed(alloc: Global, unfinished: &str) -> Result<String, AllocError>
     ensures { IfOk result (λ text. string_bytes text ≡ changed_line unfinished.now) }
 {
     format!(in alloc;
-        "oldstyle: the file has changed meanwhile and is left as it is: the journal is in {}\n",
+        "oldstyle: the file was changed meanwhile, and is left as it is: the journal is in {}\n",
         Escaped(unfinished)
     )
 }
@@ -55,7 +55,7 @@ fn beside_line(alloc: Global, path: &str, backup: &str) -> Result<String, AllocE
     ensures { IfOk result (λ text. string_bytes text ≡ beside_line path.now backup.now) }
 {
     format!(in alloc;
-        "note: {} held another journal, which is now {}\n",
+        "note: {} contained another journal, which is now {}\n",
         Escaped(path),
         Escaped(backup)
     )

@@ -11,7 +11,7 @@ from werkzeug.exceptions import HTTPException
 
 from . import api, dates, languages, letters, pages, texts, words
 from .context import NAME, Page, page
-from .problems import Problem
+from .problems import N_, Problem
 from .settings import Settings, is_loopback
 
 LONGEST_QUERY = 4096
@@ -21,9 +21,9 @@ POLICY = ("default-src 'none'; script-src 'self'; style-src 'self'; img-src 'sel
 HEADERS = {"Content-Security-Policy": POLICY, "X-Content-Type-Options": "nosniff",
            "Referrer-Policy": "no-referrer", "Cross-Origin-Opener-Policy": "same-origin",
            "Cross-Origin-Resource-Policy": "same-origin"}
-SENTENCES = {404: "There is no such page here. Begin with one date.",
-             405: "That method is not taken here.",
-             500: "Something is wrong in this page. The error has been logged."}
+MESSAGES = {404: N_("There is no such page here. Begin with one date."),
+            405: N_("That method is not taken here."),
+            500: N_("Something is wrong in this page. The error has been logged.")}
 access = logging.getLogger("oldstyle_web.access")
 
 
@@ -43,8 +43,8 @@ def create_app(settings: Settings) -> Page:
     app.jinja_env.globals.update(
         NAME=NAME, WEEKDAYS=words.WEEKDAYS, MONTHS=words.MONTHS, ORDERS=words.ORDERS,
         KINDS=dates.KINDS, MONTH_CHOICES=list(enumerate(words.MONTHS, 1)),
-        WEEKDAY_CHOICES=[("", words.N_("none given")), *((name, name) for name in words.WEEKDAYS)],
-        ORDER_CHOICES=[("", words.N_("in the usual order")), *words.ORDERS.items()],
+        WEEKDAY_CHOICES=[("", N_("none given")), *((name, name) for name in words.WEEKDAYS)],
+        ORDER_CHOICES=[("", N_("in the usual order")), *words.ORDERS.items()],
         LANGUAGES=languages.LANGUAGES, language=languages.language,
         other_language=languages.other_language, _=languages.in_template)
     filters: list[Callable[[Any], Any]] = [
@@ -101,10 +101,10 @@ def broken_query() -> Problem:
 def error_response(why: HTTPException) -> Response:
     """The reply to a request that can't be answered, in the form that it asks for."""
     status = why.code or 500
-    sentence = why.description or "" if isinstance(why, Problem) else \
-        SENTENCES.get(status, f"{why.name}.")
     if status == 413 and not isinstance(why, Problem):
-        sentence = too_large(page().settings.max_upload)
+        why = too_large(page().settings.max_upload)
+    sentence = languages.gettext(why.message, **why.parts) if isinstance(why, Problem) else \
+        languages.gettext(MESSAGES.get(status, f"{why.name}."))
     expected = request.accept_mimetypes
     is_for_programs = request.path == "/answer.json" or request.path.startswith("/api/")
     if is_for_programs or "application/json" in expected.values():
@@ -122,9 +122,10 @@ def error_response(why: HTTPException) -> Response:
     return response
 
 
-def too_large(most: int) -> str:
-    return (f"The table is larger than {most // (1024 * 1024)} MB, which is the most that is taken "
-            "here. Send it in parts, or use oldstyle letters.")
+def too_large(most: int) -> Problem:
+    return Problem(413, N_("The table is larger than %(most)s MB, which is the most that is taken "
+                           "here. Send it in parts, or use oldstyle letters."),
+                   most=most // (1024 * 1024))
 
 
 def finish(response: Response) -> Response:

@@ -6,13 +6,13 @@ import os
 
 from flask import Flask, current_app, request
 
-from . import words
+from . import problems, words
 from .printed_pages import Printer
 from .register import Register
 from .settings import Settings
 from .tables import Tables
 
-NAME = words.N_("The calendar change register")
+NAME = problems.N_("The calendar change register")
 YEAR = 31_536_000
 
 

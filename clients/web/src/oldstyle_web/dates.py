@@ -11,9 +11,9 @@ from oldstyle.answers import run_of
 from .languages import gettext as _
 from .months import sources_of
 from .notes import notes_of
+from .problems import N_
 from .register import Asking, DatedDay
 from .texts import full, in_words
-from .words import N_
 
 MOST_DAYS = 40
 # Three numbers of which the first two may be a day and a month in either order.
@@ -35,8 +35,8 @@ ADVICE = {
     "no date": N_('it says that there is no date: write a day, such as "11 February 1731"'),
     "year of one or two digits": N_("a year of one or two digits needs leading zeros, such as "
                                     "0045"),
-    "year with an open digit": N_("173? may be any year of a decade: write the year in four "
-                                  "digits, such as 1731 or 0173"),
+    "year with an open digit": N_("a year with an open digit may be any of several: write it in "
+                                  "four digits, such as 1731 or 0173"),
     "open between day and month": N_("a date such as 11/2/1731 may be 11 February or 2 November: "
                                      "write the month by its name"),
     "day by both calendars": N_("a day by both calendars has the two dates of one day, such as "
@@ -52,7 +52,7 @@ ADVICE = {
                                     "numbers; xx, MD and single letters are ordinary words too: "
                                     "write it in digits"),
     "an open part of a date, not read": N_("early, mid, late and the halves are parts of a month, "
-                                           "a year, a decade or a century, and a winter is of two "
+                                           "a year, a decade or a century, and a winter spans two "
                                            "years: write the months, such as December 1675 to "
                                            "February 1676"),
 }
@@ -180,8 +180,7 @@ def cited_day(day: Day) -> str:
 def date_found(asking: Asking, code: str, name: str, date: str, weekday: str,
                order: str) -> DateFound:
     """What a written date means in a territory."""
-    question = {"op": "written", "code": code, "date": in_order(date, order)}
-    written, = asking.answers([{**question, "weekday": weekday} if weekday else question])
+    written, = asking.answers([question_of(code, date, weekday, order)])
     runs = [run_of(run) for run in written["runs"]]
     changes = asking.changes_on(code, written["skipped"])
     sources = sources_of(asking.periods(code), shown_runs(written["kind"], runs))
@@ -189,10 +188,16 @@ def date_found(asking: Asking, code: str, name: str, date: str, weekday: str,
     content = DateFound(code, name, date, weekday, order, written, runs, sources,
                         notes_of(name, written, changes, weekday))
     if written["kind"] == "day":
-        content.days = asking.dated_days(code, [run.first.day for run in runs][:MOST_DAYS])
+        content.days = asking.dated_days(code, [run.first for run in runs][:MOST_DAYS])
         content.days.sort(
             key=lambda day: any(day.found.weekday != other for other in content.weekdays))
     return content
+
+
+def question_of(code: str, date: str, weekday: str, order: str) -> dict[str, str]:
+    """The question for a written date."""
+    question = {"op": "written", "code": code, "date": in_order(date, order)}
+    return {**question, "weekday": weekday} if weekday else question
 
 
 def in_order(date: str, order: str) -> str:

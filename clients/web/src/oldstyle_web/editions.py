@@ -7,7 +7,7 @@ import tempfile
 from dataclasses import dataclass
 
 from .printed_pages import Printer
-from .problems import Problem, no_place, unavailable
+from .problems import N_, Problem, no_place, unavailable
 from .settings import reason_of
 
 
@@ -46,7 +46,7 @@ def copy_editions(journal: str, count: int, path: str) -> None:
     except (OSError, ValueError) as why:
         raise unavailable(reason_of(why) if isinstance(why, OSError) else "") from None
     if count:
-        raise Problem(404, "The journal has no such edition yet.")
+        raise Problem(404, N_("The journal has no such edition yet."))
 
 
 def printed(printer: Printer, journal: str, *words: str) -> list[str]:

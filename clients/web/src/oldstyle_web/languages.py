@@ -11,7 +11,7 @@ from importlib.resources import files
 from typing import Any
 from urllib.parse import urlencode
 
-from flask import has_request_context, request
+from flask import g, has_request_context, request
 from markupsafe import Markup, escape
 
 from .words import visible
@@ -40,9 +40,16 @@ def catalogue(language: str) -> catalogues.NullTranslations:
 
 
 def language() -> str:
-    """The language that the address names, or else the browser."""
+    """The language of the request, which is looked for once."""
     if not has_request_context():
         return "en"
+    if "language" not in g:
+        g.language = requested_language()
+    return str(g.language)
+
+
+def requested_language() -> str:
+    """The language that the address names, or else the browser."""
     if (named := request.args.get("lang", "")) in LANGUAGES:
         return named
     tags = (tag.partition("-")[0].lower() for tag, quality in request.accept_languages if quality)

@@ -12,7 +12,7 @@ from werkzeug.wsgi import wrap_file
 
 from .context import page
 from .languages import gettext as _
-from .problems import Problem
+from .problems import N_, Problem
 from .replies import tagged
 from .workbooks import as_csv
 
@@ -78,7 +78,7 @@ def pasted_table() -> IO[bytes]:
     """The rows that were pasted into a form without a file."""
     pasted = request.form.get("pasted", "")
     if not pasted.strip():
-        raise Problem(400, "No table was sent: choose a file, or paste its rows.")
+        raise Problem(400, N_("No table was sent: choose a file, or paste its rows."))
     table = tempfile.TemporaryFile()
     table.write(pasted.encode())
     return table

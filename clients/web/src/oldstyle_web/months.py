@@ -84,9 +84,14 @@ def sources_of(periods: list[Period], runs: list[Run]) -> list[str]:
             run.first.day <= period.last and period.first <= run.last.day for run in runs)))
 
 
+def question_of(code: str, year: int, month: int) -> dict[str, str]:
+    """The question for the runs of a month."""
+    return {"op": "written", "code": code, "date": f"{year:04}-{month:02}"}
+
+
 def month_found(asking: Asking, code: str, name: str, year: int, month: int) -> MonthFound:
     """The days that a territory dated in a month of its year."""
-    written, = asking.answers([{"op": "written", "code": code, "date": f"{year:04}-{month:02}"}])
+    written, = asking.answers([question_of(code, year, month)])
     days = [run_of(run) for run in written["runs"]]
     runs = [run_found(asking, code, run) for run in days]
     periods = asking.periods(code)
@@ -100,10 +105,12 @@ def month_found(asking: Asking, code: str, name: str, year: int, month: int) -> 
 
 def run_found(asking: Asking, code: str, run: Run) -> MonthRun:
     """A run of a month, with the days around it."""
-    days = asking.days(code, range(run.first.day, run.last.day + 1)[:MOST_DAYS])
-    before = asking.days(code, [run.first.day - 1] if run.first.day > 1 else [])
-    after = asking.days(code, [run.last.day + 1] if run.last.day < LAST_DAY else [])
-    return MonthRun(weeks_of(days), next(iter(before), None), next(iter(after), None))
+    first, last = run.first.day, run.last.day
+    numbers = range(first, last + 1)[:MOST_DAYS]
+    around = [number for number in (first - 1, last + 1) if 1 <= number <= LAST_DAY]
+    found = {day.day: day for day in asking.days(code, [*numbers, *around])}
+    return MonthRun(weeks_of([found[number] for number in numbers]), found.get(first - 1),
+                    found.get(last + 1))
 
 
 def styles_of(periods: list[Period], days: set[int]) -> list[str]:

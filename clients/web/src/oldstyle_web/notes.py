@@ -7,8 +7,9 @@ from oldstyle import Change
 from oldstyle.answers import day_of, run_of
 
 from .languages import date_text, gettext as _
+from .problems import N_
 from .texts import change_text, full, sources_text
-from .words import BEGINNINGS, N_
+from .words import BEGINNINGS
 
 LAST_DATE = "last date: "
 STYLES = [N_("Old Style"), N_("New Style")]

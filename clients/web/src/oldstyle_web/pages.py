@@ -8,6 +8,7 @@ from typing import Any
 from flask import Blueprint, Response, jsonify, render_template, request, url_for
 from oldstyle import Land
 
+from . import dates, months
 from .context import NAME, page
 from .dates import DateFound, date_found
 from .drawing import line_of_time, years_of
@@ -16,7 +17,7 @@ from .forms import forms_read
 from .languages import gettext as _, messages
 from .months import month_found
 from .places import place_found
-from .problems import Problem
+from .problems import N_, Problem
 from .register import Asking, DatedDay, name_in
 from .replies import named_edition, tagged, word, written
 from .words import (LAST_DAY, code_of, date_of, month_of, number_of, order_of, visible,
@@ -53,7 +54,8 @@ def dates_found(question: Question, codes: list[str]) -> tuple[int, list[Land], 
     """The edition, the territories, and what a date means in some of them, unless a word is
     missing."""
     def work(asking: Asking) -> tuple[list[Land], list[DateFound]]:
-        lands = asking.lands()
+        lands = asking.lands(codes[0], [dates.question_of(code, question.date, question.weekday,
+                                                          question.order) for code in codes])
         names = {code: name_in(lands, code) for code in codes if code}
         if not question.date or not all(codes):
             return lands, []
@@ -107,12 +109,14 @@ def answer_json() -> Response:
 def day() -> Response:
     """A day by its number."""
     named, code = named_edition(), code_of(word("code"))
-    number = number_of("number of a day", word("day"), 1, LAST_DAY) or 0
+    number = number_of(word("day"), 1, LAST_DAY) or 0
     if not code or not number:
-        raise Problem(400, "A day is asked for by its place and its number.")
+        raise Problem(400, N_("A day is asked for by its place and its number."))
 
     def work(asking: Asking) -> tuple[str, DatedDay]:
-        return name_in(asking.lands(), code), asking.dated_days(code, [number])[0]
+        lands = asking.lands(code, [{"op": "day", "code": code, "day": number}])
+        name = name_in(lands, code)
+        return name, asking.dated_days(code, asking.days(code, [number]))[0]
     edition, (name, content) = page().register.of_one_edition(work)
     return written("day.html", edition, title=_("Day %(number)s in %(name)s", number=number,
                                                   name=name), code=code, name=name,
@@ -123,11 +127,11 @@ def day() -> Response:
 def month() -> Response:
     """A month as it was dated."""
     named, code = named_edition(), code_of(word("code"))
-    year_asked = number_of("year", word("year"), 0, 10_000)
+    year_asked = number_of(word("year"), 0, 10_000)
     month_asked = month_of(word("month")) or 1
 
     def work(asking: Asking) -> tuple[list[Land], str, Any]:
-        lands = asking.lands()
+        lands = asking.lands(code, [months.question_of(code, year_asked or 0, month_asked)])
         if not code or year_asked is None:
             return lands, "", None
         name = name_in(lands, code)
@@ -144,7 +148,7 @@ def place() -> Response:
     named, code = named_edition(), code_of(word("code"))
 
     def work(asking: Asking) -> tuple[list[Land], Any]:
-        lands = asking.lands()
+        lands = asking.lands(code)
         if not code:
             return lands, None
         return lands, place_found(asking, code, name_in(lands, code))
@@ -161,10 +165,10 @@ def place() -> Response:
 def year() -> Response:
     """A year as the place counted it."""
     named, code = named_edition(), code_of(word("code"))
-    year_asked = number_of("year", word("year"), 1, 9_999)
+    year_asked = number_of(word("year"), 1, 9_999)
 
     def work(asking: Asking) -> tuple[list[Land], str, Any]:
-        lands = asking.lands()
+        lands = asking.lands(code)
         if not code or year_asked is None:
             return lands, "", None
         name = name_in(lands, code)
@@ -183,7 +187,8 @@ def edition() -> Response:
     newest = page().register.of_one_edition(Asking.lands)[0]
     number = newest if named is None else named
     if not 1 <= number <= newest:
-        raise Problem(404, f"The journal has no edition {number}: its newest is {newest}.")
+        raise Problem(404, N_("The journal has no edition %(number)s: its newest is %(newest)s."),
+                      number=number, newest=newest)
     title = _("Edition %(number)s of %(journal)s", number=number,
               journal=page().settings.journal_name)
     return written("edition.html", newest, title=f"{title}: {code}" if code else title, code=code,

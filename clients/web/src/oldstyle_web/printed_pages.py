@@ -10,8 +10,9 @@ import threading
 import time
 from collections import OrderedDict
 from dataclasses import dataclass
+from typing import Hashable
 
-from .problems import busy, no_place, unavailable
+from .problems import N_, busy, no_place, unavailable
 from .register import Asking
 from .settings import Settings, in_bytes, reason_of
 
@@ -33,33 +34,26 @@ class Page:
 
 
 class Printer:
-    """Runs commands of the program, some in parallel, and keeps the pages of each edition."""
+    """Runs commands of the program, some in parallel, and keeps the pages of territories."""
 
     def __init__(self, settings: Settings):
         self.settings = settings
         self.places = threading.BoundedSemaphore(settings.commands)
         self.lock = threading.Lock()
-        self.cache: OrderedDict[tuple[int, tuple[str, ...]], Page] = OrderedDict()
+        self.cache: OrderedDict[tuple[Hashable, ...], Page] = OrderedDict()
 
     def page(self, asking: Asking, *words: str) -> Page:
-        """A page that names its edition in its first line, or one that is kept of the edition that
-        was given."""
-        return self.cached(asking, words) or self.store(asking, words,
-                                                        self.print_page(asking, words))
-
-    def cached(self, asking: Asking, words: tuple[str, ...]) -> Page | None:
+        """A page that names its edition in its first line, or the one that was printed while the
+        territory, the second word, had the same periods and listed Easters."""
+        key = (words, *asking.periods(words[1]), *asking.exceptions(words[1]))
         with self.lock:
-            for edition in asking.editions:
-                if (edition, words) in self.cache:
-                    self.cache.move_to_end((edition, words))
-                    return self.cache[edition, words]
-        return None
-
-    def store(self, asking: Asking, words: tuple[str, ...], page: Page) -> Page:
-        """Keeps a page if one edition alone was given with it."""
+            if key in self.cache:
+                self.cache.move_to_end(key)
+                return self.cache[key]
+        page = self.print_page(asking, words)
         if len(asking.editions) == 1:
             with self.lock:
-                self.cache[next(iter(asking.editions)), words] = page
+                self.cache[key] = page
                 while len(self.cache) > MOST_PAGES:
                     self.cache.popitem(last=False)
         return page
@@ -86,7 +80,7 @@ class Printer:
         streams."""
         settings, (command, *others) = self.settings, words
         if not self.places.acquire(timeout=settings.question_seconds):
-            raise busy("Too many questions are asked now.")
+            raise busy(N_("Too many questions are asked now. Try again in a moment."))
         try:
             done = subprocess.run(
                 in_bytes([settings.program, command, *settings.limit_words(),
@@ -94,7 +88,8 @@ class Printer:
                 stdin=subprocess.DEVNULL, capture_output=True, check=False,
                 timeout=settings.question_seconds)
         except subprocess.TimeoutExpired:
-            raise busy("The program took too long for that question.") from None
+            raise busy(N_("The program took too long for that question. Try again in a "
+                          "moment.")) from None
         except OSError as why:
             raise unavailable(reason_of(why)) from None
         finally:

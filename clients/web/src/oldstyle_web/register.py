@@ -12,12 +12,14 @@ from oldstyle import (Change, Day, Land, ListedEaster, Period, Pool, ProgramBusy
                       ProgramFailed, ProgramSlow, Run)
 from oldstyle.answers import day_of, from_members, run_of
 
-from .problems import AGAIN, Problem, busy, no_place, unavailable
+from .problems import N_, SOON, Problem, busy, no_place, unavailable
 from .settings import Settings
 
 Result = TypeVar("Result")
 TRIES = 20
 UNKNOWN_LAND, BAD_CODE = 3, 1
+# The queries for what pages show of a territory.
+OF_LAND = ("periods", "changes", "exceptions")
 # A register of its own, by which a day is named in the Swedish calendar.
 SWEDISH = [b'{"op":"add_land","code":"SW","name":"Swedish","calendar":"swedish","style":"january",'
            b'"rule":"julian"}\n', b'{"op":"publish"}\n']
@@ -60,8 +62,9 @@ class Register:
                 if self.may_answer(asking, least):
                     return next(iter(asking.editions), 0), result
             time.sleep(0.02)
-        raise Problem(503, "The register's edition changes just now, or its journal has fewer "
-                      f"editions than before. {AGAIN}", Retry_After="2")
+        raise Problem(503, N_("The register's edition changes just now, or its journal has fewer "
+                              "editions than before. Try again in a moment, or ask those who run "
+                              "this page."), SOON)
 
     def may_answer(self, asking: Asking, least: int) -> bool:
         """Returns whether one edition alone was given, from the least one on. If the journal is
@@ -77,7 +80,7 @@ class Register:
         try:
             return pool.ask(lines)
         except ProgramBusy:
-            raise busy("All processes are at work.") from None
+            raise busy(N_("All processes are at work. Try again in a moment.")) from None
         except ProgramSlow:
             raise unavailable("no answer in time") from None
         except ProgramEnded as why:
@@ -91,11 +94,12 @@ class Register:
 
 
 class Asking:
-    """What one request asks, and the editions of its replies."""
+    """What one request asks, each question once, and the editions of the replies that it uses."""
 
     def __init__(self, register: Register):
         self.register = register
         self.editions: set[int] = set()
+        self.lines: dict[bytes, bytes] = {}
 
     def reply(self, question: dict[str, Any]) -> tuple[bytes, dict[str, Any]]:
         """The reply to a question, an object of `op` and its members, as a line and as it reads."""
@@ -108,10 +112,14 @@ class Asking:
     def answers(self, questions: Iterable[dict[str, Any]]) -> list[dict[str, Any]]:
         """The answers to questions."""
         queries = list(questions)
-        if not queries:
-            return []
-        lines = self.register.replies(self.register.pool, [line_of(one) for one in queries])
-        return [self.answer_of(one, json.loads(line)) for one, line in zip(queries, lines)]
+        self.prepare(queries)
+        return [self.answer_of(one, json.loads(self.lines[line_of(one)])) for one in queries]
+
+    def prepare(self, questions: Iterable[dict[str, Any]]) -> None:
+        """Asks in one exchange the questions that were not asked yet."""
+        lines = [line for line in map(line_of, questions) if line not in self.lines]
+        if lines:
+            self.lines.update(zip(lines, self.register.replies(self.register.pool, lines)))
 
     def answer_of(self, question: dict[str, Any], reply: dict[str, Any]) -> dict[str, Any]:
         if "edition" in reply:
@@ -121,10 +129,14 @@ class Asking:
             return answer
         if reply["fault"] in (UNKNOWN_LAND, BAD_CODE):
             raise no_place(question["code"])
-        raise Problem(400, f"The register refuses that: {reply['fault']} {reply['name']}.")
+        raise Problem(400, N_("The register refuses that: %(fault)s."),
+                      fault=f"{reply['fault']} {reply['name']}")
 
-    def lands(self) -> list[Land]:
-        """The territories by their names."""
+    def lands(self, code: str = "", questions: Iterable[dict[str, Any]] = ()) -> list[Land]:
+        """The territories by their names. What pages show of the one of a code, and some more
+        questions, are asked in the same exchange, so that they are mostly of one edition."""
+        of_land = [{"op": op, "code": code} for op in OF_LAND] if code else []
+        self.prepare([{"op": "lands"}, *of_land, *questions])
         answer, = self.answers([{"op": "lands"}])
         return sorted((from_members(Land, land) for land in answer["lands"]),
                       key=lambda land: (land.name.casefold(), land.code))
@@ -151,12 +163,11 @@ class Asking:
         return [day_of(answer["found"]) for answer in self.answers(
             {"op": "day", "code": code, "day": number} for number in numbers)]
 
-    def dated_days(self, code: str, numbers: Sequence[int]) -> list[DatedDay]:
-        """The days with these numbers, each with its period."""
-        answers = self.answers({"op": "day", "code": code, "day": number} for number in numbers)
-        return [DatedDay(day_of(answer["found"]),
-                         from_members(Period, answer | answer["regime"]), text)
-                for answer, text in zip(answers, self.swedish_texts(numbers))]
+    def dated_days(self, code: str, days: Sequence[Day]) -> list[DatedDay]:
+        """Days of a territory, each with its period."""
+        periods = self.periods(code)
+        of_days = [next(one for one in periods if one.first <= day.day <= one.last) for day in days]
+        return list(map(DatedDay, days, of_days, self.swedish_texts([day.day for day in days])))
 
     def swedish_texts(self, numbers: Sequence[int]) -> list[str]:
         """The dates of days by the Swedish calendar."""

@@ -17,7 +17,7 @@ def word(name: str) -> str:
 
 def named_edition() -> int | None:
     """The edition that the address names, if it names one."""
-    return number_of("edition", word("edition"), 0, 999_999_999)
+    return number_of(word("edition"), 0, 999_999_999)
 
 
 def tagged(response: Response, edition: int) -> Response:

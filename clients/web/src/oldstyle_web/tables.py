@@ -12,7 +12,7 @@ import time
 from dataclasses import dataclass
 from typing import IO, Mapping
 
-from .problems import Problem, busy, unavailable
+from .problems import N_, Problem, busy, unavailable
 from .settings import Settings, in_bytes, reason_of
 from .words import order_of
 
@@ -59,7 +59,7 @@ def byte_order_mark(file: IO[bytes]) -> bytes:
                 raise ValueError
         decoder.decode(b"", final=True)
     except ValueError:
-        raise Problem(422, "The table is not UTF-8: save the table as CSV UTF-8.") from None
+        raise Problem(422, N_("The table is not UTF-8: save the table as CSV UTF-8.")) from None
     return mark
 
 
@@ -85,7 +85,7 @@ class Tables:
         options = options_of(fields)
         mark = byte_order_mark(table)
         if not self.places.acquire(timeout=self.settings.question_seconds):
-            raise busy("Other tables are read just now.")
+            raise busy(N_("Other tables are read just now. Try again in a moment."))
         rows: IO[bytes] = tempfile.TemporaryFile()
         try:
             end = self.write_rows(options, table, places, rows, mark)

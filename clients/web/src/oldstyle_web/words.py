@@ -6,13 +6,7 @@ import re
 
 from markupsafe import Markup
 
-from .problems import Problem
-
-
-def N_(message: str) -> str:
-    """Marks a message that is translated elsewhere."""
-    return message
-
+from .problems import N_, Problem
 
 MONTHS = [N_("January"), N_("February"), N_("March"), N_("April"), N_("May"), N_("June"),
           N_("July"), N_("August"), N_("September"), N_("October"), N_("November"), N_("December")]
@@ -50,8 +44,9 @@ def written_out(value: Any) -> Any:
 def code_of(text: str) -> str:
     """The code of the chosen territory, or an empty text without a choice."""
     if text and not CODE.fullmatch(text):
-        raise Problem(400, f"{quoted(text)} is not a code of a territory: a code is 2 to 8 capital "
-                      "letters or digits, the first a letter. Choose one of the list.")
+        raise Problem(400, N_("%(text)s is not a code of a territory: a code is 2 to 8 capital "
+                             "letters or digits, the first a letter. Choose one of the list."),
+                      text=quoted(text))
     return text
 
 
@@ -59,36 +54,37 @@ def date_of(text: str) -> str:
     """A date as it is written, without the blanks around it."""
     text = text.strip()
     if len(text) > LONGEST_DATE:
-        raise Problem(400, f"The date has {len(text)} characters: write {LONGEST_DATE} at most.")
+        raise Problem(400, N_("The date has %(count)s characters: write %(most)s at most."),
+                      count=len(text), most=LONGEST_DATE)
     if text != visible(text):
-        raise Problem(400, "The date has a character that is not printed: write it again.")
+        raise Problem(400, N_("The date has a character that is not printed: write it again."))
     return text
 
 
 def weekday_of(text: str) -> str:
     """The English name of a weekday, or nothing."""
     if text and text.capitalize() not in WEEKDAYS:
-        raise Problem(400, f"{quoted(text)} is not a weekday: write its English name, such as "
-                      "Friday.")
+        raise Problem(400, N_("%(text)s is not a weekday: write its English name, such as Friday."),
+                      text=quoted(text))
     return text.capitalize()
 
 
 def order_of(text: str) -> str:
     """The order of day and month in numbers, or nothing."""
     if text and text not in ORDERS:
-        raise Problem(400, f"{quoted(text)} is not an order: it is dmy, for 11/2/1731 as 11 "
-                      "February, or mdy, for 2/11/1731.")
+        raise Problem(400, N_("%(text)s is not an order: it is dmy, for 11/2/1731 as 11 February, "
+                             "or mdy, for 2/11/1731."), text=quoted(text))
     return text
 
 
-def number_of(name: str, text: str, least: int, most: int) -> int | None:
+def number_of(text: str, least: int, most: int) -> int | None:
     """A whole number, or None if the text is empty."""
     text = text.strip()
     if not text:
         return None
     if not (text.isascii() and text.isdigit() and len(text) <= 9 and least <= int(text) <= most):
-        raise Problem(400, f"{quoted(text)} is no {name}: write a whole number from {least} to "
-                      f"{most}.")
+        raise Problem(400, N_("%(text)s is not taken here: write a whole number from %(least)s to "
+                             "%(most)s."), text=quoted(text), least=least, most=most)
     return int(text)
 
 
@@ -97,8 +93,9 @@ def month_of(text: str) -> int | None:
     if (name := text.strip().capitalize()) in MONTHS:
         return MONTHS.index(name) + 1
     if text.strip() and not (text.strip().isascii() and text.strip().isdigit()):
-        raise Problem(400, f"{quoted(text)} is not a month: write its English name, or 1 to 12.")
-    return number_of("month", text, 1, 12)
+        raise Problem(400, N_("%(text)s is not a month: write its English name, or 1 to 12."),
+                      text=quoted(text))
+    return number_of(text, 1, 12)
 
 
 def quoted(text: str) -> str:

@@ -9,9 +9,8 @@ import zipfile
 from datetime import date, datetime, time
 from typing import IO, Any, Callable, Iterable, Iterator
 
-from .problems import Problem, busy
+from .problems import N_, Problem, busy
 
-SAVE = "save the table as CSV UTF-8."
 MOST_COLUMNS = 16_384
 Row = list[str]
 # The libraries hold much of a workbook in memory, so that one is read at a time.
@@ -29,7 +28,7 @@ def kind_of(file: IO[bytes]) -> Callable[[IO[bytes]], Iterable[Row]] | None:
     for name, rows_of, most in KINDS:
         if name in names:
             if size > most:
-                raise Problem(413, f"The workbook is too large: {SAVE}")
+                raise Problem(413, N_("The workbook is too large: save the table as CSV UTF-8."))
             return rows_of
     return None
 
@@ -40,16 +39,17 @@ def as_csv(file: IO[bytes], most: int) -> IO[bytes] | None:
         return None
     file.seek(0)
     if not ONE.acquire(timeout=WAIT):
-        raise busy("Other workbooks are read just now.")
+        raise busy(N_("Other workbooks are read just now. Try again in a moment."))
     table: IO[bytes] = tempfile.TemporaryFile()
     try:
         write_rows(rows_of(file), table, most)
     except Problem:
         raise
     except ImportError:
-        raise Problem(422, f"This page reads no workbook of that kind: {SAVE}") from None
+        raise Problem(422, N_("This page reads no workbook of that kind: save the table as CSV "
+                             "UTF-8.")) from None
     except Exception as why:  # (the libraries raise whatever a broken file leads them to)
-        raise Problem(422, f"The workbook can't be read: {SAVE}") from why
+        raise Problem(422, N_("The workbook can't be read: save the table as CSV UTF-8.")) from why
     finally:
         ONE.release()
     return table
@@ -64,7 +64,7 @@ def write_rows(rows: Iterable[Row], table: IO[bytes], most: int) -> None:
             width = width or len(row)
             writer.writerow(row + [""] * (width - len(row)))
             if table.tell() > most:
-                raise Problem(413, f"The sheet is too large: {SAVE}")
+                raise Problem(413, N_("The sheet is too large: save the table as CSV UTF-8."))
     text.detach()
 
 

@@ -12,8 +12,7 @@ import subprocess
 import sys
 import tempfile
 
-from lib.common import TOP, CommandLine, end, need
-from command_line import MISSING
+from shared import MISSING, SAMPLES, TOP, CommandLine, end, need
 
 SOURCE = os.path.join(TOP, "clients", "r")
 PACKAGES = "Debian's packages r-base-core, r-cran-jsonlite and r-cran-testthat"
@@ -54,8 +53,8 @@ def main():
                           check=False).returncode:
             print(f"R lacks {package}: install {PACKAGES}", file=sys.stderr)
             return MISSING
-    if not filecmp.cmp(os.path.join(SOURCE, "inst", "extdata", "samples.journal"),
-                       os.path.join(TOP, "examples", "samples.journal"), shallow=False):
+    copy = os.path.join(SOURCE, "inst", "extdata", "samples.journal")
+    if not filecmp.cmp(copy, SAMPLES, shallow=False):
         sys.exit("inst/extdata/samples.journal is not examples/samples.journal: copy it again")
     with tempfile.TemporaryDirectory() as folder:
         built = r_command(["build", SOURCE], folder)

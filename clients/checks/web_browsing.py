@@ -4,7 +4,7 @@ import sys
 import tempfile
 import time
 
-from command_line import MISSING
+from shared import MISSING
 
 try:
     from selenium import webdriver

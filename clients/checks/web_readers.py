@@ -2,10 +2,10 @@
 """Has 200 readers ask the page for a minute, while a keeper publishes editions.
 
 A run of `serve --keep` adds territories and moves a change, and publishes now and then. Meanwhile
-each reader asks for dates, months, places and years without a pause. No request may be refused or
-fail, no reader may be given an earlier edition than before, nor one that is not published yet, and
-each answer of a typed date is compared with what a register with the edits up to its edition
-answers. At the end the page is ended by a signal: no process may be left. Under gunicorn a worker
+each reader asks for dates, months, places and years, without a pause or with that of `--pause`. No
+request may be refused or fail, no reader may be given an earlier edition than before, nor one that
+is not published yet, and each answer of a typed date is compared with what a register with the
+edits up to its edition answers. At the end the page is ended by a signal: no process may be left. Under gunicorn a worker
 is killed before that, and all are started again.
 """
 import http.client
@@ -20,8 +20,8 @@ import threading
 import time
 from urllib.parse import urlencode
 
-from lib.common import CommandLine, compact, end, need
-from lib.web_runs import SAMPLES, Page, below, left_after, process_table
+from shared import SAMPLES, CommandLine, compact, end, need
+from web_runs import Page, below, left_after, process_table
 
 DATES = ["11 February 1731", "5 September 1752", "3 September 1752", "1731-02-11", "14 March 1731",
          "1 January 1700", "30 February 1712", "24 March 1731/2"]
@@ -67,21 +67,23 @@ class Keeper(threading.Thread):
 
 
 class Reader(threading.Thread):
-    """Asks without a pause on one connection, and notes what it was given."""
+    """Asks on one connection, and notes what it was given and how long each page took at most."""
 
-    def __init__(self, page, keeper, until, seed):
+    def __init__(self, page, keeper, until, pause, seed):
         super().__init__()
-        self.page, self.keeper, self.until = page, keeper, until
+        self.page, self.keeper, self.until, self.pause = page, keeper, until, pause
         self.chance, self.edition = random.Random(seed), 0
-        self.seen, self.wrong, self.count, self.slowest = {}, [], 0, 0.0
+        self.seen, self.wrong, self.times = {}, [], {}
         self.connection = None
 
     def run(self):
+        time.sleep(self.chance.random() * self.pause)
         while time.monotonic() < self.until:
             try:
                 self.ask()
             except (OSError, http.client.HTTPException) as why:
                 self.wrong.append(f"no reply: {why!r}")
+            time.sleep(self.pause)
         self.connection.close()
 
     def ask(self):
@@ -97,8 +99,7 @@ class Reader(threading.Thread):
         self.connection.request("GET", path)
         reply = self.connection.getresponse()
         body = reply.read()
-        self.count += 1
-        self.slowest = max(self.slowest, time.monotonic() - began)
+        self.times.setdefault(path.partition("?")[0], []).append(time.monotonic() - began)
         if reply.status != 200:
             self.wrong.append(f"{path}: status {reply.status} {body[:200]}")
         elif typed:
@@ -161,6 +162,7 @@ def main():
     line.add_number("--seconds", 60, "how long they ask")
     line.add_number("--workers", 0, "workers of gunicorn; 0 has the page serve itself", 0)
     line.add_number("--editions", 4, "editions a second")
+    line.add_number("--pause", 0, "seconds that a reader waits after a reply", 0)
     options = line.read()
     if options.workers:
         need("gunicorn", "the Debian package gunicorn")
@@ -178,7 +180,8 @@ def with_readers(options, journal):
     keeper = Keeper(options.program, journal, 1 / options.editions)
     keeper.start()
     until = time.monotonic() + options.seconds
-    readers = [Reader(page, keeper, until, seed) for seed in range(options.readers)]
+    readers = [Reader(page, keeper, until, options.pause, seed)
+               for seed in range(options.readers)]
     for reader in readers:
         reader.start()
     for reader in readers:
@@ -197,11 +200,23 @@ def with_readers(options, journal):
               for key in differing(options.program, journal, seen)]
     for one in [*wrong[:10], *(errors.splitlines()[:10] if wrong else [])]:
         print(one)
-    count, slowest = sum(reader.count for reader in readers), max(one.slowest for one in readers)
-    print(f"{options.readers} readers asked {count} times in {options.seconds} s while editions "
-          f"{FIRST} to {keeper.edition} came: {len(wrong)} refused or wrong, {len(seen)} answers "
-          f"held, the slowest {slowest:.2f} s, {len(left)} processes left")
+    print(f"{options.readers} readers asked {print_times(readers)} times in {options.seconds} s "
+          f"while editions {FIRST} to {keeper.edition} came: {len(wrong)} refused or wrong, "
+          f"{len(seen)} answers held, {len(left)} processes left")
     return 1 if wrong or left or not seen else 0
+
+
+def print_times(readers):
+    """Prints for each page how long its replies took. Returns how many there are in all."""
+    times = {}
+    for reader in readers:
+        for path, some in reader.times.items():
+            times.setdefault(path, []).extend(some)
+    for path, some in sorted(times.items()):
+        some.sort()
+        print(f"{path}: {len(some)} replies, half of them within {some[len(some) // 2]:.2f} s, "
+              f"99 of 100 within {some[len(some) * 99 // 100]:.2f} s, all within {some[-1]:.2f} s")
+    return sum(map(len, times.values()))
 
 
 if __name__ == "__main__":

@@ -3,12 +3,11 @@ import os
 import shutil
 import subprocess
 
-from lib import client_tools
-from lib.client_tools import JOURNAL, SAMPLES, read
-from command_line import need_python
-from lib.common import TOP
+import client_tools
+from client_tools import FILES, read
+from shared import SAMPLES, TOP, need_python
 
-PLACES = os.path.join(SAMPLES, "places.csv")
+PLACES = os.path.join(FILES, "places.csv")
 TEI, GEDCOM = "oldstyle-tei", "oldstyle-gedcom"
 HEAD = b'<TEI xmlns="http://www.tei-c.org/ns/1.0"><opener><placeName>London</placeName> '
 TAIL = b"</opener></TEI>"
@@ -46,7 +45,7 @@ class Installed:
 
     def fill(self, command, data, *words):
         """What a command makes of a file, with the table of places of the samples."""
-        return self.run([command, JOURNAL, "--places", PLACES, *words], data)
+        return self.run([command, SAMPLES, "--places", PLACES, *words], data)
 
 
 def checks(options, folder):
@@ -80,8 +79,8 @@ def documents(installed):
 
 def samples(installed, name, command, reports):
     """A sample: what comes out is the file that was written by hand, and a second run's input."""
-    original = read(os.path.join(SAMPLES, name))
-    expected = read(os.path.join(SAMPLES, name.replace(".", ".filled.")))
+    original = read(os.path.join(FILES, name))
+    expected = read(os.path.join(FILES, name.replace(".", ".filled.")))
     done = installed.fill(command, original)
     yield f"{name} is filled in", (done.returncode, done.stdout) == (0, expected)
     lines = done.stderr.decode().splitlines()
@@ -197,14 +196,14 @@ def by_place(installed):
             (lacking, ["--place", "GB"], "taken as GB"),
             (unknown, ["--place", "GB"], "taken as GB"),
             (parts, ["--places", PLACES], "")):
-        done = installed.run([TEI, JOURNAL, *words], front + date + TAIL)
+        done = installed.run([TEI, SAMPLES, *words], front + date + TAIL)
         yield f"TEI {front} {words}", (done.stdout == front + filled + TAIL
                                        and reason in done.stderr.decode())
     for front, words, reason in (
             (lacking, [], "by --place"), (unknown, ["--places", PLACES], "--places FILE"),
             (unknown, ["--places", PLACES, "--place", "GB"], "unknown place Nowhere (1 date)"),
             (two, ["--places", PLACES, "--place", "GB"], "more than one territory: GB, SE")):
-        done = installed.run([TEI, JOURNAL, *words], front + date + TAIL)
+        done = installed.run([TEI, SAMPLES, *words], front + date + TAIL)
         yield f"TEI left: {front} {words}", (done.stdout == front + date + TAIL
                                              and reason in done.stderr.decode())
 
@@ -269,14 +268,14 @@ def trees(installed):
 
 def words(installed, folder):
     """Wrong arguments, tables of places with mistakes, and streams that fail."""
-    original = read(os.path.join(SAMPLES, "letters.xml"))
+    original = read(os.path.join(FILES, "letters.xml"))
     table = os.path.join(folder, "table.csv")
-    runs = [([TEI], 2, "JOURNAL"), ([TEI, JOURNAL, "--wrong"], 2, "--help"),
+    runs = [([TEI], 2, "JOURNAL"), ([TEI, SAMPLES, "--wrong"], 2, "--help"),
             ([TEI, "none.journal"], 1, "No such file"), ([TEI, TOP], 1, "directory"),
-            ([TEI, JOURNAL, "--place", "FR"], 1, "RM, GB, SE, RU, DE"),
-            ([TEI, JOURNAL, "--places", "none.csv"], 3, "none.csv"),
-            ([TEI, JOURNAL, "--program", "no-such-oldstyle"], 1, "--program of a command"),
-            ([GEDCOM, JOURNAL], 1, "0 HEAD"), ([TEI, "--help"], 0, "")]
+            ([TEI, SAMPLES, "--place", "FR"], 1, "RM, GB, SE, RU, DE"),
+            ([TEI, SAMPLES, "--places", "none.csv"], 3, "none.csv"),
+            ([TEI, SAMPLES, "--program", "no-such-oldstyle"], 1, "--program of a command"),
+            ([GEDCOM, SAMPLES], 1, "0 HEAD"), ([TEI, "--help"], 0, "")]
     for line, status, reason in runs:
         done = installed.run(line, original)
         is_reported = reason in done.stderr.decode() and b"Traceback" not in done.stderr
@@ -289,7 +288,7 @@ def words(installed, folder):
     for content, reason in tables:
         with open(table, "wb") as file:
             file.write(content)
-        done = installed.run([TEI, JOURNAL, "--places", table], original)
+        done = installed.run([TEI, SAMPLES, "--places", table], original)
         yield f"table {content}: {done.stderr}", (done.returncode, done.stdout) == (1, b"") \
             and reason in done.stderr.decode()
     for row, reason in ((b"London,FR", b"the register has its code FR"),
@@ -297,15 +296,15 @@ def words(installed, folder):
                          b"code (empty)")):
         with open(table, "wb") as file:
             file.write(b"place,code\n" + row + b"\n")
-        done = installed.run([TEI, JOURNAL, "--places", table],
+        done = installed.run([TEI, SAMPLES, "--places", table],
                              HEAD.replace(b"London", row.partition(b",")[0])
                              + b"<date>3 May 1640</date>" + TAIL)
         yield f"a code that is lacking: {done.stderr}", reason in done.stderr
-    done = installed.run(["sh", "-c", f"{installed.path}/{TEI} {JOURNAL} --place GB >&-"], original)
+    done = installed.run(["sh", "-c", f"{installed.path}/{TEI} {SAMPLES} --place GB >&-"], original)
     yield f"closed output: {done.stderr}", (done.returncode == 3 and b"closed" in done.stderr
                                             and b"Traceback" not in done.stderr)
     with open("/dev/full", "wb") as full:
-        done = subprocess.run([os.path.join(installed.path, TEI), JOURNAL, "--place", "GB"],
+        done = subprocess.run([os.path.join(installed.path, TEI), SAMPLES, "--place", "GB"],
                               input=original, stdout=full, stderr=subprocess.PIPE, check=False,
                               env=installed.variables)
     yield f"a full disk: {done.stderr}", done.returncode == 3 and b"No space" in done.stderr

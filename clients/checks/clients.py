@@ -22,15 +22,14 @@ import tempfile
 import threading
 import time
 
-from lib.common import TOP, CommandLine, compact, end, file_at, run
+from shared import SAMPLES, TOP, CommandLine, compact, end, file_at, run
 
 sys.path.append(os.path.join(TOP, "clients", "python", "src"))
 
-from lib import client_files
-from lib import client_tools
+import client_files
+import client_tools
 import oldstyle
 
-JOURNAL = os.path.join(TOP, "examples", "samples.journal")
 ORDINAL_TO_JDN = 1_721_425
 # What a date means in the samples, computed by hand. The Julian calendar was ten days after the
 # Gregorian one from 1582 to February 1700, eleven in the 18th century, thirteen in the 20th. Great
@@ -119,7 +118,7 @@ def worked(register):
 def piped(register, program, options):
     """Compares the replies to many rows with what the program writes for the same lines."""
     rows = list(rows_drawn(random.Random(options.seed), options.count))
-    replies = run(program, ["serve", "--journal", JOURNAL], map(request, rows)).stdout.splitlines()
+    replies = run(program, ["serve", "--journal", SAMPLES], map(request, rows)).stdout.splitlines()
     found = [reply_of(reading) for reading in register.read_many(rows)]
     yield f"{len(rows)} readings", found == list(map(json.loads, replies))
     few = rows[:500]
@@ -168,7 +167,7 @@ def raised(call):
 
 def faults(register, program, folder):
     """What is refused, and a program or a journal that fails: the exception and its message."""
-    opened = lambda path=JOURNAL, **words: lambda: oldstyle.Register(path, **words)
+    opened = lambda path=SAMPLES, **words: lambda: oldstyle.Register(path, **words)
     written = os.path.join(folder, "wrong.journal")
     with open(written, "w", encoding="utf-8") as file:
         file.write('{"journal":2}\nnothing\n')
@@ -230,7 +229,7 @@ def cited(program, journal):
 
 def ended(program):
     """A program that is killed while it is asked, and a register that was closed."""
-    register = oldstyle.Register(JOURNAL, program=program)
+    register = oldstyle.Register(SAMPLES, program=program)
     rows = register.read_many(("GB", "1640") for _ in itertools.count())
     next(rows)
     os.kill(register._service._connection._process.pid, signal.SIGKILL)
@@ -326,7 +325,7 @@ def speed(program, count):
 def piped_raw(program, lines, read):
     """The seconds in which a run of the program answers lines, and the replies are read."""
     begun = time.perf_counter()
-    with subprocess.Popen([program, "serve", "--journal", JOURNAL], stdin=subprocess.PIPE,
+    with subprocess.Popen([program, "serve", "--journal", SAMPLES], stdin=subprocess.PIPE,
                           stdout=subprocess.PIPE) as process:
         writing = threading.Thread(target=write_all, args=(process.stdin, lines))
         writing.start()
@@ -344,7 +343,7 @@ def write_all(pipe, lines):
 def read_all(program, rows):
     """The seconds of read_many with a register of its own."""
     begun = time.perf_counter()
-    with oldstyle.Register(JOURNAL, program=program) as register:
+    with oldstyle.Register(SAMPLES, program=program) as register:
         count = sum(1 for _ in register.read_many(rows))
     assert count == len(rows)
     return time.perf_counter() - begun
@@ -353,7 +352,7 @@ def read_all(program, rows):
 def checks(options, folder):
     """All checks, each with whether it passes."""
     program = options.program
-    with oldstyle.Register(JOURNAL, program=program) as register:
+    with oldstyle.Register(SAMPLES, program=program) as register:
         yield from worked(register)
         yield from piped(register, program, options)
         yield from faults(register, program, folder)

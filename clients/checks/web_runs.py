@@ -12,10 +12,8 @@ import tempfile
 import time
 from urllib.parse import urlencode
 
-from command_line import need_python
-from lib.common import TOP, compact
+from shared import TOP, compact, need_python
 
-SAMPLES = os.path.join(TOP, "examples", "samples.journal")
 SERVES = re.compile(r"http://([0-9.]+):(\d+)/")
 ACCESS = re.compile(r"[0-9a-f.:]+ - - \[.*\] \".*\" \d{3} \S+")
 WAIT = 60

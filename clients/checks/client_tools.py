@@ -5,11 +5,10 @@ import re
 import shutil
 import subprocess
 
-from lib.common import TOP
+from shared import TOP
 
 CLIENTS = os.path.join(TOP, "clients")
-SAMPLES = os.path.join(CLIENTS, "samples")
-JOURNAL = os.path.join(TOP, "examples", "samples.journal")
+FILES = os.path.join(CLIENTS, "samples")
 # What Gramps must make of dates that were written: dual years are those from 1 January there.
 IN_GRAMPS = {
     "@#DJULIAN@ 11 FEB 1731/32": 'dateval val="1732-02-11" cformat="Julian" dualdated="1"',
@@ -47,7 +46,7 @@ def lint(schema):
     tried.append("xmllint by TEI's schema" if schema else "xmllint without a schema")
     by = ["--relaxng", schema] if schema else []
     for name in ("letters.filled.xml", "cmif.filled.xml"):
-        done = subprocess.run(["xmllint", "--noout", *by, os.path.join(SAMPLES, name)],
+        done = subprocess.run(["xmllint", "--noout", *by, os.path.join(FILES, name)],
                               capture_output=True, check=False)
         yield f"xmllint {name}: {done.stderr.decode()}", done.returncode == 0
 
@@ -57,7 +56,7 @@ def in_gramps(folder):
     tried.append("Gramps")
     home = os.path.join(folder, "gramps")
     os.mkdir(home)
-    path, exported = os.path.join(SAMPLES, "events.filled.ged"), os.path.join(home, "tree.gramps")
+    path, exported = os.path.join(FILES, "events.filled.ged"), os.path.join(home, "tree.gramps")
     done = subprocess.run(["gramps", "-q", "-y", "-i", path, "-e", exported, "-f", "gramps"],
                           capture_output=True, check=False,
                           env={**os.environ, "HOME": home, "GRAMPSHOME": home})

@@ -16,11 +16,10 @@ import tempfile
 import time
 from urllib.parse import parse_qs, urlencode, urlsplit
 
-from lib.checks import check, verdict
-from lib.common import TOP, CommandLine, end
-from lib.web_answers import differences
-from lib.web_browsing import SIZES, Browser, By, Keys, Select
-from lib.web_runs import SAMPLES, Page
+from shared import SAMPLES, TOP, CommandLine, check, end, verdict
+from web_answers import differences
+from web_browsing import SIZES, Browser, By, Keys, Select
+from web_runs import Page
 
 TYPED = [("GB", "11 February 1731", "Friday"), ("GB", "5 September 1752", ""),
          ("GB", "11 Feb. 1731/32", ""), ("SE", "30 February 1712", "Friday"),

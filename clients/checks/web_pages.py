@@ -13,13 +13,12 @@ import subprocess
 import tempfile
 import time
 
-from lib.checks import check, verdict
-from lib.common import TOP, CommandLine, compact, end
+from shared import SAMPLES, TOP, CommandLine, check, compact, end, verdict
 from lib.date_draws import (MALFORMED, date_text, journal_lines, label_near, middle_day,
                             write_journal)
-from lib.web_answers import differences
-from lib.web_runs import SAMPLES, Page, form_of, written
 from lib.date_meaning import Territory
+from web_answers import differences
+from web_runs import Page, form_of, written
 
 FORMS = ["11 Feb. 1731/32", "le 1er avril 1640", "1731 February 11", "11. 2. 1731", "25/12/1640",
          "11 February 1752/3", "11 May 1731/2", "Monday 11 February 1731/2", "1752-09-05",

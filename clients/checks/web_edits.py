@@ -9,10 +9,9 @@ while replies are late: the answer that is shown is that of the fields.
 """
 import os
 
-from lib.checks import check, verdict
-from lib.common import CommandLine, end
-from lib.web_browsing import Browser, Keys, NoAlertPresentException, Select
-from lib.web_runs import SAMPLES, Page
+from shared import SAMPLES, CommandLine, check, end, verdict
+from web_browsing import Browser, Keys, NoAlertPresentException, Select
+from web_runs import Page
 
 # Replies are held back, and given in whatever order is asked for.
 HOLD_REPLIES = """
