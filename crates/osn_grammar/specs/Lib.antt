@@ -10,6 +10,7 @@ pub mod Years
 pub mod Period
 pub mod OpenDigits
 pub mod DashedYears
+pub mod MonthFirst
 pub mod PartRanges
 pub mod TwoDays
 pub mod BothCalendars

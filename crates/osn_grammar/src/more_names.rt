@@ -9,7 +9,7 @@ use osn_written::{Portion, Reckoning};
 
 /// Each of these names with the part of a date that it is, in small letters. It is sought after the
 /// other names.
-pub const MORE_NAMES: [(&str, Token); 147] = [
+pub const MORE_NAMES: [(&str, Token); 148] = [
     ("ianvary", Token::Month(1)),
     ("ianvarie", Token::Month(1)),
     ("ianvarii", Token::Month(1)),

@@ -36,14 +36,19 @@ abbrev pub new_opening : List EntryModel → List ℕ → Regime → List ℕ
 new_opening territories code regime =
     opening_words code (regime_words (opening_regime (territory_of code territories)) regime)
 
+-- that another regime holds from the start of a period on. The opening one has no day
+abbrev pub other_regime : Rules → List EntryModel → List EntryModel → List ℕ → ℤ → Regime → List ℕ
+other_regime p territories target code day regime =
+    if int_eq day (pos 1) then new_opening territories code regime
+    else new_change p target code day regime
+
 -- what an edit changes
 unfoldable pub edit_words : Rules → List EntryModel → List EntryModel → Edit → List ℕ
 edit_words p territories target (AddLand code name regime source) = new_territory code name regime
 edit_words p territories target (AddChange code day regime source) =
     new_change p target code day regime
 edit_words p territories target (AlterChange code day regime source) =
-    if int_eq day (pos 1) then new_opening territories code regime
-    else new_change p target code day regime
+    other_regime p territories target code day regime
 edit_words p territories target (DropChange code day) =
     drop_words code (day_in p territories code day)
 edit_words p territories target (AddException code year day source) =

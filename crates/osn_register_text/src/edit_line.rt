@@ -75,6 +75,26 @@ fn push_new_opening(
     push_opening(out, code, words.as_str())
 }
 
+/// Appends that another regime holds from the start of a period on. The opening one has no day.
+fn push_other_regime(
+    alloc: Global,
+    out: &mut String,
+    register: &Register,
+    target: &Register,
+    code: &str,
+    day: i64,
+    regime: Regime,
+) -> Result<(), AllocError>
+    ensures { OnOk result (string_bytes out.new ≡ string_bytes out.old
+        ++ spec.other_regime newest_rules register.now.territories target.now.territories
+        code.now day regime) }
+{
+    if day == 1 {
+        return push_new_opening(alloc, out, register, code, regime);
+    }
+    push_new_change(alloc, out, target, code, day, regime)
+}
+
 /// Appends what an edit changes.
 #[tactic(auto, unfolding(crate::specs::EditLine::edit_words))]
 fn push_edit_words(
@@ -94,24 +114,18 @@ fn push_edit_words(
             regime,
             ..
         } => push_new_territory(alloc, out, code.as_str(), name.as_str(), *regime),
-        Edit::AlterChange {
-            code,
-            day,
-            regime,
-            ..
-        } if *day == 1 => push_new_opening(alloc, out, register, code.as_str(), *regime),
         Edit::AddChange {
             code,
             day,
             regime,
             ..
-        }
-        | Edit::AlterChange {
+        } => push_new_change(alloc, out, target, code.as_str(), *day, *regime),
+        Edit::AlterChange {
             code,
             day,
             regime,
             ..
-        } => push_new_change(alloc, out, target, code.as_str(), *day, *regime),
+        } => push_other_regime(alloc, out, register, target, code.as_str(), *day, *regime),
         Edit::DropChange { code, day } => {
             push_drop(out, code.as_str(), day_in(register, code.as_str(), *day))
         }

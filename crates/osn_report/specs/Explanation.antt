@@ -45,8 +45,8 @@ head_text path = codes "help: "
 
 -- what a stop may have left at the end of a journal, and what cuts it off
 abbrev pub torn_text : ℕ → List ℕ → List ℕ
-torn_text line path = codes "help: if line "
-    ++ (decimal line ++ (codes " is the last, a run that was stopped left it unfinished: oldstyle serve --keep "
+torn_text line path = codes "help: if line " ++ (decimal line
+    ++ (codes " is the last, a run that was stopped left it unfinished: oldstyle serve --keep "
     ++ (escaped path ++ codes " < /dev/null cuts it off\n")))
 
 -- the help with the first line, if it is not the head of a journal, and with a later one, if it is
