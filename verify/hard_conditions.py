@@ -167,7 +167,8 @@ def try_unread():
             compare("a file that can't be read", words, run(folder, words),
                     (3, "", f"{READ_FAULT[2]}note: {unread}: read fault\n"))
     errors = ("oldstyle: journal line 1: 31 LineTooLong\nhelp: a.long is not a journal: "
-              "oldstyle publish FILE TEXT begins one in a new or empty file\n")
+              "--journal FILE names one, and oldstyle publish FILE TEXT begins one in a new or "
+              "empty file\n")
     for words in "read a.long GB 1752-09-05", "audit a.long a.transcript":
         with filled({"a.long": ["x" * 65_537]}) as folder:
             compare("a first line that is too long", words, run(folder, words), (1, "", errors))

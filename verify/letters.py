@@ -25,19 +25,25 @@ SEPARATORS = {"comma": ",", "semicolon": ";", "tab": "\t"}
 READ = ["place", "date", "weekday"]
 TEXTS = ["", "x", "Sir, yours came", 'he said "no"', "one\ntwo", "one\rtwo", "one\r\ntwo", "a;b",
          "a\tb", "\u00e9", " ", "'"]
-WRONG_PLACES = ["ZZ", "xx", "", "X", "a place"]
+WRONG_PLACES = ["ZZ", "", "X", "a place"]
 WRONG_WEEKDAYS = ["Fryday", "Fri", "5"]
 SPACES = ["", "", "", " ", "\t", "  "]
 LONGEST = 65_536
 
 # What is reported of a table, after `oldstyle: letters line <n>: `.
-LACKS = "no column {name}: the columns are {found}: name yours with --{role}"
 IN_UTF_16 = "the table is in UTF-16: save it as CSV in UTF-8"
-IS_THERE = "the column {name} is already there: remove it or rename it"
+IS_THERE = ("the column {name} is already there: remove it, rename it, or replace all twelve with "
+            "--replace")
 OTHER_NUMBER = "a different number of fields than the header"
 TOO_LONG = "a record of more than 65536 bytes"
 OPEN_QUOTE = "a quote that opens in this record is never closed"
 TEXT_AFTER = "text follows a closing quote"
+
+
+def lacks(name, found, role):
+    """The line of a header that lacks a column, and has these."""
+    one_place = ", or the place of all rows with --in" if role == "place" else ""
+    return f"no column {name}: the columns are {found}: name yours with --{role}{one_place}"
 
 
 def quoted(field):
@@ -109,7 +115,7 @@ class Table:
 def row_of(chance, form, territory, middle):
     """A row by the names of its columns."""
     date = date_text(chance, label_near(chance, territory, middle))
-    read = {"place": "XX", "date": date,
+    read = {"place": any_case(chance, "XX"), "date": date,
             "weekday": chance.choice(["", any_case(chance, chance.choice(WEEKDAYS))])}
     wrong = {"place": WRONG_PLACES, "date": MALFORMED, "weekday": WRONG_WEEKDAYS}
     for role in READ:
@@ -131,7 +137,7 @@ def bad_header(chance, form):
         columns.insert(chance.randint(0, len(columns)), name)
         return columns, IS_THERE.format(name=name)
     columns[columns.index(form.names[role])] = "other"
-    return columns, LACKS.format(name=form.names[role], found=", ".join(columns), role=role)
+    return columns, lacks(form.names[role], ", ".join(columns), role)
 
 
 def lengthened(form, fields, place, length):

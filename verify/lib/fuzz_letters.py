@@ -10,8 +10,8 @@ import re
 
 from lib.common import TOP
 from lib.letter_rows import COLUMNS, letter_fields
-from letters import (IN_UTF_16, IS_THERE, LACKS, LONGEST, OPEN_QUOTE, OTHER_NUMBER, SEPARATORS,
-                     TEXT_AFTER, TOO_LONG, line_ends)
+from letters import (IN_UTF_16, IS_THERE, LONGEST, OPEN_QUOTE, OTHER_NUMBER, SEPARATORS,
+                     TEXT_AFTER, TOO_LONG, lacks, line_ends)
 from lib.mutations import Run, mutated
 from lib.text_pages import escaped
 from reference import REGIME, Service
@@ -104,13 +104,15 @@ def walk_calendars():
 
 @functools.cache
 def register():
-    """The territories of the samples, their codes by their names, and the edition."""
+    """The territories of the samples, their codes by codes and names in small letters, and the
+    edition."""
     service = Service()
     with open(JOURNAL, "rb") as file:
         for line in file.read().splitlines()[1:]:
             service.reply(line)
     lands = {code: Territory(land) for code, land in service.published.items()}
-    names = {land.name: code for code, land in reversed(service.published.items())}
+    names = {text.encode().lower(): code for code, land in service.published.items()
+             for text in (code, land.name)}
     return lands, names, service.edition
 
 
@@ -123,7 +125,7 @@ def twelve(place, date, weekday):
         parse(date)
     except (UnicodeDecodeError, Malformed):
         return None
-    place = place if place in lands else names.get(place, place)
+    place = place if place in lands else names.get(place.encode().lower(), place)
     if weekday and weekday_named(weekday) is None and not weekday.isascii():
         return None
     return [field.encode() for field in letter_fields(lands, edition, place, date, weekday)]
@@ -147,7 +149,7 @@ def bad_header(columns):
             if any(b"\0" in name for name in columns):
                 return IN_UTF_16.encode()
             found = escaped(b", ".join(columns).decode("utf-8", "replace"))
-            return LACKS.format(name=role, found=found, role=role).encode()
+            return lacks(role, found, role).encode()
     return None
 
 

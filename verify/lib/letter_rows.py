@@ -35,7 +35,7 @@ def remarks_of_days(territory, date, weekday, days):
 
 def meant_in_place(territories, code, text, weekday):
     """The days of a row with their territory, the kind of its date, and the remarks on them."""
-    territory = territories.get(code)
+    territory = territories.get(code.upper() if code.isascii() else code)
     unknown = [] if territory else ["unknown place"]
     try:
         date = parse(text)

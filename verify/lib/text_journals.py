@@ -38,8 +38,8 @@ PENDING = ("oldstyle: publish refuses a journal with 1 pending edit: publish wha
 NOT_KEPT = ("oldstyle: publish refuses a journal of version 1: serve --keep with --upgrade saves "
             "it as version 4\nhelp: run oldstyle serve --keep J --upgrade < /dev/null, then "
             "publish\n")
-NO_HEAD = ("oldstyle: journal line 1: 32 NotJson\nhelp: J is not a journal: oldstyle publish FILE "
-           "TEXT begins one in a new or empty file\n")
+NO_HEAD = ("oldstyle: journal line 1: 32 NotJson\nhelp: J is not a journal: --journal FILE names "
+           "one, and oldstyle publish FILE TEXT begins one in a new or empty file\n")
 # What a plan prints for a journal that its publish saves again.
 SAVED_AGAIN = ("oldstyle: the journal is of version {}, which has no sources: publish saves it "
                "as version 4\n")

@@ -27,10 +27,11 @@ begins_with_journal command =
 abbrev pub is_flag : Text → Bool
 is_flag word =
     bytes_eq word (codes "--strict") || (bytes_eq word (codes "--json")
-    || (bytes_eq word (codes "--summary") || (bytes_eq word (codes "--onto-newest")
+    || (bytes_eq word (codes "--summary") || (bytes_eq word (codes "--replace")
+    || (bytes_eq word (codes "--onto-newest")
     || (bytes_eq word (codes "--upgrade") || (bytes_eq word (codes "--read-only")
     || (bytes_eq word (codes "--stop-at-refusal") || (bytes_eq word (codes "--help")
-    || bytes_eq word (codes "-h"))))))))
+    || bytes_eq word (codes "-h")))))))))
 
 -- a word that begins with a hyphen and has more
 abbrev pub is_option : Text → Bool

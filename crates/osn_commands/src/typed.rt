@@ -57,6 +57,7 @@ fn is_flag(word: &str) -> bool
         "--strict"
             | "--json"
             | "--summary"
+            | "--replace"
             | "--onto-newest"
             | "--upgrade"
             | "--read-only"

@@ -122,16 +122,18 @@ abbrev pub territory_grammar : App
 territory_grammar = command_with (codes "territory") (journal_arg ∷ optional_arg (codes "code")
     ∷ json_option ∷ edition_option ∷ journal_option ∷ limits_option ∷ [])
 
--- `letters JOURNAL [TABLE] [--place NAME] [--date NAME] [--year NAME] [--month NAME] [--day NAME]
--- [--weekday NAME] [--places FILE] [--separator NAME] [--order ORDER] [--strict] [--summary]
--- [--edition N] [--journal FILE] [--limits LIMITS]`
+-- `letters JOURNAL [TABLE] [--place NAME] [--in PLACE] [--date NAME] [--year NAME] [--month NAME]
+-- [--day NAME] [--weekday NAME] [--places FILE] [--separator NAME] [--order ORDER] [--strict]
+-- [--summary] [--replace] [--edition N] [--journal FILE] [--limits LIMITS]`
 abbrev pub letters_grammar : App
 letters_grammar = command_with (codes "letters") (journal_arg ∷ optional_arg (codes "table")
-    ∷ value_option (codes "place") ∷ value_option (codes "date") ∷ value_option (codes "year")
+    ∷ value_option (codes "place") ∷ value_option (codes "in")
+    ∷ value_option (codes "date") ∷ value_option (codes "year")
     ∷ value_option (codes "month") ∷ value_option (codes "day") ∷ value_option (codes "weekday")
     ∷ value_option (codes "places")
     ∷ value_option (codes "separator") ∷ value_option (codes "order")
-    ∷ flag_option (codes "strict") ∷ flag_option (codes "summary") ∷ edition_option
+    ∷ flag_option (codes "strict") ∷ flag_option (codes "summary") ∷ flag_option (codes "replace")
+    ∷ edition_option
     ∷ journal_option ∷ limits_option ∷ [])
 
 -- `serve [--journal FILE] [--save FILE] [--keep FILE] [--upgrade] [--follow FILE] [--readers N]

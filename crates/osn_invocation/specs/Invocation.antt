@@ -53,12 +53,14 @@ pub record DateModel : Type 0 where
   pub month : Option Text
   pub day : Option Text
 
--- what is asked for the letters of a table: the names of the columns of places, of the date and of
--- weekdays, if one is named; the file of the table of places, the separator of fields and the order
--- of a date's three numbers, if these are named; the edition, if one is named; whether a remark is
--- a refusal; and whether the number of rows with each remark is printed at the end
+-- what is asked for the letters of a table: the name of the column of places and the place of all
+-- rows, if these are named; the names of the columns of the date and of weekdays, if they are
+-- named; the file of the table of places, the separator of fields and the order of a date's three
+-- numbers, if these are named; the edition, if one is named; whether a remark is a refusal; whether
+-- the number of rows with each remark is printed at the end; and whether added columns are replaced
 pub record LettersModel : Type 0 where
-  pub place : Text
+  pub place : Option Text
+  pub place_of_all : Option Text
   pub date : DateModel
   pub weekday : Option Text
   pub places : Option Text
@@ -67,6 +69,7 @@ pub record LettersModel : Type 0 where
   pub edition : Option Text
   pub strict : Bool
   pub summary : Bool
+  pub replace : Bool
 
 -- what a command is asked for. The service has a journal, where to save it, where to keep it, which
 -- one it follows, and the rest. A replay has readers and a schedule, a desk a script and questions.
@@ -174,10 +177,6 @@ publish_command given =
     publishing (text_of (codes "journal") given) (text_of (codes "text") given)
     (is_given (codes "onto-newest") given)
 
--- the name of a column, or that of its option if no name is given
-abbrev pub column_of : Text → List Row → Text
-column_of name given = unwrap_or (first_of name given) name
-
 -- the names of the columns that say the date
 abbrev pub date_options : List Row → DateModel
 date_options given = record {
@@ -190,7 +189,8 @@ date_options given = record {
 abbrev pub letters_command : List Row → CommandModel
 letters_command given = reading_letters (text_of (codes "journal") given)
     (first_of (codes "table") given) (record {
-      place = column_of (codes "place") given;
+      place = first_of (codes "place") given;
+      place_of_all = first_of (codes "in") given;
       date = date_options given;
       weekday = first_of (codes "weekday") given;
       places = first_of (codes "places") given;
@@ -199,6 +199,7 @@ letters_command given = reading_letters (text_of (codes "journal") given)
       edition = first_of (codes "edition") given;
       strict = is_given (codes "strict") given;
       summary = is_given (codes "summary") given;
+      replace = is_given (codes "replace") given;
     })
 
 -- a command that prints a page of a journal
@@ -317,7 +318,8 @@ date_model given = record {
 
 abbrev pub letters_model : LettersOptions → LettersModel
 letters_model given = record {
-  place = given.place.now;
+  place = option_map (λ name. name.now) given.place;
+  place_of_all = option_map (λ place. place.now) given.place_of_all;
   date = date_model given.date;
   weekday = option_map (λ name. name.now) given.weekday;
   places = option_map (λ path. path.now) given.places;
@@ -326,6 +328,7 @@ letters_model given = record {
   edition = option_map (λ word. word.now) given.edition;
   strict = given.strict;
   summary = given.summary;
+  replace = given.replace;
 }
 
 abbrev pub command_model : CommandWords → CommandModel

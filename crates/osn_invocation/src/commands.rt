@@ -46,6 +46,11 @@ and remark.",
                 "The name of the column of places, which are codes or names [default: place]",
             ),
             Valued(
+                "in",
+                "PLACE",
+                "The place of all rows, in place of a column of places",
+            ),
+            Valued(
                 "date",
                 "NAME",
                 "The name of the column of dates [default: date]",
@@ -85,6 +90,10 @@ and remark.",
             Flag(
                 "summary",
                 "Prints the number of rows with each remark on standard error at the end",
+            ),
+            Flag(
+                "replace",
+                "Replaces the twelve added columns, if a table that was read before ends with them",
             ),
             EDITION,
             DEFAULT_JOURNAL,

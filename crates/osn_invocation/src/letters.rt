@@ -26,8 +26,10 @@ pub struct DateOptions<'a> {
 /// How a table of letters is read, and what is reported of it.
 #[derive(Clone, Copy, Debug, PartialEq, Eq)]
 pub struct LettersOptions<'a> {
-    /// The name of the column of places.
-    pub place: &'a str,
+    /// The name of the column of places, if it is named.
+    pub place: Option<&'a str>,
+    /// The place of all rows, if it is named.
+    pub place_of_all: Option<&'a str>,
     /// The names of the columns that say the date.
     pub date: DateOptions<'a>,
     /// The name of the column of weekdays, if it is named.
@@ -44,6 +46,8 @@ pub struct LettersOptions<'a> {
     pub strict: bool,
     /// Whether the number of rows with each remark is printed at the end.
     pub summary: bool,
+    /// Whether the added columns of a table that was read before are replaced.
+    pub replace: bool,
 }
 
 /// Returns the names of the columns that say the date.
@@ -66,7 +70,8 @@ pub(crate) fn letters_of<'a>(matches: &ArgMatches<'a>) -> CommandWords<'a>
         journal: text_of(matches, "journal"),
         table: value_of(matches, "table"),
         options: LettersOptions {
-            place: value_of(matches, "place").unwrap_or("place"),
+            place: value_of(matches, "place"),
+            place_of_all: value_of(matches, "in"),
             date: date_options_of(matches),
             weekday: value_of(matches, "weekday"),
             places: value_of(matches, "places"),
@@ -75,6 +80,7 @@ pub(crate) fn letters_of<'a>(matches: &ArgMatches<'a>) -> CommandWords<'a>
             edition: value_of(matches, "edition"),
             strict: is_given(matches, "strict"),
             summary: is_given(matches, "summary"),
+            replace: is_given(matches, "replace"),
         },
     }
 }

@@ -7,7 +7,7 @@ use Rattle.osn_letters.specs.declared.columns.Columns.{Columns}
 use Rattle.osn_letters.specs.declared.fault.LettersFault.{LettersFault}
 use Rattle.osn_letters.specs.declared.fault.LettersFault.TheVariants.{BadRecord}
 use Rattle.osn_letters.specs.declared.separator.Separator.{Separator}
-use Rattle.osn_letters.specs.Columns.{columns_of}
+use Rattle.osn_letters.specs.Columns.{columns_of, own_header}
 use Rattle.osn_letters.specs.Faults.{later_fault}
 use Rattle.osn_letters.specs.Law.{AreSound}
 use Rattle.osn_letters.specs.Records.{PlacedRecord}
@@ -126,9 +126,10 @@ columns_go s (Ok columns) separator header xs whole =
     record {
       heading = heading;
       goes = λ ys.
-          ap (text_before (header_text separator header)) (rows_go s heading xs ys whole)
-          ∙ text_before_twice (header_text separator header) (rows_written s heading xs).text
-          (rows_written s heading ys);
+          ap (text_before (header_text separator (own_header s.names header)))
+          (rows_go s heading xs ys whole)
+          ∙ text_before_twice (header_text separator (own_header s.names header))
+          (rows_written s heading xs).text (rows_written s heading ys);
       sound = rows_sound s heading xs whole;
     }
 
@@ -137,8 +138,11 @@ header_goes : (s : TableBasis) (line : ℕ) (separator : Separator)
     (xs : List PlacedRecord) → (header_by s line separator fields xs).fault ≡ None
     → (is_ok fields ≡ true) × GoesBy s (header_by s line separator fields) xs
 header_goes s line separator (Err fault) xs whole = absurd (cc whole)
-header_goes s line separator (Ok header) xs whole =
-    (refl, columns_go s (columns_of s.names line header) separator header xs whole)
+header_goes s line separator (Ok header) xs whole = (
+  refl,
+  columns_go s (columns_of s.names line (own_header s.names header)) separator header xs
+      whole,
+)
 
 pub table_goes : (s : TableBasis) (xs : List PlacedRecord) → (table_written s xs).fault ≡ None
     → GoesBy s (table_written s) xs

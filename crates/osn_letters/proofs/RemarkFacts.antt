@@ -1,7 +1,7 @@
 -- No row has two remarks with the same words, so the tally of a table counts its rows.
 use Rattle.std.proofs.Common.{◌≡◌, ℕ, Bool, true, false, ◌||◌, if◌then◌else◌, List, [], ◌∷◌}
 use Rattle.std.proofs.Common.{◌++◌, map, refl, subst, Option, Some, None, Result, Ok, Err, IfSome}
-use Rattle.std.proofs.Common.{get_or, is_none, option_map}
+use Rattle.std.proofs.Common.{get_or, option_map}
 use Rattle.std.specs.Str.{bytes_eq}
 use Rattle.osn_days.specs.declared.weekday.Weekday.{Weekday}
 use Rattle.osn_days.specs.Rules.{Rules}
@@ -24,14 +24,16 @@ use Rattle.osn_written.specs.Meaning.{dated_by, meaning}
 use Rattle.osn_written.specs.PlainDay.{one_day}
 use Rattle.osn_letters.specs.declared.columns.Columns.{Columns}
 use Rattle.osn_letters.specs.declared.fault.LettersFault.{LettersFault}
+use Rattle.osn_letters.specs.declared.no_place.NoPlace.{NoPlace}
+use Rattle.osn_letters.specs.declared.no_place.NoPlace.TheVariants as no_place
 use Rattle.osn_letters.specs.declared.remark.Remark.{Remark}
 use Rattle.osn_letters.specs.declared.remark.Remark.TheVariants as remark
 use Rattle.osn_letters.specs.declared.separator.Separator.{Separator}
-use Rattle.osn_letters.specs.Columns.{columns_of}
+use Rattle.osn_letters.specs.Columns.{columns_of, own_header, place_in}
 use Rattle.osn_letters.specs.DateParts.{date_in}
 use Rattle.osn_letters.specs.Fields.{fields_of_either}
 use Rattle.osn_letters.specs.Fields.{fields_of_found, fields_of_meaning, fields_of_reading}
-use Rattle.osn_letters.specs.Fields.{fields_of_found_set, fields_of_members}
+use Rattle.osn_letters.specs.Fields.{fields_of_found_set, fields_of_members, place_remark}
 use Rattle.osn_letters.specs.Remarks.{remarks_beside_set}
 use Rattle.osn_letters.specs.RowFields.{members_in}
 use Rattle.osn_written.specs.declared.set.AbsentMember.{AbsentMember}
@@ -90,9 +92,10 @@ beside (w, given, other, malformed) = remarks_beside w given other malformed
 beside_apart : (b : Beside) → AreApart (remarks_in (beside b))
 beside_apart b = (refl, (refl, (refl, (refl, (refl, tt)))))
 
-place_apart : (applies : Bool) (b : Beside)
-    → AreApart (remarks_in ((applies, remark.UnknownPlace) ∷ beside b))
-place_apart applies b = (refl, beside_apart b)
+place_apart : (reason : NoPlace) (b : Beside)
+    → AreApart (remarks_in ((true, remark.NoPlace reason) ∷ beside b))
+place_apart no_place.Unknown b = (refl, beside_apart b)
+place_apart no_place.Ambiguous b = (refl, beside_apart b)
 
 absence_apart : (applies : Bool) (reason : NoDay) (b : Beside)
     → AreApart (remarks_in ((applies, remark.NoDay reason) ∷ beside b))
@@ -120,33 +123,54 @@ days_apart : (day : WrittenDate) (given : Option Weekday) (days : List DatedDay)
     → AreApart (remarks_in (remarks_on_days day given days ++ beside b))
 days_apart day given days b = several_apart (are_on_weekday 1 day given days) b
 
-date_apart : (applies lacks malformed : Bool) (fault : DateFault)
-    → AreApart (remarks_in ((applies, remark.NotRead fault) ∷ (lacks, remark.UnknownPlace)
+date_apart : (applies lacks malformed : Bool) (reason : NoPlace) (fault : DateFault)
+    → AreApart (remarks_in ((applies, remark.NotRead fault) ∷ (lacks, remark.NoPlace reason)
     ∷ (malformed, remark.MalformedWeekday) ∷ []))
-date_apart a l m faults.Malformed = (refl, (refl, (refl, tt)))
-date_apart a l m faults.LaterYear = (refl, (refl, (refl, tt)))
-date_apart a l m faults.Year = (refl, (refl, (refl, tt)))
-date_apart a l m faults.Month = (refl, (refl, (refl, tt)))
-date_apart a l m faults.Day = (refl, (refl, (refl, tt)))
-date_apart a l m faults.NoDate = (refl, (refl, (refl, tt)))
-date_apart a l m faults.NotOneDay = (refl, (refl, (refl, tt)))
-date_apart a l m faults.Qualifier = (refl, (refl, (refl, tt)))
-date_apart a l m faults.ShortYear = (refl, (refl, (refl, tt)))
-date_apart a l m faults.OpenYear = (refl, (refl, (refl, tt)))
-date_apart a l m faults.DayOrMonth = (refl, (refl, (refl, tt)))
-date_apart a l m faults.BothCalendars = (refl, (refl, (refl, tt)))
-date_apart a l m (faults.TwoDays old new written) = (refl, (refl, (refl, tt)))
-date_apart a l m faults.NamedCalendar = (refl, (refl, (refl, tt)))
-date_apart a l m faults.OpenPart = (refl, (refl, (refl, tt)))
-date_apart a l m faults.Feast = (refl, (refl, (refl, tt)))
-date_apart a l m faults.RomanNumeral = (refl, (refl, (refl, tt)))
+date_apart a l m no_place.Unknown faults.Malformed = (refl, (refl, (refl, tt)))
+date_apart a l m no_place.Unknown faults.LaterYear = (refl, (refl, (refl, tt)))
+date_apart a l m no_place.Unknown faults.Year = (refl, (refl, (refl, tt)))
+date_apart a l m no_place.Unknown faults.Month = (refl, (refl, (refl, tt)))
+date_apart a l m no_place.Unknown faults.Day = (refl, (refl, (refl, tt)))
+date_apart a l m no_place.Unknown faults.NoDate = (refl, (refl, (refl, tt)))
+date_apart a l m no_place.Unknown faults.NotOneDay = (refl, (refl, (refl, tt)))
+date_apart a l m no_place.Unknown faults.Qualifier = (refl, (refl, (refl, tt)))
+date_apart a l m no_place.Unknown faults.ShortYear = (refl, (refl, (refl, tt)))
+date_apart a l m no_place.Unknown faults.OpenYear = (refl, (refl, (refl, tt)))
+date_apart a l m no_place.Unknown faults.DayOrMonth = (refl, (refl, (refl, tt)))
+date_apart a l m no_place.Unknown faults.BothCalendars = (refl, (refl, (refl, tt)))
+date_apart a l m no_place.Unknown (faults.TwoDays old new written) = (refl, (refl, (refl, tt)))
+date_apart a l m no_place.Unknown faults.NamedCalendar = (refl, (refl, (refl, tt)))
+date_apart a l m no_place.Unknown faults.OpenPart = (refl, (refl, (refl, tt)))
+date_apart a l m no_place.Unknown faults.Feast = (refl, (refl, (refl, tt)))
+date_apart a l m no_place.Unknown faults.RomanNumeral = (refl, (refl, (refl, tt)))
+date_apart a l m no_place.Ambiguous faults.Malformed = (refl, (refl, (refl, tt)))
+date_apart a l m no_place.Ambiguous faults.LaterYear = (refl, (refl, (refl, tt)))
+date_apart a l m no_place.Ambiguous faults.Year = (refl, (refl, (refl, tt)))
+date_apart a l m no_place.Ambiguous faults.Month = (refl, (refl, (refl, tt)))
+date_apart a l m no_place.Ambiguous faults.Day = (refl, (refl, (refl, tt)))
+date_apart a l m no_place.Ambiguous faults.NoDate = (refl, (refl, (refl, tt)))
+date_apart a l m no_place.Ambiguous faults.NotOneDay = (refl, (refl, (refl, tt)))
+date_apart a l m no_place.Ambiguous faults.Qualifier = (refl, (refl, (refl, tt)))
+date_apart a l m no_place.Ambiguous faults.ShortYear = (refl, (refl, (refl, tt)))
+date_apart a l m no_place.Ambiguous faults.OpenYear = (refl, (refl, (refl, tt)))
+date_apart a l m no_place.Ambiguous faults.DayOrMonth = (refl, (refl, (refl, tt)))
+date_apart a l m no_place.Ambiguous faults.BothCalendars = (refl, (refl, (refl, tt)))
+date_apart a l m no_place.Ambiguous (faults.TwoDays old new written) = (refl, (refl, (refl, tt)))
+date_apart a l m no_place.Ambiguous faults.NamedCalendar = (refl, (refl, (refl, tt)))
+date_apart a l m no_place.Ambiguous faults.OpenPart = (refl, (refl, (refl, tt)))
+date_apart a l m no_place.Ambiguous faults.Feast = (refl, (refl, (refl, tt)))
+date_apart a l m no_place.Ambiguous faults.RomanNumeral = (refl, (refl, (refl, tt)))
 
-fault_apart : (lacks malformed : Bool) (fault : DateFault)
-    → AreApart (applying ((true, remark.NotRead fault) ∷ (lacks, remark.UnknownPlace)
+fault_apart : (t : Result TerritoryModel NoPlace) (malformed : Bool) (fault : DateFault)
+    → AreApart (applying ((true, remark.NotRead fault) ∷ place_remark t
     ∷ (malformed, remark.MalformedWeekday) ∷ []))
-fault_apart lacks malformed fault =
-    apart_those ((true, remark.NotRead fault) ∷ (lacks, remark.UnknownPlace)
-    ∷ (malformed, remark.MalformedWeekday) ∷ []) (date_apart true lacks malformed fault)
+fault_apart (Ok t) malformed fault =
+    apart_those ((true, remark.NotRead fault) ∷ place_remark (Ok t)
+    ∷ (malformed, remark.MalformedWeekday) ∷ [])
+    (date_apart true false malformed no_place.Unknown fault)
+fault_apart (Err reason) malformed fault =
+    apart_those ((true, remark.NotRead fault) ∷ place_remark (Err reason)
+    ∷ (malformed, remark.MalformedWeekday) ∷ []) (date_apart true true malformed reason fault)
 
 -- ---- of a date in its territory
 
@@ -212,28 +236,33 @@ found_set_apart edition ws b (Ok runs) = apart_those (beside_set b) (set_apart b
 found_set_apart edition ws b (Err absent) =
     apart_those ((true, remark.NoDay absent.reason) ∷ beside_set b) (no_set_apart absent.reason b)
 
-members_apart : (p : Rules) (edition : ℕ) (t : Option TerritoryModel) (ws : List AnyDate)
+no_place_apart : (reason : NoPlace) (b : Option Weekday × Bool)
+    → AreApart (remarks_in ((true, remark.NoPlace reason) ∷ beside_set b))
+no_place_apart no_place.Unknown b = (refl, set_apart b)
+no_place_apart no_place.Ambiguous b = (refl, set_apart b)
+
+members_apart : (p : Rules) (edition : ℕ) (t : Result TerritoryModel NoPlace) (ws : List AnyDate)
     (b : Option Weekday × Bool)
     → AreApart (fields_of_members p edition t ws (beside_set b)).remarks
-members_apart p edition (Some t) ws b = found_set_apart edition ws b (set_meant p t ws)
-members_apart p edition None ws b =
-    apart_those ((true, remark.UnknownPlace) ∷ beside_set b) (refl, set_apart b)
+members_apart p edition (Ok t) ws b = found_set_apart edition ws b (set_meant p t ws)
+members_apart p edition (Err reason) ws b =
+    apart_those ((true, remark.NoPlace reason) ∷ beside_set b) (no_place_apart reason b)
 
-reading_apart : (p : Rules) (edition : ℕ) (t : Option TerritoryModel) (named : Option (List ℕ))
-    (ws : List AnyDate) (r : Result Written DateFault)
+reading_apart : (p : Rules) (edition : ℕ) (t : Result TerritoryModel NoPlace)
+    (named : Option (List ℕ)) (ws : List AnyDate) (r : Result Written DateFault)
     → AreApart (fields_of_reading p edition t named ws r).remarks
-reading_apart p edition (Some t) named ws (Ok (written.Date w)) =
+reading_apart p edition (Ok t) named ws (Ok (written.Date w)) =
     either_apart p edition t (reckoned t w.reckoning) w (weekday_in named)
     (w, weekday_in named, is_by_other_calendar p t w, is_malformed_weekday named) (one_day w)
-reading_apart p edition None named ws (Ok (written.Date w)) =
+reading_apart p edition (Err reason) named ws (Ok (written.Date w)) =
     let b : Beside = (w, weekday_in named, false, is_malformed_weekday named) in
-    apart_those ((true, remark.UnknownPlace) ∷ beside b) (place_apart true b)
+    apart_those ((true, remark.NoPlace reason) ∷ beside b) (place_apart reason b)
 reading_apart p edition t named ws (Ok written.Set) =
     members_apart p edition t ws (weekday_in named, is_malformed_weekday named)
 reading_apart p edition t named ws (Ok written.NoDate) =
-    fault_apart (is_none t) (is_malformed_weekday named) faults.NoDate
+    fault_apart t (is_malformed_weekday named) faults.NoDate
 reading_apart p edition t named ws (Err fault) =
-    fault_apart (is_none t) (is_malformed_weekday named) fault
+    fault_apart t (is_malformed_weekday named) fault
 
 -- ---- of the rows of a table
 
@@ -241,7 +270,7 @@ row_apart : (s : TableBasis) (columns : Columns) (record_fields : List (List ℕ
     → AreApart (letter_of s columns record_fields).remarks
 row_apart s columns record_fields =
     reading_apart s.rules s.edition
-    (territory_in s.territories s.places (get_or record_fields columns.place []))
+    (territory_in s.territories s.places (place_in s.names columns record_fields))
     (option_map (λ n. get_or record_fields n []) columns.weekday)
     (members_in (date_in columns.date record_fields))
     (date_of_field s.order (date_in columns.date record_fields))
@@ -270,7 +299,8 @@ header_apart s (Err fault) rest = tt
 
 first_apart : (s : TableBasis) (line : ℕ) (r : Result (List (List ℕ)) LettersFault)
     (rest : List PlacedRecord) → AreAllApart (first_remarks s line r rest)
-first_apart s line (Ok header) rest = header_apart s (columns_of s.names line header) rest
+first_apart s line (Ok header) rest =
+    header_apart s (columns_of s.names line (own_header s.names header)) rest
 first_apart s line (Err fault) rest = tt
 
 table_apart : (s : TableBasis) (records : List PlacedRecord) → AreAllApart (table_remarks s records)

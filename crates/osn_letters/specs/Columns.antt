@@ -1,9 +1,9 @@
 -- The columns of a header that are read: this project's profile.
 use Rattle.std.specs.Prelude.{ℕ, Bool, true, false, ◌&&◌, if◌then◌else◌, List, [], ◌∷◌}
 use Rattle.std.specs.Prelude.{◌++◌, length, get_or, Option, Some, None, option_map, is_none}
-use Rattle.std.specs.Prelude.{is_some, ok_or, Result, Ok, Err, codes}
-use Rattle.std.specs.List.{find, flat_map, range_with_len}
-use Rattle.std.specs.Option.{option_or}
+use Rattle.std.specs.Prelude.{◌-◌, is_some, ok_or, Result, Ok, Err, codes, take}
+use Rattle.std.specs.List.{find, flat_map, list_all, range_with_len}
+use Rattle.std.specs.Option.{option_map_or, option_or}
 use Rattle.std.specs.Str.{bytes_eq, str_eq_ignore_ascii_case}
 use Rattle.std.specs.Str.Lossy.{utf8_lossy}
 use Rattle.osn_letters.specs.declared.added_column.AddedColumn.{AddedColumn}
@@ -43,19 +43,24 @@ dates_of (names.Whole name) = OneText name.now
 dates_of (names.Apart year month day) =
     PartTexts year.now (option_map (λ name. name.now) month) (option_map (λ name. name.now) day)
 
--- the names of the columns that are read
+-- the names of the columns that are read. If no column has places, all rows have one place. Added
+-- columns that the table has already may be replaced
 pub record NameTexts : Type 0 where
-  pub place : List ℕ
+  pub place : Option (List ℕ)
+  pub place_of_all : List ℕ
   pub date : DateTexts
   pub weekday : List ℕ
   pub needs_weekday : Bool
+  pub replaces : Bool
 
 abbrev pub names_of : ColumnNames → NameTexts
 names_of n = record {
-  place = n.place.now;
+  place = option_map (λ name. name.now) n.place;
+  place_of_all = n.place_of_all.now;
   date = dates_of n.date;
   weekday = weekday_name n.weekday;
   needs_weekday = is_required n.weekday;
+  replaces = n.replaces;
 }
 
 -- the field of the index is the name
@@ -120,14 +125,35 @@ weekday_at line header needs_weekday index =
 -- the columns of these names in a header on that line
 abbrev pub columns_at : NameTexts → ℕ → List (List ℕ) → Result Columns LettersFault
 columns_at names line header =
-    column_in line header column.Place names.place
+    part_column_in line header column.Place names.place
     >>= λ place. date_columns_in line header names.date
     >>= λ date. weekday_at line header names.needs_weekday (column_named names.weekday header)
-    >>= λ weekday. Ok (record { place = place; date = date; weekday = weekday })
+    >>= λ weekday. Ok (record {
+      place = place;
+      date = date;
+      weekday = weekday;
+      own = length header;
+    })
+
+-- the place of a record: its field in the column of places, or else that of all rows
+abbrev pub place_in : NameTexts → Columns → List (List ℕ) → List ℕ
+place_in names columns fields =
+    option_map_or (λ index. get_or fields index []) columns.place names.place_of_all
 
 -- a header has a column of that name
 abbrev pub has_column : List (List ℕ) → AddedColumn → Bool
 has_column header column = is_some (index_of (added_name column) header)
+
+-- a header with all added columns has the others before them: if these are replaced, the last
+-- twelve fields are not its own
+abbrev pub own_width : Bool → List (List ℕ) → ℕ
+own_width replaces header =
+    if replaces && list_all (has_column header) added_columns then length header - 12
+    else length header
+
+-- the fields of a header that are not replaced
+abbrev pub own_header : NameTexts → List (List ℕ) → List (List ℕ)
+own_header names header = take (own_width names.replaces header) header
 
 -- the columns, unless the header on that line has one of those that are added
 abbrev pub columns_without : ℕ → Option AddedColumn → Result Columns LettersFault

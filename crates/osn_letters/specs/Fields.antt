@@ -1,7 +1,7 @@
 -- The twelve fields that are put after a letter's row: which days its date means in its place. This
 -- project's profile.
 use Rattle.std.specs.Prelude.{ℕ, Bool, true, false, List, [], ◌∷◌, ◌++◌, map, codes}
-use Rattle.std.specs.Prelude.{Option, Some, None, is_none, Result, Ok, Err, string_bytes}
+use Rattle.std.specs.Prelude.{Option, Some, None, Result, Ok, Err, string_bytes}
 use Rattle.std.specs.Fmt.{decimal}
 use Rattle.std.specs.List.{join_by}
 use Rattle.osn_days.specs.declared.calendar.Calendar.TheVariants as calendar
@@ -39,6 +39,8 @@ use Rattle.osn_letters.specs.declared.added_fields.Summary.{Summary}
 use Rattle.osn_letters.specs.declared.day_field.DayField.{DayField}
 use Rattle.osn_letters.specs.declared.day_field.DayField.TheVariants as field
 use Rattle.osn_letters.specs.declared.letter.LetterFields.{LetterFields}
+use Rattle.osn_letters.specs.declared.no_place.NoPlace.{NoPlace}
+use Rattle.osn_letters.specs.declared.no_place.NoPlace.TheVariants.{Unknown}
 use Rattle.osn_letters.specs.declared.remark.Remark.{Remark}
 use Rattle.osn_letters.specs.declared.remark.Remark.TheVariants as remark
 use Rattle.osn_letters.specs.declared.span.Span.{Span}
@@ -219,14 +221,15 @@ fields_of_found_set edition ws beside (Err absent) =
     fields_of_no_set edition (remark.NoDay absent.reason) beside
 
 -- in its place, if that is known
-abbrev pub fields_of_members : Rules → ℕ → Option TerritoryModel → List AnyDate
+abbrev pub fields_of_members : Rules → ℕ → Result TerritoryModel NoPlace → List AnyDate
     → List (Bool × Remark) → FieldsAndRemarks
-fields_of_members p edition (Some t) ws beside =
+fields_of_members p edition (Ok t) ws beside =
     fields_of_found_set edition ws beside (set_meant p t ws)
-fields_of_members p edition None ws beside = fields_of_no_set edition remark.UnknownPlace beside
+fields_of_members p edition (Err reason) ws beside =
+    fields_of_no_set edition (remark.NoPlace reason) beside
 
 -- with the field of the weekday
-abbrev pub fields_of_set : Rules → ℕ → Option TerritoryModel → List AnyDate
+abbrev pub fields_of_set : Rules → ℕ → Result TerritoryModel NoPlace → List AnyDate
     → Option (List ℕ) → FieldsAndRemarks
 fields_of_set p edition t ws named =
     fields_of_members p edition t ws
@@ -234,37 +237,43 @@ fields_of_set p edition t ws named =
 
 -- ---- the whole
 
--- of a date whose place is not known
-abbrev pub fields_without_place : ℕ → AnyDate → Option (List ℕ) → FieldsAndRemarks
-fields_without_place edition w named =
+-- of a date whose place is not known, for that reason
+abbrev pub fields_without_place : ℕ → NoPlace → AnyDate → Option (List ℕ) → FieldsAndRemarks
+fields_without_place edition reason w named =
     fields_of_none edition (Some (kind_of w.extent))
-    ((true, remark.UnknownPlace)
+    ((true, remark.NoPlace reason)
     ∷ remarks_beside w (weekday_in named) false (is_malformed_weekday named))
 
 -- of a date in its place, if that is known
-abbrev pub fields_of_date : Rules → ℕ → Option TerritoryModel → AnyDate → Option (List ℕ)
+abbrev pub fields_of_date : Rules → ℕ → Result TerritoryModel NoPlace → AnyDate → Option (List ℕ)
     → FieldsAndRemarks
-fields_of_date p edition (Some t) w named = fields_in p edition t w named
-fields_of_date p edition None w named = fields_without_place edition w named
+fields_of_date p edition (Ok t) w named = fields_in p edition t w named
+fields_of_date p edition (Err reason) w named = fields_without_place edition reason w named
+
+-- what is said of the place
+abbrev pub place_remark : Result TerritoryModel NoPlace → Bool × Remark
+place_remark (Ok t) = (false, remark.NoPlace Unknown)
+place_remark (Err reason) = (true, remark.NoPlace reason)
 
 -- if no date is read
-abbrev pub fields_without_date : ℕ → DateFault → Bool → Option (List ℕ) → FieldsAndRemarks
-fields_without_date edition fault lacks_place named =
+abbrev pub fields_without_date : ℕ → DateFault → Bool × Remark → Option (List ℕ)
+    → FieldsAndRemarks
+fields_without_date edition fault place named =
     fields_of_none edition None
     ((true, remark.NotRead fault)
-    ∷ (lacks_place, remark.UnknownPlace)
+    ∷ place
     ∷ (is_malformed_weekday named, remark.MalformedWeekday)
     ∷ [])
 
 -- of what the field of the date says, which may be a set of these dates
-abbrev pub fields_of_reading : Rules → ℕ → Option TerritoryModel → Option (List ℕ) → List AnyDate
-    → Result Written DateFault → FieldsAndRemarks
+abbrev pub fields_of_reading : Rules → ℕ → Result TerritoryModel NoPlace → Option (List ℕ)
+    → List AnyDate → Result Written DateFault → FieldsAndRemarks
 fields_of_reading p edition t named ws (Ok (written.Date w)) = fields_of_date p edition t w named
 fields_of_reading p edition t named ws (Ok written.Set) = fields_of_set p edition t ws named
 fields_of_reading p edition t named ws (Ok written.NoDate) =
-    fields_without_date edition NoDate (is_none t) named
-fields_of_reading p edition t named ws (Err fault) = fields_without_date edition fault (is_none t)
-    named
+    fields_without_date edition NoDate (place_remark t) named
+fields_of_reading p edition t named ws (Err fault) =
+    fields_without_date edition fault (place_remark t) named
 
 -- the twelve fields for a place, a date and perhaps a weekday, by the territories of an edition and
 -- a table of places

@@ -10,13 +10,20 @@ use Rattle.osn_written.specs.declared.written_date.WrittenDate.{WrittenDate}
 use Rattle.osn_written.specs.Meaning.{has_weekday, is_not_counted_double}
 use Rattle.osn_written.specs.PlainDay.{one_day}
 use Rattle.osn_written.specs.Words.{fault_words, no_day_words}
+use Rattle.osn_letters.specs.declared.no_place.NoPlace.{NoPlace}
+use Rattle.osn_letters.specs.declared.no_place.NoPlace.TheVariants as no_place
 use Rattle.osn_letters.specs.declared.remark.Remark.{Remark}
 use Rattle.osn_letters.specs.declared.remark.Remark.TheVariants as remark
+
+-- why there is no territory, in words
+abbrev pub place_words : NoPlace → List ℕ
+place_words no_place.Unknown = codes "unknown place"
+place_words no_place.Ambiguous = codes "ambiguous place"
 
 -- a remark in words
 abbrev pub remark_words : Remark → List ℕ
 remark_words (remark.NotRead fault) = fault_words fault
-remark_words remark.UnknownPlace = codes "unknown place"
+remark_words (remark.NoPlace reason) = place_words reason
 remark_words (remark.NoDay reason) = no_day_words reason
 remark_words remark.ByItsWeekday = codes "by its weekday"
 remark_words remark.SeveralDays = codes "several days"

@@ -1,9 +1,9 @@
 -- What the fields of a row say: the date, the territory and the weekday. This project's profile.
 use Rattle.std.specs.Prelude.{ℕ, ◌-◌, Bool, false, not, ◌&&◌, ◌==◌, if◌then◌else◌, List, [], length}
-use Rattle.std.specs.Prelude.{take, drop, Option, Some, None, is_none, Result, Err}
+use Rattle.std.specs.Prelude.{take, drop, Option, Some, None, is_none, ok_or, Result, Ok, Err}
 use Rattle.std.specs.Char.{is_ascii_whitespace}
 use Rattle.std.specs.List.{prefix_len, suffix_len}
-use Rattle.std.specs.Option.{option_and_then, option_or}
+use Rattle.std.specs.Option.{option_and_then}
 use Rattle.std.specs.Str.{is_utf8}
 use Rattle.osn_days.specs.declared.weekday.Weekday.{Weekday}
 use Rattle.osn_grammar.specs.declared.written.DateOrder.{DateOrder}
@@ -12,7 +12,9 @@ use Rattle.osn_written.specs.declared.any_date.AnyDate.{AnyDate}
 use Rattle.osn_grammar.specs.Reading.{members, read_date}
 use Rattle.osn_territory.specs.Territory.{TerritoryModel}
 use Rattle.osn_letters.specs.PlaceEntries.{PlaceEntry, code_of}
-use Rattle.osn_letters.specs.TerritoryNames.{territory_named}
+use Rattle.osn_letters.specs.TerritoryNames.{only_called}
+use Rattle.osn_letters.specs.declared.no_place.NoPlace.{NoPlace}
+use Rattle.osn_letters.specs.declared.no_place.NoPlace.TheVariants.{Unknown}
 use Rattle.osn_register.specs.Code.{is_code}
 use Rattle.osn_register.specs.Plain.{EntryModel, territory_of}
 use Rattle.osn_written.specs.declared.written_date.DateFault.{DateFault}
@@ -55,24 +57,39 @@ members_in field = members_of (text_in_field field)
 abbrev pub territory_of_code : List EntryModel → List ℕ → Option TerritoryModel
 territory_of_code territories text = if is_code text then territory_of text territories else None
 
--- the territory of a code, or else the first one of a name
-abbrev pub territory_of_text : List EntryModel → List ℕ → Option TerritoryModel
+-- the territory of a code of a table of places
+abbrev pub territory_listed : List EntryModel → List ℕ → Result TerritoryModel NoPlace
+territory_listed territories code = ok_or (territory_of_code territories code) Unknown
+
+-- the territory of a code that is found, or else the only one that is called so
+abbrev pub territory_or : Option TerritoryModel → Result TerritoryModel NoPlace
+    → Result TerritoryModel NoPlace
+territory_or (Some territory) called = Ok territory
+territory_or None called = called
+
+abbrev pub territory_of_text : List EntryModel → List ℕ → Result TerritoryModel NoPlace
 territory_of_text territories text =
-    option_or (territory_of_code territories text) (territory_named text territories)
+    territory_or (territory_of_code territories text) (only_called text territories)
 
 -- the territory of the code that a table of places has for a text, if it has one, else that of the
 -- text
-abbrev pub territory_by : List EntryModel → List ℕ → Option (List ℕ) → Option TerritoryModel
+abbrev pub territory_by : List EntryModel → List ℕ → Option (List ℕ)
+    → Result TerritoryModel NoPlace
 territory_by territories text None = territory_of_text territories text
-territory_by territories text (Some code) = territory_of_code territories code
+territory_by territories text (Some code) = territory_listed territories code
 
-abbrev pub territory_of_place : List EntryModel → List PlaceEntry → List ℕ → Option TerritoryModel
-territory_of_place territories places text = territory_by territories text (code_of text places)
+-- the territory of the text of a field, if that is a text
+abbrev pub territory_of_place : List EntryModel → List PlaceEntry → Option (List ℕ)
+    → Result TerritoryModel NoPlace
+territory_of_place territories places None = Err Unknown
+territory_of_place territories places (Some text) =
+    territory_by territories text (code_of text places)
 
 -- the territory of a field
-abbrev pub territory_in : List EntryModel → List PlaceEntry → List ℕ → Option TerritoryModel
+abbrev pub territory_in : List EntryModel → List PlaceEntry → List ℕ
+    → Result TerritoryModel NoPlace
 territory_in territories places place =
-    option_and_then (territory_of_place territories places) (text_in_field place)
+    territory_of_place territories places (text_in_field place)
 
 -- the weekday of a field, which may be lacking
 abbrev pub weekday_in : Option (List ℕ) → Option Weekday

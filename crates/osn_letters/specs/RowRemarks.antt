@@ -3,7 +3,7 @@ use Rattle.std.specs.Prelude.{ℕ, List, [], ◌∷◌, Result, Ok, Err}
 use Rattle.osn_letters.specs.declared.columns.Columns.{Columns}
 use Rattle.osn_letters.specs.declared.fault.LettersFault.{LettersFault}
 use Rattle.osn_letters.specs.declared.remark.Remark.{Remark}
-use Rattle.osn_letters.specs.Columns.{columns_of}
+use Rattle.osn_letters.specs.Columns.{columns_of, own_header}
 use Rattle.osn_letters.specs.Records.{PlacedRecord, records_of}
 use Rattle.osn_letters.specs.Table.{TableBasis, letter_of}
 use Rattle.osn_letters.specs.Tally.{IsTally, TallyModel}
@@ -29,7 +29,8 @@ header_remarks s (Ok columns) rest = rows_remarks s columns rest
 abbrev pub first_remarks : TableBasis → ℕ → Result (List (List ℕ)) LettersFault
     → List PlacedRecord → List (List Remark)
 first_remarks s line (Err fault) rest = []
-first_remarks s line (Ok header) rest = header_remarks s (columns_of s.names line header) rest
+first_remarks s line (Ok header) rest =
+    header_remarks s (columns_of s.names line (own_header s.names header)) rest
 
 -- the remarks of each row of a table
 abbrev pub table_remarks : TableBasis → List PlacedRecord → List (List Remark)

@@ -1,6 +1,6 @@
 -- The table that is written: the header and each record that came, with twelve fields after it.
 -- This project's profile.
-use Rattle.std.specs.Prelude.{◌≡◌, ◌≤◌, ℕ, true, ◌==◌, List, [], ◌∷◌, ◌++◌, length, get_or}
+use Rattle.std.specs.Prelude.{◌≡◌, ◌≤◌, ℕ, true, ◌==◌, List, [], ◌∷◌, ◌++◌, length, get_or, take}
 use Rattle.std.specs.Prelude.{if◌then◌else◌}
 use Rattle.std.specs.Prelude.{Option, Some, None, option_map, unwrap_or, Result, Ok, Err}
 use Rattle.std.specs.Io.KnownBytes.{Appends, Consumes}
@@ -14,7 +14,7 @@ use Rattle.osn_letters.specs.declared.settings.TableSettings.{TableSettings}
 use Rattle.osn_letters.specs.declared.fault.LettersFault.{LettersFault}
 use Rattle.osn_letters.specs.declared.fault.LettersFault.TheVariants.{NoHeader, BadRecord}
 use Rattle.osn_letters.specs.AddedColumns.{added_names}
-use Rattle.osn_letters.specs.Columns.{NameTexts, names_of, columns_of}
+use Rattle.osn_letters.specs.Columns.{NameTexts, names_of, columns_of, own_header, place_in}
 use Rattle.osn_letters.specs.DateParts.{date_in}
 use Rattle.osn_letters.specs.Faults.{is_of_table}
 use Rattle.osn_letters.specs.Fields.{FieldsAndRemarks, row_fields}
@@ -77,7 +77,7 @@ header_text separator header = row_text (writer_by separator) (header ++ added_n
 abbrev pub letter_with_date : TableBasis → Columns → List (List ℕ) → List ℕ → FieldsAndRemarks
 letter_with_date s columns record_fields date =
     row_fields s.rules s.territories s.edition s.order s.places
-    (get_or record_fields columns.place []) date
+    (place_in s.names columns record_fields) date
     (option_map (λ n. get_or record_fields n []) columns.weekday)
 
 abbrev pub letter_of : TableBasis → Columns → List (List ℕ) → FieldsAndRemarks
@@ -88,10 +88,11 @@ letter_of s columns record_fields =
 abbrev pub twelve_fields : TableBasis → Columns → List (List ℕ) → List (List ℕ)
 twelve_fields s columns record_fields = (letter_of s columns record_fields).fields
 
--- the row that is written of a record
+-- the row that is written of a record: its own fields and the twelve
 unfoldable pub letter_text : TableBasis → Separator → Columns → List (List ℕ) → List ℕ
 letter_text s separator columns record_fields =
-    row_text (writer_by separator) (record_fields ++ twelve_fields s columns record_fields)
+    row_text (writer_by separator)
+    (take columns.own record_fields ++ twelve_fields s columns record_fields)
 
 -- what is written of a record that is not a header, and then what is written of those after it
 abbrev pub row_by : TableBasis → Heading → ℕ → Result (List (List ℕ)) LettersFault → Written
@@ -107,12 +108,13 @@ abbrev pub rows_written : TableBasis → Heading → List PlacedRecord → Writt
 rows_written s heading [] = whole
 rows_written s heading (r ∷ rest) = row_by s heading r.line r.fields (rows_written s heading rest)
 
--- what is written of a header with these columns, and of the records after it
+-- what is written of a header with these columns, and of the records after it. The records have as
+-- many fields as the whole header
 abbrev pub header_at : TableBasis → Result Columns LettersFault → Separator → List (List ℕ)
     → List PlacedRecord → Written
 header_at s (Err fault) separator header rest = ended_by fault
 header_at s (Ok columns) separator header rest =
-    text_before (header_text separator header)
+    text_before (header_text separator (own_header s.names header))
     (rows_written s (record { columns = columns; width = length header; separator = separator })
     rest)
 
@@ -121,7 +123,7 @@ abbrev pub header_by : TableBasis → ℕ → Separator → Result (List (List �
     → List PlacedRecord → Written
 header_by s line separator (Err fault) rest = ended_by fault
 header_by s line separator (Ok header) rest =
-    header_at s (columns_of s.names line header) separator header rest
+    header_at s (columns_of s.names line (own_header s.names header)) separator header rest
 
 -- what is written of all records. Without any record the header is lacking
 abbrev pub table_written : TableBasis → List PlacedRecord → Written

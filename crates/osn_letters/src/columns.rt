@@ -1,8 +1,9 @@
 //! Which columns of a table are read.
 ghost use Rattle.std.specs.Prelude.{◌≡◌, ◌≢◌, [], get_or, false, IfOk, IfErr, Ok, Err, option_map};
-ghost use Rattle.std.specs.List.{find};
+ghost use Rattle.std.specs.List.{find, list_all};
 ghost use Rattle.std.specs.Str.Lossy.{utf8_lossy};
 ghost use Rattle.csv.specs.Records.{fields_of};
+ghost use Rattle.osn_letters.specs.AddedColumns.{added_columns};
 ghost use Rattle.osn_letters.specs.Columns as spec;
 ghost use Rattle.osn_letters.specs.Faults.{is_of_stream};
 ghost use Rattle.osn_letters.specs.declared.fault.LettersFault.TheVariants.{NoMemory};
@@ -39,9 +40,14 @@ pub enum DateNames<'a> {
 /// The names of the columns that are read in a header.
 #[derive(Clone, Copy, Debug)]
 pub struct ColumnNames<'a> {
-    pub place: &'a str,
+    /// The name of the column of places, if there is one.
+    pub place: Option<&'a str>,
+    /// The place of all rows, if no column has places.
+    pub place_of_all: &'a str,
     pub date: DateNames<'a>,
     pub weekday: WeekdayName<'a>,
+    /// Whether the added columns are replaced if a table has all of them after its own.
+    pub replaces: bool,
 }
 
 /// The columns of the date, counted from 0.
@@ -60,9 +66,11 @@ pub enum DateColumns {
 /// The columns that are read, counted from 0.
 #[derive(Clone, Copy, Debug, PartialEq, Eq)]
 pub struct Columns {
-    pub place: usize,
+    pub place: Option<usize>,
     pub date: DateColumns,
     pub weekday: Option<usize>,
+    /// How many columns of the table are not replaced.
+    pub own: usize,
 }
 
 /// Returns the field of an index. One that the record lacks is empty.
@@ -72,6 +80,21 @@ pub(crate) fn field_at(row: &ByteRecord, index: usize) -> &[u8]
     match row.get(index) {
         Some(field) => field,
         None => &[],
+    }
+}
+
+/// Returns the place of a row: its field in the column of places, or else that of all rows.
+pub(crate) fn place_in<'a>(
+    names: ColumnNames<'a>,
+    columns: Columns,
+    row: &'a ByteRecord,
+) -> &'a [u8]
+    ensures { result.now
+        ≡ spec.place_in (spec.names_of names.entry) columns (fields_of row.now) }
+{
+    match columns.place {
+        Some(index) => field_at(row, index),
+        None => names.place_of_all.as_bytes(),
     }
 }
 
@@ -187,6 +210,27 @@ fn column_had(header: &ByteRecord, columns: &[AddedColumn]) -> Option<AddedColum
         .find(|column| has_column(header, *column))
 }
 
+/// Returns whether a header has all columns that are added.
+fn has_all_columns(header: &ByteRecord) -> bool
+    ensures { result ≡ list_all (spec.has_column (fields_of header.now)) added_columns }
+{
+    ADDED_COLUMNS
+        .iter()
+        .copied()
+        .all(|column| has_column(header, column))
+}
+
+/// Returns how many fields of a header are its own, and not added columns that are replaced.
+pub(crate) fn own_width(header: &ByteRecord, replaces: bool) -> usize
+    ensures { result ≡ spec.own_width replaces (fields_of header.now) }
+{
+    if replaces && has_all_columns(header) {
+        header.len().saturating_sub(ADDED_COLUMNS.len())
+    } else {
+        header.len()
+    }
+}
+
 /// Returns the index of a column in a header, which begins on the line.
 fn find_column(
     alloc: Global,
@@ -263,9 +307,9 @@ fn find_date_columns(
 /// # Errors
 ///
 /// `HasColumn` if the header has one of the columns that are added. Otherwise `LacksColumn` for the
-/// first column that is missing: the place, then the date, then the weekday, if it is required. If
-/// the parts of a date have columns, it is the first of those that are named: year, month, day. And
-/// `NoMemory`.
+/// first column that is missing: the place, if a column has it, then the date, then the weekday, if
+/// it is required. If the parts of a date have columns, it is the first of those that are named:
+/// year, month, day. And `NoMemory`.
 pub fn find_columns(
     alloc: Global,
     header: &ByteRecord,
@@ -282,7 +326,7 @@ pub fn find_columns(
     if let Some(column) = column_had(header, &ADDED_COLUMNS) {
         return Err(LettersFault::HasColumn { line, column });
     }
-    let place = find_column(alloc, header, line, Column::Place, names.place)?;
+    let place = find_part_column(alloc, header, line, Column::Place, names.place)?;
     let date = find_date_columns(alloc, header, line, names.date)?;
     let weekday = column_named(header, names.weekday.name());
     if names.weekday.is_required() && weekday.is_none() {
@@ -292,5 +336,6 @@ pub fn find_columns(
         place,
         date,
         weekday,
+        own: header.len(),
     })
 }

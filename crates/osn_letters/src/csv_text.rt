@@ -1,5 +1,5 @@
 //! The text of rows.
-ghost use Rattle.std.specs.Prelude.{◌≡◌, ◌++◌, [], map, IfOk, OnOk};
+ghost use Rattle.std.specs.Prelude.{◌≡◌, ◌++◌, [], map, take, IfOk, OnOk};
 ghost use Rattle.csv.specs.Records.{fields_of, partial_of};
 ghost use Rattle.csv.specs.Writing.{row_text};
 ghost use Rattle.osn_letters.specs.AddedColumns.{added_name};
@@ -80,6 +80,15 @@ impl RowWriter {
         *self = RowWriter::new(separator, text);
         Ok(())
     }
+}
+
+/// Keeps the first fields of a record, this many.
+pub(crate) fn keep_fields(row: &mut ByteRecord, count: usize)
+    requires { partial_of row.old ≡ [] }
+    ensures fields { fields_of row.new ≡ take count (fields_of row.old) }
+    ensures partial { partial_of row.new ≡ [] }
+{
+    row.truncate(count);
 }
 
 /// Appends fields with the names of these columns.

@@ -1,20 +1,23 @@
 //! The fields that are put after a letter's row.
 ghost use Rattle.std.specs.Prelude.{◌≡◌, [], ◌∷◌, ◌++◌, option_map, unwrap_or, IfOk};
 ghost use Rattle.std.specs.Prelude.{string_bytes};
+ghost use Rattle.std.specs.Result.{result_map_both};
 ghost use Rattle.osn_days.specs.Rules.{newest_rules};
 ghost use Rattle.osn_letters.specs.EdtfLaw.{AreDaysRead, AreRunsRead};
 ghost use Rattle.osn_letters.specs.Fields as spec;
 
 use crate::added_fields::Summary;
 use crate::edtf::{edtf_of_days, edtf_of_span, sign};
+use crate::no_place::NoPlace;
+use crate::place_territory::territory_in;
 use crate::places::Places;
 use crate::remark::{PossibleRemark, Remark, applying, remarks_beside, remarks_on_days};
 use crate::row_field::{date_of_field, is_malformed_weekday, weekday_in};
 use crate::set::fields_of_set;
 use crate::span::{NO_SPAN, span_of_days, span_of_runs};
-use crate::territory_finder::TerritoryFinder;
 use osn_days::Weekday;
 use osn_grammar::{DateOrder, Written};
+use osn_register::Register;
 use osn_territory::{DatedDay, Run, Territory};
 use osn_written::{
     AnyDate, DateFault, Kind, NoDay, WrittenDate, absence_of, by_reckoning, dated_by, days_meant,
@@ -234,15 +237,17 @@ fn fields_in(
     fields_by(alloc, edition, territory, &reckoned, is_other, date, named)
 }
 
-/// Returns the fields of a date whose place is not known, with the field of the weekday.
+/// Returns the fields of a date whose place is not known, for that reason, with the field of the
+/// weekday.
 fn fields_without_place(
     alloc: Global,
     edition: usize,
+    reason: NoPlace,
     date: AnyDate,
     named: Option<&[u8]>,
 ) -> Result<LetterFields, AllocError>
     ensures { IfOk result (λ made. spec.fields_and_remarks made
-        ≡ spec.fields_without_place edition date
+        ≡ spec.fields_without_place edition reason date
         (option_map (λ w. w.now) named.entry)) }
 {
     let given = weekday_in(named);
@@ -253,7 +258,7 @@ fn fields_without_place(
         alloc,
         edition,
         kind,
-        &[(true, Remark::UnknownPlace)],
+        &[(true, Remark::NoPlace(reason))],
         &beside,
     )
 }
@@ -262,37 +267,46 @@ fn fields_without_place(
 fn fields_of_date(
     alloc: Global,
     edition: usize,
-    territory: Option<&Territory>,
+    territory: Result<&Territory, NoPlace>,
     date: AnyDate,
     named: Option<&[u8]>,
 ) -> Result<LetterFields, AllocError>
     ensures { IfOk result (λ made. spec.fields_and_remarks made
         ≡ spec.fields_of_date newest_rules edition
-        (option_map (λ t. t.now) territory.entry) date
+        (result_map_both (λ t. t.now) (λ reason. reason) territory.entry) date
         (option_map (λ w. w.now) named.entry)) }
 {
     match territory {
-        Some(territory) => fields_in(alloc, edition, territory, date, named),
-        None => fields_without_place(alloc, edition, date, named),
+        Ok(territory) => fields_in(alloc, edition, territory, date, named),
+        Err(reason) => fields_without_place(alloc, edition, reason, date, named),
     }
 }
 
-/// Returns the fields if no date is read, with the field of the weekday.
+/// Returns what is said of the place.
+fn place_remark(territory: Result<&Territory, NoPlace>) -> PossibleRemark
+    ensures { result ≡ spec.place_remark
+        (result_map_both (λ t. t.now) (λ reason. reason) territory.entry) }
+{
+    match territory {
+        Ok(_) => (false, Remark::NoPlace(NoPlace::Unknown)),
+        Err(reason) => (true, Remark::NoPlace(reason)),
+    }
+}
+
+/// Returns the fields if no date is read, with what is said of the place and the field of the
+/// weekday.
 fn fields_without_date(
     alloc: Global,
     edition: usize,
     fault: DateFault,
-    lacks_place: bool,
+    place: PossibleRemark,
     named: Option<&[u8]>,
 ) -> Result<LetterFields, AllocError>
     ensures { IfOk result (λ made. spec.fields_and_remarks made
         ≡ spec.fields_without_date edition fault
-        lacks_place (option_map (λ w. w.now) named.entry)) }
+        place (option_map (λ w. w.now) named.entry)) }
 {
-    let reasons = [
-        (true, Remark::NotRead(fault)),
-        (lacks_place, Remark::UnknownPlace),
-    ];
+    let reasons = [(true, Remark::NotRead(fault)), place];
     let beside = [(is_malformed_weekday(named), Remark::MalformedWeekday)];
     fields_of_none(alloc, edition, None, &reasons, &beside)
 }
@@ -303,10 +317,10 @@ fn fields_without_date(
 /// `earliest`, `latest`, `kind`, `edtf`, `edition` and `remark` follow.
 ///
 /// A place that the table of places lists has the code of that table. Any other place is the code
-/// of a territory or, if no territory has that code, the name of one: the first territory of that
-/// name. The weekday may be missing or empty, and its letters may be capital or small. White space
-/// of ASCII around each of the three is ignored. A date that names a calendar is read as if the
-/// territory had used that calendar.
+/// of a territory or, if no territory has exactly that code, the code or the name of one in capital
+/// or small letters. If several have it, the place is ambiguous. The weekday may be missing or
+/// empty, and its letters may be capital or small. White space of ASCII around each of the three is
+/// ignored. A date that names a calendar is read as if the territory had used that calendar.
 ///
 /// # Errors
 ///
@@ -314,7 +328,7 @@ fn fields_without_date(
 #[tactic(auto, using(crate::proofs::EdtfFacts::runs_read, crate::proofs::EdtfFacts::days_read))]
 pub fn row_fields(
     alloc: Global,
-    territories: &mut TerritoryFinder<'_>,
+    register: &Register,
     edition: usize,
     order: DateOrder,
     places: Option<&Places>,
@@ -323,22 +337,23 @@ pub fn row_fields(
     weekday: Option<&[u8]>,
 ) -> Result<LetterFields, AllocError>
     ensures value { IfOk result (λ made. spec.fields_and_remarks made
-        ≡ spec.row_fields newest_rules territories.old edition order
+        ≡ spec.row_fields newest_rules register.now.territories edition order
         (unwrap_or (option_map (λ places. places.now) places.entry) []) place.now date.now
         (option_map (λ w. w.now) weekday.entry)) }
-    ensures kept { territories.new ≡ territories.old }
     // as laws: what `edtf` has of several runs or days is read as the set of these
     ensures runs { AreRunsRead newest_rules }
     ensures days { AreDaysRead newest_rules }
 {
-    let territory = territories.find(alloc, places, place)?;
-    let lacks_place = territory.is_none();
+    let territory = territory_in(register, places, place);
     match date_of_field(alloc, order, date)? {
         Ok(Written::Date(date)) => fields_of_date(alloc, edition, territory, date, weekday),
         Ok(Written::Set) => fields_of_set(alloc, edition, territory, date, weekday),
         Ok(Written::NoDate) => {
-            fields_without_date(alloc, edition, DateFault::NoDate, lacks_place, weekday)
+            let place = place_remark(territory);
+            fields_without_date(alloc, edition, DateFault::NoDate, place, weekday)
         }
-        Err(fault) => fields_without_date(alloc, edition, fault, lacks_place, weekday),
+        Err(fault) => {
+            fields_without_date(alloc, edition, fault, place_remark(territory), weekday)
+        }
     }
 }

@@ -18,7 +18,6 @@ use crate::settings::TableSettings;
 use crate::start::{ByteOrderMark, MARK};
 use crate::table::Table;
 use crate::tally::Tally;
-use crate::territory_finder::TerritoryFinder;
 use osn_register::Register;
 use std::alloc::Global;
 
@@ -53,7 +52,7 @@ impl<'a> Letters<'a> {
             parser: RecordParser::new(alloc, settings.separator),
             table: Table {
                 alloc,
-                territories: TerritoryFinder::new(register),
+                register,
                 edition,
                 settings,
                 rows: None,

@@ -5,6 +5,7 @@ ghost use Rattle.std.specs.List.{list_any};
 ghost use Rattle.osn_written.specs.Meaning as meaning;
 ghost use Rattle.osn_letters.specs.Remarks as spec;
 
+use crate::no_place::NoPlace;
 use itertools::Itertools;
 use osn_days::Weekday;
 use osn_territory::DatedDay;
@@ -17,8 +18,8 @@ use std::fmt;
 pub enum Remark {
     /// Its date is not read.
     NotRead(DateFault),
-    /// Its place is not a code, or the code of no territory.
-    UnknownPlace,
+    /// Its place is that of no territory, or may be that of several.
+    NoPlace(NoPlace),
     /// Its date means no day.
     NoDay(NoDay),
     /// Its date means several days, of which one alone has the weekday that is given.
@@ -48,7 +49,7 @@ impl Remark {
     {
         match self {
             Remark::NotRead(fault) => fault.words(),
-            Remark::UnknownPlace => "unknown place",
+            Remark::NoPlace(reason) => reason.words(),
             Remark::NoDay(reason) => reason.words(),
             Remark::ByItsWeekday => "by its weekday",
             Remark::SeveralDays => "several days",

@@ -1,5 +1,6 @@
 //! The fields of a letter's date that is a set of dates.
 ghost use Rattle.std.specs.Prelude.{◌≡◌, option_map, IfOk};
+ghost use Rattle.std.specs.Result.{result_map_both};
 ghost use Rattle.osn_days.specs.Rules.{newest_rules};
 ghost use Rattle.osn_letters.specs.Fields as spec;
 ghost use Rattle.osn_letters.specs.RowFields.{members_in as members_in_field};
@@ -8,6 +9,7 @@ ghost use Rattle.osn_written.specs.SetsMeant.{set_list_of};
 use crate::added_fields::Summary;
 use crate::edtf::{edtf_of_runs, sign_of};
 use crate::letter::{LetterFields, fields_of_none, fields_with};
+use crate::no_place::NoPlace;
 use crate::remark::{PossibleRemark, Remark, applying, remarks_beside_set};
 use crate::row_field::{is_malformed_weekday, members_in, weekday_in};
 use crate::span::span_of_set;
@@ -71,20 +73,20 @@ fn fields_of_found_set(
 fn fields_of_members(
     alloc: Global,
     edition: usize,
-    territory: Option<&Territory>,
+    territory: Result<&Territory, NoPlace>,
     members: &[AnyDate],
     beside: &[PossibleRemark],
 ) -> Result<LetterFields, AllocError>
     ensures { IfOk result (λ made. spec.fields_and_remarks made
         ≡ spec.fields_of_members newest_rules edition
-        (option_map (λ t. t.now) territory.entry) members.now beside.now) }
+        (result_map_both (λ t. t.now) (λ reason. reason) territory.entry) members.now beside.now) }
 {
     match territory {
-        Some(territory) => {
+        Ok(territory) => {
             let outcome = find_set(alloc, territory, members)?;
             fields_of_found_set(alloc, edition, members, outcome, beside)
         }
-        None => fields_of_no_set(alloc, edition, Remark::UnknownPlace, beside),
+        Err(reason) => fields_of_no_set(alloc, edition, Remark::NoPlace(reason), beside),
     }
 }
 
@@ -92,14 +94,14 @@ fn fields_of_members(
 pub(crate) fn fields_of_set(
     alloc: Global,
     edition: usize,
-    territory: Option<&Territory>,
+    territory: Result<&Territory, NoPlace>,
     date: &[u8],
     named: Option<&[u8]>,
 ) -> Result<LetterFields, AllocError>
     ensures { IfOk result (λ made. spec.fields_and_remarks made
         ≡ spec.fields_of_set newest_rules edition
-        (option_map (λ t. t.now) territory.entry) (members_in_field date.now)
-        (option_map (λ w. w.now) named.entry)) }
+        (result_map_both (λ t. t.now) (λ reason. reason) territory.entry)
+        (members_in_field date.now) (option_map (λ w. w.now) named.entry)) }
 {
     let members = members_in(alloc, date)?;
     let beside = remarks_beside_set(weekday_in(named), is_malformed_weekday(named));

@@ -10,16 +10,16 @@ ghost use Rattle.osn_letters.specs.TallyInside.{with_row};
 ghost use Rattle.osn_letters.specs.WriterInside.{IsBetweenRows, waiting};
 
 use crate::added_column::ADDED_COLUMNS;
-use crate::columns::{Columns, DateColumns, field_at, find_columns};
-use crate::csv_text::{RowWriter, push_names};
+use crate::columns::{Columns, DateColumns, field_at, find_columns, own_width, place_in};
+use crate::csv_text::{RowWriter, keep_fields, push_names};
 use crate::date_parts::parts_text;
 use crate::fault::LettersFault;
 use crate::letter::{LetterFields, row_fields};
 use crate::separator::Separator;
 use crate::settings::TableSettings;
 use crate::tally::Tally;
-use crate::territory_finder::TerritoryFinder;
 use csv::ByteRecord;
+use osn_register::Register;
 use std::alloc::{AllocError, Global};
 use std::mem;
 
@@ -36,7 +36,7 @@ pub(crate) struct Rows {
 #[derive(Drop)]
 pub(crate) struct Table<'a> {
     pub(crate) alloc: Global,
-    pub(crate) territories: TerritoryFinder<'a>,
+    pub(crate) register: &'a Register,
     pub(crate) edition: usize,
     pub(crate) settings: TableSettings<'a>,
     pub(crate) rows: Option<Rows>,
@@ -93,8 +93,10 @@ impl Table<'_> {
             (record { line = line; separator = separator; fields = Ok (fields_of header.old) })) }
         ensures between { OnOk result (IsBetweenRows self.new.out) }
     {
-        let columns = find_columns(self.alloc, header, self.settings.names, line)?;
         let width = header.len();
+        let own = own_width(header, self.settings.names.replaces);
+        keep_fields(header, own);
+        let columns = find_columns(self.alloc, header, self.settings.names, line)?;
         self.push_header(header, separator)?;
         self.rows = Some(Rows { columns, width });
         Ok(())
@@ -102,32 +104,30 @@ impl Table<'_> {
 
     /// Returns the twelve fields of a record, with the text of its date, and its remarks.
     fn letter_with_date(
-        &mut self,
+        &self,
         columns: Columns,
         row: &ByteRecord,
         date: &[u8],
     ) -> Result<LetterFields, AllocError>
-        ensures value { IfOk result (λ made. fields_and_remarks made ≡ spec.letter_with_date
-            (inside.source_of self.old) columns (fields_of row.now) date.now) }
-        ensures kept { self.new ≡ self.old }
+        ensures { IfOk result (λ made. fields_and_remarks made ≡ spec.letter_with_date
+            (inside.source_of self.now) columns (fields_of row.now) date.now) }
     {
         row_fields(
             self.alloc,
-            &mut self.territories,
+            self.register,
             self.edition,
             self.settings.order,
             self.settings.places,
-            field_at(row, columns.place),
+            place_in(self.settings.names, columns, row),
             date,
             weekday_at(row, columns.weekday),
         )
     }
 
     /// Returns the twelve fields of a record, and its remarks.
-    fn letter_of(&mut self, columns: Columns, row: &ByteRecord) -> Result<LetterFields, AllocError>
-        ensures value { IfOk result (λ made. fields_and_remarks made ≡ spec.letter_of
-            (inside.source_of self.old) columns (fields_of row.now)) }
-        ensures kept { self.new ≡ self.old }
+    fn letter_of(&self, columns: Columns, row: &ByteRecord) -> Result<LetterFields, AllocError>
+        ensures { IfOk result (λ made. fields_and_remarks made ≡ spec.letter_of
+            (inside.source_of self.now) columns (fields_of row.now)) }
     {
         match columns.date {
             DateColumns::Whole(index) => self.letter_with_date(columns, row, field_at(row, index)),
@@ -153,6 +153,7 @@ impl Table<'_> {
             (spec.letter_of (inside.source_of self.old) columns (fields_of row.old)).remarks) }
     {
         let made = self.letter_of(columns, row)?;
+        keep_fields(row, columns.own);
         made.push_to(self.alloc, row)?;
         self.tally.count(&made.remarks)?;
         self.out.write_row(row)

@@ -72,12 +72,12 @@ date_name_of dates other = []
 
 -- the name by which a column was looked for, and the option that names it
 abbrev pub name_of : NameTexts → Column → List ℕ
-name_of names column.Place = names.place
+name_of names column.Place = unwrap_or names.place []
 name_of names column.Weekday = names.weekday
 name_of names other = date_name_of names.date other
 
 abbrev pub option_of : Column → List ℕ
-option_of column.Place = codes "--place"
+option_of column.Place = codes "--place, or the place of all rows with --in"
 option_of column.Date = codes "--date"
 option_of column.Year = codes "--year"
 option_of column.Month = codes "--month"
@@ -115,7 +115,8 @@ column_line line name text = codes "oldstyle: letters line "
 -- the line on a header that has one of the added columns already
 abbrev pub has_line : ℕ → AddedColumn → List ℕ
 has_line line added =
-    column_line line (added_name added) (codes "is already there: remove it or rename it")
+    column_line line (added_name added) (codes
+    "is already there: remove it, rename it, or replace all twelve with --replace")
 
 -- it was reported why the table ended early; nothing is reported about an output that failed
 abbrev pub ReportsTable : NameTexts → Output → LettersFault → Status → Type 0

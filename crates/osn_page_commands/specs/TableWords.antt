@@ -1,7 +1,8 @@
 -- What the words of a command line ask for a table of letters, or which of them is wrong.
-use Rattle.std.specs.Prelude.{ℕ, if◌then◌else◌, List, [], codes, Option, Some, None, Result, Ok}
-use Rattle.std.specs.Prelude.{Err, is_some, unwrap_or}
+use Rattle.std.specs.Prelude.{ℕ, Bool, if◌then◌else◌, List, [], codes, Option, Some, None, Result}
+use Rattle.std.specs.Prelude.{Ok, Err, is_some, unwrap_or}
 use Rattle.std.specs.Str.{bytes_eq}
+use Rattle.osn_grammar.specs.Simple.{◌>>=◌}
 use Rattle.osn_grammar.specs.declared.written.DateOrder.{DateOrder}
 use Rattle.osn_invocation.specs.Invocation.{DateModel, LettersModel}
 use Rattle.osn_letters.specs.Columns.{DateTexts, OneText, PartTexts, NameTexts}
@@ -42,10 +43,19 @@ dates_named None (Some year) month day = Ok (PartTexts year month day)
 abbrev pub dates_of_options : DateModel → Result DateTexts (Misuse × List ℕ)
 dates_of_options named = dates_named named.date named.year named.month named.day
 
--- the names of all columns
-abbrev pub names_with : List ℕ → Option (List ℕ) → DateTexts → NameTexts
-names_with place weekday dates = record {
+-- the name of the column of places, unless one place of all rows is named. Both can't be named
+abbrev pub place_named : Option (List ℕ) → Option (List ℕ)
+    → Result (Option (List ℕ)) (Misuse × List ℕ)
+place_named None name = Ok (Some (unwrap_or name (codes "place")))
+place_named (Some place_of_all) None = Ok None
+place_named (Some place_of_all) (Some name) = Err (misuses.PlaceAndColumn, codes "--in")
+
+-- the names of all columns, the place of all rows, and whether added columns are replaced
+abbrev pub names_with : Bool → Option (List ℕ) → List ℕ → Option (List ℕ) → DateTexts → NameTexts
+names_with replaces place place_of_all weekday dates = record {
+  replaces = replaces;
   place = place;
+  place_of_all = place_of_all;
   date = dates;
   weekday = weekday_column weekday;
   needs_weekday = is_some weekday;
@@ -57,8 +67,8 @@ abbrev pub or_typed : {T : Type 0} → Option (List ℕ) → Result T Misuse
 or_typed word (Ok value) = Ok value
 or_typed word (Err misuse) = Err (misuse, unwrap_or word [])
 
--- what the words ask for, or the first that is wrong: of the date's columns, the separator's or the
--- order's
+-- what the words ask for besides the place, or the first that is wrong: of the date's columns, the
+-- separator's or the order's
 abbrev pub settings_with : (DateTexts → NameTexts) → Result DateTexts (Misuse × List ℕ)
     → Result (Option Separator) (Misuse × List ℕ) → Result DateOrder (Misuse × List ℕ)
     → Result SettingsModel (Misuse × List ℕ)
@@ -68,8 +78,15 @@ settings_with names (Ok dates) (Ok separator) (Err wrong) = Err wrong
 settings_with names (Ok dates) (Ok separator) (Ok order) =
     Ok (record { names = names dates; separator = separator; order = order; places = [] })
 
-abbrev pub settings_of_options : LettersModel → Result SettingsModel (Misuse × List ℕ)
-settings_of_options options =
-    settings_with (names_with options.place options.weekday) (dates_of_options options.date)
+abbrev pub settings_at : LettersModel → Option (List ℕ) → Result SettingsModel (Misuse × List ℕ)
+settings_at options place =
+    settings_with
+    (names_with options.replace place (unwrap_or options.place_of_all []) options.weekday)
+    (dates_of_options options.date)
     (or_typed options.separator (separator_of_word options.separator))
     (or_typed options.order (order_of_word options.order))
+
+-- what all the words ask for, or the first that is wrong: that of the place comes first
+abbrev pub settings_of_options : LettersModel → Result SettingsModel (Misuse × List ℕ)
+settings_of_options options =
+    place_named options.place_of_all options.place >>= λ place. settings_at options place

@@ -49,7 +49,10 @@ fn name_of<'a>(names: ColumnNames<'a>, column: Column) -> &'a str
     ensures { result.now ≡ spec.name_of (names_of names.entry) column }
 {
     match column {
-        Column::Place => names.place,
+        Column::Place => match names.place {
+            Some(name) => name,
+            None => "",
+        },
         Column::Date | Column::Year | Column::Month | Column::Day => {
             date_name_of(names.date, column)
         }
@@ -64,7 +67,7 @@ fn option_of(column: Column) -> &'static str
     ensures { result.now ≡ spec.option_of column }
 {
     match column {
-        Column::Place => "--place",
+        Column::Place => "--place, or the place of all rows with --in",
         Column::Date => "--date",
         Column::Year => "--year",
         Column::Month => "--month",
@@ -142,7 +145,7 @@ fn has_line(alloc: Global, line: u64, column: AddedColumn) -> Result<String, All
         alloc,
         line,
         name,
-        "is already there: remove it or rename it",
+        "is already there: remove it, rename it, or replace all twelve with --replace",
     )
 }
 

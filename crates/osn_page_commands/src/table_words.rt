@@ -45,17 +45,26 @@ pub(crate) struct WrongWord<'a> {
     pub(crate) typed: &'a str,
 }
 
+/// Returns a word, or an empty text if there is none.
+fn or_empty<'a>(word: Option<&'a str>) -> &'a str
+    ensures { result.now ≡ unwrap_or (option_map (λ word. word.now) word.entry) [] }
+{
+    match word {
+        Some(word) => word,
+        None => "",
+    }
+}
+
 /// Returns a word that is wrong, as it was typed.
 fn wrong_word<'a>(misuse: Misuse, word: Option<&'a str>) -> WrongWord<'a>
     ensures misuse { result.misuse ≡ misuse }
     ensures typed { result.typed.now
         ≡ unwrap_or (option_map (λ word. word.now) word.entry) [] }
 {
-    let typed = match word {
-        Some(word) => word,
-        None => "",
-    };
-    WrongWord { misuse, typed }
+    WrongWord {
+        misuse,
+        typed: or_empty(word),
+    }
 }
 
 /// Returns the names of the columns of the date. If no column is named, one has the whole date.
@@ -81,6 +90,69 @@ fn dates_of_options<'a>(options: DateOptions<'a>) -> Result<DateNames<'a>, Wrong
     Err(WrongWord { misuse, typed })
 }
 
+/// Returns the name of the column of places, unless one place of all rows is named.
+///
+/// # Errors
+///
+/// The option of the one place, if both are named.
+fn place_named<'a>(
+    place_of_all: Option<&'a str>,
+    name: Option<&'a str>,
+) -> Result<Option<&'a str>, WrongWord<'a>>
+    ensures ok { IfOk result (λ place.
+        spec.place_named (option_map (λ place. place.now) place_of_all.entry)
+        (option_map (λ name. name.now) name.entry)
+        ≡ Ok (option_map (λ place. place.now) place)) }
+    ensures err { IfErr result (λ wrong.
+        spec.place_named (option_map (λ place. place.now) place_of_all.entry)
+        (option_map (λ name. name.now) name.entry) ≡ Err (wrong.misuse, wrong.typed.now)) }
+{
+    match (place_of_all, name) {
+        (None, None) => Ok(Some("place")),
+        (None, Some(name)) => Ok(Some(name)),
+        (Some(_), None) => Ok(None),
+        (Some(_), Some(_)) => Err(WrongWord {
+            misuse: Misuse::PlaceAndColumn,
+            typed: "--in",
+        }),
+    }
+}
+
+/// Returns how a table is read, by the name of its column of places, if it has one.
+///
+/// # Errors
+///
+/// The first of the other words that is wrong.
+fn settings_at<'a>(
+    options: LettersOptions<'a>,
+    place: Option<&'a str>,
+) -> Result<TableSettings<'a>, WrongWord<'a>>
+    ensures ok { IfOk result (λ settings. spec.settings_at (letters_model options.entry)
+        (option_map (λ place. place.now) place.entry) ≡ Ok (settings_model settings)) }
+    ensures err { IfErr result (λ wrong. spec.settings_at (letters_model options.entry)
+        (option_map (λ place. place.now) place.entry) ≡ Err (wrong.misuse, wrong.typed.now)) }
+{
+    let separator = separator_of_word(options.separator);
+    let order = order_of_word(options.order);
+    match (dates_of_options(options.date), separator, order) {
+        (Err(wrong), _, _) => Err(wrong),
+        (Ok(_), Err(misuse), _) => Err(wrong_word(misuse, options.separator)),
+        (Ok(_), Ok(_), Err(misuse)) => Err(wrong_word(misuse, options.order)),
+        (Ok(date), Ok(separator), Ok(order)) => Ok(TableSettings {
+            names: ColumnNames {
+                place,
+                place_of_all: or_empty(options.place_of_all),
+                date,
+                weekday: weekday_column(options.weekday),
+                replaces: options.replace,
+            },
+            separator,
+            order,
+            places: None,
+        }),
+    }
+}
+
 /// Returns how a table is read, by the names of its columns, the word of what separates its fields,
 /// and that of the order of a date's three numbers. It has no table of places yet.
 ///
@@ -95,21 +167,6 @@ pub(crate) fn settings_of_options<'a>(
     ensures err { IfErr result (λ wrong. spec.settings_of_options (letters_model options.entry)
         ≡ Err (wrong.misuse, wrong.typed.now)) }
 {
-    let separator = separator_of_word(options.separator);
-    let order = order_of_word(options.order);
-    match (dates_of_options(options.date), separator, order) {
-        (Err(wrong), _, _) => Err(wrong),
-        (Ok(_), Err(misuse), _) => Err(wrong_word(misuse, options.separator)),
-        (Ok(_), Ok(_), Err(misuse)) => Err(wrong_word(misuse, options.order)),
-        (Ok(date), Ok(separator), Ok(order)) => Ok(TableSettings {
-            names: ColumnNames {
-                place: options.place,
-                date,
-                weekday: weekday_column(options.weekday),
-            },
-            separator,
-            order,
-            places: None,
-        }),
-    }
+    let place = place_named(options.place_of_all, options.place)?;
+    settings_at(options, place)
 }

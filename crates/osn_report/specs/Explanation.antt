@@ -37,11 +37,13 @@ note path said = codes "note: " ++ (escaped path ++ (codes ": " ++ (said ++ code
 
 -- ---- a bad line of a journal
 
--- that a file is not a journal, and how one begins
+-- that a file is not a journal, how the journal is named if its word was left out, and how one
+-- begins
 abbrev pub head_text : List ℕ → List ℕ
 head_text path = codes "help: "
-    ++ (escaped path ++ codes
-    " is not a journal: oldstyle publish FILE TEXT begins one in a new or empty file\n")
+    ++ (escaped path
+    ++ (codes " is not a journal: --journal FILE names one, and "
+    ++ codes "oldstyle publish FILE TEXT begins one in a new or empty file\n"))
 
 -- what a stop may have left at the end of a journal, and what cuts it off
 abbrev pub torn_text : ℕ → List ℕ → List ℕ

@@ -15,6 +15,7 @@ use Rattle.osn_report.specs.declared.misuse.Misuse.TheVariants.{WhichConversion,
 use Rattle.osn_report.specs.declared.misuse.Misuse.TheVariants.{NoSuchDate, Month, Limits}
 use Rattle.osn_report.specs.declared.misuse.Misuse.TheVariants.{Separator, Order, Shell}
 use Rattle.osn_report.specs.declared.misuse.Misuse.TheVariants.{OpenOrder, DateAndParts}
+use Rattle.osn_report.specs.declared.misuse.Misuse.TheVariants.{PlaceAndColumn}
 use Rattle.osn_report.specs.declared.misuse.Misuse.TheVariants.{PartWithoutYear, DayWithoutMonth}
 
 abbrev pub both_calendars : List ℕ
@@ -106,6 +107,7 @@ misuse_text DateAndParts = codes
     "it can't be used with --year, --month or --day: leave it out, or leave them out"
 misuse_text PartWithoutYear = codes "it requires --year: name the column of years too"
 misuse_text DayWithoutMonth = codes "it requires --month: name the column of months too"
+misuse_text PlaceAndColumn = codes "it can't be used with --place: leave out one of them"
 misuse_text Shell = codes "a shell is bash, zsh or fish"
 
 -- the line on standard error, which begins with the word as it was typed

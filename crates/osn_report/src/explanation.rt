@@ -35,12 +35,14 @@ fn note(alloc: Global, path: &str, message: &str) -> Result<Option<String>, Allo
     Ok(Some(format!(in alloc; "note: {}: {message}\n", Escaped(path))?))
 }
 
-/// Returns the text that a file is not a journal, and how one begins.
+/// Returns the text that a file is not a journal, how the journal is named if its word was left
+/// out, and how one begins.
 fn head_text(alloc: Global, path: &str) -> Result<String, AllocError>
     ensures { IfOk result (λ text. string_bytes text ≡ spec.head_text path.now) }
 {
     format!(in alloc;
-        "help: {} is not a journal: oldstyle publish FILE TEXT begins one in a new or empty file\n",
+        "help: {} is not a journal: --journal FILE names one, and oldstyle publish FILE TEXT \
+begins one in a new or empty file\n",
         Escaped(path)
     )
 }

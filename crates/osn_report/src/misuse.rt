@@ -53,6 +53,8 @@ pub enum Misuse {
     PartWithoutYear,
     /// It names a column of days, without one of months.
     DayWithoutMonth,
+    /// It names the place of all rows, with a column of places.
+    PlaceAndColumn,
     /// It must be a shell, and isn't one.
     Shell,
 }
@@ -198,6 +200,9 @@ write the month by its name, or use --order dmy or mdy",
             }
             Misuse::DayWithoutMonth => {
                 f.write_str("it requires --month: name the column of months too")
+            }
+            Misuse::PlaceAndColumn => {
+                f.write_str("it can't be used with --place: leave out one of them")
             }
             Misuse::Shell => f.write_str("a shell is bash, zsh or fish"),
         }
