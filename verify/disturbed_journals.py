@@ -185,7 +185,7 @@ def try_changed(program, folder, change):
         stderr = saver.communicate()[1].decode()
     what = f"{change.__name__}: a file that was changed"
     check(f"{what} is replaced: {saver.returncode} {stderr!r}",
-          saver.returncode == 3 and stderr.startswith("oldstyle: the file has changed meanwhile"))
+          saver.returncode == 3 and stderr.startswith("oldstyle: the file was changed meanwhile"))
     check(f"{what} is not left", text_at(path) == left)
     beside = stderr.rstrip("\n").rsplit(" ", 1)[-1]
     check(f"{what}: the journal is not beside it",

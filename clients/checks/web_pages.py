@@ -229,7 +229,8 @@ def check_bad_tables(page, program, journal):
     for table, expected in bad:
         status, _, body = page.ask("POST", "/letters", table)
         message = letters_run(program, journal, table)[1].removeprefix("oldstyle: ").strip()
-        message = message.replace("with --place", "in the field “Column of places” (column_place)")
+        message = message.replace("with --place, or the place of all rows with --in",
+                                  "in the field “Column of places” (column_place)")
         check(f"the table {table[:10]!r}", status == expected and message in
               body.decode(errors="replace"), status, body[-100:], message)
     form, headers = form_of({"order": "xyz"}, {"table": ("t.csv", b"place,date\n")})

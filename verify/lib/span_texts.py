@@ -13,11 +13,14 @@ MONTHS = {name.lower(): month for names in NAMES for month, name in enumerate(na
 
 YEARS = r"(?P<year>\d{3,5})(?:/(?P<later>\d{1,5}))?"
 NAME, DAY = f"(?P<name>{'|'.join(map(re.escape, MONTHS))})", r"(?P<day>\d{1,2})"
-DATES = [YEARS, f"anno {YEARS}", f"{YEARS}-XX(?:-XX)?", f"{NAME},? {YEARS}", f"{YEARS} {NAME}",
+DATES = [YEARS, f"anno {YEARS}", rf"(?!\d+/){YEARS}-XX-XX",
+         f"{NAME},? {YEARS}", f"{YEARS} {NAME}",
          f"{YEARS},? {NAME} {DAY}",
          rf"{YEARS}-(?P<month>\d\d)", rf"{YEARS}-(?P<month>\d\d)-(?P<day>\d\d)",
          f"{DAY} {NAME} {YEARS}", f"the {DAY} of {NAME}, {YEARS}", f"{NAME} {DAY}, {YEARS}",
          rf"{DAY}\.(?P<month>\d{{1,2}})\.{YEARS}"]
+# A year of which the month is open, alone.
+WITHOUT_MONTH = rf"(?!\d{{3}}-|\d+/){YEARS}-XX"
 # What the first date of a range may be, if the last one has the other parts.
 FRONTS = [DAY, f"{DAY} {NAME}", NAME]
 # With a dash after it a double year alone is not a first date.
@@ -35,7 +38,7 @@ THAN = {"no earlier than ": "not before ", "no later than ": "not after ",
 START = r"(?:from|since) (.+)"
 # A range of days after its month.
 MONTH_FIRST = (rf"(?P<month>{NAME}) (?P<days>\d{{1,2}}(?: ?[-\u2013] ?| to | or )\d{{1,2}}),? "
-               rf"(?P<rest>{YEARS})")
+               r"(?P<rest>\d{3,5})$")
 
 # A double year after a dash, with what is before or after it.
 DASHED = r"(?P<year>\d{4,5})[-\u2013](?P<last>\d+)"
@@ -56,7 +59,8 @@ NONE = {r" *|n\.d\.|s\.d\.|undated|no date": "no date",
 
 # Years of which the last digits are open, and centuries by their number.
 DECADE, HUNDRED = r"(\d\d\d)[x_]|(\d\d[1-9])0s", r"(\d\d)[x_]{2}"
-CENTURY = r"([4-9]|1\d|20)th (?:century|c\.?)"
+LETTER = r"(?-i:(1\d|20)th c\.?)"
+CENTURY = rf"([4-9]|1\d|20)th century|{LETTER}"
 # The same by signs alone: [158-?], 15--.
 BY_SIGNS = r"(\[?)(?:([1-9]\d\d)(?:\?|-(\??))|([1-9]\d)--(\??))(\]?)"
 
@@ -131,7 +135,7 @@ def years_of(text):
     if match := re.fullmatch(HUNDRED, text, re.I):
         return range_of(100 * int(match[1]), 100)
     if match := re.fullmatch(CENTURY, text, re.I):
-        return range_of(100 * int(match[1]) - 99, 100)
+        return range_of(100 * int(match[1] or match[2]) - 99, 100)
     return None
 
 
@@ -233,8 +237,10 @@ def extent_of(text):
     """One date, a range or a bound."""
     if found := years_of(text) or open_in(text):
         return found
-    text = re.sub(MONTH_FIRST, r"\g<days> \g<month> \g<rest>", with_slash(text), flags=re.I)
-    if parts := matched(DATES, text):
+    text = with_slash(text)
+    if (days := re.match(MONTH_FIRST, text, re.I)) and MONTHS[days["name"].lower()] > 3:
+        text = f"{days['days']} {days['month']} {days['rest']}"
+    if parts := matched([*DATES, WITHOUT_MONTH], text):
         return Span("on", simple_of(parts, text))
     if parts := matched([rf"{FEAST} {YEARS}"], text):
         return Span("feast", simple_of(parts, text), feast=NAMED[parts["feast"].lower()])
@@ -293,6 +299,8 @@ def set_of(text):
     """The set or the list that a text is, or None. Its days have one sign, or none."""
     if not re.fullmatch(f"{SET}|{LIST}", text):
         return None
+    if len({re.sub("[^?~%]", "", member) for member in text.split(",")}) > 1:
+        raise Unread(text)
     members = []
     for member in text.strip("[]{}").split(","):
         first, dots, last = (part.strip(" ?~%") for part in member.partition(".."))
@@ -313,6 +321,8 @@ def span_of(text):
     if re.search(r"[][]", rest):
         rest = re.sub(r"[][]", " ", re.sub(WITHIN, "", rest, flags=re.I))
         rest, supplied = " ".join(rest.split()), True
+        if re.fullmatch(LETTER, rest, re.I):
+            raise Unread(text)
     rest, uncertain = without(UNCERTAIN, rest)
     if (supplied or uncertain) and re.search(THREE_DIGITS, rest):
         raise Unread(text)

@@ -99,13 +99,20 @@ def test_a_missing_program_is_reported_without_its_path() -> None:
     assert work.places.acquire(blocking=False)
 
 
+@pytest.mark.parametrize("message, of_the_page", [
+    ("no column date: name yours with --date",
+     "no column date: name yours in the field “Column of dates” (column_date)"),
+    ("no column place: name yours with --place, or the place of all rows with --in",
+     "no column place: name yours in the field “Column of places” (column_place)"),
+    ("the column jdn is already there: remove it, rename it, or replace all twelve with --replace",
+     "the column jdn is already there: remove it or rename it")])
 def test_a_fault_of_the_table_is_reported_in_terms_of_the_page(
-        script: Callable[[str], str]) -> None:
-    program = script("echo 'oldstyle: line 1: no column date: name yours with --date' >&2; exit 1")
+        script: Callable[[str], str], message: str, of_the_page: str) -> None:
+    program = script(f"echo 'oldstyle: line 1: {message}' >&2; exit 1")
     with pytest.raises(Problem) as why:
         Tables(Settings(SAMPLES, program)).rows({}, table_of(b"x\n"), None)
     assert why.value.code == 422
-    assert "name yours in the field “Column of dates” (column_date)" in str(why.value.description)
+    assert str(why.value.description).endswith(of_the_page)
 
 
 @pytest.mark.parametrize("report, last", [("1", b'\x1e{"status": 1, "message": "a fault"}'),

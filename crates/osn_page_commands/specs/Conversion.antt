@@ -8,7 +8,7 @@ use Rattle.osn_page_commands.specs.DateHint.{ReportsWord}
 use Rattle.osn_report.specs.declared.status.Status.{Status}
 
 -- how the command ends: it printed the day that the words ask for, by the weekday that is given, if
--- any. Or it reported which argument is not what its place asks for
+-- any. Or it reported which argument is wrong
 abbrev pub PrintsConversion : List ℕ → List ℕ → Output → Output → Status → Type 0
 PrintsConversion calendar date o e status = MatchResult (conversion_of_words calendar date)
     (λ conversion. PrintsIfMade (conversion_page conversion.0 conversion.1) o e status)

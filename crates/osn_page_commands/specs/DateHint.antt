@@ -66,8 +66,7 @@ first_year (Some parts) =
     if is_some (number_of parts.0)
     then codes "help: write the first of the two years alone: " ++ (parts.0 ++ codes "\n") else []
 
--- the lines on a word that is not what its place asks for: what the place asks for, and what may be
--- meant
+-- the lines on a wrong argument: what is allowed there, and what may be meant
 abbrev pub misuse_help : Misuse → List ℕ → List ℕ
 misuse_help (misuses.Date faults.Malformed) typed = name_help typed
 misuse_help (misuses.Date faults.Year) typed = first_year (parts_at 47 typed)

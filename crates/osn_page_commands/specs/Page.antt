@@ -239,8 +239,8 @@ PrintsTopic limits path number journal word date topic o e status =
     × OnEdition number s (λ edition. PrintsPageOn edition path word date topic
     (place_of topic word edition.territories) o e status) o e status
 
--- by words: that, once the journal was opened; or a word is not what its place asks for, which was
--- reported, and no file was opened
+-- by words: that, once the journal was opened; or a word is wrong, which was reported, and no file
+-- was opened
 abbrev pub RunsWords : Limits → List ℕ → Option ℕ → PageRequestModel → (Bool → Type 0) → Folders
     → Output → Output → Status → Type 0
 RunsWords limits path number words CanFail d o e status = MatchResult (topic_of_words words)

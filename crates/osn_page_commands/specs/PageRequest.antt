@@ -1,4 +1,4 @@
--- What the words of a command line ask for, or which word is not what its place asks for.
+-- What the words of a command line ask for, or which word is wrong.
 use Rattle.std.specs.Prelude.{ℕ, pos, Bool, true, false, nat_le, if◌then◌else◌, codes, List}
 use Rattle.std.specs.Prelude.{[], ◌∷◌, Option, Some, None, Result, Ok, Err}
 use Rattle.std.specs.Option.{ok_or}
@@ -35,7 +35,7 @@ use Rattle.osn_page_commands.specs.declared.page_request.Topic.TheVariants.{Terr
 use Rattle.osn_report.specs.declared.misuse.Misuse.{Misuse}
 use Rattle.osn_report.specs.declared.misuse.Misuse.TheVariants as misuses
 
--- one word after another, if the first one is what its place asks for
+-- one word after another, if the first one is right
 infixl 10 ◌>>=◌
 abbrev pub ◌>>=◌ : {A B : Type 0} → Result A Misuse → (A → Result B Misuse) → Result B Misuse
 (Ok x) >>= f = f x
@@ -173,7 +173,7 @@ conversion_of_words word text =
     else (if is_julian_word word then without_weekday (day_by_julian text)
     else day_by_date word text)
 
--- the word that is not what its place asks for
+-- the word that is wrong
 abbrev pub wrong_word_of_conversion : List ℕ → List ℕ → Misuse → List ℕ
 wrong_word_of_conversion calendar date misuses.Calendar = calendar
 wrong_word_of_conversion calendar date misuse = date
@@ -259,7 +259,7 @@ territory_word (year_words code year) = code
 territory_word (territory_words None json) = []
 territory_word (territory_words (Some code) json) = code
 
--- the word that is not what its place asks for
+-- the word that is wrong
 abbrev pub wrong_word_of_reading : List ℕ → Option (List ℕ) → Option (List ℕ) → Misuse → List ℕ
 wrong_word_of_reading date (Some weekday) order misuses.Weekday = weekday
 wrong_word_of_reading date (Some weekday) order (misuses.OtherWeekday named) = weekday

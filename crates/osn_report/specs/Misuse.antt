@@ -1,4 +1,4 @@
--- What is printed about an argument that is not what its place asks for. This project's profile.
+-- What is printed about a wrong argument. This project's profile.
 use Rattle.std.specs.Prelude.{ℕ, List, ◌++◌, codes}
 use Rattle.std.specs.Fmt.{decimal}
 use Rattle.osn_days.specs.CalendarWords.{calendar_word}

@@ -1,8 +1,15 @@
 -- What was found at the path of a save is what its contract says.
-use Rattle.std.proofs.Common.{◌≡◌, ℕ, Bool, List, [], Option}
-use Rattle.std.proofs.Common.{subst, unwrap_or, inr}
+use Rattle.std.proofs.Common.{◌≡◌, ℕ, Bool, List, [], Option, Some, None}
+use Rattle.std.proofs.Common.{Err, refl, subst, unwrap_or, inr}
+use Rattle.osn_days.specs.Rules.{newest_rules}
+use Rattle.osn_files.specs.Faults.{MatchFileFault}
+use Rattle.osn_files.specs.Journal.{load}
+use Rattle.osn_files.specs.declared.fault.FileFault.{FileFault}
+use Rattle.osn_files.specs.declared.fault.FileFault.TheVariants as file_faults
+use Rattle.osn_files.specs.declared.fault.Role.TheVariants as roles
 use Rattle.osn_folder.specs.Crash.{LeavesAllSafe}
 use Rattle.osn_folder.specs.Folder.{Known, Changes}
+use Rattle.osn_lines.specs.Lines.{lines}
 use Rattle.osn_lines.specs.Streams.{Input, Output}
 use Rattle.osn_register.specs.declared.limits.Limits.{Limits}
 use Rattle.osn_service.specs.declared.rules.ServeRules.{ServeRules}
@@ -10,9 +17,39 @@ use Rattle.osn_report.specs.declared.status.Status.{Status}
 use Rattle.osn_serve_commands.specs.InFolder.{EndsServing, FindsNoTarget, FindsTarget}
 use Rattle.osn_serve_commands.specs.InFolder.{RefusesTarget, SavesOverFound, bytes_of}
 use Rattle.osn_serve_commands.specs.InFolder.{is_left_beside}
-use Rattle.osn_serve_commands.specs.SaveTarget.{ReportsTarget}
+use Rattle.osn_serve_commands.specs.SaveTarget.{HoldsNoTarget, ReportsTarget, by_load}
 use Rattle.osn_serve_commands.specs.declared.target.SaveTarget.{SaveTarget}
 use Rattle.osn_serve_commands.specs.declared.target.TargetFault.{TargetFault}
+use Rattle.osn_serve_commands.specs.declared.target.TargetFault.TheVariants.{NoJournal, NotOpened}
+use Rattle.osn_serve_commands.specs.declared.target.TargetFault.TheVariants.{NotRead, NoMemory}
+
+-- if nothing was done, a crash leaves what it left
+pub same_safe : (known : Option Known) → Changes LeavesAllSafe known known
+same_safe None = tt
+same_safe (Some k) = (refl, refl, refl)
+
+-- what a file contains makes no object
+pub not_loaded : (limits : Limits) (held given : List ℕ) (Spared Failed : Type 0)
+    (fault : FileFault) (why : TargetFault) → why ≡ by_load fault → given ≡ held
+    → MatchFileFault fault Spared Failed (λ named line why. (named ≡ roles.Journal)
+    × (load newest_rules limits (lines given) ≡ Err (line, why)))
+    → HoldsNoTarget limits held why
+not_loaded limits held given Spared Failed (file_faults.BadLine role line cause) (NotOpened why) is
+    same h = absurd (cc)
+not_loaded limits held given Spared Failed file_faults.ReadFault (NotOpened why) is same h =
+    absurd (cc)
+not_loaded limits held given Spared Failed file_faults.NoMemory (NotOpened why) is same h =
+    absurd (cc)
+not_loaded limits held given Spared Failed fault NotRead is same h = tt
+not_loaded limits held given Spared Failed fault NoMemory is same h = tt
+not_loaded limits held given Spared Failed (file_faults.BadLine role line cause) NoJournal is same
+    h = (
+      (line, cause),
+      subst (λ (b : List ℕ). load newest_rules limits (lines b)
+          ≡ Err (line, cause)) same h.1,
+    )
+not_loaded limits held given Spared Failed file_faults.ReadFault NoJournal is same h = absurd (cc)
+not_loaded limits held given Spared Failed file_faults.NoMemory NoJournal is same h = absurd (cc)
 
 -- a journal is not saved over what was found
 pub target_refused : (limits : Limits) (save : Option (List ℕ)) (opened after : Option Known)

@@ -24,8 +24,10 @@ SEPARATORS = ["comma", "semicolon", "tab"]
 LONGEST_NAME = 200
 # The fault of a line of the journal that is just being written, and the seconds to wait for it.
 OF_JOURNAL, AWAITED = "journal line ", 1
-NAME_YOURS = re.compile(r"name yours with --(\w+)$")
+NAME_YOURS = re.compile(r"name yours with --(\w+)(?:, or the place of all rows with --in)?$")
 YOUR_NAME = r"name yours in the field “Column of \1s” (column_\1)"
+# What an option of the command line would do.
+REPLACE = re.compile(r", rename it, or replace all twelve with --replace$")
 PLACES_FILE = re.compile(r"/dev/fd/\d+")
 
 
@@ -122,7 +124,8 @@ class Tables:
                 break
             time.sleep(0.03)
         if end.status in (1, 2) and not end.message.startswith(OF_JOURNAL):
-            raise Problem(422, NAME_YOURS.sub(YOUR_NAME, end.message))
+            message = NAME_YOURS.sub(YOUR_NAME, end.message)
+            raise Problem(422, REPLACE.sub(" or rename it", message))
         raise unavailable(end.message)
 
     def run_once(self, words: list[str], passed: list[int], table: IO[bytes],
