@@ -62,8 +62,8 @@ class CommandLine(argparse.ArgumentParser):
 
     def program_at(self, name, path):
         """The absolute path of a program. One that is named without a folder is on the PATH."""
-        if found := shutil.which(path):
-            return os.path.abspath(found)
+        if result := shutil.which(path):
+            return os.path.abspath(result)
         if path == BUILT:
             self.error("this tree's program is not built: build it by ./oldstyle --prove, or name "
                        "another by --program PATH")

@@ -11,8 +11,8 @@ def read_crates():
     below = {}
     with open(os.path.join(TOP, "crates.txt"), encoding="utf-8") as lines:
         for line in lines:
-            if found := re.match(r"([a-z]\w*):(.*)", line):
-                below[found[1]] = found[2].split()
+            if match := re.match(r"([a-z]\w*):(.*)", line):
+                below[match[1]] = match[2].split()
     return {name: [it for it in names if it in below] for name, names in below.items()}
 
 

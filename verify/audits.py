@@ -36,8 +36,11 @@ def query(chance):
                           {"op": "exceptions", "code": code}, {"op": "changes", "code": code},
                           {"op": "figures", "year": 1724},
                           {"op": "easter", "code": code, "year": 1724},
+                          {"op": "feasts", "code": code, "year": 1724},
                           {"op": "day", "code": code, "day": 577_736},
                           {"op": "read", "code": code, "year": 1582, "month": 10, "day": 4},
+                          {"op": "convert", "code": code, "calendar": "gregorian", "year": 1582,
+                           "month": 10, "day": 15},
                           {"op": "read", "code": code, "year": 1543, "month": 4, "day": 1}])
 
 
@@ -96,14 +99,14 @@ def long_audit(oldstyle, journal, transcript, line):
 
 def try_transcript(oldstyle, chance, journal, transcript, lines):
     """Tries a transcript as it is, and with a reply changed if it has one."""
-    found = audited(oldstyle, journal, transcript, lines)
-    check(f"{found} of", found == (0, f"audit: {len(lines)} replies agree\n"), lines)
+    result = audited(oldstyle, journal, transcript, lines)
+    check(f"{result} of", result == (0, f"audit: {len(lines)} replies agree\n"), lines)
     if lines:
         bad = chance.randrange(len(lines))
         changed = lines[:bad] + [with_other_digit(chance, lines[bad])] + lines[bad + 1:]
-        found = audited(oldstyle, journal, transcript, changed)
+        result = audited(oldstyle, journal, transcript, changed)
         expected = (1, f"oldstyle: transcript line {bad + 1}: 42 WrongReply\n")
-        check(f"{found} of", found == expected, changed[bad])
+        check(f"{result} of", result == expected, changed[bad])
 
 
 def main():

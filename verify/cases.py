@@ -6,10 +6,12 @@ README.md beside that folder has their form. The gate runs the first by the code
 a folder in memory, which proves nothing about its main function, its files and the streams of the
 system. A command that names a path in `private/`, `broken/` or `full/`, or `a.folder/`, is left
 out: only the memory has them. No variable of the environment names a journal, except as a case
-says. Prints each stream and each status that is not as its case says.
+says. On a terminal the title of a page is in bold letters. Prints each stream and each status that
+is not as its case says.
 """
 import glob
 import os
+import pty
 import re
 import subprocess
 import tempfile
@@ -171,6 +173,24 @@ def run_case(program, name, head, case):
     return count
 
 
+def check_title(program):
+    """Checks that a terminal shows the title of a page in bold letters, unless the environment says
+    that it doesn't."""
+    command = [program, "territory", os.path.join(TOP, "examples", "samples.journal")]
+    page = subprocess.run(command, capture_output=True, timeout=60, check=False).stdout
+    title, lines = page.split(b"\n", 1)
+    bold = b"\x1b[1m" + title + b"\x1b[0m\n" + lines
+    for variables, expected in (({"TERM": "xterm"}, bold), ({"TERM": "dumb"}, page),
+                                ({"TERM": "xterm", "NO_COLOR": "1"}, page)):
+        terminal, output = pty.openpty()
+        subprocess.run(command, stdout=output, env=variables, timeout=60, check=False)
+        shown = os.read(terminal, 65_536).replace(b"\r\n", b"\n")
+        os.close(output)
+        os.close(terminal)
+        check(f"a page on a terminal with {variables}:", shown == expected,
+              difference(expected, shown))
+
+
 def main():
     line = CommandLine(__doc__)
     line.add_program()
@@ -185,6 +205,7 @@ def main():
             commands += sum(pool.map(lambda case: run_case(options.program, os.path.basename(path),
                                                            head, case), rest))
         cases += len(rest)
+    check_title(options.program)
     return verdict(f"{cases} cases of {commands} commands hold over folders of the system")
 
 

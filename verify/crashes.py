@@ -98,7 +98,7 @@ class Disk:
             return
         of_folder = [change for folder, change in self.names if folder == step.name]
         self.synced_names = named(self.synced_names, of_folder)
-        self.names = [found for found in self.names if found[0] != step.name]
+        self.names = [result for result in self.names if result[0] != step.name]
 
     def take_name(self, step):
         """Moves, makes or takes away a name; the folder has the change from then on."""
@@ -123,13 +123,13 @@ class Disk:
     def fronts(self, number, chance):
         """What a file may hold: what was synced, and any prefix of what was done since."""
         changes, synced = self.files[number]
-        found = {bytes_of(changes[:synced])}
+        texts = {bytes_of(changes[:synced])}
         for place, (kind, value) in enumerate(changes[synced:], synced):
-            found.add(bytes_of(changes[:place + 1]))
+            texts.add(bytes_of(changes[:place + 1]))
             if kind == "write" and value:
-                found |= {bytes_of([*changes[:place], (kind, value[:chance.randrange(len(value))])])
+                texts |= {bytes_of([*changes[:place], (kind, value[:chance.randrange(len(value))])])
                           for _ in range(1 + (place == len(changes) - 1) * FRONTS)}
-        return sorted(found)
+        return sorted(texts)
 
 
 def named(names, changes):

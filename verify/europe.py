@@ -24,9 +24,9 @@ from lib.territory_texts import WORDS, lands_of
 EUROPE, JOURNAL = (os.path.join(TOP, "examples", f"europe.{kind}") for kind in ("toml", "journal"))
 
 
-def words_of(found):
+def words_of(result):
     """A day with its weekday, as notes write it."""
-    return f"{found['weekday']} {found['dual']}"
+    return f"{result['weekday']} {result['dual']}"
 
 
 def check_notes(code, land, changes):

@@ -332,8 +332,8 @@ def try_changed(program, folder, change, expected):
         check("a follower is not answered", b'"edition":1' in follower.stdout.readline())
         change(path)
         out, errors = follower.communicate(lands)
-    found = follower.returncode, out.decode(), errors.decode()
-    check(f"a follower of a changed file: {found}", found == (1, "", expected))
+    result = follower.returncode, out.decode(), errors.decode()
+    check(f"a follower of a changed file: {result}", result == (1, "", expected))
 
 
 def audited(program, journal, folder, number, connection):

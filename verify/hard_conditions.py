@@ -257,9 +257,9 @@ def try_shortened(words, name, size_of):
     """Checks that a command whose file grows shorter does what it does with the bytes it found."""
     for _ in range(TRIES):
         with filled(LONG_FILES) as folder:
-            if (found := shorten(folder, words, name, size_of)) is None:
+            if (outcome := shorten(folder, words, name, size_of)) is None:
                 continue
-            result, size, read = found
+            result, size, read = outcome
             left, length = others(folder, name)
         with filled(LONG_FILES) as folder:
             os.truncate(os.path.join(folder, name), read)

@@ -191,9 +191,9 @@ def try_kill(trial, chance, longest):
     with subprocess.Popen(words, stdout=subprocess.DEVNULL) as running:
         time.sleep(chance.uniform(0, longest))
         running.kill()
-    found = trial.contents()
-    is_whole, is_old = found == trial.after, found == trial.before
-    is_front = found.startswith(trial.before) and trial.after.startswith(found)
+    outcome = trial.contents()
+    is_whole, is_old = outcome == trial.after, outcome == trial.before
+    is_front = outcome.startswith(trial.before) and trial.after.startswith(outcome)
     check("a kill leaves other lines", is_whole or is_old or is_front and not trial.is_saved_again)
     for path in trial.unfinished():
         check("a kill leaves a file beside the journal", trial.is_saved_again)
@@ -210,9 +210,9 @@ def try_kills(trial, options):
     begun = time.monotonic()
     trial.check_next("nothing")
     longest = 1.2 * (time.monotonic() - begun)
-    found = [try_kill(trial, chance, longest) for _ in range(options.count)]
+    outcome = [try_kill(trial, chance, longest) for _ in range(options.count)]
     trial.check_next("kills")
-    return [sum(column) for column in zip(*found)]
+    return [sum(column) for column in zip(*outcome)]
 
 
 def try_all(options, source):

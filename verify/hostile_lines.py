@@ -33,7 +33,7 @@ TOO_LONG = b'{"fault":31,"name":"LineTooLong"}'
 
 OPS = ["add_land", "add_change", "alter_change", "drop_change", "add_exception", "drop_exception",
        "publish", "read", "day", "periods", "exceptions", "changes", "lands", "easter", "figures",
-       "written", "fly"]
+       "feasts", "convert", "written", "fly"]
 NAMES = ["op", "reader", "code", "name", "year", "month", "day", "calendar", "style", "rule",
          "date", "weekday", "source", "step", "ask", "journal", "Op", "op ", "", "~", "é",
          "o\\u0070", "\\u006fp", "co\\u0064e", "\\n"]
@@ -58,7 +58,9 @@ USUAL = {
     "drop_exception": ["code", "year"], "read": ["reader", "code", "year", "month", "day"],
     "day": ["reader", "code", "day"], "periods": ["reader", "code"],
     "exceptions": ["reader", "code"], "changes": ["reader", "code"], "lands": ["reader"],
-    "easter": ["reader", "code", "year"], "figures": ["reader", "year"],
+    "easter": ["reader", "code", "year"], "feasts": ["reader", "code", "year"],
+    "figures": ["reader", "year"],
+    "convert": ["reader", "code", "calendar", "year", "month", "day"],
     "written": ["reader", "code", "date", "weekday"],
 }
 VALUES = {

@@ -31,19 +31,42 @@ SPACES = ["", "", "", " ", "\t", "  "]
 LONGEST = 65_536
 
 # What is reported of a table, after `oldstyle: letters line <n>: `.
+WORKBOOK = "the table is a workbook (.xlsx, .ods): save it as CSV in UTF-8"
 IN_UTF_16 = "the table is in UTF-16: save it as CSV in UTF-8"
 IS_THERE = ("the column {name} is already there: remove it, rename it, or replace all twelve with "
             "--replace")
-OTHER_NUMBER = "a different number of fields than the header"
+OTHER_NUMBER = "a different number of fields than the header: {} instead of {}"
 TOO_LONG = "a record of more than 65536 bytes"
 OPEN_QUOTE = "a quote that opens in this record is never closed"
 TEXT_AFTER = "text follows a closing quote"
 
 
-def lacks(name, found, role):
+def lacks(name, result, role):
     """The line of a header that lacks a column, and has these."""
     one_place = ", or the place of all rows with --in" if role == "place" else ""
-    return f"no column {name}: the columns are {found}: name yours with --{role}{one_place}"
+    return f"no column {name}: the columns are {result}: name yours with --{role}{one_place}"
+
+
+def steps(word, name):
+    """How many letters are inserted, left out, replaced or swapped with the next one."""
+    table = {}
+    for i in range(len(word) + 1):
+        for j in range(len(name) + 1):
+            ways = [max(i, j)] if 0 in (i, j) else [
+                table[i - 1, j] + 1, table[i, j - 1] + 1,
+                table[i - 1, j - 1] + (word[i - 1] != name[j - 1])]
+            if min(i, j) > 1 and (word[i - 2:i], word[i - 1]) == (name[j - 2:j][::-1], name[j - 2]):
+                ways.append(table[i - 2, j - 2] + 1)
+            table[i, j] = min(ways)
+    return table[len(word), len(name)]
+
+
+def nearest(word, names):
+    """The first of the names that differ least from a word in ASCII, or None."""
+    most = min(len(word) // 3, 2)
+    counts = [steps(word.lower(), "".join(c.lower() if c.isascii() else c for c in name))
+              for name in names]
+    return names[counts.index(min(counts))] if min(counts) <= most else None
 
 
 def quoted(field):
@@ -154,7 +177,7 @@ def bad_record(chance, form, fields):
     kind = chance.randrange(4)
     if kind == 0:
         more = fields[:-1] if len(fields) > 2 and chance.random() < 0.5 else [*fields, "x"]
-        return form.record(more), OTHER_NUMBER
+        return form.record(more), OTHER_NUMBER.format(len(more), len(form.columns))
     if kind == 1:
         return lengthened(form, fields, 0, LONGEST + 1)[0], TOO_LONG
     front = form.record(fields[:-1]) + form.separator
@@ -187,8 +210,8 @@ def table_of(chance, form, territories, edition, middle):
             record, fields = lengthened(form, fields, form.columns.index("text"), LONGEST)
         table.add(record, last=place == rows - 1 and chance.random() < 0.5)
         weekday = read["weekday"] if form.has_weekday else ""
-        found = letter_fields(territories, edition, read["place"], read["date"], weekday)
-        table.out += written_row(fields + found, form.separator)
+        result = letter_fields(territories, edition, read["place"], read["date"], weekday)
+        table.out += written_row(fields + result, form.separator)
     return table
 
 
@@ -198,18 +221,18 @@ def differs(program, journal, form, table):
     mark = form.chance.choice(["", "\ufeff"])
     done = subprocess.run(words, input=(mark + table.text).encode(), capture_output=True,
                           check=False)
-    found = done.returncode, done.stdout.decode(), done.stderr.decode()
+    result = done.returncode, done.stdout.decode(), done.stderr.decode()
     expected = 1 if table.fault else 0, table.out, table.fault
-    if found == expected:
+    if result == expected:
         return []
     table_path = f"/tmp/letters-{os.getpid()}.csv"
     with open(table_path, "w", encoding="utf-8", newline="") as file:
         file.write(mark + table.text)
-    pairs = enumerate(zip(found[1], expected[1]))
+    pairs = enumerate(zip(result[1], expected[1]))
     places = [place for place, (one, other) in pairs if one != other]
-    at = places[0] if places else min(len(found[1]), len(expected[1]))
-    return [f"{words}, the table in {table_path}: status and fault {found[0]} {found[2]!r}, expected "
-            f"{expected[0]} {expected[2]!r}; at {at} {found[1][at - 60:at + 90]!r}, expected "
+    at = places[0] if places else min(len(result[1]), len(expected[1]))
+    return [f"{words}, the table in {table_path}: status and fault {result[0]} {result[2]!r}, "
+            f"expected {expected[0]} {expected[2]!r}; at {at} {result[1][at - 60:at + 90]!r}, expected "
             f"{expected[1][at - 60:at + 90]!r}"]
 
 

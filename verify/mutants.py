@@ -115,14 +115,14 @@ def check(crates):
     count, bad, texts, names = 0, 0, {}, Counter()
     for crate in crates:
         for mutant in (*of_the_gate(crate), *further(crate)):
-            found = list(faults(mutant))
+            result = list(faults(mutant))
             first = texts.setdefault((crate, mutant.lines[1:]), mutant.place)
             if first != mutant.place:
-                found.append(f"it repeats {first}")
-            for fault in found:
+                result.append(f"it repeats {first}")
+            for fault in result:
                 print(f"{mutant.place}: {fault}")
             names[mutant.breaks] += 1
-            count, bad = count + 1, bad + bool(found)
+            count, bad = count + 1, bad + bool(result)
     listed = {name for name in survivors() if name.partition(": ")[0] in crates}
     unclear = sorted(name for name in listed if names[name] != 1)
     for name in unclear:

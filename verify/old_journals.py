@@ -237,7 +237,7 @@ def on_shorter_line(request, reply):
         if period.get("last") == NEW_HIGH:
             period["last"] = HIGH
     if query["op"] == "read":
-        answer["days"] = [found for found in answer["days"] if found["day"] <= HIGH]
+        answer["days"] = [result for result in answer["days"] if result["day"] <= HIGH]
         if query["year"] > LAST_FULL_YEAR:
             del answer["skipped"]
     return compact(value)

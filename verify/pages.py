@@ -34,8 +34,7 @@ WRONG_WORDS = {
     "later year": "after the / comes the year that follows, in full or by its last digits, "
                   "such as 1731/2, 1731/32 or 1731/1732",
     "year": "a year is 0 to 10000",
-    "month": "a month is 1 to 12: in a range of years write the later year in full, such as "
-             "1640-1645",
+    "month": "a month is 1 to 12",
     "day": "a day of a month is 1 to 31",
 }
 WEEKDAY = "a weekday is written by its English name, such as Friday"
@@ -98,17 +97,20 @@ def untrimmed(words, page):
 
 def on_word(text, why):
     """The lines on an argument that is wrong."""
-    return [f"oldstyle: {text}: {why}"] + [f"help: {word}: did you mean {name}?"
-                                           for word, name in MEANT.items() if word in text.split()]
+    meant = [f"help: {word}: did you mean {name}?" for word, name in MEANT.items()
+             if word in text.split()]
+    if why == WRONG_WORDS["form"] and not meant and not any("0" <= letter <= "9" for letter in text):
+        meant = ["help: a date has at least a year, such as 1731"]
+    return [f"oldstyle: {text}: {why}"] + meant
 
 
 def differs(program, words, expected, status=0, faults=()):
     """What a run was asked and gave, if it gives another page or reports other faults."""
     done = run(program, words)
     yield from untrimmed(words, done.stdout)
-    found = done.returncode, done.stdout.splitlines(), done.stderr.splitlines()
-    if found != (status, expected, list(faults)):
-        yield f"{words}:\n  expected {expected} {faults}\n  found    {found}"
+    result = done.returncode, done.stdout.splitlines(), done.stderr.splitlines()
+    if result != (status, expected, list(faults)):
+        yield f"{words}:\n  expected {expected} {faults}\n  found    {result}"
 
 
 def mistakes(program, journal):
@@ -193,9 +195,9 @@ class Asked:
         query = compact({**ask, "weekday": weekday} if weekday else ask)
         answer = span_answer(self.territory.land, span, weekday)
         expected = compact({"answer": answer, "edition": self.service.edition, "reader": 1})
-        found = run(self.program, ["serve", "--journal", self.journal], [query]).stdout
-        if found != expected + "\n":
-            yield f"{query}:\n  expected {expected}\n  found    {found}"
+        result = run(self.program, ["serve", "--journal", self.journal], [query]).stdout
+        if result != expected + "\n":
+            yield f"{query}:\n  expected {expected}\n  found    {result}"
 
     def day(self):
         day = day_near(self.chance, self.territory, self.middle)
@@ -220,19 +222,19 @@ class Asked:
 
     def conversion(self, label):
         calendar, weekday = self.chance.choice(CALENDARS), self.chance.choice(["", *WEEKDAYS])
-        found = [day for day in days_by_month_and_day(calendar).get(label[1:], [])
+        result = [day for day in days_by_month_and_day(calendar).get(label[1:], [])
                  if dates(calendar)[day][0] == label[0]]
         text = written(label)
-        if not found:
+        if not result:
             line = (f"oldstyle: {text}: the {calendar} calendar has no such date "
                     "in the years 1 to 9999")
             yield from differs(self.program, ["convert", calendar, text], [], 2, [line])
             return
         words = ["convert", calendar, f"{weekday} {text}".strip()]
-        yield from differs(self.program, words, conversion_page(found[0], weekday or None))
-        for words in (["day", numbered(self.chance, found[0])],
-                      [self.chance.choice(["jdn", "JDN"]), str(found[0] + OFFSET)]):
-            yield from differs(self.program, ["convert", *words], conversion_page(found[0]))
+        yield from differs(self.program, words, conversion_page(result[0], weekday or None))
+        for words in (["day", numbered(self.chance, result[0])],
+                      [self.chance.choice(["jdn", "JDN"]), str(result[0] + OFFSET)]):
+            yield from differs(self.program, ["convert", *words], conversion_page(result[0]))
 
     def pages(self):
         """Each page about a date that differs from the one written independently."""
@@ -256,13 +258,13 @@ def main():
     with tempfile.TemporaryDirectory() as folder:
         while count < options.count:
             about = Asked(program, chance, os.path.join(folder, "some.journal"))
-            found = [] if count else list(mistakes(program, about.journal))
-            found += about.territories()
+            result = [] if count else list(mistakes(program, about.journal))
+            result += about.territories()
             for _ in range(min(EACH, options.count - count)):
                 count += 1
-                found += about.pages()
-            differ += len(found)
-            for difference in found:
+                result += about.pages()
+            differ += len(result)
+            for difference in result:
                 print(difference, flush=True)
     print(f"{count} dates, {differ} pages differ")
     return 1 if differ else 0

@@ -177,8 +177,8 @@ def check_countries():
         lands, names = lands_of(file.read()), set()
     for country, *date in COUNTRY.findall(ncal("-p")):
         for code in IN_EUROPE.get(country, []):
-            found, expected = last_julian_days(lands[code]), ["-".join(date)]
-            check(f"{code}: {found}, and ncal has {expected}", found == expected)
+            result, expected = last_julian_days(lands[code]), ["-".join(date)]
+            check(f"{code}: {result}, and ncal has {expected}", result == expected)
             names.add(country)
     return sorted(names)
 

@@ -83,7 +83,7 @@ def ends(starts):
     return [day for day, _ in starts[1:]] + [HIGH + 1]
 
 
-def skipped(starts, label, under, found):
+def skipped(starts, label, under, result):
     """The changes at which the label is skipped, `found` being the days on which it is read, and
     `under` having the days of each label under each calendar and style."""
     days = []
@@ -93,7 +93,7 @@ def skipped(starts, label, under, found):
         old, new = under[old_regime[:2]][label], under[new_regime[:2]][label]
         old_late = not old or any(day >= change for day in old)
         new_early = not new or any(day < change for day in new)
-        is_read = any(before <= day < last[place] for day in found)
+        is_read = any(before <= day < last[place] for day in result)
         if old_late and new_early and (old or new) and not is_read:
             days.append(change)
     return days
@@ -111,7 +111,7 @@ def expected_easters(starts, exceptions, easters):
             if in_force[day]:
                 days[year].append(day)
     listed = {year: [day] for year, day in exceptions.items()}
-    return {year: listed.get(year, sorted(found)) for year, found in days.items()}
+    return {year: listed.get(year, sorted(result)) for year, result in days.items()}
 
 
 def edits(code, starts, exceptions):
@@ -147,12 +147,12 @@ def territory_line(starts, labels):
 
 def readings(code, starts, chosen, line, under):
     """Requests with the days found, their labels and the changes at which the label was skipped."""
-    for label, found in days_by_label(line, chosen).items():
+    for label, result in days_by_label(line, chosen).items():
         year, month, day = label // 10_000, label // 100 % 100, label % 100
         date = {"year": year, "month": month, "day": day}
         request = {"op": "read", "reader": 1, "code": code, **date}
-        texts = [label_text(label)] * len(found)
-        yield request, (found, texts, skipped(starts, label, under, found))
+        texts = [label_text(label)] * len(result)
+        yield request, (result, texts, skipped(starts, label, under, result))
 
 
 def easter_queries(code, starts, exceptions, line, easters):
@@ -165,8 +165,8 @@ def easter_queries(code, starts, exceptions, line, easters):
 def answered(reply):
     """What a reply says, in the form that is expected."""
     answer = reply["answer"]
-    days = [found["day"] for found in answer["days"]]
-    texts = [found["label"] for found in answer["days"]]
+    days = [result["day"] for result in answer["days"]]
+    texts = [result["label"] for result in answer["days"]]
     return days, texts, answer.get("skipped", answer.get("listed"))
 
 

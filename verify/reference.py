@@ -13,11 +13,12 @@ import re
 import sys
 
 from lib.calendars import (HIGH, LAST_LABEL_YEAR, LAST_YEAR, WEEKDAYS, Land, dates, figures,
-                           key_of)
+                           key_of, labels, places)
 from lib.common import SCRIPT, CommandLine, compact, end
 from lib.date_meaning import Malformed, Territory, has_weekday, parse
 from lib.span_texts import Unread, span_of, why_none
 from lib.spans import Simple, near, none_answer, remarks, runs_found, runs_of, span_answer
+from lib.year_page import feasts
 
 LONGEST_LINE = 65_536
 DEEPEST = 128
@@ -48,6 +49,8 @@ MEMBERS = {
     "periods": "reader code",
     "exceptions": "reader code",
     "changes": "reader code",
+    "feasts": "reader code year",
+    "convert": "reader code calendar year month day",
     "written": "reader code date weekday",
 }
 
@@ -235,9 +238,17 @@ class Service:
             days = [land.found(d) for d in land.easters(year)]
             listed = {"listed": year in land.exceptions}
             return {"days": days, **listed, **cited(land.easter_sources, year)}
+        if op == "feasts":
+            refuse((lambda: not 1 <= year <= LAST_YEAR, 9))
+            return {"feasts": [
+                {"feast": name, "found": land.found(day), "year": january_year}
+                for name, day, january_year in feasts(Territory(land), year)]}
         refuse((lambda: not 0 <= year <= LAST_LABEL_YEAR, 9))
         refuse((lambda: not 1 <= month <= 12 or not 1 <= day <= 31, 18))
         key = key_of(year, month, day)
+        if op == "convert":
+            days = places(labels(value["calendar"], "january"), key)
+            return {"days": [land.found(d) for d in days]}
         return {"days": [land.found(d) for d in land.read(key)], "skipped": land.skipped(key)}
 
 
@@ -259,7 +270,7 @@ def written_answer(land, text, weekday):
     named = f"{date.weekday} " if date.weekday else ""
     written = Simple(date.year, date.is_double, date.month, date.day, date.has_three_digits)
     return {
-        "approximate": False, "kind": "day", "named_calendar": None,
+        "approximate": False, "ends_in_next_year": False, "kind": "day", "named_calendar": None,
         "named_weekday": date.weekday, "other_calendar": False,
         "read_as": [named + written.words()], "reason": None if days else territory.absence(date),
         "runs": runs_found(land, runs_of(sorted(days))), "supplied": False, "uncertain": False,
@@ -271,16 +282,16 @@ def written_answer(land, text, weekday):
 
 def changes_of(land):
     """The changes of a territory, each with the days about it and the dates that it leaves out."""
-    found, periods = [], land.periods()
+    result, periods = [], land.periods()
     for (_, before, old), (first, _, new) in zip(periods, periods[1:]):
         same = [day for day, date in enumerate(dates(old[0])) if date == dates(new[0])[first]]
-        found.append({
+        result.append({
             "before": land.found(before), "found": land.found(first),
             "left_out": max(0, same[0] - first) if same else None,
             "regime": regime_of(new), "regime_before": regime_of(old),
             **cited(land.sources, first), "twice": max(0, first - same[0]) if same else None,
         })
-    return found
+    return result
 
 
 def cited(sources, of):

@@ -43,10 +43,10 @@ def check_text(what, text, lands):
     begin = [f"edition = {int(bool(lands))}"] + [""] * bool(lands)
     lines, expected = text.split("\n")[:-1], begin + list(register_lines(lands))
     texts = [line for line in lines if line.startswith(("name = ", "source = "))]
-    found = [table for line in texts for table in tomllib.loads(line).values()]
+    result = [table for line in texts for table in tomllib.loads(line).values()]
     lines = [re.sub("^(name|source) = .*", r"\1 = ", line) for line in lines]
     check(f"{what}: the text is {lines}\n  and not {expected}",
-          lines == expected and found == list(texts_of(lands)))
+          lines == expected and result == list(texts_of(lands)))
 
 
 def answers_of(files, path, lands):
@@ -62,15 +62,15 @@ def answers_of(files, path, lands):
 
 def check_answers(what, answers, lands):
     """Checks what was returned for periods and listed Easters, with the sources."""
-    found = [answer["periods"] for answer in answers if "periods" in answer]
+    result = [answer["periods"] for answer in answers if "periods" in answer]
     expected = [[{**dict(zip(WORDS, regime)), "first": first, "last": last,
                   **cited(land.sources, first)} for first, last, regime in land.periods()]
                 for _, land in sorted(lands.items())]
-    check(f"{what}: the periods are {found}", found == expected)
-    found = [answer.get("source") for answer in answers if answer.get("listed")]
+    check(f"{what}: the periods are {result}", result == expected)
+    result = [answer.get("source") for answer in answers if answer.get("listed")]
     expected = [land.easter_sources.get(year) for _, land in sorted(lands.items())
                 for year in (*sorted(land.exceptions), 1_582, 1_999) if year in land.exceptions]
-    check(f"{what}: the sources of Easters are {found}", found == expected)
+    check(f"{what}: the sources of Easters are {result}", result == expected)
 
 
 def there_and_back(files, draws, number):
@@ -88,9 +88,9 @@ def there_and_back(files, draws, number):
     again = files.printed(what, "text", second)
     check(f"{what}: another text", again == text or list(lands) != sorted(lands))
     check_text(what, again, dict(sorted(lands.items())))
-    found = answers_of(files, first, lands)
-    check_answers(what, found, lands)
-    check(f"{what}: other answers", found == answers_of(files, second, lands))
+    result = answers_of(files, first, lands)
+    check_answers(what, result, lands)
+    check(f"{what}: other answers", result == answers_of(files, second, lands))
     try_saved(files, what, first, lands)
 
 

@@ -138,7 +138,10 @@ def query(chance):
     return chance.choice([{"op": "lands"}, {"op": "periods", "code": code},
                           {"op": "exceptions", "code": code}, {"op": "changes", "code": code},
                           {"op": "day", "code": code, "day": day},
-                          {"op": "easter", "code": code, "year": 1582}])
+                          {"op": "easter", "code": code, "year": 1582},
+                          {"op": "feasts", "code": code, "year": 1582},
+                          {"op": "convert", "code": code, "calendar": "gregorian", "year": 1582,
+                           "month": 10, "day": 15}])
 
 
 def regime(chance):

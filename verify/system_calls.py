@@ -97,14 +97,14 @@ def fill(folder, way):
 
 def files_in(folder):
     """What each file of a folder holds, with its permissions."""
-    found = {}
+    result = {}
     for at, _, names in os.walk(folder):
         for name in names:
             path = os.path.join(at, name)
             if not os.path.islink(path):
                 mode = stat.S_IMODE(os.stat(path).st_mode)
-                found[os.path.relpath(path, folder)] = (mode, bytes_at(path))
-    return found
+                result[os.path.relpath(path, folder)] = (mode, bytes_at(path))
+    return result
 
 
 def try_way(program, way, inject=None):
@@ -176,9 +176,9 @@ def check_rules(program, way):
 # ---- refused calls
 
 
-def check_save(what, way, found, refused):
+def check_save(what, way, result, refused):
     """The journal is the old one or the new one, as is reported, and nothing is beside it."""
-    done, before, after, _ = found
+    done, before, after, _ = result
     new = journal([*way.begun, *way.session.accepted])
     beside = {name: file for name, file in after.items() if name not in before
               and name != way.place}
@@ -207,10 +207,10 @@ def check_save(what, way, found, refused):
                                                                         **beside})
 
 
-def check_keep(what, way, found, refused):
+def check_keep(what, way, result, refused):
     """What was reported is in the file, which is a prefix of what was sent; the next run
     continues."""
-    done, before, after, (again, later) = found
+    done, before, after, (again, later) = result
     changes, edition = reported_changes(done.out)
     content, new = after.get(way.place, (0, None))[1], journal([*way.begun, *way.session.accepted])
     known = [LOCKED[2], REPLACED, *FAULTS]
@@ -257,9 +257,9 @@ def is_look_at_change(steps):
     return has_read and steps[place].kind == "look"
 
 
-def check_look(what, _, found, __):
+def check_look(what, _, result, __):
     """Nothing is changed, and what is reported is known."""
-    done, before, after, _ = found
+    done, before, after, _ = result
     known = done.err in ("", *FAULTS) or done.err.startswith("oldstyle: a.journal: ")
     check(f"{what}: {done.status} {done.err!r}", known and done.status == (3 if done.err else 0))
     check(f"{what}: other files", after == before)
@@ -276,11 +276,11 @@ def refuse_calls(program, way, steps):
             continue
         for error in ERRORS.get(step.kind, []):
             inject = f"{step.call}:error={error}:when={step.turn}"
-            found = try_way(program, way, inject)
+            result = try_way(program, way, inject)
             what = f"{way.name}, with {step.kind} {step.name} refused ({inject})"
-            met = [other for other in found[0].steps if other.was_refused]
+            met = [other for other in result[0].steps if other.was_refused]
             check(f"{what}: {len(met)} calls were refused", len(met) == 1)
-            CHECKS[kind_of(way)](what, way, found, step)
+            CHECKS[kind_of(way)](what, way, result, step)
             tried += 1
     return tried
 

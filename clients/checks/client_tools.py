@@ -67,9 +67,9 @@ def in_gramps(folder):
     dates = re.findall(r"^2 DATE (.*)$", read(path).decode(), re.MULTILINE)
     yield f"Gramps: {len(events)} events", len(events) == len(dates) == 50
     for date, expected in IN_GRAMPS.items():
-        found = [event for event, written in zip(events, dates) if written == date]
-        yield f"Gramps: {date}: {found}", bool(found) and all(f"<{expected}/>" in event
-                                                              for event in found)
+        result = [event for event, written in zip(events, dates) if written == date]
+        yield f"Gramps: {date}: {result}", bool(result) and all(f"<{expected}/>" in event
+                                                              for event in result)
 
 
 def in_r(installed, folder):

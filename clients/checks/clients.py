@@ -62,8 +62,8 @@ def rows_drawn(chance, count):
         yield chance.choice(["GB", "SE", "RU", "RM"]), text, weekday
 
 
-PLAIN = ("approximate", "kind", "named_calendar", "named_weekday", "not_counted_double",
-         "other_calendar", "reason", "supplied", "three_digits", "uncertain")
+PLAIN = ("approximate", "ends_in_next_year", "kind", "named_calendar", "named_weekday",
+         "not_counted_double", "other_calendar", "reason", "supplied", "three_digits", "uncertain")
 
 
 def request(row):
@@ -74,8 +74,8 @@ def request(row):
 def reply_of(reading):
     """The reply that a reading was made of."""
     answer = {name: getattr(reading, name) for name in PLAIN}
-    runs, year = ([{"first": vars(run.first), "last": vars(run.last)} for run in found]
-                  for found in (reading.runs, reading.year))
+    runs, year = ([{"first": vars(run.first), "last": vars(run.last)} for run in result]
+                  for result in (reading.runs, reading.year))
     lists = {"nearest": list(map(vars, reading.nearest)), "read_as": list(reading.read_as),
              "runs": runs, "skipped": list(reading.skipped), "year": year}
     return {"answer": {**answer, **lists, "weekday": reading.weekday_fits},
@@ -93,8 +93,8 @@ def worked(register):
     """Dates that were computed by hand."""
     for code, text, first, last in WORKED:
         reading = register.read(code, text)
-        found = [day and day.gregorian for day in (reading.earliest, reading.latest)]
-        yield f"read {text}: {found}", found == [first, last]
+        result = [day and day.gregorian for day in (reading.earliest, reading.latest)]
+        yield f"read {text}: {result}", result == [first, last]
         is_one = first == last is not None
         yield f"read {text}: one day: {reading.day}", (reading.day is not None) == is_one
         days = [day for run in reading.runs for day in (run.first, run.last)]
@@ -119,11 +119,11 @@ def piped(register, program, options):
     """Compares the replies to many rows with what the program writes for the same lines."""
     rows = list(rows_drawn(random.Random(options.seed), options.count))
     replies = run(program, ["serve", "--journal", SAMPLES], map(request, rows)).stdout.splitlines()
-    found = [reply_of(reading) for reading in register.read_many(rows)]
-    yield f"{len(rows)} readings", found == list(map(json.loads, replies))
+    result = [reply_of(reading) for reading in register.read_many(rows)]
+    yield f"{len(rows)} readings", result == list(map(json.loads, replies))
     few = rows[:500]
     one_by_one = [reply_of(reading) for reading in register.read_many(few, ahead=1)]
-    yield "rows one by one", one_by_one == found[:500]
+    yield "rows one by one", one_by_one == result[:500]
     counter = itertools.count()
     endless = (("GB", f"{next(counter) % 300 + 1500}") for _ in itertools.count())
     readings = list(itertools.islice(register.read_many(endless, ahead=50), 120))
@@ -133,10 +133,10 @@ def piped(register, program, options):
     mixed = [(reading.date, register.read("GB", "1640").date)
              for reading in register.read_many([("GB", "1650"), ("GB", "1651")])]
     yield "a question meanwhile", mixed == [("1650", "1640"), ("1651", "1640")]
-    yield from threaded(register, rows[:1000], found[:1000])
+    yield from threaded(register, rows[:1000], result[:1000])
 
 
-def threaded(register, rows, found):
+def threaded(register, rows, result):
     """Four threads that ask one register."""
     replies = {}
 
@@ -148,7 +148,7 @@ def threaded(register, rows, found):
         thread.start()
     for thread in threads:
         thread.join(60)
-    yield "four threads", all(replies.get(place) == found[place::4] for place in range(4))
+    yield "four threads", all(replies.get(place) == result[place::4] for place in range(4))
 
 
 def failing_rows():
@@ -180,6 +180,7 @@ def faults(register, program, folder):
         (lambda: register.read("GB", None), "TypeError", "not a text"),
         (lambda: register.ask("publish"), "ReadOnly", "only read"),
         (lambda: register.ask("easter", code="GB", year=0), "YearOffRange", "9999"),
+        (lambda: register.feasts("GB", 10_000), "YearOffRange", "9999"),
         (lambda: register.ask("fly"), "UnknownOp", "newer"),
         (lambda: list(register.read_many([("GB", "1640")], ahead=0)), "ValueError", "1 or more"),
         (lambda: list(register.read_many([("GB", "1640"), ("FR", "1")])), "UnknownLand", "FR"),
@@ -220,10 +221,10 @@ def cited(program, journal):
     lines = [{"journal": 4}, opening, change, easter, cited, {"op": "publish"}]
     put(journal, "".join(compact(line) + "\n" for line in lines).encode())
     with oldstyle.Register(journal, program=program) as register:
-        found = [one.source for ask in (register.periods, register.changes, register.exceptions)
+        result = [one.source for ask in (register.periods, register.changes, register.exceptions)
                  for one in ask("GB")]
         years = [easter.year for easter in register.exceptions("GB")]
-    yield f"sources: {found}", found == [None, "an act", "an act", None, "a table"]
+    yield f"sources: {result}", result == [None, "an act", "an act", None, "a table"]
     yield f"listed Easters: {years}", years == [1724, 1744]
 
 
@@ -248,8 +249,8 @@ def followed(program, journal):
         register = oldstyle.Register(journal, program=program, follow=True)
         for edition in range(2, 21):
             newest = publish(keeper, edition)
-            found = register.read(f"L{edition}", "1640").edition
-            yield f"a followed edition: {found}", found == newest == edition
+            result = register.read(f"L{edition}", "1640").edition
+            yield f"a followed edition: {result}", result == newest == edition
         keeper.stdin.close()
     register.close()
     with open(journal, "rb") as file:
@@ -289,12 +290,12 @@ def in_frames(register):
     frame = pandas.DataFrame({"code": ["GB", "FR", None, "GB"], "weekday": ["Friday", "", "", None],
                               "date": ["11 Feb. 1731/32", "1640", "1640", None]},
                              index=[7, 8, 9, 10])
-    found = oldstyle.read_frame(register, frame, weekday="weekday")
+    result = oldstyle.read_frame(register, frame, weekday="weekday")
     ordinal = datetime.date(1732, 2, 22).toordinal()
-    yield "pandas: a day", found.loc[7, "day"] == ordinal and bool(found.loc[7, "weekday_fits"])
-    fault_names = [None if pandas.isna(name) else name for name in found["fault"]]
+    yield "pandas: a day", result.loc[7, "day"] == ordinal and bool(result.loc[7, "weekday_fits"])
+    fault_names = [None if pandas.isna(name) else name for name in result["fault"]]
     yield "pandas: faults", fault_names == [None, "UnknownLand", "BadCode", None]
-    yield "pandas: no date", found.loc[10, "reason"] == "no date"
+    yield "pandas: no date", result.loc[10, "reason"] == "no date"
     years = pandas.DataFrame({"code": ["GB"] * 3, "date": [1731.0, None, 1640]})
     reasons = list(oldstyle.read_frame(register, years)["kind"])
     yield f"pandas: years with a gap: {reasons}", reasons == ["year", "none", "year"]

@@ -73,9 +73,9 @@ def read_page(program, journal, code, date, weekday="", order=""):
 def days_printed(lines):
     """The days that `read` prints of a date of one day, in the page's form. Any other date has
     runs."""
-    found = []
+    result = []
     if any(line in OPEN or COUNT.fullmatch(line) or line.startswith("from ") for line in lines):
-        return found
+        return result
     for line in lines:
         if day := DAY.match(line):
             _, weekday, dual, gregorian, julian, number, jdn, agrees = day.groups()
@@ -85,23 +85,23 @@ def days_printed(lines):
                 text += ", as stated"
             elif agrees:
                 text += f", {agrees}"
-            found.append(dict(zip(DAY_FACTS, (dual, text, gregorian, julian, number, jdn))))
-    return found
+            result.append(dict(zip(DAY_FACTS, (dual, text, gregorian, julian, number, jdn))))
+    return result
 
 
 def runs_printed(lines):
     """The runs that `read` prints, in the page's form."""
-    found = []
+    result = []
     for line in lines:
         if line in OPEN:
-            found.append(OPEN[line])
+            result.append(OPEN[line])
         elif day := DAY.match(line):
             name = {"from ": "From", "to   ": "To", None: "Day"}[day[1]]
-            found.append((name, f"{day[2]} {day[3]} {day[4]} Gregorian, {day[5]} Julian, "
+            result.append((name, f"{day[2]} {day[3]} {day[4]} Gregorian, {day[5]} Julian, "
                                 f"JDN {day[7]}"))
         elif count := COUNT.fullmatch(line):
-            found.append(("Days", count[1]))
-    return found
+            result.append(("Days", count[1]))
+    return result
 
 
 def found_printed(lines, is_feast):
@@ -148,9 +148,9 @@ def differences(html, program, journal, code, date, weekday="", order=""):
     """What a fragment says otherwise than `read` prints."""
     fragment = Fragment(html)
     lines, stderr = read_page(program, journal, code, date, weekday, order)
-    found, expected = days_shown(fragment), found_printed(lines, FEAST in html)
-    is_right = found == expected or TWO_WEEKDAYS in stderr
-    wrong = [] if is_right else [f"days {found}, expected {expected}"]
+    result, expected = days_shown(fragment), found_printed(lines, FEAST in html)
+    is_right = result == expected or TWO_WEEKDAYS in stderr
+    wrong = [] if is_right else [f"days {result}, expected {expected}"]
     notes = [bare(note) for note in fragment.notes if not note.startswith("The date is ")]
     expected = list(dict.fromkeys(map(as_shown, notes_printed(lines, stderr))))
     # (`read` has this for one day alone)

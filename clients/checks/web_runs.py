@@ -51,27 +51,27 @@ def process_table():
 
 def below(root):
     """The processes that a process started, directly or not, with their start times."""
-    table, found, more = process_table(), {}, [root]
+    table, result, more = process_table(), {}, [root]
     while more:
         parent = more.pop()
         for process, (its_parent, start, _) in table.items():
-            if its_parent == parent and process not in found:
-                found[process] = start
+            if its_parent == parent and process not in result:
+                result[process] = start
                 more.append(process)
-    return found
+    return result
 
 
-def still_there(found):
+def still_there(result):
     """Those of some processes that have not ended."""
     table = process_table()
-    return [process for process, start in found.items()
+    return [process for process, start in result.items()
             if process in table and table[process][1] == start]
 
 
-def left_after(found, seconds=5):
+def left_after(result, seconds=5):
     """Those that have not ended after some time."""
     last = time.monotonic() + seconds
-    while (left := still_there(found)) and time.monotonic() < last:
+    while (left := still_there(result)) and time.monotonic() < last:
         time.sleep(0.05)
     return left
 
@@ -146,14 +146,14 @@ class Page:
 
     def stop(self, signal=15, seconds=10):
         """Ends the run by a signal. Returns the processes that it left, and what it printed."""
-        found = self.children()
+        result = self.children()
         self.process.send_signal(signal)
         try:
             self.process.wait(timeout=seconds)
         except subprocess.TimeoutExpired:
             self.process.kill()
-            return left_after(found), "it didn't end in time"
-        return left_after(found), self.errors_text()
+            return left_after(result), "it didn't end in time"
+        return left_after(result), self.errors_text()
 
 
 def first_line(connection):

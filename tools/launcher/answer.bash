@@ -65,9 +65,23 @@ takes_input() { [[ ${1:-} =~ ^(|serve|letters)$ ]] && ! asks_help "$@"; }
 # names: the program gets neither while it is tried.
 reads_default() {
     local own=${XDG_DATA_HOME:-${HOME:-}/.local/share}/oldstyle/register.journal
-    [[ ${1:-} =~ ^(read|day|month|year|territory|almanac|letters|text)$ ]] || return 1
-    [[ " ${*:2} " != *" --journal "* ]] && ! asks_help "$@" || return 1
+    [[ ${1:-} =~ ^(read|day|month|year|territory|almanac|letters|text|plan)$ ]] || return 1
+    [[ " ${*:2} " != *" --journal"[\ =]* ]] && ! asks_help "$@" || return 1
+    if [ "$1" = plan ]; then
+        [ "$(plain_words "${@:2}")" = 1 ]
+        return
+    fi
     (cd "$from" && [ ! -e "${2:-}" ] && { [ -n "${OLDSTYLE_JOURNAL:-}" ] || [ -e "$own" ]; })
+}
+
+# Prints how many of these words are neither options nor the value of --limits.
+plain_words() {
+    local word before="" number=0
+    for word in "$@"; do
+        [[ $word == -* || $before == --limits ]] || number=$((number + 1))
+        before=$word
+    done
+    echo "$number"
 }
 
 # Prints each file that is there and that an argument after the command names, ended by a zero byte.

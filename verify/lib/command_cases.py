@@ -40,6 +40,8 @@ QUERIES = [
     '{"op":"periods","reader":1,"code":"GB"}',
     '{"op":"exceptions","reader":1,"code":"GB"}',
     '{"op":"changes","reader":1,"code":"GB"}',
+    '{"op":"feasts","reader":1,"code":"GB","year":1731}',
+    '{"op":"convert","reader":1,"code":"GB","calendar":"gregorian","year":1752,"month":9,"day":14}',
     '{"op":"written","reader":1,"code":"GB","date":"11 February 1731/2","weekday":"Friday"}',
 ]
 LEFT = [
@@ -168,14 +170,14 @@ def filled(files=None):
 
 def contents_of(folder):
     """What a folder holds: of each name the kind and the permissions, and of a file its text."""
-    found = {}
+    result = {}
     for entry in os.scandir(folder):
         text = None
         if entry.is_file(follow_symlinks=False):
             with open(entry.path, encoding="utf-8") as file:
                 text = file.read()
-        found[entry.name] = (stat.filemode(entry.stat(follow_symlinks=False).st_mode), text)
-    return found
+        result[entry.name] = (stat.filemode(entry.stat(follow_symlinks=False).st_mode), text)
+    return result
 
 
 def is_refused(words, status, errors):

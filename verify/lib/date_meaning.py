@@ -98,10 +98,10 @@ def parse(text):
 
 @functools.cache
 def days_by_month_and_day(calendar):
-    found = defaultdict(functools.partial(array, "i"))
+    result = defaultdict(functools.partial(array, "i"))
     for day, date in enumerate(dates(calendar)[1:], 1):
-        found[date[1:]].append(day)
-    return dict(found)
+        result[date[1:]].append(day)
+    return dict(result)
 
 
 def years_about(year):

@@ -24,7 +24,7 @@ WEEKDAYS = ["Friday", "sunday", "MONDAY"]
 REASONS = ("not with both years", "no date of its calendar", "off the line", "skipped",
            "no such date in that year", "no such feast in that year")
 TWO_WEEKDAYS = b": the date names "
-MEMBERS = {"approximate", "kind", "named_calendar", "named_weekday", "nearest",
+MEMBERS = {"approximate", "ends_in_next_year", "kind", "named_calendar", "named_weekday", "nearest",
            "not_counted_double", "other_calendar", "read_as", "reason", "runs", "skipped",
            "supplied", "three_digits", "uncertain", "weekday", "year"}
 
@@ -125,12 +125,12 @@ class Dates:
         if done.why_wrong() or done.status or len(replies) != len(dates):
             return len(dates), [(f"{len(replies)} replies, status {done.status}, {done.stderr!r}",
                                  "serve", stdin)]
-        found = [(why, one.code, one.text.encode()) for one, reply in zip(dates, replies)
+        result = [(why, one.code, one.text.encode()) for one, reply in zip(dates, replies)
                  if (why := self.why_wrong(one, reply))]
-        found += self.by_letters(dates, replies)
+        result += self.by_letters(dates, replies)
         for place in chance.sample(range(len(dates)), READ):
-            found += self.by_read(dates[place], replies[place])
-        return len(dates), found
+            result += self.by_read(dates[place], replies[place])
+        return len(dates), result
 
     def why_wrong(self, one, reply):
         """What is wrong with the answer to a date."""
@@ -150,11 +150,11 @@ class Dates:
         rows.writerow(["place", "date", "weekday"])
         rows.writerows([one.code, one.text, one.weekday] for one, _ in pairs)
         done = Run([self.program, "letters", JOURNAL], table.getvalue().encode())
-        found = list(csv.DictReader(io.StringIO(done.out.decode(), newline="")))
-        if done.status or len(found) != len(pairs):
-            return [(f"{len(found)} rows, {done.stderr!r}", "letters", table.getvalue().encode())]
+        result = list(csv.DictReader(io.StringIO(done.out.decode(), newline="")))
+        if done.status or len(result) != len(pairs):
+            return [(f"{len(result)} rows, {done.stderr!r}", "letters", table.getvalue().encode())]
         return [(f"{why}: the row {row}, the answer {answer}", one.code, one.text.encode())
-                for (one, answer), row in zip(pairs, found) if (why := why_other_row(answer, row))]
+                for (one, answer), row in zip(pairs, result) if (why := why_other_row(answer, row))]
 
     def by_read(self, one, reply):
         """Checks that `read` has a page of it, or prints a fault in a line if it has none."""

@@ -11,7 +11,7 @@ import re
 from lib.common import TOP
 from lib.letter_rows import COLUMNS, letter_fields
 from letters import (IN_UTF_16, IS_THERE, LONGEST, OPEN_QUOTE, OTHER_NUMBER, SEPARATORS,
-                     TEXT_AFTER, TOO_LONG, lacks, line_ends)
+                     TEXT_AFTER, TOO_LONG, WORKBOOK, lacks, line_ends, nearest)
 from lib.mutations import Run, mutated
 from lib.text_pages import escaped
 from reference import REGIME, Service
@@ -146,10 +146,15 @@ def bad_header(columns):
             return IS_THERE.format(name=name).encode()
     for role in ROLES[:2]:
         if index_of(columns, role) is None:
+            if columns[0].startswith(b"PK\3\4"):
+                return WORKBOOK.encode()
             if any(b"\0" in name for name in columns):
                 return IN_UTF_16.encode()
             found = escaped(b", ".join(columns).decode("utf-8", "replace"))
-            return lacks(role, found, role).encode()
+            texts = [name.decode("utf-8", "replace").strip(SPACES) for name in columns]
+            near = nearest(role, texts)
+            more = "" if near is None else f"\nhelp: did you mean {escaped(near)}?"
+            return (lacks(role, found, role) + more).encode()
     return None
 
 
@@ -163,7 +168,7 @@ def expected_lines(table, named):
             if not why:
                 rows.append((separator, fields, [name.encode() for name in COLUMNS]))
         elif not why and len(fields) != len(columns):
-            why = OTHER_NUMBER.encode()
+            why = OTHER_NUMBER.format(len(fields), len(columns)).encode()
         elif not why:
             indices = [index_of(columns, role) for role in ROLES]
             read = [b"" if index is None else fields[index] for index in indices]

@@ -222,6 +222,6 @@ class Registers(Program):
         second = self.run("text", "second")
         self.is_right("another text of its own text", second and second.out == first.out)
         if lands is not None:
-            found = comparable(lands_of(first.out.decode()))
-            self.is_right(f"read back as {found}, expected {comparable(lands)}",
-                          found == comparable(dict(sorted(lands.items()))))
+            result = comparable(lands_of(first.out.decode()))
+            self.is_right(f"read back as {result}, expected {comparable(lands)}",
+                          result == comparable(dict(sorted(lands.items()))))

@@ -125,18 +125,18 @@ class Web:
         self.page.stop()
 
     def round(self, chance):
-        found, dates = [], []
+        result, dates = [], []
         for _ in range(AT_ONCE):
             request, date = self.request(chance)
             response = sent(self.page, request)
             why = why_wrong(request, response)
             if not why and date:
                 dates.append((request, date, response))
-            found += [(why, "as bytes", request)] if why else []
-        found += self.why_other_dates(dates)
+            result += [(why, "as bytes", request)] if why else []
+        result += self.why_other_dates(dates)
         if why := self.why_broken():
-            found.append((why, "after these requests", b""))
-        return AT_ONCE, found
+            result.append((why, "after these requests", b""))
+        return AT_ONCE, result
 
     def request(self, chance):
         """A request, and its question if it asks for a date."""

@@ -13,7 +13,7 @@ MONTHS = {name.lower(): month for names in NAMES for month, name in enumerate(na
 
 YEARS = r"(?P<year>\d{3,5})(?:/(?P<later>\d{1,5}))?"
 NAME, DAY = f"(?P<name>{'|'.join(map(re.escape, MONTHS))})", r"(?P<day>\d{1,2})"
-DATES = [YEARS, f"anno {YEARS}", rf"(?!\d+/){YEARS}-XX-XX",
+DATES = [YEARS, f"anno {YEARS}", rf"(?!\d+/|\d{{3}}-){YEARS}-XX-XX",
          f"{NAME},? {YEARS}", f"{YEARS} {NAME}",
          f"{YEARS},? {NAME} {DAY}",
          rf"{YEARS}-(?P<month>\d\d)", rf"{YEARS}-(?P<month>\d\d)-(?P<day>\d\d)",
@@ -59,7 +59,7 @@ NONE = {r" *|n\.d\.|s\.d\.|undated|no date": "no date",
 
 # Years of which the last digits are open, and centuries by their number.
 DECADE, HUNDRED = r"(\d\d\d)[x_]|(\d\d[1-9])0s", r"(\d\d)[x_]{2}"
-LETTER = r"(?-i:(1\d|20)th c\.?)"
+LETTER = r"(1\d|20)th c\.?"
 CENTURY = rf"([4-9]|1\d|20)th century|{LETTER}"
 # The same by signs alone: [158-?], 15--.
 BY_SIGNS = r"(\[?)(?:([1-9]\d\d)(?:\?|-(\??))|([1-9]\d)--(\??))(\]?)"
@@ -81,7 +81,7 @@ APPROXIMATE = r"(?:about|c\.|ca\.|circa) (.*)"
 def matched(forms, text):
     """The parts of the first form that a text has, or None."""
     tried = (re.fullmatch(form, text, re.I) for form in forms)
-    return next((found.groupdict() for found in tried if found), None)
+    return next((result.groupdict() for result in tried if result), None)
 
 
 def month_of(parts):
@@ -111,16 +111,17 @@ def date_of(text):
 
 
 def front_of(text, last):
-    """The first date of a range: one of the kind of the last one gets from it what it lacks."""
+    """The first date of a range, and whether it is a day of the year of the last one: one of the
+    kind of the last one gets from it what it lacks."""
     if not (parts := matched(FRONTS, text)):
-        return date_of(text)
+        return date_of(text), False
     month = month_of(parts) or last.month
     day = int(parts["day"]) if "day" in parts else None
     if last.month is None or (day is None) != (last.day is None):
         raise Unread(text)
     if day is not None and not 1 <= day <= 31:
         raise Unread(text)
-    return last._replace(month=month, day=day)
+    return last._replace(month=month, day=day), day is not None
 
 
 def range_of(first, count):
@@ -235,10 +236,10 @@ def years_by_signs(text):
 
 def extent_of(text):
     """One date, a range or a bound."""
-    if found := years_of(text) or open_in(text):
-        return found
+    if result := years_of(text) or open_in(text):
+        return result
     text = with_slash(text)
-    if (days := re.match(MONTH_FIRST, text, re.I)) and MONTHS[days["name"].lower()] > 3:
+    if days := re.match(MONTH_FIRST, text, re.I):
         text = f"{days['days']} {days['month']} {days['rest']}"
     if parts := matched([*DATES, WITHOUT_MONTH], text):
         return Span("on", simple_of(parts, text))
@@ -252,7 +253,8 @@ def extent_of(text):
     for form in RANGES:
         if match := re.fullmatch(form, text, re.I):
             last = date_of(match[2])
-            return Span("range", front_of(match[1], last), last)
+            first, one_year = front_of(match[1], last)
+            return Span("range", first, last, one_year=one_year)
     if match := re.fullmatch(START, text, re.I):
         return Span("not before", date_of(match[1]))
     raise Unread(text)
@@ -313,8 +315,8 @@ def set_of(text):
 
 def span_of(text):
     """The span that a text means."""
-    if found := years_by_signs(text) or set_of(text):
-        return found
+    if result := years_by_signs(text) or set_of(text):
+        return result
     if match := re.fullmatch(PHRASE, text, re.I):
         text = match[1]
     rest, supplied = without(SUPPLIED, text)

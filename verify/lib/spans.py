@@ -70,7 +70,7 @@ class Simple(NamedTuple):
 
 class Span(NamedTuple):
     """One date, a range, a bound or a set, with its marks. For a set the first date is that of its
-    first member."""
+    first member. A range of days may have one year, which is written for the last one."""
 
     kind: str
     first: Simple
@@ -82,6 +82,7 @@ class Span(NamedTuple):
     members: tuple = ()
     portion: Optional[str] = None
     feast: str = ""
+    one_year: bool = False
 
     def sign(self):
         return "%" if self.approximate and self.uncertain else (
@@ -97,6 +98,8 @@ class Span(NamedTuple):
         if self.kind == "set":
             return f"[{','.join(member.in_set(self.sign()) for member in self.members)}]"
         text = self.first.words()
+        if self.one_year:
+            text = f"{self.first.day} {MONTHS[self.first.month - 1]}"
         if self.kind == "feast":
             text = f"{self.feast} {text}"
         elif self.kind == "range":
@@ -173,6 +176,21 @@ def without_day(territory, span):
                 span)
 
 
+def day_of_next_year(territory, span):
+    """The last day of a range with one year that ends in the next one, None if it does not."""
+    first, last = span.first, span.last
+    if not span.one_year or first.is_double or first.year > 9_999:
+        return None
+    starts, ends = first.days(territory), last.days(territory)
+    is_out_of_order = starts and ends and starts[0] > ends[-1]
+    is_same = first.month == last.month and first.day <= last.day
+    is_close = is_same or last.month == first.month + 1
+    if not is_out_of_order or not is_close:
+        return None
+    later = last._replace(year=last.year + 1).days(territory)
+    return later[0] if later and starts[0] <= later[0] else None
+
+
 def found(territory, span):
     """The runs of a span, or which of its dates has no day, or why it is not a span."""
     if span.kind == "set":
@@ -190,6 +208,8 @@ def found(territory, span):
         last = span.last.days(territory)
         if not last:
             return "last"
+        if end := day_of_next_year(territory, span):
+            return [[first[0], end]]
         return [[first[0], last[-1]]] if first[0] <= last[-1] else "order"
     low, high = {"before": (1, first[0] - 1), "not after": (1, first[-1]),
                  "after": (first[-1] + 1, HIGH), "not before": (first[0], HIGH)}[span.kind]
@@ -272,6 +292,8 @@ def span_page(place, span, weekday=None):
         lines = none_lines(by_name, span, runs)
     else:
         lines = [line for run in runs for line in run_lines(place.territory, span, run)]
+    if day_of_next_year(by_name, span):
+        lines.append("ends in the next year")
     lines += sureness(span)
     lines += calendar_lines(place, span.reckoning, runs, found(place.territory, span))
     if weekday:
@@ -347,8 +369,9 @@ def has_day_of(runs, weekday):
 
 def none_answer(why):
     """The answer to a text that is not a date."""
-    return {"approximate": False, "kind": "none", "named_calendar": None, "named_weekday": None,
-            "nearest": [], "not_counted_double": False, "other_calendar": False, "read_as": [],
+    return {"approximate": False, "ends_in_next_year": False, "kind": "none",
+            "named_calendar": None, "named_weekday": None, "nearest": [],
+            "not_counted_double": False, "other_calendar": False, "read_as": [],
             "reason": why, "runs": [], "skipped": [], "supplied": False, "three_digits": False,
             "uncertain": False, "weekday": None, "year": []}
 
@@ -370,7 +393,9 @@ def span_answer(land, span, weekday=None):
     is_asked = weekday is not None and kind_of(span) == "day"
     ends = [date for date in (span.first, span.last) if date and span.kind != "set"]
     return {
-        "approximate": span.approximate, "kind": kind_of(span),
+        "approximate": span.approximate,
+        "ends_in_next_year": day_of_next_year(by_name, span) is not None,
+        "kind": kind_of(span),
         "named_calendar": {None: None, "old": "Old Style", "new": "New Style"}[span.reckoning],
         "named_weekday": None,
         "other_calendar": runs != own and not (is_none and isinstance(own, str)),
@@ -417,10 +442,10 @@ def simple_text(chance, date):
     return chance.choice(forms)
 
 
-def range_text(chance, first, last):
+def range_text(chance, first, last, one_year):
     """A range, of which the first date may lack what the last one has."""
     begin, end = simple_text(chance, first), simple_text(chance, last)
-    if first.day and last.day and first[:2] == last[:2] and chance.random() < 0.5:
+    if one_year:
         end = f"{last.day} {month_name(chance, last.month)} {years_text(chance, last)}"
         begin = str(first.day)
         if first.month != last.month or chance.random() < 0.3:
@@ -461,7 +486,7 @@ def text_of(chance, span):
         whole = span.first._replace(day=None)
         text = f"{chance.choice(PART_WORDS[span.portion])} {simple_text(chance, whole)}"
     elif span.kind == "range":
-        text = range_text(chance, span.first, span.last)
+        text = range_text(chance, span.first, span.last, span.one_year)
     elif span.kind == "feast":
         years = years_text(chance, span.first)
         text = f"{chance.choice(FEASTS[span.feast][1])} {years}"
@@ -536,5 +561,9 @@ def span_near(chance, label, other):
         return part_near(chance, simple_near(chance, label, False))
     first = simple_near(chance, label, kind != "on")
     last = simple_near(chance, other) if kind == "range" else None
+    one_year = bool(last and first.day and last.day) and chance.random() < 0.5
+    if one_year:
+        last = last._replace(year=first.year, is_double=first.is_double)
     rarely = [chance.random() < 0.15 for _ in range(3)]
-    return Span(kind, first, last, chance.choice([None] * 6 + ["old", "new"]), *rarely)
+    return Span(kind, first, last, chance.choice([None] * 6 + ["old", "new"]), *rarely,
+                one_year=one_year)

@@ -86,14 +86,14 @@ class Reader:
 
     def step(self, line):
         """The step of a line, or None."""
-        if found := BEGUN.fullmatch(line):
-            self.begun[found[1]] = f"{found[1]} {found[2]}({found[3]}"
+        if match := BEGUN.fullmatch(line):
+            self.begun[match[1]] = f"{match[1]} {match[2]}({match[3]}"
             return None
-        if found := GOES_ON.fullmatch(line):
-            line = self.begun.pop(found[1], "") + found[2]
-        if not (found := CALL.fullmatch(line)):
+        if match := GOES_ON.fullmatch(line):
+            line = self.begun.pop(match[1], "") + match[2]
+        if not (match := CALL.fullmatch(line)):
             return None
-        call, words, result, failed, more = found.groups()
+        call, words, result, failed, more = match.groups()
         words = words.replace(" <unfinished ...>", "")
         self.turns[call] = self.turns.get(call, 0) + 1
         result = int(result, 0) if result != "?" else None
@@ -116,9 +116,9 @@ class Reader:
             return self.by_number(call, words, number, (texts, flags, result, failed, was_refused))
         return self.by_path(call, words, (texts, flags, result, failed, was_refused))
 
-    def by_number(self, call, words, number, found):
+    def by_number(self, call, words, number, match):
         """The step of a call on what is open."""
-        texts, flags, result, failed, was_refused = found
+        texts, flags, result, failed, was_refused = match
         name, file = self.open.get(number, (STREAMS.get(number), 0))
         if call == "close" and not failed:
             self.open.pop(number, None)
@@ -136,9 +136,9 @@ class Reader:
         to = int(last) if kind == "cut" or call == "pwrite64" else None
         return Step(kind, name, call, self.turns[call], file, data, flags, to, failed, was_refused)
 
-    def by_path(self, call, words, found):
+    def by_path(self, call, words, match):
         """The step of a call that names a file by its path."""
-        texts, flags, result, failed, was_refused = found
+        texts, flags, result, failed, was_refused = match
         names = [self.name_of(os.fsdecode(text)) for text in texts]
         goes_on = call not in AT_LINKS and "AT_SYMLINK_NOFOLLOW" not in flags
         name = names[0] if names else None

@@ -109,7 +109,7 @@ def random_exceptions(numbers):
 
 def days_that_begin(dates, easters):
     """The days of Easter by both rules, and 25 March of each calendar."""
-    days = [day for found in easters.values() for day in found.values()]
+    days = [day for result in easters.values() for day in result.values()]
     for line in dates.values():
         days += [day for day, date in enumerate(line) if date % 10_000 == 325]
     return sorted(days)

@@ -208,7 +208,7 @@ def publish_end(count, editions):
 
 def escaped(text):
     """A text as in a message: the characters on which a terminal acts are escaped."""
-    return ESCAPED.sub(lambda found: SHORT.get(found[0], f"\\u{{{ord(found[0]):x}}}"), text)
+    return ESCAPED.sub(lambda result: SHORT.get(result[0], f"\\u{{{ord(result[0]):x}}}"), text)
 
 
 def fault_words(fault):

@@ -1,6 +1,6 @@
 """The page of a year, line by line, over date_meaning.py.
 
-Written from docs/PAGES.md alone, for pages.py.
+Written from docs/PAGES.md alone, for pages.py; reference.py takes its feasts.
 """
 from lib.calendars import HIGH, figures
 from lib.date_meaning import days_under
@@ -94,26 +94,32 @@ def change_lines(territory, change):
             yield f"{part} changed: until then {one}, from then on {other}"
 
 
-def feast_lines(territory, year):
-    """The feasts that the territory dated in the year, in order."""
-    lines, has_easter = [], False
+def feasts(territory, year):
+    """The feasts that the territory dated in the year, in order, each with the year from 1 January
+    that has its Easter."""
     for january_year in (year - 1, year, year + 1):
         for easter in territory.land.easters(january_year) if 1 <= january_year <= 9999 else []:
             for name, after in FEASTS.items():
                 day = easter + after
                 if 1 <= day <= HIGH and territory.label(day)[0] == year:
-                    lines.append(f"{name}: {day_line(territory, day)}")
-                    if name == "Easter":
-                        has_easter = True
-                        lines += source_lines(territory.land.easter_sources, january_year)
+                    yield name, day, january_year
+
+
+def feast_lines(territory, year):
+    lines, has_easter = [], False
+    for name, day, january_year in feasts(territory, year):
+        lines.append(f"{name}: {day_line(territory, day)}")
+        if name == "Easter":
+            has_easter = True
+            lines += source_lines(territory.land.easter_sources, january_year)
     return lines if has_easter else [*lines, "no Easter fell in that year"]
 
 
 def figure_lines(year):
-    found = figures(year)
-    julian, gregorian = found["julian"], found["gregorian"]
+    result = figures(year)
+    julian, gregorian = result["julian"], result["gregorian"]
     return [f"of the year {year} counted from 1 January:",
-            f"Golden number {found['golden']}, indiction {found['indiction']}",
+            f"Golden number {result['golden']}, indiction {result['indiction']}",
             f"Julian epact {julian['epact']}, Sunday letter {julian['letters']}",
             f"Gregorian epact {gregorian['epact']}, Sunday letter {gregorian['letters']}"]
 

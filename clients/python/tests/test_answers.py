@@ -11,9 +11,9 @@ RUN = {"first": DAY, "last": DAY}
 OLDER: Dict[str, Any] = {
     "approximate": False, "kind": "day", "other_calendar": True, "reason": None, "runs": [RUN],
     "supplied": False, "uncertain": False, "weekday": None}
-NEWER = {"named_calendar": "New Style", "named_weekday": "Monday", "nearest": [DAY],
-         "not_counted_double": True, "read_as": ["Monday 1 January 0001 N.S."], "skipped": [7],
-         "three_digits": True, "year": [RUN]}
+NEWER = {"ends_in_next_year": True, "named_calendar": "New Style", "named_weekday": "Monday",
+         "nearest": [DAY], "not_counted_double": True, "read_as": ["Monday 1 January 0001 N.S."],
+         "skipped": [7], "three_digits": True, "year": [RUN]}
 
 
 def reading(answer: Dict[str, Any]) -> Any:
@@ -25,6 +25,7 @@ def test_a_reading_has_the_members_of_its_answer() -> None:
     assert found.read_as == ("Monday 1 January 0001 N.S.",)
     assert (found.named_calendar, found.named_weekday) == ("New Style", "Monday")
     assert (found.not_counted_double, found.three_digits, found.skipped) == (True, True, (7,))
+    assert found.ends_in_next_year
     assert found.nearest == (Day(**DAY),) and found.year == (Run(Day(**DAY), Day(**DAY)),)
 
 

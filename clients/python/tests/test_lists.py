@@ -1,4 +1,4 @@
-"""The lists of a territory: its periods, its changes and the Easters that it lists."""
+"""The lists of a territory: its periods, its changes, the Easters that it lists, and its feasts."""
 from __future__ import annotations
 
 import json
@@ -7,7 +7,7 @@ from typing import Any, Callable, Dict
 
 import pytest
 
-from oldstyle import Change, Day, ListedEaster, ProgramDiffers, Regime, Register
+from oldstyle import Change, Day, Feast, ListedEaster, ProgramDiffers, Regime, Register
 from oldstyle.commands import Context
 
 DAY: Dict[str, Any] = {"day": 1, "dual": "d", "gregorian": "0001-01-01", "jdn": 1721426,
@@ -36,10 +36,13 @@ def test_members_of_a_newer_program_are_left_out(
     newer = {"newer": 1}
     change: Dict[str, Any] = {**CHANGE, **newer, "found": {**DAY, **newer},
                               "regime": {**REGIME, **newer}}
-    with answering({"changes": [change], "exceptions": [{**EASTER, **newer}]}) as register:
+    feast = {"feast": "Easter", "found": DAY, "year": 1, **newer}
+    with answering({"changes": [change], "exceptions": [{**EASTER, **newer}],
+                    "feasts": [feast]}) as register:
         assert register.changes("GB") == [Change(
             Day(**DAY), Day(**DAY), None, Regime(**REGIME), Regime(**REGIME), None)]
         assert register.exceptions("GB") == [ListedEaster(Day(**DAY), 1753, "a table")]
+        assert register.feasts("GB", 1) == [Feast("Easter", Day(**DAY), 1)]
 
 
 @pytest.mark.parametrize("answer", [
@@ -60,3 +63,11 @@ def test_changes_join_the_periods(context: Context) -> None:
         assert [change.regime.calendar for change in changes] == [
             period.calendar for period in periods[1:]]
     assert register.changes("GB")[1].left_out == 11 and register.exceptions("GB") == []
+
+
+def test_a_year_from_25_march_has_feasts_of_two_easters(context: Context) -> None:
+    feasts = context.register.feasts("GB", 1731)
+    assert [(one.feast, one.year, one.found.dual) for one in feasts] == [
+        ("Easter", 1731, "18 April 1731"), ("Ascension", 1731, "27 May 1731"),
+        ("Pentecost", 1731, "6 June 1731"), ("Trinity", 1731, "13 June 1731"),
+        ("Septuagesima", 1732, "6 February 1731/2"), ("Ash Wednesday", 1732, "23 February 1731/2")]

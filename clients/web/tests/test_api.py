@@ -39,6 +39,8 @@ ASKED: list[tuple[str, dict[str, str], int]] = [
     ("day", {"place": "GB", "day": "639797"}, 200), ("day", {"place": "GB", "day": "0"}, 400),
     ("day", {"place": "GB", "day": "1e3"}, 400),
     ("easter", {"place": "RM", "year": "1582"}, 200), ("easter", {"place": "GB", "year": "0"}, 400),
+    ("feasts", {"place": "GB", "year": "1731"}, 200),
+    ("feasts", {"place": "GB", "year": "0"}, 400), ("feasts", {"place": "ZZ", "year": "0"}, 404),
     ("figures", {"year": "1731"}, 200), ("figures", {"year": "10000"}, 400)]
 
 

@@ -47,6 +47,7 @@ def notes(asking: Asking, date: str, weekday: str = "") -> list[str]:
     ("3 May 1640 to 30 February 1641", ["The last date of the range has no day.",
                                         "No calendar of the place has that day of the month."]),
     ("11 July 841", ["Year of three digits."]),
+    ("18-26 March 1675", ["Ends in the next year."]),
     ("10 January 1751/2", ["Not counted double there: the place wrote only the later year."]),
     ("11 February 1731 N.S.", [f"{READ_AS} Great Britain itself dated that day 31 January "
                                "1730/1."]),

@@ -10,11 +10,13 @@ from conftest import SAMPLES
 from oldstyle_web.problems import Problem
 from oldstyle_web.register import Asking, Register
 from oldstyle_web.settings import Settings
+from oldstyle_web.years import questions_of, year_found
 
 DAY = {"day": 632287, "dual": "11 February 1731/2", "gregorian": "1732-02-22", "jdn": 2353712,
        "julian": "1732-02-11", "label": "1731-02-11", "weekday": "Friday", "new": {"member": 1}}
 PERIOD = {"calendar": "julian", "rule": "julian", "style": "annunciation", "first": 1,
           "last": 639550, "source": "A book", "new": 1}
+EASTER = {"found": DAY, "year": 1732, "source": "A table", "new": 1}
 
 
 class Answering(Register):
@@ -49,6 +51,19 @@ def test_each_question_is_asked_once_and_those_of_a_territory_together() -> None
     assert asking.periods("GB") == [] and asking.lands()[0].code == "GB"
     assert [[json.loads(line)["op"] for line in lines] for lines in register.asked] == [
         ["lands", "periods", "changes", "exceptions", "day"]]
+
+
+def test_a_year_is_asked_in_one_exchange() -> None:
+    register = Answering(*[1] * 19)
+    register.answer |= {"changes": [], "exceptions": [EASTER], "runs": [],
+                        "feasts": [{"feast": "Easter", "found": DAY, "year": 1732, "new": 1}]}
+    asking = Asking(register)
+    asking.lands("GB", questions_of("GB", 1731))
+    found = year_found(asking, "GB", 1731)
+    assert len(register.asked) == 1 and found.easters == found.listed
+    assert [(one.feast, one.found.day, one.year) for one in found.feasts] == [
+        ("Easter", 632287, 1732)]
+    assert found.sources == ["A table"]
 
 
 def test_editions_of_answers_never_fall() -> None:
@@ -91,7 +106,7 @@ def test_members_that_a_newer_program_adds_are_ignored() -> None:
     change, = asking.changes("GB")
     assert (change.found.day, change.regime.style, change.left_out, change.source) == (
         632287, "annunciation", None, None)
-    register.answer = {"exceptions": [{"found": DAY, "year": 1732, "source": "A table", "new": 1}]}
+    register.answer = {"exceptions": [EASTER]}
     easter, = asking.exceptions("GB")
     assert (easter.found.label, easter.year, easter.source) == ("1731-02-11", 1732, "A table")
     register.answer = {"found": DAY, "new": 1}

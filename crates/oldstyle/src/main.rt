@@ -1,6 +1,9 @@
 //! The calendar change register, as a program over files and the standard streams.
 #![tactic(auto)]
 
+mod title;
+
+use crate::title::Titled;
 use osn_commands::{report_no_words, run};
 use osn_folder::Disk;
 use osn_lines::Plain;
@@ -45,11 +48,27 @@ fn first_word(args: &[String]) -> Option<&String> {
     args.iter().skip(2).find(|word| !word.starts_with('-'))
 }
 
+/// Returns the word of the command, or an empty text without one.
+fn command_in(args: &[String]) -> &str {
+    match args.get(1) {
+        Some(word) => word.as_str(),
+        None => "",
+    }
+}
+
+/// Returns whether the command takes a text of territories for a journal, which may be a new one.
+fn takes_text(args: &[String]) -> bool {
+    matches!(command_in(args), "plan" | "publish")
+}
+
 /// Returns the path of the journal of a command line that names none: what `OLDSTYLE_JOURNAL` says,
 /// or else the user's own journal, if there is one. If the first word after the command names a
-/// file, it is the journal, and there is no default.
+/// file, it is the journal, and there is no default. But after `plan` and `publish` it may be the
+/// text, and the user's own journal need not be there.
 fn default_journal(rt: &(impl Env + Files + AllocGlobal), args: &[String]) -> Option<String> {
-    if let Some(first) = first_word(args)
+    let takes_text = takes_text(args);
+    if !takes_text
+        && let Some(first) = first_word(args)
         && is_there(rt, first.as_str())
     {
         return None;
@@ -57,10 +76,31 @@ fn default_journal(rt: &(impl Env + Files + AllocGlobal), args: &[String]) -> Op
     match env::var(rt, "OLDSTYLE_JOURNAL") {
         Ok(path) if !path.is_empty() => Some(path),
         Ok(_) | Err(VarError::NotPresent) => {
-            own_journal(rt).filter(|path| is_there(rt, path.as_str()))
+            own_journal(rt).filter(|path| takes_text || is_there(rt, path.as_str()))
         }
         Err(_) => None,
     }
+}
+
+/// Returns whether a terminal shows bold letters, as far as the environment says.
+fn shows_bold(rt: &(impl Env + AllocGlobal)) -> bool {
+    let is_plain = match variable(rt, "TERM") {
+        Some(terminal) => terminal.as_str() == "dumb",
+        None => true,
+    };
+    !is_plain && variable(rt, "NO_COLOR").is_none()
+}
+
+/// Returns whether the command prints a page whose first line is its title.
+fn prints_titled_page(args: &[String]) -> bool {
+    let has_title = matches!(
+        command_in(args),
+        "read" | "day" | "month" | "year" | "territory" | "almanac"
+    );
+    has_title
+        && !args
+            .iter()
+            .any(|word| matches!(word.as_str(), "--json" | "--help" | "-h"))
 }
 
 /// Returns a file that was opened in the place of a closed standard stream: it has that stream's
@@ -80,11 +120,15 @@ fn main(rt: HostRuntime) -> ExitCode {
     let _output = in_place(fs::open(&rt, "/dev/null"), 1);
     let _errors = in_place(fs::open(&rt, "/dev/null"), 2);
     let mut input = Plain::new(rt.reader());
-    let mut output = StandardOutput::new(io::writer(&rt));
+    let args = given_args(&rt);
+    let has_title = rt.stdout().is_terminal()
+        && shows_bold(&rt)
+        && args.as_ref().is_ok_and(|args| prints_titled_page(args));
+    let mut output = Titled::new(StandardOutput::new(io::writer(&rt)), has_title);
     let mut errors = Plain::new(rt.stderr());
     let terminal = rt.stderr().is_terminal().then(|| Plain::new(rt.stderr()));
     let mut disk = Disk::new(&rt);
-    let status = match given_args(&rt) {
+    let status = match args {
         Ok(args) => {
             let journal = default_journal(&rt, &args);
             run(
@@ -100,6 +144,6 @@ fn main(rt: HostRuntime) -> ExitCode {
         }
         Err(why) => report_no_words(&why, &mut errors),
     };
-    let status = end_output(&mut errors, status, output.cause());
+    let status = end_output(&mut errors, status, output.inner().cause());
     ExitCode::from(status.code())
 }

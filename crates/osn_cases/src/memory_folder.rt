@@ -73,13 +73,13 @@ impl FollowedFile for MemoryFollowed {
     ghost contents = { λ _. None };
 
     fn look(&mut self, alloc: Global) -> Result<Vec<u8>, FollowFault> {
-        let ended = &self.lines[..ended_length(&self.lines)];
-        if ended.len() > 1_073_741_824 {
+        let lines = &self.lines[..ended_length(&self.lines)];
+        if lines.len() > 1_073_741_824 {
             return Err(FollowFault::NotRead(OpenFailed::Other));
         }
-        let gained = Vec::from_slice(alloc, ended)?;
+        let bytes = Vec::from_slice(alloc, lines)?;
         self.lines.clear();
-        Ok(gained)
+        Ok(bytes)
     }
 }
 

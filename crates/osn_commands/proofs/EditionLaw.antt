@@ -13,7 +13,7 @@ use Rattle.osn_files.proofs.LoadFacts.{loads_by_lines}
 use Rattle.osn_files.proofs.VersionFacts.{has_own_edits, newest_edit}
 use Rattle.osn_files.specs.JournalText.{batch_text, edit_data, edits_text, give_source, line_text}
 use Rattle.osn_files.specs.JournalText.{publish_data}
-use Rattle.osn_files.specs.Loaded.{HasEdit, IsJournalOf}
+use Rattle.osn_files.specs.LoadedText.{HasEdit, IsJournalOf}
 use Rattle.osn_register.specs.Refusal.{or_else}
 use Rattle.osn_register.specs.declared.edit.Edit.{Edit}
 use Rattle.osn_register.specs.declared.limits.Limits.{Limits}
@@ -80,26 +80,26 @@ edits_loaded : (version : Version) (limits : Limits) (es : List Edit) (s : Objec
     → All HasLawfulSource es → edition_refusal s es ≡ None
     → IsJournalOf version limits (staged_all s es) (text ++ batch_text es)
 unfolding staged_all
-edits_loaded version limits [] s text h has given lawful =
+edits_loaded version limits [] s text h has sources lawful =
     (loads_by_lines version limits s text h).publish lawful
-edits_loaded version limits (e ∷ es) s text h has given lawful =
+edits_loaded version limits (e ∷ es) s text h has sources lawful =
     let line = line_text (edit_data e) in
     let rest = edits_text es in
     let publish = line_text publish_data in
     let none = neither (stage_refusal newest_rules s e) (edition_refusal (with_pending s e) es)
     lawful in
     let one = (loads_by_lines version limits s text h).edit e (All-head (HasEdit version) e es has)
-    (All-head HasLawfulSource e es given) none.0 in
+    (All-head HasLawfulSource e es sources) none.0 in
     subst (IsJournalOf version limits (staged_all (with_pending s e) es))
     (append_assoc text line (rest ++ publish)
     ∙ ap (λ l. text ++ l) (sym (append_assoc line rest publish)))
     (edits_loaded version limits es (with_pending s e) (text ++ line) one
-    (All-tail (HasEdit version) e es has) (All-tail HasLawfulSource e es given) none.1)
+    (All-tail (HasEdit version) e es has) (All-tail HasLawfulSource e es sources) none.1)
 
 pub each_edition_loaded : IsEachEditionLoaded
 unfolding IsEachEditionLoaded
-each_edition_loaded limits held version s es h kept needs given none lawful =
-    subst (λ t. IsJournalOf version limits t (edition_text held es))
+each_edition_loaded limits content version s es h kept needs sources none lawful =
+    subst (λ t. IsJournalOf version limits t (edition_text content es))
     (staged-alone s es none)
-    (edits_loaded version limits es s (kept_text held) (kept_loaded limits version s held h)
-    (kept_all limits version es kept needs) given lawful)
+    (edits_loaded version limits es s (kept_text content) (kept_loaded limits version s content h)
+    (kept_all limits version es kept needs) sources lawful)

@@ -15,24 +15,30 @@ use Rattle.osn_commands.specs.Edition.{appended_text, edition_refusal}
 use Rattle.osn_commands.specs.PublishInside.{IsCutBack}
 
 -- the lines that count have as many bytes as the part says
-pub whole_size : (part : CountedPrefix) (held : List ℕ) → IsCountedPrefix part held
-    → length (whole_bytes held) ≡ part.bytes
-whole_size part held whole =
-    omega (arith, length-take (whole_length held) held, whole.bytes, whole_within part held whole)
+pub whole_size : (part : CountedPrefix) (content : List ℕ) → IsCountedPrefix part content
+    → length (whole_bytes content) ≡ part.bytes
+whole_size part content whole =
+    omega (
+      arith,
+      length-take (whole_length content) content,
+      whole.bytes,
+      whole_within part
+          content whole,
+    )
 
 -- a file that was cut back, by the edits of the lines
-pub cut_back : (Stays : Type 0) (part : CountedPrefix) (held lines : List ℕ) (edits : List Edit)
-    (old new : Option (List ℕ)) → lines ≡ appended_text held edits → IsCountedPrefix part held
-    → old ≡ Some (whole_bytes held) → IsCutBack Stays part.bytes lines old new
-    → (new ≡ Some (whole_bytes held))
-    ⊎ (Stays × (n : ℕ) × (new ≡ Some (whole_bytes held ++ take n (appended_text held edits))))
-cut_back Stays part held lines edits old new are whole known h =
-    elim (h (whole_bytes held) known (whole_size part held whole)) [
+pub cut_back : (Stays : Type 0) (part : CountedPrefix) (content lines : List ℕ) (edits : List Edit)
+    (old new : Option (List ℕ)) → lines ≡ appended_text content edits → IsCountedPrefix part content
+    → old ≡ Some (whole_bytes content) → IsCutBack Stays part.bytes lines old new
+    → (new ≡ Some (whole_bytes content))
+    ⊎ (Stays × (n : ℕ) × (new ≡ Some (whole_bytes content ++ take n (appended_text content edits))))
+cut_back Stays part content lines edits old new are whole known h =
+    elim (h (whole_bytes content) known (whole_size part content whole)) [
       | inl is ↦ inl is
       | inr stays ↦ inr (
         stays.0,
         stays.1,
-        stays.2 ∙ ap (λ l. Some (whole_bytes held ++ take stays.1 l)) are,
+        stays.2 ∙ ap (λ l. Some (whole_bytes content ++ take stays.1 l)) are,
       )
     ]
 

@@ -13,24 +13,24 @@ use Rattle.osn_commands.specs.PublishInside.{IsOlderPlan, IsPartOf}
 use Rattle.osn_commands.specs.Since.{RequestModel}
 
 -- what counts of the bytes that were read counts of what was given
-pub part_read : (given : Option (List ℕ)) (bytes : List ℕ) (part : CountedPrefix)
-    → AreReadOf given bytes → IsCountedPrefix part bytes → IsPartOf part given
+pub part_read : (input : Option (List ℕ)) (bytes : List ℕ) (part : CountedPrefix)
+    → AreReadOf input bytes → IsCountedPrefix part bytes → IsPartOf part input
 part_read None bytes part read whole = tt
-part_read (Some held) bytes part read whole = subst (IsCountedPrefix part) read whole
+part_read (Some content) bytes part read whole = subst (IsCountedPrefix part) read whole
 
 -- the journal that held these bytes is the one that was given
 pub edition_of_older : (limits : Limits) (request : RequestModel) (target : RegisterModel)
-    (given : Option (List ℕ))
-    (held bytes journal text : List ℕ) (cut : Option (List ℕ)) (part : CountedPrefix)
-    (version : Version) (s : ObjectState) → AreReadOf given held
-    → IsHeldIn limits held part version s
-    → IsOlderPlan request held part version s target bytes journal text cut
-    → IsRewriteNeeded limits request target given bytes journal text cut
-edition_of_older limits request target given held bytes journal text cut part version s read
+    (input : Option (List ℕ))
+    (content bytes journal text : List ℕ) (cut : Option (List ℕ)) (part : CountedPrefix)
+    (version : Version) (s : ObjectState) → AreReadOf input content
+    → IsHeldIn limits content part version s
+    → IsOlderPlan request content part version s target bytes journal text cut
+    → IsRewriteNeeded limits request target input bytes journal text cut
+edition_of_older limits request target input content bytes journal text cut part version s read
     holds h =
     let older = h.older in
     let same = sym older.same in record {
-      read = subst (AreReadOf given) same read;
+      read = subst (AreReadOf input) same read;
       version = version;
       object = s;
       holds = subst (λ l. HoldsObject limits l version s) same holds.1;
@@ -44,5 +44,5 @@ edition_of_older limits request target given held bytes journal text cut part ve
       sources = older.sources;
       anew = older.anew;
       printed = older.printed;
-      message = older.message held holds.0 ∙ ap (λ l. cut_text (unfinished_line l)) same;
+      message = older.message content holds.0 ∙ ap (λ l. cut_text (unfinished_line l)) same;
     }

@@ -1,7 +1,7 @@
 -- The words of a command line with the file of the journal, by their texts.
 use Rattle.std.proofs.Common.{◌≡◌, ◌∙◌, ◌||◌, ℕ, ◌+◌, Bool, true, false, List, [], ◌∷◌, Option}
 use Rattle.std.proofs.Common.{Some}
-use Rattle.std.proofs.Common.{None, map, length, ap, refl, take, drop, sym, nat_lt}
+use Rattle.std.proofs.Common.{None, ◌<◌, arith, map, length, ap, refl, take, drop, sym, nat_lt}
 use Rattle.std.proofs.Common.{option_map, suc, cond, not, if◌then◌else◌}
 use Rattle.std.specs.Prelude.{slice_get}
 use Rattle.std.specs.Borrow.{Bor}
@@ -9,6 +9,7 @@ use Rattle.std.specs.List.{insert, list_any, position, position_or_len, remove}
 use Rattle.std.proofs.lemmas.Option.{slice_get-map}
 use Rattle.std.proofs.lemmas.List.{take-map, drop-map, length-map, map-append}
 use Rattle.clap.specs.Words.{Text}
+use Rattle.osn_commands.specs.CommandWords.{asks_help_twice}
 use Rattle.osn_commands.specs.Journal.{file_after_equals, is_journal_option, is_repeated, option_at}
 use Rattle.osn_commands.specs.Journal.{with_file, with_named, with_next_file, with_option}
 use Rattle.osn_commands.specs.Journal.{with_path}
@@ -42,13 +43,19 @@ module _ {X : Type 0} (f : X → Text) where
       rw (map-append f (take i words) (word ∷ drop i words), take-map f i words, drop-map f i words)
       refl
 
-  remove_map : (words : List X) (i : ℕ) → map f (remove words i) ≡ remove (map f words) i
+  pub remove_map : (words : List X) (i : ℕ) → map f (remove words i) ≡ remove (map f words) i
   remove_map words i =
       rw (
         map-append f (take i words) (drop (suc i) words),
         take-map f i words,
         drop-map f (suc i) words,
       ) refl
+
+  -- a command line that asks for help of help has a command
+  pub has_command : (words : List X) → asks_help_twice (map f words) ≡ true → 1 < length words
+  has_command [] h = cc
+  has_command (word ∷ []) h = cc
+  has_command (word ∷ command ∷ words) h = omega arith
 
   path_by : (few : Bool) (path : X) (words : List X)
       → map f (if few then words else insert words 2 path)

@@ -12,12 +12,12 @@ use Rattle.osn_files.proofs.LoadFacts.{IsJournalOf-written}
 use Rattle.osn_files.specs.Journal.{load}
 use Rattle.osn_files.specs.JournalText.{line_text}
 use Rattle.osn_files.specs.LastLine.{last_line}
-use Rattle.osn_files.specs.Loaded.{HasEdit, IsJournalOf, IsOfVersion}
+use Rattle.osn_files.specs.LoadedText.{HasEdit, IsJournalOf, IsOfVersion}
 use Rattle.osn_files.specs.Version.{head_data}
 use Rattle.osn_files.specs.CountedPrefix.{by_last, ended_count, last_line_of, whole_bytes}
 use Rattle.osn_files.specs.declared.last_line.LastLine.{LastLine}
 use Rattle.osn_files.specs.declared.last_line.LastLine.TheVariants.{Ended, LacksFeed, Unfinished}
-use Rattle.osn_lines.specs.Ended.{ended_length, unended_bytes, with_byte}
+use Rattle.osn_lines.specs.LastLineFeed.{ended_length, unended_bytes, with_byte}
 use Rattle.osn_lines.specs.Lines.{EndsWithFeed, lines, onto_first}
 use Rattle.osn_serve_commands.specs.Keep.{HoldsObject, SaysVersion, kept_text, missing_end}
 use Rattle.osn_serve_commands.specs.Keep.{missing_head, object_of}
@@ -107,20 +107,20 @@ lacking : (n : ℕ) (bytes : List ℕ) → last_line n bytes ≡ LacksFeed → b
 lacking n [] lacks none = absurd (cc)
 lacking n (b ∷ bs) lacks none = absurd (cc)
 
-counted : (held : List ℕ) → Counts (last_line_of held) (whole_bytes held)
-counted held = by_last_line (last_line_of held) refl
+counted : (content : List ℕ) → Counts (last_line_of content) (whole_bytes content)
+counted content = by_last_line (last_line_of content) refl
   where
-    by_last_line : (last : LastLine) → last_line_of held ≡ last
-        → Counts last (take (by_last last (ended_length held) (length held)) held)
-    by_last_line Ended is = record { fed = λ h. absurd (cc); ended = λ h. all_ended held }
-    by_last_line Unfinished is = record { fed = λ h. absurd (cc); ended = λ h. all_ended held }
+    by_last_line : (last : LastLine) → last_line_of content ≡ last
+        → Counts last (take (by_last last (ended_length content) (length content)) content)
+    by_last_line Ended is = record { fed = λ h. absurd (cc); ended = λ h. all_ended content }
+    by_last_line Unfinished is = record { fed = λ h. absurd (cc); ended = λ h. all_ended content }
     by_last_line LacksFeed is =
-        let some = lacking (ended_count held) (unended_bytes held) is in
-        let all = take_all (length held) held (omega arith) in
+        let some = lacking (ended_count content) (unended_bytes content) is in
+        let all = take_all (length content) content (omega arith) in
         record {
           fed = λ h. (
-            subst (λ l. lines (l ++ 10 ∷ []) ≡ lines l) (sym all) (lines_fed held some),
-            (λ none. some (unended_none held (sym all ∙ none))),
+            subst (λ l. lines (l ++ 10 ∷ []) ≡ lines l) (sym all) (lines_fed content some),
+            (λ none. some (unended_none content (sym all ∙ none))),
           );
           ended = λ h. absurd (h refl);
         }
@@ -178,7 +178,7 @@ module _ (limits : Limits) (version : Version) (s : ObjectState) where
       }
 
   -- what a file contains once it is ready is loaded as the object that it contained
-  pub kept_loaded : (held : List ℕ) → HoldsObject limits held version s
-      → IsJournalOf version limits s (kept_text held)
-  kept_loaded held h =
-      text_loaded (last_line_of held) (whole_bytes held) (counted held) h.object h.says
+  pub kept_loaded : (content : List ℕ) → HoldsObject limits content version s
+      → IsJournalOf version limits s (kept_text content)
+  kept_loaded content h =
+      text_loaded (last_line_of content) (whole_bytes content) (counted content) h.object h.says

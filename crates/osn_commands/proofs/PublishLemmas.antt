@@ -28,11 +28,11 @@ use Rattle.osn_commands.specs.Since.{RequestModel, later_lines, later_than}
 use Rattle.osn_commands.specs.Text.{published}
 
 module _ (Stays : Type 0) (journal : List ℕ) (s : ObjectState) (target : RegisterModel)
-    (old file : FileState) (given : Option (List ℕ)) (o e : Output) (status : Status) where
+    (old file : FileState) (input : Option (List ℕ)) (o e : Output) (status : Status) where
   -- there are no edits
   pub nothing_published : (edits : List Edit) → (length edits == 0) ≡ true → file ≡ old
       → PrintsIfMade (no_change_text s target) o e status
-      → AppendsEdits Stays journal s target old file given edits o e status
+      → AppendsEdits Stays journal s target old file input edits o e status
   nothing_published [] none same h = (same, h)
   nothing_published (edit ∷ edits) none same h =
       absurd (omega (arith, eqb-true (length (edit ∷ edits)) 0 none))
@@ -40,16 +40,16 @@ module _ (Stays : Type 0) (journal : List ℕ) (s : ObjectState) (target : Regis
   -- the edits had to be written
   pub edition_written : (edits : List Edit) → (length edits == 0) ≡ false
       → edition_refusal s edits ≡ None → All HasLawfulSource edits
-      → WritesEdition Stays journal old file given edits (published_text journal s target edits) o e
+      → WritesEdition Stays journal old file input edits (published_text journal s target edits) o e
       status
-      → AppendsEdits Stays journal s target old file given edits o e status
+      → AppendsEdits Stays journal s target old file input edits o e status
   edition_written [] some lawful sources h = absurd (cc)
   edition_written (edit ∷ edits) some lawful sources h = inr (rw lawful (sources, h))
 
   -- they are refused, or memory ran out
   pub edition_refused : (edits : List Edit) (f : Refusal) → (length edits == 0) ≡ false
       → IsNoMemoryOr (edition_refusal s edits) f → Refuses (Refused f) old file o e status
-      → AppendsEdits Stays journal s target old file given edits o e status
+      → AppendsEdits Stays journal s target old file input edits o e status
   edition_refused [] f some why h = absurd (cc)
   edition_refused (edit ∷ edits) f some (inl none) h =
       inl (subst (λ f. Refuses (Refused f) old file o e status) none h)
@@ -59,23 +59,23 @@ module _ (Stays : Type 0) (journal : List ℕ) (s : ObjectState) (target : Regis
     -- the edits need sources that it lacks, and one is refused; or they need none
     pub anew_refused : (needs : Bool) → needs ≡ true → (edits : List Edit) (f : Refusal)
         → IsNoMemoryOr (edition_refusal s edits) f → Refuses (Refused f) old file o e status
-        → PublishesEdits needs Stays journal version s target old file given edits o e status
+        → PublishesEdits needs Stays journal version s target old file input edits o e status
     anew_refused needs is edits f why h = rw is (f, why, h)
 
     pub none_needed : (needs : Bool) → needs ≡ false → (edits : List Edit)
-        → AppendsIfKept (is_kept version) Stays journal version s target old file given edits o e
+        → AppendsIfKept (is_kept version) Stays journal version s target old file input edits o e
         status
-        → PublishesEdits needs Stays journal version s target old file given edits o e status
+        → PublishesEdits needs Stays journal version s target old file input edits o e status
     none_needed needs is edits h = rw is h
 
 module _ (Stays : Type 0) (request : RequestModel) (version : Version) (s : ObjectState)
-    (target : RegisterModel) (old file : FileState) (given : Option (List ℕ)) (o e : Output)
+    (target : RegisterModel) (old file : FileState) (input : Option (List ℕ)) (o e : Output)
     (status : Status) where
   -- nothing is pending
   nothing_pending : (pending : List Edit) → (length pending == 0) ≡ true
       → PublishesUnlessLater (later_than request.edition (length s.batches)) Stays version s request
-      target old file given o e status
-      → PublishesUnlessPending Stays version s pending request target old file given o e status
+      target old file input o e status
+      → PublishesUnlessPending Stays version s pending request target old file input o e status
   nothing_pending [] none h = h
   nothing_pending (edit ∷ edits) none h =
       absurd (omega (arith, eqb-true (length (edit ∷ edits)) 0 none))
@@ -83,8 +83,8 @@ module _ (Stays : Type 0) (request : RequestModel) (version : Version) (s : Obje
   -- nor is the text of a later edition
   pub planned : (pending : List Edit) → (length pending == 0) ≡ true
       → later_than request.edition (length s.batches) ≡ None
-      → PublishesPlan Stays version s request target old file given o e status
-      → PublishesUnlessPending Stays version s pending request target old file given o e status
+      → PublishesPlan Stays version s request target old file input o e status
+      → PublishesUnlessPending Stays version s pending request target old file input o e status
   planned pending none had h = nothing_pending pending none (rw had h)
 
   -- or it is
@@ -92,13 +92,13 @@ module _ (Stays : Type 0) (request : RequestModel) (version : Version) (s : Obje
       → later_than request.edition (length s.batches) ≡ Some edition
       → RefusesBy (later_lines request.text request.journal edition (length s.batches)) old file o e
       status
-      → PublishesUnlessPending Stays version s pending request target old file given o e status
+      → PublishesUnlessPending Stays version s pending request target old file input o e status
   reports_later pending edition none late h = nothing_pending pending none (rw late h)
 
   -- some edits are
   pub reports_pending : (pending : List Edit) → (length pending == 0) ≡ false
       → RefusesBy (pending_line (length pending)) old file o e status
-      → PublishesUnlessPending Stays version s pending request target old file given o e status
+      → PublishesUnlessPending Stays version s pending request target old file input o e status
   reports_pending [] some h = absurd (cc)
   reports_pending (edit ∷ edits) some h = h
 

@@ -42,16 +42,16 @@ shows_help kind given more o e status text is help (inl printed) =
 shows_help kind given more o e status text is help (inr memory) = inl memory
 
 -- what the grammar refuses was shown
-pub show_runs : (typed args : List (List ℕ)) (error : Error) (CanFail : Bool → Type 0)
+pub show_runs : (arguments args : List (List ℕ)) (error : Error) (CanFail : Bool → Type 0)
     (CanStay : Type 0) (d : Folders) (i : Input) (o e : Output) (status : Status)
     → HasKind (fault_of command_line args) error → d.after ≡ d.before
-    → ShowsOrEnds (kind_of error) (help_on (kind_of error) typed) o e status
-    → RunsWords typed args CanFail CanStay d i o e status
-show_runs typed args error CanFail CanStay d i o e status kind same (inl first) =
+    → ShowsOrEnds (kind_of error) (help_on (kind_of error) arguments) o e status
+    → RunsWords arguments args CanFail CanStay d i o e status
+show_runs arguments args error CanFail CanStay d i o e status kind same (inl first) =
     inr (same, inl first)
-show_runs typed args error CanFail CanStay d i o e status (inl memory) same (inr escaped) =
+show_runs arguments args error CanFail CanStay d i o e status (inl memory) same (inr escaped) =
     absurd (escaped.0 memory)
-show_runs typed args error CanFail CanStay d i o e status (inr among) same (inr escaped) =
+show_runs arguments args error CanFail CanStay d i o e status (inr among) same (inr escaped) =
     inr (same, inr (kind_of error, among, escaped.1))
 
 -- why what was run ended early is why these words did
@@ -98,12 +98,12 @@ pub not_done : {T F : Type 0} (done : Result T F) (cause : F) (Why : Type 0)
 not_done done cause Why is h = subst (λ r. OnErr r Why) is h
 
 -- it was shown with the help on the typed words
-pub show_typed : (typed args : List (List ℕ)) (error : Error) (help : List ℕ)
+pub show_typed : (arguments args : List (List ℕ)) (error : Error) (help : List ℕ)
     (CanFail : Bool → Type 0) (CanStay : Type 0) (d : Folders) (i : Input) (o e : Output)
     (status : Status)
     → HasKind (fault_of command_line args) error → d.after ≡ d.before
-    → help ≡ help_on (kind_of error) typed → ShowsOrEnds (kind_of error) help o e status
-    → RunsWords typed args CanFail CanStay d i o e status
-show_typed typed args error help CanFail CanStay d i o e status kind same is escaped =
-    show_runs typed args error CanFail CanStay d i o e status kind same
+    → help ≡ help_on (kind_of error) arguments → ShowsOrEnds (kind_of error) help o e status
+    → RunsWords arguments args CanFail CanStay d i o e status
+show_typed arguments args error help CanFail CanStay d i o e status kind same is escaped =
+    show_runs arguments args error CanFail CanStay d i o e status kind same
     (subst (λ help. ShowsOrEnds (kind_of error) help o e status) is escaped)

@@ -4,9 +4,9 @@ use Rattle.std.proofs.Common.{if◌then◌else◌}
 use Rattle.std.specs.List.{list_any}
 use Rattle.std.proofs.lemmas.List.{drop-map}
 use Rattle.clap.specs.Words.{Text}
-use Rattle.osn_commands.specs.Typed.{is_plain, next_after, plain_count, plain_from}
-use Rattle.osn_commands.specs.declared.typed.Next.{Next}
-use Rattle.osn_commands.specs.declared.typed.Next.TheVariants as next
+use Rattle.osn_commands.specs.CommandWords.{is_plain, next_after, plain_count, plain_from}
+use Rattle.osn_commands.specs.declared.command_words.Next.{Next}
+use Rattle.osn_commands.specs.declared.command_words.Next.TheVariants as next
 
 -- a test of one of them, by their texts
 pub any_of_map : {X : Type 0} (f : X → Text) (p : Text → Bool) → (words : List X)

@@ -52,8 +52,8 @@ PrintsBetween s path from to o e status =
     ⊎ PrintsEdits s.limits (territories_by from s) (territories_by to s) path from to o e status
 
 -- the first of two numbers that is not an edition of a journal with this many
-abbrev pub lacking : ℕ → ℕ → ℕ → Option ℕ
-lacking editions from to =
+abbrev pub missing_edition : ℕ → ℕ → ℕ → Option ℕ
+missing_edition editions from to =
     if nat_lt editions from then Some from
     else (if nat_lt editions to then Some to else None)
 
@@ -71,7 +71,7 @@ PrintsDiff limits path journal from to o e status =
     ((fault : FileFault) × MakesNoObject limits journal fault
     × PrintsNoneAt path (File fault) o e status)
     ⊎ ((s : ObjectState) × MakesObject limits journal.bytes s
-    × PrintsOrLacks (lacking (length s.batches) from to) s path from to o e status)
+    × PrintsOrLacks (missing_edition (length s.batches) from to) s path from to o e status)
 
 -- ---- over the files of a folder
 
@@ -103,4 +103,4 @@ abbrev pub RunsDiff : Limits → List ℕ → List ℕ → List ℕ → (Bool �
 RunsDiff limits journal first second CanFail d o e status = MatchResult (numbers_of first second)
     (λ numbers. RunsInOrder (nat_lt numbers.1 numbers.0) limits journal numbers.0 numbers.1 CanFail
     d o e status)
-    (λ typed. (d.after ≡ d.before) × (o.new ≡ o.old) × ReportsEditionWord typed e status)
+    (λ word. (d.after ≡ d.before) × (o.new ≡ o.old) × ReportsEditionWord word e status)

@@ -6,7 +6,7 @@ use Rattle.osn_days.specs.Rules.{newest_rules}
 use Rattle.osn_core.specs.Sequential.{HasLawfulSource, ObjectState, publish_refusal}
 use Rattle.osn_core.specs.Sequential.{stage_refusal, with_pending}
 use Rattle.osn_files.specs.JournalText.{batch_text, give_source}
-use Rattle.osn_files.specs.Loaded.{IsJournalOf}
+use Rattle.osn_files.specs.LoadedText.{IsJournalOf}
 use Rattle.osn_request.specs.Version.{has_sources}
 use Rattle.osn_request.specs.declared.version.Version.{Version}
 use Rattle.osn_register.specs.Refusal.{or_else}
@@ -37,18 +37,18 @@ with_batch s edits = record s { batches = s.batches ++ edits ∷ [] }
 -- what is appended to a file of these bytes: what is missing after its lines that count, then the
 -- lines of the edits and that of their publish
 abbrev pub appended_text : List ℕ → List Edit → List ℕ
-appended_text held edits = missing_text held ++ batch_text edits
+appended_text content edits = missing_text content ++ batch_text edits
 
 -- what the file contains then
 abbrev pub edition_text : List ℕ → List Edit → List ℕ
-edition_text held edits = kept_text held ++ batch_text edits
+edition_text content edits = kept_text content ++ batch_text edits
 
 -- A file that contains an object with nothing pending, in a journal of a version that is kept, is
 -- loaded, with edits that are published as one edition, as the object with that edition. The edits
 -- need no sources that the version lacks, and each source is one that may be given.
 unfoldable pub IsEachEditionLoaded : Type 0
-IsEachEditionLoaded = (limits : Limits) (held : List ℕ) (version : Version) (s : ObjectState)
-    (edits : List Edit) → HoldsObject limits held version s → is_kept version ≡ true
+IsEachEditionLoaded = (limits : Limits) (content : List ℕ) (version : Version) (s : ObjectState)
+    (edits : List Edit) → HoldsObject limits content version s → is_kept version ≡ true
     → needs_sources version edits ≡ false → All HasLawfulSource edits → s.pending ≡ []
     → edition_refusal s edits ≡ None
-    → IsJournalOf version limits (with_batch s edits) (edition_text held edits)
+    → IsJournalOf version limits (with_batch s edits) (edition_text content edits)

@@ -12,7 +12,7 @@ use Rattle.clap.specs.declared.error.kind.ErrorKind.TheVariants.{InvalidSubcomma
 use Rattle.clap.specs.declared.error.kind.ErrorKind.TheVariants.{ValueValidation, UnknownArgument}
 use Rattle.clap.specs.declared.error.kind.ErrorKind.TheVariants.{MissingRequiredArgument}
 use Rattle.osn_commands.specs.Journal.{option_at, words_without}
-use Rattle.osn_commands.specs.Typed.{begins_with_journal, command_in, plain_count}
+use Rattle.osn_commands.specs.CommandWords.{begins_with_journal, command_in, plain_count}
 
 -- the first word is not a command
 abbrev pub command_help : Text

@@ -15,7 +15,7 @@ use Rattle.osn_report.specs.declared.status.Status.{Status}
 use Rattle.osn_report.specs.declared.status.Status.TheVariants as statuses
 use Rattle.osn_serve_commands.specs.InFolder.{CanFailIf}
 use Rattle.osn_serve_commands.specs.Keep.{first_output, later_output}
-use Rattle.osn_commands.specs.Keeping.{ReportsHindrance}
+use Rattle.osn_commands.specs.HindranceCause.{ReportsHindrance}
 use Rattle.osn_commands.specs.Plan.{PrintsPlan}
 use Rattle.osn_commands.specs.Text.{PrintsText}
 
@@ -33,7 +33,7 @@ abbrev pub RunsText : Limits → List ℕ → Option (List ℕ) → Option (List
 RunsText limits journal edition code CanFail d o e status = MatchResult (edition_of_word edition)
     (λ number. ReadsOne journal CanFail d
     (λ file. PrintsText limits journal file number code o e status))
-    (λ typed. (d.after ≡ d.before) × (o.new ≡ o.old) × ReportsEditionWord typed e status)
+    (λ word. (d.after ≡ d.before) × (o.new ≡ o.old) × ReportsEditionWord word e status)
 
 -- the text of a path could not be opened, which was reported with the cause, and nothing was
 -- written

@@ -7,25 +7,27 @@ use Rattle.std.specs.Option.{option_map_or}
 use Rattle.std.specs.Str.{bytes_eq}
 use Rattle.clap.specs.Words.{Text}
 use Rattle.osn_written.specs.WrittenDate.{parts_at}
-use Rattle.osn_commands.specs.Typed.{begins_with_journal, command_in, plain_count}
+use Rattle.osn_commands.specs.CommandWords.{begins_with_journal, command_in, plain_count}
 
 -- ---- the default
 
 -- how many words follow the command besides its options, if the file of the journal is left out, in
--- a command that has a default journal: one that only reads the journal, and no other file
+-- a command that has a default journal: each that begins with it, except audit
 abbrev pub words_without : Text → Option ℕ
 words_without command =
     if bytes_eq command (codes "territory") then Some 0
     else (if bytes_eq command (codes "letters") then Some 0
     else (if bytes_eq command (codes "text") then Some 0
     else (if bytes_eq command (codes "editions") then Some 0
+    else (if bytes_eq command (codes "plan") then Some 1
+    else (if bytes_eq command (codes "publish") then Some 1
     else (if bytes_eq command (codes "read") then Some 2
     else (if bytes_eq command (codes "day") then Some 2
     else (if bytes_eq command (codes "diff") then Some 2
     else (if bytes_eq command (codes "year") then Some 2
     else (if bytes_eq command (codes "almanac") then Some 2
     else (if bytes_eq command (codes "month") then Some 3
-    else None)))))))))
+    else None)))))))))))
 
 -- the words leave out the file of the journal
 abbrev pub leaves_out_journal : List Text → Bool

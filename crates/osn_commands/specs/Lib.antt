@@ -11,7 +11,7 @@ pub mod Edition
 pub mod Since
 pub mod Publish
 pub mod PublishInside
-pub mod Keeping
+pub mod HindranceCause
 pub mod InFolder
 pub mod PublishFolder
 pub mod LettersTable
@@ -19,5 +19,5 @@ pub mod Completions
 pub mod Limits
 pub mod Run
 pub mod Help
-pub mod Typed
+pub mod CommandWords
 pub mod Journal

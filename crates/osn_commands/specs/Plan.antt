@@ -3,7 +3,7 @@ use Rattle.std.specs.Prelude.{◌≡◌, ◌⊎◌, ◌+◌, ◌++◌, ⊤, ℕ,
 use Rattle.std.specs.Prelude.{Option, Some, None, IfSome, is_some}
 use Rattle.osn_days.specs.Rules.{newest_rules}
 use Rattle.osn_core.specs.Sequential.{ObjectState}
-use Rattle.osn_files.specs.Loaded.{IsOfVersion}
+use Rattle.osn_files.specs.LoadedText.{IsOfVersion}
 use Rattle.osn_files.specs.declared.fault.FileFault.{FileFault}
 use Rattle.osn_request.specs.declared.version.Version.{Version}
 use Rattle.osn_lines.specs.Lines.{lines}

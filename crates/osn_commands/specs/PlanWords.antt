@@ -7,7 +7,7 @@ use Rattle.osn_register.specs.Refusal.{refusal_name, refusal_number}
 use Rattle.osn_register.specs.declared.refusal.Refusal.{Refusal}
 use Rattle.osn_report.specs.Fault.{refusal_end}
 use Rattle.osn_report.specs.Hint.{limit_hint}
-use Rattle.osn_lines.specs.Escaped.{escaped}
+use Rattle.osn_lines.specs.Escape.{escaped}
 
 -- the last line of a plan of this many edits, the next edition having this number
 abbrev pub plan_end : ℕ → ℕ → List ℕ

@@ -33,7 +33,7 @@ use Rattle.osn_commands.specs.Edition.{edition_text, needs_sources, with_batch}
 use Rattle.osn_commands.specs.Plan.{RefusesPlan}
 use Rattle.osn_commands.specs.PlanWords.{new_journal_line, not_kept_line, pending_line}
 use Rattle.osn_commands.specs.PlanWords.{published_line, no_change_line}
-use Rattle.osn_commands.specs.Since.{RequestModel, behind_lines, hindered, later_lines}
+use Rattle.osn_commands.specs.Since.{RequestModel, behind_lines, hindering_edition, later_lines}
 use Rattle.osn_commands.specs.Since.{later_than}
 use Rattle.osn_commands.specs.Text.{published}
 
@@ -72,28 +72,28 @@ PrintsReport text o e status =
 -- The file is as it was; or its last line was cut off, if it was not finished, and else it is as it
 -- was. If cutting it back may fail, a prefix of the edition's lines may be there too.
 abbrev pub IsLeftWhole : Type 0 → List ℕ → List Edit → Option ℕ → Option (List ℕ) → Type 0
-IsLeftWhole CanStay held edits cut contents =
-    ((cut ≡ None) × (contents ≡ Some held))
-    ⊎ ((cut ≡ unfinished_line held)
-    × ((contents ≡ Some (whole_bytes held))
+IsLeftWhole CanStay content edits cut contents =
+    ((cut ≡ None) × (contents ≡ Some content))
+    ⊎ ((cut ≡ unfinished_line content)
+    × ((contents ≡ Some (whole_bytes content))
     ⊎ (CanStay × (n : ℕ)
-    × (contents ≡ Some (whole_bytes held ++ take n (appended_text held edits))))))
+    × (contents ≡ Some (whole_bytes content ++ take n (appended_text content edits))))))
 
 -- the edition is in the file: all of it, on the disk
 abbrev pub HoldsEdition : List ℕ → List Edit → Option KeptFileFault → Option ℕ → FileState → Type 0
-HoldsEdition held edits before cut file =
-    (cut ≡ unfinished_line held) × (file ≡ ready_file (edition_text held edits) before)
+HoldsEdition content edits before cut file =
+    (cut ≡ unfinished_line content) × (file ≡ ready_file (edition_text content edits) before)
 
 -- it is not, since the file could not be changed
 abbrev pub LosesEdition : Type 0 → List ℕ → List Edit → CommandFault → Option ℕ → FileState → Type 0
-LosesEdition CanStay held edits fault cut file =
-    IsChangeFault fault file.fault × IsLeftWhole CanStay held edits cut file.contents
+LosesEdition CanStay content edits fault cut file =
+    IsChangeFault fault file.fault × IsLeftWhole CanStay content edits cut file.contents
 
 -- Edits had to be written to the file of this path as an edition, and this text printed. Which line
 -- was cut off was reported first, if one was. The edition is in the file and the text was printed,
 -- if it could be; or the edition is not in the file, which was reported.
 pub record WritesEdition (CanStay : Type 0) (path : List ℕ) (old file : FileState)
-    (given : Option (List ℕ)) (edits : List Edit) (text : List ℕ) (o e : Output)
+    (input : Option (List ℕ)) (edits : List Edit) (text : List ℕ) (o e : Output)
     (status : Status) : Type 0 where
   pub cut : Option ℕ
   pub between : Option (List ℕ)
@@ -101,9 +101,9 @@ pub record WritesEdition (CanStay : Type 0) (path : List ℕ) (old file : FileSt
   pub held_back : Bool
   pub reports : ReportsCut (first_output e between failed held_back) cut
   pub ended : (PrintsReport text o (later_output e between failed) status
-      × IfHeld old given (λ held. HoldsEdition held edits old.fault cut file))
+      × IfHeld old input (λ content. HoldsEdition content edits old.fault cut file))
       ⊎ ((fault : CommandFault) × PrintsNoneAt path fault o (later_output e between failed) status
-      × IfHeld old given (λ held. LosesEdition CanStay held edits fault cut file))
+      × IfHeld old input (λ content. LosesEdition CanStay content edits fault cut file))
 
 -- ---- how the command ends
 
@@ -120,13 +120,13 @@ RefusesBy line old file o e status =
 -- Each source that one gives may be given
 abbrev pub AppendsEdits : Type 0 → List ℕ → ObjectState → RegisterModel → FileState → FileState
     → Option (List ℕ) → List Edit → Output → Output → Status → Type 0
-AppendsEdits CanStay path s target old file given [] o e status =
+AppendsEdits CanStay path s target old file input [] o e status =
     (file ≡ old) × PrintsIfMade (no_change_text s target) o e status
-AppendsEdits CanStay path s target old file given (edit ∷ edits) o e status =
+AppendsEdits CanStay path s target old file input (edit ∷ edits) o e status =
     Refuses (Refused refusals.NoMemory) old file o e status
     ⊎ MatchOption (edition_refusal s (edit ∷ edits))
     (All HasLawfulSource (edit ∷ edits)
-    × WritesEdition CanStay path old file given (edit ∷ edits)
+    × WritesEdition CanStay path old file input (edit ∷ edits)
     (published_text path s target (edit ∷ edits)) o e status)
     (λ refusal. Refuses (Refused refusal) old file o e status)
 
@@ -134,29 +134,29 @@ AppendsEdits CanStay path s target old file given (edit ∷ edits) o e status =
 -- journal
 abbrev pub AppendsIfKept : Bool → Type 0 → List ℕ → Version → ObjectState → RegisterModel
     → FileState → FileState → Option (List ℕ) → List Edit → Output → Output → Status → Type 0
-AppendsIfKept true CanStay path version s target old file given edits o e status =
-    AppendsEdits CanStay path s target old file given edits o e status
-AppendsIfKept false CanStay path version s target old file given edits o e status =
+AppendsIfKept true CanStay path version s target old file input edits o e status =
+    AppendsEdits CanStay path s target old file input edits o e status
+AppendsIfKept false CanStay path version s target old file input edits o e status =
     RefusesBy (not_kept_line path version) old file o e status
 
 -- if edits need sources that the version lacks, one of them is refused, or memory ran out;
 -- otherwise that was done
 abbrev pub PublishesEdits : Bool → Type 0 → List ℕ → Version → ObjectState → RegisterModel
     → FileState → FileState → Option (List ℕ) → List Edit → Output → Output → Status → Type 0
-PublishesEdits true CanStay path version s target old file given edits o e status =
+PublishesEdits true CanStay path version s target old file input edits o e status =
     (refusal : Refusal) × IsNoMemoryOr (edition_refusal s edits) refusal
     × Refuses (Refused refusal) old file o e status
-PublishesEdits false CanStay path version s target old file given edits o e status =
-    AppendsIfKept (is_kept version) CanStay path version s target old file given edits o e status
+PublishesEdits false CanStay path version s target old file input edits o e status =
+    AppendsIfKept (is_kept version) CanStay path version s target old file input edits o e status
 
 -- that, unless the text is behind an edition, which was reported
 abbrev pub PublishesUnlessBehind : Option ℕ → Type 0 → RequestModel → Version → ObjectState
     → RegisterModel → FileState → FileState → Option (List ℕ) → List Edit → Output → Output
     → Status → Type 0
-PublishesUnlessBehind None CanStay request version s target old file given edits o e status =
+PublishesUnlessBehind None CanStay request version s target old file input edits o e status =
     PublishesEdits (needs_sources version edits) CanStay request.journal version s target old file
-    given edits o e status
-PublishesUnlessBehind (Some edition) CanStay request version s target old file given edits o e
+    input edits o e status
+PublishesUnlessBehind (Some edition) CanStay request version s target old file input edits o e
     status =
     RefusesBy (behind_lines request.text request.journal edition (published s) s.batches) old file
     o e
@@ -166,28 +166,29 @@ PublishesUnlessBehind (Some edition) CanStay request version s target old file g
 -- of one were published
 abbrev pub PublishesPlan : Type 0 → Version → ObjectState → RequestModel → RegisterModel
     → FileState → FileState → Option (List ℕ) → Output → Output → Status → Type 0
-PublishesPlan CanStay version s request target old file given o e status =
+PublishesPlan CanStay version s request target old file input o e status =
     ((file ≡ old) × RefusesPlan s request.text target o e status)
     ⊎ ((edits : List Edit) × IsPlan s.limits target.territories (published s) edits
-    × PublishesUnlessBehind (hindered request s.batches edits) CanStay request version s target old
-    file given edits o e status)
+    × PublishesUnlessBehind (hindering_edition request s.batches edits) CanStay request version s
+    target old
+    file input edits o e status)
 
 -- that, unless the text is of an edition that the journal lacks, which was reported
 abbrev pub PublishesUnlessLater : Option ℕ → Type 0 → Version → ObjectState → RequestModel
     → RegisterModel → FileState → FileState → Option (List ℕ) → Output → Output → Status → Type 0
-PublishesUnlessLater None CanStay version s request target old file given o e status =
-    PublishesPlan CanStay version s request target old file given o e status
-PublishesUnlessLater (Some edition) CanStay version s request target old file given o e status =
+PublishesUnlessLater None CanStay version s request target old file input o e status =
+    PublishesPlan CanStay version s request target old file input o e status
+PublishesUnlessLater (Some edition) CanStay version s request target old file input o e status =
     RefusesBy (later_lines request.text request.journal edition (length s.batches)) old file o e
     status
 
 -- that, unless edits are pending, which was reported
 abbrev pub PublishesUnlessPending : Type 0 → Version → ObjectState → List Edit → RequestModel
     → RegisterModel → FileState → FileState → Option (List ℕ) → Output → Output → Status → Type 0
-PublishesUnlessPending CanStay version s [] request target old file given o e status =
+PublishesUnlessPending CanStay version s [] request target old file input o e status =
     PublishesUnlessLater (later_than request.edition (length s.batches)) CanStay version s request
-    target old file given o e status
-PublishesUnlessPending CanStay version s (edit ∷ edits) request target old file given o e status =
+    target old file input o e status
+PublishesUnlessPending CanStay version s (edit ∷ edits) request target old file input o e status =
     RefusesBy (pending_line (length (edit ∷ edits))) old file o e status
 
 -- How a publish ends over a file that was `old` and is `file` then, and which a source gave. It
@@ -195,12 +196,12 @@ PublishesUnlessPending CanStay version s (edit ∷ edits) request target old fil
 -- was done.
 abbrev pub EndsPublish : Type 0 → Limits → RequestModel → RegisterModel → FileState → FileState
     → Input → Output → Output → Status → Type 0
-EndsPublish CanStay limits request target old file given o e status =
+EndsPublish CanStay limits request target old file input o e status =
     ((fault : CommandFault) × (file ≡ old) × PrintsNoneAt request.journal fault o e status
-    × IfHeld old given.bytes (λ held. HoldsNoObject limits held given.unread fault))
+    × IfHeld old input.bytes (λ content. HoldsNoObject limits content input.unread fault))
     ⊎ ((version : Version) × (s : ObjectState)
-    × IfHeld old given.bytes (λ held. HoldsObject limits held version s)
-    × PublishesUnlessPending CanStay version s s.pending request target old file given.bytes o e
+    × IfHeld old input.bytes (λ content. HoldsObject limits content version s)
+    × PublishesUnlessPending CanStay version s s.pending request target old file input.bytes o e
     status)
 
 -- ---- an edition that the file can't take
@@ -209,8 +210,8 @@ EndsPublish CanStay limits request target old file given o e status =
 -- edits of a plan need them. The rewritten journal has them as its next edition. And there are the
 -- text that is printed then, and the one on a last line that was not finished.
 pub record IsRewriteNeeded (limits : Limits) (request : RequestModel) (target : RegisterModel)
-    (given : Option (List ℕ)) (bytes journal text : List ℕ) (cut : Option (List ℕ)) : Type 0 where
-  pub read : IfSome given (λ held. bytes ≡ held)
+    (input : Option (List ℕ)) (bytes journal text : List ℕ) (cut : Option (List ℕ)) : Type 0 where
+  pub read : IfSome input (λ content. bytes ≡ content)
   pub version : Version
   pub object : ObjectState
   pub holds : HoldsObject limits bytes version object
@@ -218,7 +219,7 @@ pub record IsRewriteNeeded (limits : Limits) (request : RequestModel) (target : 
   pub edits : List Edit
   pub had : later_than request.edition (length object.batches) ≡ None
   pub plans : IsPlan object.limits target.territories (published object) edits
-  pub free : hindered request object.batches edits ≡ None
+  pub free : hindering_edition request object.batches edits ≡ None
   pub needs : needs_sources version edits ≡ true
   pub lawful : edition_refusal object edits ≡ None
   pub sources : All HasLawfulSource edits

@@ -12,11 +12,11 @@ use Rattle.osn_report.specs.declared.status.Status.{Status}
 use Rattle.osn_report.specs.declared.status.Status.TheVariants as statuses
 use Rattle.osn_serve_commands.specs.Keep.{ReportsText, first_output, later_output}
 use Rattle.osn_serve_commands.specs.Upgrade.{CannotSaveAnew, SavesAnew}
-use Rattle.osn_commands.specs.Keeping.{CannotKeepBy, unkept_line}
+use Rattle.osn_commands.specs.HindranceCause.{CannotKeepBy, unkept_line}
 use Rattle.osn_commands.specs.Plan.{RefusesText}
 use Rattle.osn_commands.specs.Publish.{EndsPublish, IsRewriteNeeded, PrintsReport}
 use Rattle.osn_commands.specs.Since.{RequestModel}
-use Rattle.osn_commands.specs.declared.keeping.KeepCause.{KeepCause}
+use Rattle.osn_commands.specs.declared.hindrance_cause.KeepCause.{KeepCause}
 use Rattle.osn_commands.specs.TextFile.{Says}
 
 -- ---- a journal that is saved with its edition
@@ -35,9 +35,9 @@ pub record ReportsAndPrints (cut : Option (List ℕ)) (text : List ℕ) (o e : O
 -- its edition printed; or it isn't sure that it is saved, and nothing was printed
 abbrev pub SavesEdition : List ℕ → List ℕ → List ℕ → List ℕ → Option (List ℕ) → Folders → Output
     → Output → Status → Type 0
-SavesEdition path loaded journal text cut d o e status =
-    ((o.new ≡ o.old) × CannotSaveAnew path loaded journal d.before d.after e status)
-    ⊎ (SavesAnew path loaded journal d.before d.after × ReportsAndPrints cut text o e status)
+SavesEdition path content journal text cut d o e status =
+    ((o.new ≡ o.old) × CannotSaveAnew path content journal d.before d.after e status)
+    ⊎ (SavesAnew path content journal d.before d.after × ReportsAndPrints cut text o e status)
 
 -- ---- a journal that is there
 
@@ -46,12 +46,13 @@ SavesEdition path loaded journal text cut d o e status =
 -- place, if its version lacks the sources of an edit
 abbrev pub PublishesKept : Limits → RequestModel → RegisterModel → Type 0 → FileState → Input
     → Folders → Output → Output → Status → Type 0
-PublishesKept limits request target CanStay begun given d o e status =
-    ((file : FileState) × EndsPublish CanStay limits request target begun file given o e status
+PublishesKept limits request target CanStay initial input d o e status =
+    ((file : FileState) × EndsPublish CanStay limits request target initial file input o e status
     × Changes (Leaves request.journal file.contents) d.before d.after)
     ⊎ ((bytes : List ℕ) × (journal : List ℕ) × (text : List ℕ) × (cut : Option (List ℕ))
-    × IsRewriteNeeded limits request target given.bytes bytes journal text cut
-    × (released : Option Known) × Changes (Leaves request.journal begun.contents) d.before released
+    × IsRewriteNeeded limits request target input.bytes bytes journal text cut
+    × (released : Option Known) × Changes (Leaves request.journal initial.contents) d.before
+    released
     × SavesEdition request.journal bytes journal text cut
     (record { before = released; after = d.after }) o e status)
 
@@ -62,11 +63,12 @@ abbrev pub KeepsAndPublishes : Limits → RequestModel → RegisterModel → (Bo
 KeepsAndPublishes limits request target CanFail CanStay d o e status =
     ((cause : KeepCause) × CannotKeepBy request.journal d.before d.after cause × (o.new ≡ o.old)
     × ReportsIfMade e statuses.ReadFault (unkept_line request.journal cause) status)
-    ⊎ ((held : Option Known) × Changes (Keeps request.journal) d.before held
-    × (begun : FileState) × IsKeptAt d.before request.journal begun.contents × (begun.fault ≡ None)
-    × (given : Input) × (given.bytes ≡ begun.contents) × CanFail given.unread
-    × PublishesKept limits request target CanStay begun given
-    (record { before = held; after = d.after }) o e status)
+    ⊎ ((between : Option Known) × Changes (Keeps request.journal) d.before between
+    × (initial : FileState) × IsKeptAt d.before request.journal initial.contents
+    × (initial.fault ≡ None)
+    × (input : Input) × (input.bytes ≡ initial.contents) × CanFail input.unread
+    × PublishesKept limits request target CanStay initial input
+    (record { before = between; after = d.after }) o e status)
 
 -- ---- the command
 

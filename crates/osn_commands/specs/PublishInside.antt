@@ -16,7 +16,7 @@ use Rattle.osn_serve_commands.specs.Keep.{cut_text, unfinished_line}
 use Rattle.osn_commands.specs.Edition.{appended_text, edition_refusal, needs_sources}
 use Rattle.osn_commands.specs.Edition.{with_batch}
 use Rattle.osn_commands.specs.Publish.{HoldsEdition, LosesEdition, published_text}
-use Rattle.osn_commands.specs.Since.{RequestModel, hindered, later_than}
+use Rattle.osn_commands.specs.Since.{RequestModel, hindering_edition, later_than}
 use Rattle.osn_commands.specs.Text.{published}
 
 -- some file of a kind may fail to be cut back
@@ -25,42 +25,42 @@ CanStay {K} may_fail = (file : K) × (may_fail file ≡ true)
 
 -- this part counts of what a source gave, if that is known
 abbrev pub IsPartOf : CountedPrefix → Option (List ℕ) → Type 0
-IsPartOf part given = IfSome given (IsCountedPrefix part)
+IsPartOf part input = IfSome input (IsCountedPrefix part)
 
 -- lines are those of edits, to be appended to a file of which this part counts
 abbrev pub AreLinesOf : CountedPrefix → List Edit → List ℕ → Type 0
 AreLinesOf part edits lines =
-    (held : List ℕ) → IsCountedPrefix part held → lines ≡ appended_text held edits
+    (content : List ℕ) → IsCountedPrefix part content → lines ≡ appended_text content edits
 
 -- a file of this many bytes is as it was; or, if cutting it back may fail, a prefix of the lines is
 -- after them
 abbrev pub IsCutBack : Type 0 → ℕ → List ℕ → Option (List ℕ) → Option (List ℕ) → Type 0
 IsCutBack Stays size lines old new =
-    (held : List ℕ) → old ≡ Some held → length held ≡ size
-    → (new ≡ Some held) ⊎ (Stays × (n : ℕ) × (new ≡ Some (held ++ take n lines)))
+    (content : List ℕ) → old ≡ Some content → length content ≡ size
+    → (new ≡ Some content) ⊎ (Stays × (n : ℕ) × (new ≡ Some (content ++ take n lines)))
 
 -- the lines of edits are in the file of which this part counts, or are not
 abbrev pub IsWritten : CountedPrefix → List Edit → Option ℕ → FileState → FileState → Type 0
 IsWritten part edits cut old new =
-    (held : List ℕ) → old.contents ≡ Some held → IsCountedPrefix part held
-    → HoldsEdition held edits old.fault cut new
+    (content : List ℕ) → old.contents ≡ Some content → IsCountedPrefix part content
+    → HoldsEdition content edits old.fault cut new
 
 abbrev pub IsUnwritten : Type 0 → CountedPrefix → List Edit → CommandFault → Option ℕ → FileState
     → FileState → Type 0
 IsUnwritten Stays part edits fault cut old new =
-    (held : List ℕ) → old.contents ≡ Some held → IsCountedPrefix part held
-    → LosesEdition Stays held edits fault cut new
+    (content : List ℕ) → old.contents ≡ Some content → IsCountedPrefix part content
+    → LosesEdition Stays content edits fault cut new
 
 -- the text on the last line of what this part counts of, if that was not finished
 abbrev pub IsCutOf : CountedPrefix → Option (List ℕ) → Type 0
 IsCutOf part cut =
-    (held : List ℕ) → IsCountedPrefix part held → cut ≡ cut_text (unfinished_line held)
+    (content : List ℕ) → IsCountedPrefix part content → cut ≡ cut_text (unfinished_line content)
 
 -- The journal of a path that held these bytes is rewritten with these edits as its next edition.
-pub record IsOlderOf (path held : List ℕ) (part : CountedPrefix) (version : Version)
+pub record IsOlderOf (path content : List ℕ) (part : CountedPrefix) (version : Version)
     (s : ObjectState) (target : RegisterModel) (edits : List Edit) (bytes journal text : List ℕ)
     (cut : Option (List ℕ)) : Type 0 where
-  pub same : bytes ≡ held
+  pub same : bytes ≡ content
   pub needs : needs_sources version edits ≡ true
   pub lawful : edition_refusal s edits ≡ None
   pub sources : All HasLawfulSource edits
@@ -70,12 +70,12 @@ pub record IsOlderOf (path held : List ℕ) (part : CountedPrefix) (version : Ve
 
 -- The same of a journal with nothing pending that has the edition of the text, with the edits of a
 -- plan that no later edition hinders.
-pub record IsOlderPlan (request : RequestModel) (held : List ℕ) (part : CountedPrefix)
+pub record IsOlderPlan (request : RequestModel) (content : List ℕ) (part : CountedPrefix)
     (version : Version) (s : ObjectState) (target : RegisterModel) (bytes journal text : List ℕ)
     (cut : Option (List ℕ)) : Type 0 where
   pub pending : s.pending ≡ []
   pub had : later_than request.edition (length s.batches) ≡ None
   pub edits : List Edit
   pub plans : IsPlan s.limits target.territories (published s) edits
-  pub free : hindered request s.batches edits ≡ None
-  pub older : IsOlderOf request.journal held part version s target edits bytes journal text cut
+  pub free : hindering_edition request s.batches edits ≡ None
+  pub older : IsOlderOf request.journal content part version s target edits bytes journal text cut

@@ -33,6 +33,7 @@ use Rattle.osn_report.specs.declared.status.Status.TheVariants as statuses
 use Rattle.osn_serve_commands.specs.InFolder.{RunsServing, opened_by}
 use Rattle.osn_serve_commands.specs.Mode.{mode_by}
 use Rattle.osn_commands.specs.Check.{PrintsCheck}
+use Rattle.osn_commands.specs.CommandWords.{with_plain_help}
 use Rattle.osn_commands.specs.Diff.{RunsDiff}
 use Rattle.osn_commands.specs.InFolder.{PlansInFolder, RunsText}
 use Rattle.osn_commands.specs.PublishFolder.{PublishesInFolder}
@@ -164,16 +165,17 @@ RunsInvocation request CanFail CanStay d i o e status = MatchResult (limits_of_w
 -- that was asked for, by a kind that the grammar gives
 abbrev pub RunsWords : List Text → List Text → (Bool → Type 0) → Type 0 → Folders → Input → Output
     → Output → Status → Type 0
-RunsWords typed args CanFail CanStay d i o e status =
+RunsWords arguments args CanFail CanStay d i o e status =
     ((fault_of command_line args ≡ [])
     × RunsInvocation (invocation_in args) CanFail CanStay d i o e status)
     ⊎ ((d.after ≡ d.before) × (HasNoMemory o e status
     ⊎ ((kind : ErrorKind) × IsAmong kind (fault_of command_line args)
-    × Shows kind (help_on kind typed) o e status)))
+    × Shows kind (help_on kind arguments) o e status)))
 
 -- what it does with the typed words: they may leave out the file of the journal, if this is the
--- default, or name it by an option
+-- default, or name it by an option, and `help --help` is `--help`
 abbrev pub RunsArgs : Option Text → List Text → (Bool → Type 0) → Type 0 → Folders → Input
     → Output → Output → Status → Type 0
-RunsArgs default typed CanFail CanStay d i o e status =
-    RunsWords typed (with_journal default typed) CanFail CanStay d i o e status
+RunsArgs default arguments CanFail CanStay d i o e status =
+    RunsWords arguments (with_journal default (with_plain_help arguments)) CanFail CanStay d i o e
+    status

@@ -14,7 +14,7 @@ use Rattle.osn_register.specs.declared.edit.Edit.{Edit}
 use Rattle.osn_register.specs.declared.edit.Edit.TheVariants.{AddLand, AddChange, AlterChange}
 use Rattle.osn_register.specs.declared.edit.Edit.TheVariants.{DropChange, AddException}
 use Rattle.osn_register.specs.declared.edit.Edit.TheVariants.{DropException}
-use Rattle.osn_lines.specs.Escaped.{escaped}
+use Rattle.osn_lines.specs.Escape.{escaped}
 use Rattle.osn_commands.specs.declared.since.Item.{Item}
 use Rattle.osn_commands.specs.declared.since.Item.TheVariants.{Period, Easter}
 use Rattle.osn_commands.specs.declared.since.PublishRequest.{PublishRequest}
@@ -75,8 +75,8 @@ behind (Some edition) batches edits =
     if list_any (change_again edits) (drop edition batches) then Some edition else None
 
 -- the same, if that hinders a publish
-abbrev pub hindered : RequestModel → List (List Edit) → List Edit → Option ℕ
-hindered request batches edits =
+abbrev pub hindering_edition : RequestModel → List (List Edit) → List Edit → Option ℕ
+hindering_edition request batches edits =
     if request.onto_newest then None else behind request.edition batches edits
 
 -- ---- what is printed

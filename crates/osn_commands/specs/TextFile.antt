@@ -13,7 +13,7 @@ use Rattle.osn_report.specs.OpenFailure.{open_failure_line}
 use Rattle.osn_report.specs.declared.fault.CommandFault.TheVariants as command_faults
 use Rattle.osn_report.specs.declared.status.Status.{Status}
 use Rattle.osn_report.specs.declared.status.Status.TheVariants as statuses
-use Rattle.osn_lines.specs.Escaped.{escaped}
+use Rattle.osn_lines.specs.Escape.{escaped}
 use Rattle.osn_register_text.specs.Text.{IsFaultOf, text_of_table}
 use Rattle.osn_register_text.specs.Words.{text_fault_text}
 use Rattle.osn_register_text.specs.declared.fault.TextFault.{TextFault}

@@ -103,8 +103,8 @@ fn print_between<W: Sink, E: Sink>(
 }
 
 /// Returns the first of two numbers that is not an edition of a journal with this many.
-fn lacking(editions: usize, from: u32, to: u32) -> Option<u32>
-    ensures value { result ≡ spec.lacking editions from to }
+fn missing_edition(editions: usize, from: u32, to: u32) -> Option<u32>
+    ensures value { result ≡ spec.missing_edition editions from to }
     ensures from { (result ≡ None) → from ≤ editions }
     ensures to { (result ≡ None) → to ≤ editions }
 {
@@ -127,13 +127,14 @@ fn print_diff<W: Sink, E: Sink>(
     output: &mut W,
     errors: &mut E,
 ) -> Status
-    ensures { spec.PrintsOrLacks (spec.lacking (length object.now.batches) from to) object.now
+    ensures { spec.PrintsOrLacks (spec.missing_edition (length object.now.batches) from to)
+        object.now
         path.now from to
         (output_of W.contents W.has_failed W.holds_back output.old output.new)
         (output_of E.contents E.has_failed E.holds_back errors.old errors.new) result }
 {
     let newest = object.batches().len();
-    match lacking(newest, from, to) {
+    match missing_edition(newest, from, to) {
         Some(number) => {
             report_edition_fault(alloc, errors, EditionFault::TooLate { number, newest })
         }

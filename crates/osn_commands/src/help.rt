@@ -4,8 +4,8 @@ ghost use Rattle.std.specs.List.{list_any};
 ghost use Rattle.clap.specs.Words.{kind_of};
 ghost use Rattle.osn_commands.specs.Help as spec;
 
+use crate::command_words::{begins_with_journal, command_in, plain_count};
 use crate::journal::{option_at, words_without};
-use crate::typed::{begins_with_journal, command_in, plain_count};
 use clap::Error;
 use clap::error::ErrorKind;
 use std::convert::AsStr;

@@ -8,7 +8,7 @@ ghost use Rattle.osn_serve_commands.specs.Serve.{input_if};
 ghost use Rattle.osn_commands.specs.InFolder as spec;
 ghost use Rattle.osn_commands.specs.Text.{PrintsText};
 
-use crate::keeping::report_hindrance;
+use crate::hindrance_cause::report_hindrance;
 use crate::plan::plan_command;
 use crate::text::text_command;
 use osn_core::edition_of_word;

@@ -2,9 +2,10 @@
 //! out.
 ghost use Rattle.std.specs.Prelude.{◌≡◌, ◌<◌, IfOk, None, length, map, option_map};
 ghost use Rattle.std.specs.List.{list_any, position};
+ghost use Rattle.osn_commands.specs.CommandWords.{with_plain_help};
 ghost use Rattle.osn_commands.specs.Journal as spec;
 
-use crate::typed::{begins_with_journal, command_in, plain_count};
+use crate::command_words::{begins_with_journal, command_in, plain_count, with_plain_help};
 use osn_written::parts_at;
 use std::alloc::{AllocError, Global};
 use std::convert::AsStr;
@@ -19,6 +20,8 @@ pub(crate) fn words_without(command: &str) -> Option<usize>
         "letters" => Some(0),
         "text" => Some(0),
         "editions" => Some(0),
+        "plan" => Some(1),
+        "publish" => Some(1),
         "read" => Some(2),
         "day" => Some(2),
         "diff" => Some(2),
@@ -194,15 +197,17 @@ fn texts_of<'a, S: AsStr>(alloc: Global, words: &'a [S]) -> Result<Vec<&'a str>,
 }
 
 /// Returns what a command line means in which the file of the journal is left out, or named by the
-/// option `--journal`, with this default: the words with the file after the command.
+/// option `--journal`, with this default: the words with the file after the command. `help --help`
+/// means `--help`.
 pub(crate) fn with_journal<'a, S: AsStr>(
     alloc: Global,
     words: &'a [S],
     default: Option<&'a str>,
 ) -> Result<Vec<&'a str>, AllocError>
     ensures { IfOk result (λ new. map (λ word. word.now) new.items
-        ≡ spec.with_journal (option_map (λ path. path.now) default.entry) (map S.text words.now)) }
+        ≡ spec.with_journal (option_map (λ path. path.now) default.entry)
+        (with_plain_help (map S.text words.now))) }
 {
     let texts = texts_of(alloc, words)?;
-    with_journal_by(texts, default)
+    with_journal_by(with_plain_help(texts), default)
 }

@@ -9,7 +9,7 @@ ghost use Rattle.osn_commands.specs.PublishInside.{CanStay};
 ghost use Rattle.osn_commands.specs.Since.{request_of};
 
 use crate::edition::WholeEdition;
-use crate::keeping::{cause_of, unkept_line};
+use crate::hindrance_cause::{cause_of, unkept_line};
 use crate::publish::publish_command;
 use crate::publish_edits::print_report;
 use crate::since::PublishRequest;
@@ -27,20 +27,20 @@ fn save_edition<D: Folder, W: Sink, E: Sink>(
     alloc: Global,
     folder: &mut D,
     path: &str,
-    loaded: &[u8],
+    content: &[u8],
     edition: &WholeEdition,
     cut: &Option<String>,
     output: &mut W,
     errors: &mut E,
 ) -> Status
-    ensures { spec.SavesEdition path.now loaded.now (string_bytes edition.now.journal)
+    ensures { spec.SavesEdition path.now content.now (string_bytes edition.now.journal)
         (string_bytes edition.now.text) (option_map string_bytes cut.now)
         (folders_of D.known folder.old folder.new)
         (output_of W.contents W.has_failed W.holds_back output.old output.new)
         (output_of E.contents E.has_failed E.holds_back errors.old errors.new) result }
 {
     let journal = edition.journal.as_str();
-    match save_anew(alloc, folder, path, loaded, journal, errors) {
+    match save_anew(alloc, folder, path, content, journal, errors) {
         Ok(()) => {
             report_cut(errors, cut);
             print_report(edition.text.as_str(), output, errors)
@@ -74,7 +74,7 @@ fn keep_and_publish<D: Folder, W: Sink, E: Sink>(
             return report_line(errors, Status::ReadFault, unkept_line(alloc, path, cause));
         }
     };
-    let published = publish_command(
+    let publish_result = publish_command(
         alloc,
         limits,
         &mut keeper,
@@ -87,7 +87,7 @@ fn keep_and_publish<D: Folder, W: Sink, E: Sink>(
     // The source that reads the file has its lock too.
     drop(journal);
     folder.release(path, keeper);
-    match published {
+    match publish_result {
         Ok(status) => status,
         Err(older) => save_edition(
             alloc,

@@ -8,16 +8,17 @@
 #![tactic(auto)]
 
 mod check;
-mod completing;
+mod command_words;
+mod completion_script;
 mod diff;
 mod diff_folder;
 mod diff_words;
 mod display;
 mod edition;
 mod help;
+mod hindrance_cause;
 mod in_folder;
 mod journal;
-mod keeping;
 mod kept_journal;
 mod letters_table;
 mod limits;
@@ -31,7 +32,6 @@ mod publish_edits;
 mod since;
 mod text;
 mod text_file;
-mod typed;
 
 pub use check::{check_command, check_in_folder};
 pub use diff::diff_command;

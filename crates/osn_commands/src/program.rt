@@ -13,7 +13,7 @@ ghost use Rattle.osn_commands.specs.PublishInside.{CanStay};
 ghost use Rattle.osn_commands.specs.Run.{Fails, Runs, RunsArgs, RunsInvocation, RunsWords};
 
 use crate::check::check_in_folder;
-use crate::completing::completions_command;
+use crate::completion_script::completions_command;
 use crate::diff_folder::diff_in_folder;
 use crate::display::show;
 use crate::help::help_on;
@@ -76,7 +76,7 @@ where
 fn run_words<F, D: Folder, S: AsStr, R: Source, W: Sink, E: Sink, T: Sink + Drop>(
     rt: &F,
     folder: &mut D,
-    typed: &[S],
+    arguments: &[S],
     words: &[&str],
     input: &mut R,
     output: &mut W,
@@ -85,7 +85,7 @@ fn run_words<F, D: Folder, S: AsStr, R: Source, W: Sink, E: Sink, T: Sink + Drop
 ) -> Status
 where
     F: Threads + Wait + AllocGlobal,
-    ensures { RunsWords (map S.text typed.now) (map (λ word. word.now) words.now)
+    ensures { RunsWords (map S.text arguments.now) (map (λ word. word.now) words.now)
         (MayFail D.File.has_failed)
         (CanStay D.Keeper.cut_back_may_fail)
         (folders_of D.known folder.old folder.new)
@@ -97,7 +97,7 @@ where
     match parse_args(alloc, words) {
         Ok(invocation) => run_invocation(rt, folder, invocation, input, output, errors, terminal),
         Err(error) => {
-            let help = help_on(&error, typed);
+            let help = help_on(&error, arguments);
             show(alloc, &error, help, output, errors)
         }
     }
@@ -136,8 +136,8 @@ where
     let limits = match limits_of_words(invocation.limits) {
         Ok(limits) => limits,
         Err(misuse) => {
-            let typed = as_typed(invocation.limits);
-            return report_misuse(alloc, errors, misuse, typed);
+            let word = as_typed(invocation.limits);
+            return report_misuse(alloc, errors, misuse, word);
         }
     };
     let command = invocation.command;
@@ -148,31 +148,31 @@ where
 }
 
 /// Prints the text of a command, if there is one.
-fn printed<'a, W: Sink, E: Sink>(
-    made: Result<String, Failure<'a>>,
+fn print_result<'a, W: Sink, E: Sink>(
+    text: Result<String, Failure<'a>>,
     output: &mut W,
     errors: &mut E,
 ) -> Result<Status, Failure<'a>>
-    ensures ok { IfOk result (λ status. (is_ok made.entry ≡ true)
-        × IfOk made.entry (λ text. PrintsOrReports (string_bytes text)
+    ensures ok { IfOk result (λ status. (is_ok text.entry ≡ true)
+        × IfOk text.entry (λ text. PrintsOrReports (string_bytes text)
         (output_of W.contents W.has_failed W.holds_back output.old output.new)
         (output_of E.contents E.has_failed E.holds_back errors.old errors.new) status)) }
-    ensures err { IfErr result (λ failure. (made.entry ≡ Err failure)
+    ensures err { IfErr result (λ failure. (text.entry ≡ Err failure)
         × (output.new ≡ output.old) × (errors.new ≡ errors.old)) }
 {
-    match made {
+    match text {
         Ok(text) => Ok(print_or_report(Ok(text), output, errors)),
         Err(failure) => Err(failure),
     }
 }
 
 /// Returns what a command did, or why its file of this path could not be opened.
-fn opened<'a>(path: &'a str, done: Result<Status, OpenFailed>) -> Result<Status, Failure<'a>>
-    ensures ok { IfOk result (λ status. done ≡ Ok status) }
-    ensures err { IfErr result (λ failure. (cause : OpenFailed) × (done ≡ Err cause)
+fn result_at<'a>(path: &'a str, outcome: Result<Status, OpenFailed>) -> Result<Status, Failure<'a>>
+    ensures ok { IfOk result (λ status. outcome ≡ Ok status) }
+    ensures err { IfErr result (λ failure. (cause : OpenFailed) × (outcome ≡ Err cause)
         × (failure.path.now ≡ path.now) × (failure.fault ≡ CommandFault.NotOpened cause)) }
 {
-    match done {
+    match outcome {
         Ok(status) => Ok(status),
         Err(cause) => Err(Failure {
             path,
@@ -212,12 +212,12 @@ where
             alloc, limits, folder, options, input, output, errors, terminal,
         ),
         CommandWords::Replay { readers, schedule } => {
-            let made = replay_in_folder(alloc, limits, folder, readers, schedule);
-            printed(made, output, errors)
+            let text = replay_in_folder(alloc, limits, folder, readers, schedule);
+            print_result(text, output, errors)
         }
         CommandWords::Desk { script, questions } => {
-            let made = desk_in_folder(rt, limits, folder, script, questions);
-            printed(made, output, errors)
+            let text = desk_in_folder(rt, limits, folder, script, questions);
+            print_result(text, output, errors)
         }
         CommandWords::Page {
             journal,
@@ -230,51 +230,51 @@ where
             journal,
             transcript,
         } => {
-            let made = audit_in_folder(alloc, limits, folder, journal, transcript, terminal);
-            printed(made, output, errors)
+            let text = audit_in_folder(alloc, limits, folder, journal, transcript, terminal);
+            print_result(text, output, errors)
         }
         CommandWords::Letters {
             journal,
             table,
             options,
         } => {
-            let done = table_in_folder(
+            let status = table_in_folder(
                 alloc, limits, folder, journal, table, options, input, output, errors, terminal,
             );
-            opened(journal, done)
+            result_at(journal, status)
         }
         CommandWords::Editions { journal } => {
-            let done = editions_in_folder(alloc, limits, folder, journal, output, errors);
-            opened(journal, done)
+            let status = editions_in_folder(alloc, limits, folder, journal, output, errors);
+            result_at(journal, status)
         }
         CommandWords::Diff { journal, from, to } => {
-            let done = diff_in_folder(alloc, limits, folder, journal, from, to, output, errors);
-            opened(journal, done)
+            let status = diff_in_folder(alloc, limits, folder, journal, from, to, output, errors);
+            result_at(journal, status)
         }
         CommandWords::Text {
             journal,
             edition,
             code,
         } => {
-            let done = text_in_folder(
+            let status = text_in_folder(
                 alloc, limits, folder, journal, edition, code, output, errors,
             );
-            opened(journal, done)
+            result_at(journal, status)
         }
         CommandWords::Check { text } => {
-            let done = check_in_folder(alloc, limits, folder, text, output, errors);
-            opened(text, done)
+            let status = check_in_folder(alloc, limits, folder, text, output, errors);
+            result_at(text, status)
         }
         CommandWords::Plan { journal, text } => {
-            let done = plan_in_folder(alloc, limits, folder, journal, text, output, errors);
-            opened(journal, done)
+            let status = plan_in_folder(alloc, limits, folder, journal, text, output, errors);
+            result_at(journal, status)
         }
         CommandWords::Publish {
             journal,
             text,
             onto_newest,
         } => {
-            let done = publish_in_folder(
+            let status = publish_in_folder(
                 alloc,
                 limits,
                 folder,
@@ -284,7 +284,7 @@ where
                 output,
                 errors,
             );
-            opened(text, done)
+            result_at(text, status)
         }
         CommandWords::Convert { calendar, date } => {
             Ok(convert_command(alloc, calendar, date, output, errors))

@@ -6,12 +6,12 @@ ghost use Rattle.osn_lines.specs.Streams.{input_of, output_of};
 ghost use Rattle.osn_commands.specs.Edition.{IsEachEditionLoaded};
 ghost use Rattle.osn_commands.specs.Publish as spec;
 ghost use Rattle.osn_commands.specs.PublishInside as inside;
-ghost use Rattle.osn_commands.specs.Since.{hindered, request_of};
+ghost use Rattle.osn_commands.specs.Since.{hindering_edition, request_of};
 
 use crate::plan_fault::report_plan_fault;
 use crate::plan_words::pending_line;
 use crate::publish_edits::{NeedsRewrite, publish_edits};
-use crate::since::{PublishRequest, behind_lines, hindered, later_lines, later_than};
+use crate::since::{PublishRequest, behind_lines, hindering_edition, later_lines, later_than};
 use osn_folder::KeptFile;
 use osn_lines::{Sink, Source};
 use osn_register::{Edit, Limits, Register};
@@ -29,44 +29,46 @@ use std::alloc::Global;
 fn publish_unless_behind<K: KeptFile, W: Sink, E: Sink>(
     alloc: Global,
     keeper: &mut K,
-    held: LoadedJournal,
+    journal: LoadedJournal,
     request: PublishRequest<'_>,
     target: &Register,
     edits: Vec<Edit>,
     output: &mut W,
     errors: &mut E,
 ) -> Result<Status, NeedsRewrite>
-    requires few { held.part.lines < 2 ^ 63 }
-    requires pending { held.object.pending ≡ [] }
+    requires few { journal.part.lines < 2 ^ 63 }
+    requires pending { journal.object.pending ≡ [] }
     // For whatever a source gave of which the part counts.
-    ensures ok { IfOk result (λ status. (given : Option (List ℕ))
-        → inside.IsPartOf held.part given
+    ensures ok { IfOk result (λ status. (input : Option (List ℕ))
+        → inside.IsPartOf journal.part input
         → spec.PublishesUnlessBehind
-        (hindered (request_of request.entry) held.object.batches edits.items)
-        (inside.CanStay K.cut_back_may_fail) (request_of request.entry) held.version held.object
+        (hindering_edition (request_of request.entry) journal.object.batches edits.items)
+        (inside.CanStay K.cut_back_may_fail) (request_of request.entry) journal.version
+        journal.object
         target.now
         (file_of K.contents K.synced K.fault keeper.old)
-        (file_of K.contents K.synced K.fault keeper.new) given edits.items
+        (file_of K.contents K.synced K.fault keeper.new) input edits.items
         (output_of W.contents W.has_failed W.holds_back output.old output.new)
         (output_of E.contents E.has_failed E.holds_back errors.old errors.new) status) }
     ensures older { IfErr result (λ older.
-        (hindered (request_of request.entry) held.object.batches edits.items ≡ None)
-        × inside.IsOlderOf request.entry.journal.now held.bytes.items held.part held.version
-        held.object target.now edits.items older.bytes.items (string_bytes older.edition.journal)
+        (hindering_edition (request_of request.entry) journal.object.batches edits.items ≡ None)
+        × inside.IsOlderOf request.entry.journal.now journal.bytes.items journal.part
+        journal.version
+        journal.object target.now edits.items older.bytes.items (string_bytes older.edition.journal)
         (string_bytes older.edition.text) (option_map string_bytes older.cut)) }
     ensures quiet { OnErr result ((keeper.new ≡ keeper.old) × (output.new ≡ output.old)
         × (errors.new ≡ errors.old)) }
 {
-    match hindered(request, held.object.batches(), &edits) {
+    match hindering_edition(request, journal.object.batches(), &edits) {
         Some(edition) => {
-            let lines = behind_lines(alloc, request, edition, &held.object);
+            let lines = behind_lines(alloc, request, edition, &journal.object);
             Ok(report_line(errors, Status::Refused, lines))
         }
         None => publish_edits(
             alloc,
             request.journal,
             keeper,
-            held,
+            journal,
             target,
             edits,
             output,
@@ -84,41 +86,44 @@ fn publish_unless_behind<K: KeptFile, W: Sink, E: Sink>(
 fn publish_held<K: KeptFile, W: Sink, E: Sink>(
     alloc: Global,
     keeper: &mut K,
-    held: LoadedJournal,
+    journal: LoadedJournal,
     request: PublishRequest<'_>,
     target: &Register,
     output: &mut W,
     errors: &mut E,
 ) -> Result<Status, NeedsRewrite>
-    requires { held.part.lines < 2 ^ 63 }
+    requires { journal.part.lines < 2 ^ 63 }
     // For whatever a source gave of which the part counts.
-    ensures ok { IfOk result (λ status. (given : Option (List ℕ))
-        → inside.IsPartOf held.part given
-        → spec.PublishesUnlessPending (inside.CanStay K.cut_back_may_fail) held.version held.object
-        held.object.pending (request_of request.entry) target.now
+    ensures ok { IfOk result (λ status. (input : Option (List ℕ))
+        → inside.IsPartOf journal.part input
+        → spec.PublishesUnlessPending (inside.CanStay K.cut_back_may_fail) journal.version
+        journal.object
+        journal.object.pending (request_of request.entry) target.now
         (file_of K.contents K.synced K.fault keeper.old)
-        (file_of K.contents K.synced K.fault keeper.new) given
+        (file_of K.contents K.synced K.fault keeper.new) input
         (output_of W.contents W.has_failed W.holds_back output.old output.new)
         (output_of E.contents E.has_failed E.holds_back errors.old errors.new) status) }
     ensures older { IfErr result (λ older. inside.IsOlderPlan (request_of request.entry)
-        held.bytes.items held.part held.version held.object target.now older.bytes.items
+        journal.bytes.items journal.part journal.version journal.object target.now older.bytes.items
         (string_bytes older.edition.journal)
         (string_bytes older.edition.text) (option_map string_bytes older.cut)) }
     ensures quiet { OnErr result ((keeper.new ≡ keeper.old) × (output.new ≡ output.old)
         × (errors.new ≡ errors.old)) }
 {
-    if !held.object.pending().is_empty() {
-        let line = pending_line(alloc, held.object.pending().len());
+    if !journal.object.pending().is_empty() {
+        let line = pending_line(alloc, journal.object.pending().len());
         return Ok(report_line(errors, Status::Refused, line));
     }
-    let editions = held.object.batches().len();
+    let editions = journal.object.batches().len();
     if let Some(edition) = later_than(request.edition, editions) {
         let lines = later_lines(alloc, request.text, request.journal, edition, editions);
         return Ok(report_line(errors, Status::Refused, lines));
     }
-    match plan(alloc, held.object.register(), target) {
+    match plan(alloc, journal.object.register(), target) {
         Ok(edits) => {
-            publish_unless_behind(alloc, keeper, held, request, target, edits, output, errors)
+            publish_unless_behind(
+                alloc, keeper, journal, request, target, edits, output, errors,
+            )
         }
         Err(fault) => Ok(report_plan_fault(alloc, errors, request.text, &fault)),
     }
@@ -169,7 +174,15 @@ pub fn publish_command<K: KeptFile, J: Source, W: Sink, E: Sink>(
     ensures loads { IsEachEditionLoaded }
 {
     match read_journal_to_keep(alloc, limits, journal) {
-        Ok(held) => publish_held(alloc, keeper, held, request, target, output, errors),
+        Ok(loaded_journal) => publish_held(
+            alloc,
+            keeper,
+            loaded_journal,
+            request,
+            target,
+            output,
+            errors,
+        ),
         Err(fault) => Ok(report_at(alloc, errors, request.journal, fault)),
     }
 }

@@ -71,11 +71,11 @@ fn publish_edition<K: KeptFile, W: Sink, E: Sink>(
 ) -> Status
     requires { part.lines < 2 ^ 63 }
     // For whatever a source gave of which the part counts, and any edits that the lines are of.
-    ensures { (given : Option (List ℕ)) → inside.IsPartOf part given
+    ensures { (input : Option (List ℕ)) → inside.IsPartOf part input
         → (edits : List Edit) → inside.AreLinesOf part edits edition.now.lines.items
         → spec.WritesEdition (inside.CanStay K.cut_back_may_fail) path.now
         (file_of K.contents K.synced K.fault keeper.old)
-        (file_of K.contents K.synced K.fault keeper.new) given edits
+        (file_of K.contents K.synced K.fault keeper.new) input edits
         (string_bytes edition.now.text)
         (output_of W.contents W.has_failed W.holds_back output.old output.new)
         (output_of E.contents E.has_failed E.holds_back errors.old errors.new) result }
@@ -100,10 +100,10 @@ fn append_edits<K: KeptFile, W: Sink, E: Sink>(
 ) -> Status
     requires { part.lines < 2 ^ 63 }
     // For whatever a source gave of which the part counts.
-    ensures { (given : Option (List ℕ)) → inside.IsPartOf part given
+    ensures { (input : Option (List ℕ)) → inside.IsPartOf part input
         → spec.AppendsEdits (inside.CanStay K.cut_back_may_fail) path.now object.old target.now
         (file_of K.contents K.synced K.fault keeper.old)
-        (file_of K.contents K.synced K.fault keeper.new) given edits.items
+        (file_of K.contents K.synced K.fault keeper.new) input edits.items
         (output_of W.contents W.has_failed W.holds_back output.old output.new)
         (output_of E.contents E.has_failed E.holds_back errors.old errors.new) result }
 {
@@ -143,29 +143,29 @@ pub(crate) fn needs_sources(version: Version, edits: &[Edit]) -> bool
 fn older_edition(
     alloc: Global,
     path: &str,
-    held: LoadedJournal,
+    journal: LoadedJournal,
     target: &Register,
     edits: Vec<Edit>,
 ) -> Result<NeedsRewrite, Refusal>
-    requires few { held.part.lines < 2 ^ 63 }
-    requires pending { held.object.pending ≡ [] }
-    ensures bytes { IfOk result (λ older. older.bytes.items ≡ held.bytes.items) }
-    ensures cut { IfOk result (λ older. inside.IsCutOf held.part
+    requires few { journal.part.lines < 2 ^ 63 }
+    requires pending { journal.object.pending ≡ [] }
+    ensures bytes { IfOk result (λ older. older.bytes.items ≡ journal.bytes.items) }
+    ensures cut { IfOk result (λ older. inside.IsCutOf journal.part
         (option_map string_bytes older.cut)) }
-    ensures lawful { OnOk result (edition_refusal held.object edits.items ≡ None) }
+    ensures lawful { OnOk result (edition_refusal journal.object edits.items ≡ None) }
     ensures sources { OnOk result (All HasLawfulSource edits.items) }
     ensures journal { IfOk result (λ older. string_bytes older.edition.journal
-        ≡ journal_text (with_batch held.object edits.items)) }
+        ≡ journal_text (with_batch journal.object edits.items)) }
     ensures text { IfOk result (λ older. string_bytes older.edition.text
-        ≡ spec.published_text path.now held.object target.now edits.items) }
-    ensures refused { IfErr result (IsNoMemoryOr (edition_refusal held.object edits.items)) }
+        ≡ spec.published_text path.now journal.object target.now edits.items) }
+    ensures refused { IfErr result (IsNoMemoryOr (edition_refusal journal.object edits.items)) }
 {
     let LoadedJournal {
         bytes,
         part,
         mut object,
         ..
-    } = held;
+    } = journal;
     let cut = cut_text_of(alloc, part)?;
     let edition = whole_edition_of(alloc, path, &mut object, target, edits)?;
     Ok(NeedsRewrite {
@@ -184,32 +184,32 @@ pub(crate) fn publish_edits<K: KeptFile, W: Sink, E: Sink>(
     alloc: Global,
     path: &str,
     keeper: &mut K,
-    held: LoadedJournal,
+    journal: LoadedJournal,
     target: &Register,
     edits: Vec<Edit>,
     output: &mut W,
     errors: &mut E,
 ) -> Result<Status, NeedsRewrite>
-    requires few { held.part.lines < 2 ^ 63 }
-    requires pending { held.object.pending ≡ [] }
+    requires few { journal.part.lines < 2 ^ 63 }
+    requires pending { journal.object.pending ≡ [] }
     // For whatever a source gave of which the part counts.
-    ensures ok { IfOk result (λ status. (given : Option (List ℕ))
-        → inside.IsPartOf held.part given
-        → spec.PublishesEdits (needs_sources held.version edits.items)
-        (inside.CanStay K.cut_back_may_fail) path.now held.version held.object target.now
+    ensures ok { IfOk result (λ status. (input : Option (List ℕ))
+        → inside.IsPartOf journal.part input
+        → spec.PublishesEdits (needs_sources journal.version edits.items)
+        (inside.CanStay K.cut_back_may_fail) path.now journal.version journal.object target.now
         (file_of K.contents K.synced K.fault keeper.old)
-        (file_of K.contents K.synced K.fault keeper.new) given edits.items
+        (file_of K.contents K.synced K.fault keeper.new) input edits.items
         (output_of W.contents W.has_failed W.holds_back output.old output.new)
         (output_of E.contents E.has_failed E.holds_back errors.old errors.new) status) }
-    ensures older { IfErr result (λ older. inside.IsOlderOf path.now held.bytes.items held.part
-        held.version held.object target.now edits.items older.bytes.items
+    ensures older { IfErr result (λ older. inside.IsOlderOf path.now journal.bytes.items
+        journal.part journal.version journal.object target.now edits.items older.bytes.items
         (string_bytes older.edition.journal)
         (string_bytes older.edition.text) (option_map string_bytes older.cut)) }
     ensures quiet { OnErr result ((keeper.new ≡ keeper.old) × (output.new ≡ output.old)
         × (errors.new ≡ errors.old)) }
 {
-    if needs_sources(held.version, &edits) {
-        return match older_edition(alloc, path, held, target, edits) {
+    if needs_sources(journal.version, &edits) {
+        return match older_edition(alloc, path, journal, target, edits) {
             Ok(older) => Err(older),
             Err(refusal) => Ok(report(alloc, errors, CommandFault::Refused(refusal))),
         };
@@ -219,7 +219,7 @@ pub(crate) fn publish_edits<K: KeptFile, W: Sink, E: Sink>(
         version,
         mut object,
         ..
-    } = held;
+    } = journal;
     match check_version_to_keep(version) {
         Ok(()) => Ok(append_edits(
             alloc,

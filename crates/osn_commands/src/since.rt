@@ -119,12 +119,13 @@ pub(crate) fn behind(edition: Option<u64>, batches: &[Batch], edits: &[Edit]) ->
 }
 
 /// Returns the same, but only if the publish may not do that.
-pub(crate) fn hindered(
+pub(crate) fn hindering_edition(
     request: PublishRequest<'_>,
     batches: &[Batch],
     edits: &[Edit],
 ) -> Option<u64>
-    ensures { result ≡ spec.hindered (spec.request_of request.entry) batches.now edits.now }
+    ensures { result
+        ≡ spec.hindering_edition (spec.request_of request.entry) batches.now edits.now }
 {
     if request.onto_newest {
         return None;
@@ -179,8 +180,8 @@ fn push_editions(
     ensures { OnOk result (string_bytes out.new ≡ string_bytes out.old
         ++ spec.editions_lines register.now.territories edition (drop edition batches.now)) }
 {
-    for place in edition..batches.len() {
-        push_edition(alloc, out, register, place + 1, batches[place].edits())?;
+    for index in edition..batches.len() {
+        push_edition(alloc, out, register, index + 1, batches[index].edits())?;
     }
     Ok(())
 }

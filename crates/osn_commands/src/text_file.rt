@@ -26,7 +26,7 @@ pub(crate) enum TextFileFault {
 }
 
 impl From<ReadAllFault> for TextFileFault {
-    ghost from_gives = { λ fault given. given ≡ spec.by_read fault };
+    ghost from_gives = { λ fault value. value ≡ spec.by_read fault };
 
     fn from(fault: ReadAllFault) -> TextFileFault {
         match fault {

@@ -17,7 +17,7 @@ use Rattle.osn_core.specs.Machine.{first_core, outs_of}
 use Rattle.osn_core.specs.History.{Call, Stages, Publishes, Asks, no_looks, history, outs_to}
 use Rattle.osn_core.specs.History.{replies_to, Begin, editions_to, NeverFalls}
 use Rattle.osn_core.proofs.Knows.{Knows, idle_at}
-use Rattle.osn_core.proofs.Owed.{owed}
+use Rattle.osn_core.proofs.PendingReplies.{owed}
 use Rattle.osn_core.proofs.Runs.{stage_silent, publish_silent, replies_of_run}
 
 abbrev editions : List Reply → List ℕ

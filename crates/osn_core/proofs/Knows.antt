@@ -22,8 +22,8 @@ use Rattle.osn_core.specs.Control.{reader_at, set_reader, all_idle, look, pin, c
 use Rattle.osn_core.specs.Control.{entering, leave, out_at, readers_after}
 use Rattle.osn_core.specs.Machine.{CoreState, answer, out_of, core_after, core_in, with_published}
 use Rattle.osn_core.specs.History.{Looks, looks_after}
-use Rattle.osn_core.proofs.Standing.{same_or_not, test_same, test_other, put_here, put_elsewhere}
-use Rattle.osn_core.proofs.Standing.{put_keeps, move_keeps}
+use Rattle.osn_core.proofs.ReaderMoves.{same_or_not, test_same, test_other, put_here, put_elsewhere}
+use Rattle.osn_core.proofs.ReaderMoves.{put_keeps, move_keeps}
 
 abbrev pub Knows : Looks → ℕ → ℕ → Option ReaderState → Type 0
 Knows looks n r None = Unit {0}

@@ -2,10 +2,10 @@ pub mod Batches
 pub mod Lawful
 pub mod DraftFacts
 pub mod InStep
-pub mod Standing
-pub mod Placed
+pub mod ReaderMoves
+pub mod ReaderPositions
 pub mod Knows
-pub mod Owed
+pub mod PendingReplies
 pub mod Runs
 pub mod Editor
 pub mod Forward

@@ -28,7 +28,8 @@ use Rattle.osn_core.specs.Machine.{core_after, outs_of}
 use Rattle.osn_core.specs.History.{Call, Stages, Publishes, Looks, looks_after, call_of}
 use Rattle.osn_core.specs.History.{calls_of, ask_of, outs_to, replies_to, reply_to}
 use Rattle.osn_core.proofs.Knows.{Knows, AllKnown, step_known}
-use Rattle.osn_core.proofs.Owed.{owed, still_owed, enters, answers, owed_staged, owed_published}
+use Rattle.osn_core.proofs.PendingReplies.{owed, still_owed, enters, answers, owed_staged}
+use Rattle.osn_core.proofs.PendingReplies.{owed_published}
 
 -- the replies that are given and owed after a step are those owed before, and the object's reply to
 -- its call

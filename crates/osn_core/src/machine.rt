@@ -135,7 +135,7 @@ impl Core {
         self.readers.check(reader, self.side, self.copies.edition())
     }
 
-    #[tactic(auto, using(crate::proofs::Standing::put_same))]
+    #[tactic(auto, using(crate::proofs::ReaderMoves::put_same))]
     fn answer(&mut self, reader: u32) -> Result<Out, AllocError>
         ensures out { IfOk result (λ o. o ≡ out_of newest_rules self.old (Step.Answer reader)) }
         ensures ok { OnOk result (self.new

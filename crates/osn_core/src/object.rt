@@ -3,7 +3,8 @@ ghost use Rattle.std.specs.Prelude.{◌≡◌, ◌+◌, true, length, None, IfOk
 ghost use Rattle.osn_days.specs.Rules.{newest_rules};
 ghost use Rattle.osn_register.specs.Refusal.{IsCheckOf, IsRefusalOrNoMemory};
 ghost use Rattle.osn_register.specs.BorrowedQuery.{as_query};
-ghost use Rattle.osn_register.specs.Answer.{refusal_in, query_refusal, takes_memory};
+ghost use Rattle.osn_register.specs.Answer.{refusal_in, takes_memory};
+ghost use Rattle.osn_register.specs.QueryRefusal.{query_refusal};
 ghost use Rattle.osn_core.specs.Sequential.{opened, with_pending, with_edition, stage_refusal};
 ghost use Rattle.osn_core.specs.Sequential.{publish_refusal, reply_at, territories_of, IsSound};
 ghost use Rattle.osn_core.specs.Sequential.{HasLawfulSource};

@@ -38,17 +38,17 @@ impl Readers {
         Ok(Readers { states })
     }
 
-    /// Returns the place of a reader in the list, if there is such a reader.
-    fn place(&self, reader: u32) -> Option<usize>
+    /// Returns the index of a reader in the list, if there is such a reader.
+    fn index(&self, reader: u32) -> Option<usize>
         ensures { MatchOption result (reader_at self.now reader ≡ None)
             (λ i. (reader ≡ i + 1) × (i < length self.now)) }
     {
         if reader == 0 {
             return None;
         }
-        let place = (reader - 1) as usize;
-        if place < self.states.len() {
-            Some(place)
+        let index = (reader - 1) as usize;
+        if index < self.states.len() {
+            Some(index)
         } else {
             None
         }
@@ -58,8 +58,8 @@ impl Readers {
     pub fn get(&self, reader: u32) -> Option<&ReaderState>
         ensures { option_map (λ r. r.now) result ≡ reader_at self.now reader }
     {
-        let place = self.place(reader)?;
-        self.states.get(place)
+        let index = self.index(reader)?;
+        self.states.get(index)
     }
 
     /// Puts a reader, which must be in the list, in another state.
@@ -85,8 +85,8 @@ impl Readers {
         ensures memory { OnErr result (step_takes_memory (Step.Look reader query.now)
             (out_at (look live query.now) (reader_at self.old reader)) ≡ true) }
     {
-        match self.place(reader) {
-            Some(place) => self.states[place].look(query, live),
+        match self.index(reader) {
+            Some(index) => self.states[index].look(query, live),
             None => Ok(Out::NotNow),
         }
     }
@@ -96,8 +96,8 @@ impl Readers {
         ensures out { result ≡ out_at pin (reader_at self.old reader) }
         ensures after { self.new ≡ readers_after pin (reader_at self.old reader) self.old reader }
     {
-        match self.place(reader) {
-            Some(place) => self.states[place].pin(),
+        match self.index(reader) {
+            Some(index) => self.states[index].pin(),
             None => Out::NotNow,
         }
     }
@@ -108,8 +108,8 @@ impl Readers {
         ensures after { self.new
             ≡ readers_after (check live edition) (reader_at self.old reader) self.old reader }
     {
-        match self.place(reader) {
-            Some(place) => self.states[place].check(live, edition),
+        match self.index(reader) {
+            Some(index) => self.states[index].check(live, edition),
             None => Out::NotNow,
         }
     }
@@ -119,8 +119,8 @@ impl Readers {
         ensures out { result ≡ out_at leave (reader_at self.old reader) }
         ensures after { self.new ≡ readers_after leave (reader_at self.old reader) self.old reader }
     {
-        match self.place(reader) {
-            Some(place) => self.states[place].leave(),
+        match self.index(reader) {
+            Some(index) => self.states[index].leave(),
             None => Out::NotNow,
         }
     }

@@ -18,7 +18,7 @@ use Rattle.osn_core.specs.Sequential.{ObjectState, territories_of, joined, reply
 use Rattle.osn_core.proofs.Lawful.{AreLawful-front}
 use Rattle.osn_request.specs.declared.wire_fault.WireFault.TheVariants.{UnknownEdition, EditionFell}
 use Rattle.osn_file_commands.specs.TranscriptAudit.{known_edition}
-use Rattle.osn_file_commands.specs.AuditStanding.{Standing}
+use Rattle.osn_file_commands.specs.AuditState.{AuditState}
 use Rattle.osn_file_commands.specs.declared.audit_follower.RegisterCursor.{RegisterCursor}
 use Rattle.osn_file_commands.specs.declared.audit_followers.Place.{Place}
 use Rattle.osn_file_commands.specs.InsideFollower.{IsAt}
@@ -78,8 +78,8 @@ there_by : (editions edition : ℕ) (a b : Bool) → nat_lt editions edition ≡
 there_by editions edition true b is h = absurd (cc)
 there_by editions edition false b is h = ltb-false editions edition is
 
-abbrev pub standing : ObjectState → List ℕ → Standing
-standing object last = record { object = object; last = last }
+abbrev pub state_of : ObjectState → List ℕ → AuditState
+state_of object last = record { object = object; last = last }
 
 abbrev reply : ℕ → Answer → Reply
 reply edition answer = record { edition = edition; answer = answer }

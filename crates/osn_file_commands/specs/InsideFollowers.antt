@@ -7,7 +7,7 @@ use Rattle.osn_files.specs.Questions.{most_readers}
 use Rattle.osn_file_commands.specs.declared.audit_followers.Followers.TheInside.{Inside}
 use Rattle.osn_file_commands.specs.declared.audit_followers.Place.{Place}
 use Rattle.osn_file_commands.specs.InsideFollower.{IsAt}
-use Rattle.osn_file_commands.specs.AuditStanding.{Standing}
+use Rattle.osn_file_commands.specs.AuditState.{AuditState}
 
 -- a reader's last edition is one of the object, and the reader's own register is not after it
 pub record IsPlace (limits : Limits) (batches : List (List Edit)) (p : Place) : Type 0 where
@@ -21,6 +21,6 @@ pub record AreFollowing (fs : Inside) : Type 0 where
   pub latest : IsAt fs.object.limits fs.object.batches fs.latest
   pub each : All (IsPlace fs.object.limits fs.object.batches) fs.places.items
 
-abbrev pub standing_in : Inside → Standing
-standing_in fs =
+abbrev pub audit_state : Inside → AuditState
+audit_state fs =
     record { object = fs.object; last = map (λ p. p.last) fs.places.items }

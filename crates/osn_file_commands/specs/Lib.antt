@@ -1,7 +1,7 @@
 pub mod TranscriptAudit
 pub mod AuditLaw
 pub mod AuditFiles
-pub mod AuditStanding
+pub mod AuditState
 pub mod AuditInside
 pub mod InsideFollower
 pub mod InsideFollowers

@@ -35,13 +35,13 @@ pub(crate) struct Followers {
 }
 
 impl Model for Followers {
-    ghost use Rattle.osn_file_commands.specs.AuditStanding.{Standing};
+    ghost use Rattle.osn_file_commands.specs.AuditState.{AuditState};
 
-    ghost Value = { Standing };
+    ghost Value = { AuditState };
 
-    ghost use Rattle.osn_file_commands.specs.InsideFollowers.{AreFollowing, standing_in};
+    ghost use Rattle.osn_file_commands.specs.InsideFollowers.{AreFollowing, audit_state};
 
-    ghost view = { standing_in };
+    ghost view = { audit_state };
 
     ghost invariant = { AreFollowing };
 }

@@ -2,7 +2,7 @@
 ghost use Rattle.std.specs.Prelude.{◌≡◌, IfOk};
 
 use crate::audit_followers::Followers;
-use crate::auditing::take_entry;
+use crate::entry_check::take_entry;
 use crate::transcript_line::entry_in;
 use osn_core::Object;
 use osn_files::{LineFold, LineStop};
@@ -14,7 +14,7 @@ use std::alloc::{AllocError, Global};
 pub(crate) struct Auditor {
     followers: Followers,
     /// The last expected reply line. The next one reuses its memory.
-    due: Vec<u8>,
+    expected_line: Vec<u8>,
 }
 
 impl Auditor {
@@ -27,7 +27,7 @@ impl Auditor {
     {
         Ok(Auditor {
             followers: Followers::new(alloc, object)?,
-            due: Vec::new(alloc),
+            expected_line: Vec::new(alloc),
         })
     }
 }
@@ -49,7 +49,7 @@ impl LineFold for Auditor {
         object: &LineObject<'_>,
     ) -> Result<(), LineStop> {
         let entry = entry_in(object)?;
-        take_entry(alloc, &mut self.followers, &mut self.due, &entry)?;
+        take_entry(alloc, &mut self.followers, &mut self.expected_line, &entry)?;
         Ok(())
     }
 }

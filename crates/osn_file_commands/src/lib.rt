@@ -8,9 +8,9 @@
 mod audit_follower;
 mod audit_followers;
 mod audit_outcome;
-mod auditing;
 mod auditor;
 mod desk;
+mod entry_check;
 mod float;
 mod in_folder;
 mod replay;

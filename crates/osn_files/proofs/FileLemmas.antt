@@ -6,7 +6,7 @@ use Rattle.std.specs.Result.{IsErrAnd}
 use Rattle.std.specs.Prelude.{⊤}
 use Rattle.std.proofs.lemmas.Result.{err_from_is_err_and, IfErr-weaker}
 use Rattle.osn_lines.specs.Lines.{lines}
-use Rattle.osn_lines.specs.Taking.{HasRead, HasKeptUp}
+use Rattle.osn_lines.specs.Takers.{HasRead, HasKeptUp}
 use Rattle.osn_lines.proofs.ByteLemmas.{Consumes-nothing}
 use Rattle.osn_files.specs.declared.fault.FileFault.{FileFault}
 use Rattle.osn_files.specs.declared.fault.FileFault.TheVariants.{NoMemory, ReadFault, BadLine}

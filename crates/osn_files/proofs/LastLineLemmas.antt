@@ -7,7 +7,7 @@ use Rattle.std.proofs.lemmas.List.{length-drop}
 use Rattle.std.proofs.lemmas.List.Sums.{sum_by-cons}
 use Rattle.std.specs.Prelude.{not, is_some, nat_eq, if◌then◌else◌}
 use Rattle.std.specs.List.{starts_with}
-use Rattle.osn_lines.specs.Ended.{with_byte, ended_length, unended_bytes}
+use Rattle.osn_lines.specs.LastLineFeed.{with_byte, ended_length, unended_bytes}
 use Rattle.osn_lines.proofs.EndedLemmas.{ended-le}
 use Rattle.osn_request.specs.Version.{plain_version}
 use Rattle.osn_request.specs.Request.{value_of}

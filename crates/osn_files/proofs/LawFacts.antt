@@ -34,7 +34,7 @@ use Rattle.osn_files.specs.Turns.{on_read, go_on, in_turn}
 use Rattle.osn_files.specs.Journal as journal
 use Rattle.osn_files.specs.JournalText.{line_text, edit_data, publish_data, edits_text, batch_text}
 use Rattle.osn_files.specs.JournalText.{batches_text, journal_text_of}
-use Rattle.osn_files.specs.Loaded.{HasEdit, HasEdits}
+use Rattle.osn_files.specs.LoadedText.{HasEdit, HasEdits}
 use Rattle.osn_files.proofs.CommandFacts.{Says}
 use Rattle.osn_files.proofs.SaysFacts.{Says-publish, Says-lawful, IsLine-head, version_of-head}
 

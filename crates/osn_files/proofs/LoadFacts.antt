@@ -20,8 +20,8 @@ use Rattle.osn_files.specs.Journal.{load, after_object, after_command}
 use Rattle.osn_files.specs.Journal as journal
 use Rattle.osn_files.specs.JournalText.{line_text, edit_data, publish_data, journal_text_of}
 use Rattle.osn_files.specs.JournalText.{edits_text, batch_text, batches_text}
-use Rattle.osn_files.specs.Loaded.{HasEdits, IsOfVersion, IsJournalOf}
-use Rattle.osn_files.specs.Loaded.{LoadsByLines}
+use Rattle.osn_files.specs.LoadedText.{HasEdits, IsOfVersion, IsJournalOf}
+use Rattle.osn_files.specs.LoadedText.{LoadsByLines}
 use Rattle.osn_files.specs.Turns.{on_read, go_on, in_turn}
 use Rattle.osn_files.specs.Version.{head_data}
 use Rattle.osn_files.proofs.CommandFacts.{IsLine, both_none}

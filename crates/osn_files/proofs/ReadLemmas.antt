@@ -10,8 +10,8 @@ use Rattle.osn_lines.specs.Lines.{lines}
 use Rattle.osn_lines.specs.declared.fault.TakeFault.{TakeFault}
 use Rattle.osn_lines.specs.declared.fault.TakeFault.TheVariants as ends
 use Rattle.osn_lines.specs.Faults.{MatchFault, IsReadFault}
-use Rattle.osn_lines.specs.Taking.{TakesAll, TakesFirst, TakesEnded, StopsAfter}
-use Rattle.osn_lines.specs.Taking.{HasKeptUp}
+use Rattle.osn_lines.specs.Takers.{TakesAll, TakesFirst, TakesEnded, StopsAfter}
+use Rattle.osn_lines.specs.Takers.{HasKeptUp}
 use Rattle.osn_request.specs.declared.request.RequestError.{RequestError}
 use Rattle.osn_request.specs.declared.request.RequestError.TheVariants as errors
 use Rattle.osn_request.specs.declared.wire_fault.WireFault.{WireFault}
@@ -26,7 +26,7 @@ use Rattle.osn_files.specs.declared.reading.Reading.{Reading}
 use Rattle.osn_files.specs.declared.stop.LineStop.{LineStop}
 use Rattle.osn_files.specs.declared.stop.LineStop.TheVariants.{NoMemory, Fault}
 use Rattle.osn_files.specs.Files.{ReadsFile}
-use Rattle.osn_files.specs.Loaded.{IsOfVersion}
+use Rattle.osn_files.specs.LoadedText.{IsOfVersion}
 use Rattle.osn_files.specs.ReadingInside.{after_line, with_version, goes_on, IsKnownOf, Reads}
 use Rattle.osn_files.specs.ReadingInside.{Faults}
 use Rattle.osn_files.specs.ReadingInside.{Spares, StaysKnown, StopsReading}
@@ -132,39 +132,40 @@ known-line step (Some version) new a b (head ∷ rest) line one h =
 
 -- a version that is known stays by one line more
 stays-line : {A : Type 0} (step : Version → A → Data → Result A LineFault)
-    (begun old new : Option Version) (a b : A) (line : List ℕ)
+    (initial old new : Option Version) (a b : A) (line : List ℕ)
     → on_read (object_of line) (after_line step old a) ≡ Ok (new, b)
-    → StaysKnown begun old → StaysKnown begun new
+    → StaysKnown initial old → StaysKnown initial new
 stays-line step None old new a b line one h = tt
 stays-line step (Some v) None new a b line one h = absurd (cc)
 stays-line step (Some v) (Some w) new a b line one h =
     sym (is_same line a b w new step one) ∙ h
 
-fresh_by : (begun now : Option Version) (lines : List (List ℕ))
-    → (begun ≡ None → IsKnownOf lines now) → StaysKnown begun now → now ≡ None → length lines ≡ 0
+fresh_by : (initial now : Option Version) (lines : List (List ℕ))
+    → (initial ≡ None → IsKnownOf lines now) → StaysKnown initial now → now ≡ None → length lines
+    ≡ 0
 fresh_by None now lines known stays none =
     ap length (subst (IsKnownOf lines) none (known refl))
 fresh_by (Some v) now lines known stays none = absurd (cc)
 
 -- lines that were taken have no fault
-Reads-spares : {S A : Type 0} (step : Rule S A) (state : S → A) (begun now : Reading S)
-    (lines : List (List ℕ)) → Reads step state begun lines now → Spares step state begun lines
-Reads-spares step state begun now lines h = λ more.
+Reads-spares : {S A : Type 0} (step : Rule S A) (state : S → A) (initial now : Reading S)
+    (lines : List (List ℕ)) → Reads step state initial lines now → Spares step state initial lines
+Reads-spares step state initial now lines h = λ more.
     subst (λ r. IfErr r (λ e. length lines < e.0)) (sym (h.0 more))
     (faults_after (step now.fold) (length lines) now.version (state now.fold) more
-    (fresh_by begun.version now.version lines h.1 h.2))
+    (fresh_by initial.version now.version lines h.1 h.2))
 
 -- a line was taken
-pub Reads-line : {S A : Type 0} (step : Rule S A) (state : S → A) (begun old new : Reading S)
-    (before : List (List ℕ)) (line : List ℕ) → Reads step state begun before old
+pub Reads-line : {S A : Type 0} (step : Rule S A) (state : S → A) (initial old new : Reading S)
+    (before : List (List ℕ)) (line : List ℕ) → Reads step state initial before old
     → on_read (object_of line) (after_line (step old.fold) old.version (state old.fold))
     ≡ Ok (new.version, state new.fold)
     → step new.fold ≡ step old.fold
-    → Reads step state begun (before ++ line ∷ []) new
-Reads-line step state begun old new before line h one same = (
+    → Reads step state initial (before ++ line ∷ []) new
+Reads-line step state initial old new before line h one same = (
   λ more.
       let n = length before + 1 in
-      ap (goes_on step state begun 1) (append_assoc before (line ∷ []) more)
+      ap (goes_on step state initial 1) (append_assoc before (line ∷ []) more)
       ∙ (h.0 (line ∷ more)
       ∙ (in_turn-line (step old.fold) n old.version (state old.fold) line more
       ∙ (ap (λ r. go_on n r (λ t. in_turn (step old.fold) (n + 1) t.0 t.1 more)) one
@@ -173,18 +174,18 @@ Reads-line step state begun old new before line h one same = (
       (omega (arith, length-append before (line ∷ []))))))),
   λ none. known-line (step old.fold) old.version new.version (state old.fold) (state new.fold)
       before line one (h.1 none),
-  stays-line (step old.fold) begun.version old.version new.version (state old.fold)
+  stays-line (step old.fold) initial.version old.version new.version (state old.fold)
       (state new.fold) line one h.2,
 )
 
 -- a line stopped the reading
-pub StopsReading-line : {S A : Type 0} (step : Rule S A) (state : S → A) (begun old : Reading S)
-    (before : List (List ℕ)) (line : List ℕ) (why : LineStop) → Reads step state begun before old
+pub StopsReading-line : {S A : Type 0} (step : Rule S A) (state : S → A) (initial old : Reading S)
+    (before : List (List ℕ)) (line : List ℕ) (why : LineStop) → Reads step state initial before old
     → Stops (on_read (object_of line) (after_line (step old.fold) old.version (state old.fold))) why
-    → StopsReading step state begun before (Some line) why
-StopsReading-line step state begun old before line NoMemory h stop =
-    Reads-spares step state begun old before h
-StopsReading-line step state begun old before line (Fault f) h stop = λ more.
+    → StopsReading step state initial before (Some line) why
+StopsReading-line step state initial old before line NoMemory h stop =
+    Reads-spares step state initial old before h
+StopsReading-line step state initial old before line (Fault f) h stop = λ more.
     let n = length before + 1 in
     h.0 (line ∷ more)
     ∙ (in_turn-line (step old.fold) n old.version (state old.fold) line more
@@ -216,56 +217,57 @@ stays_so None = tt
 stays_so (Some version) = refl
 
 -- nothing was taken
-begun_so : {S A : Type 0} (step : Rule S A) (state : S → A) (begun : Reading S)
-    → Reads step state begun [] begun
-begun_so step state begun =
-    (λ more. refl, λ none. subst (IsKnownOf []) (sym none) refl, stays_so begun.version)
+begun_so : {S A : Type 0} (step : Rule S A) (state : S → A) (initial : Reading S)
+    → Reads step state initial [] initial
+begun_so step state initial =
+    (λ more. refl, λ none. subst (IsKnownOf []) (sym none) refl, stays_so initial.version)
 
 -- if all lines were taken, their result is that of no lines after them
-ended : {S A : Type 0} (step : Rule S A) (state : S → A) (begun now : Reading S)
+ended : {S A : Type 0} (step : Rule S A) (state : S → A) (initial now : Reading S)
     (input : Option (List ℕ)) (n : ℕ) (r : Result A (ℕ × LineFault))
-    → TakesAll (Reads step state) begun now input n
+    → TakesAll (Reads step state) initial now input n
     → ((k : ℕ) → goes_on step state now k [] ≡ r)
-    → IfSome input (λ bytes. goes_on step state begun 1 (lines bytes) ≡ r)
-ended step state begun now input n r h is =
+    → IfSome input (λ bytes. goes_on step state initial 1 (lines bytes) ≡ r)
+ended step state initial now input n r h is =
     if_some input
-    (λ bytes all. ap (goes_on step state begun 1) (all ∙ sym (append-nil h.lines_taken))
-    ∙ ((h.takes begun [] (begun_so step state begun)).0 [] ∙ is (length h.lines_taken + 1)))
+    (λ bytes all. ap (goes_on step state initial 1) (all ∙ sym (append-nil h.lines_taken))
+    ∙ ((h.takes initial [] (begun_so step state initial)).0 [] ∙ is (length h.lines_taken + 1)))
     h.all
 
-pub made-all : {S A : Type 0} (step : Rule S A) (state : S → A) (begun now : Reading S)
+pub made-all : {S A : Type 0} (step : Rule S A) (state : S → A) (initial now : Reading S)
     (input : Option (List ℕ)) (n : ℕ) (version : Version) → now.version ≡ Some version
-    → TakesAll (Reads step state) begun now input n
-    → IfSome input (λ bytes. goes_on step state begun 1 (lines bytes) ≡ Ok (state now.fold))
-made-all step state begun now input n version known h =
-    ended step state begun now input n (Ok (state now.fold)) h
+    → TakesAll (Reads step state) initial now input n
+    → IfSome input (λ bytes. goes_on step state initial 1 (lines bytes) ≡ Ok (state now.fold))
+made-all step state initial now input n version known h =
+    ended step state initial now input n (Ok (state now.fold)) h
     (λ k. ap (λ v. in_turn (step now.fold) k v (state now.fold) []) known)
 
-pub no-head : {S A : Type 0} (step : Rule S A) (state : S → A) (begun now : Reading S)
+pub no-head : {S A : Type 0} (step : Rule S A) (state : S → A) (initial now : Reading S)
     (input : Option (List ℕ)) (n : ℕ) → now.version ≡ None
-    → TakesAll (Reads step state) begun now input n
-    → IfSome input (λ bytes. goes_on step state begun 1 (lines bytes) ≡ Err (1, Wire BadHead))
-no-head step state begun now input n none h =
-    ended step state begun now input n (Err (1, Wire BadHead)) h
+    → TakesAll (Reads step state) initial now input n
+    → IfSome input (λ bytes. goes_on step state initial 1 (lines bytes) ≡ Err (1, Wire BadHead))
+no-head step state initial now input n none h =
+    ended step state initial now input n (Err (1, Wire BadHead)) h
     (λ k. ap (λ v. in_turn (step now.fold) k v (state now.fold) []) none)
 
 -- the version is the one that the first line says, unless one was given
-pub first_version : {S A : Type 0} (step : Rule S A) (state : S → A) (begun now : Reading S)
+pub first_version : {S A : Type 0} (step : Rule S A) (state : S → A) (initial now : Reading S)
     (input : Option (List ℕ)) (n : ℕ) (version : Version) → now.version ≡ Some version
-    → TakesAll (Reads step state) begun now input n → begun.version ≡ None
+    → TakesAll (Reads step state) initial now input n → initial.version ≡ None
     → IfSome input (λ bytes. IsOfVersion version (lines bytes))
-first_version step state begun now input n version known h none =
+first_version step state initial now input n version known h none =
     let said =
-    subst (IsKnownOf h.lines_taken) known ((h.takes begun [] (begun_so step state begun)).1 none) in
+    subst (IsKnownOf h.lines_taken) known
+    ((h.takes initial [] (begun_so step state initial)).1 none) in
     if_some input (λ bytes all. subst (IsOfVersion version) (sym all) said) h.all
 
 -- the version that was given stays
-pub given_version : {S A : Type 0} (step : Rule S A) (state : S → A) (begun now : Reading S)
+pub given_version : {S A : Type 0} (step : Rule S A) (state : S → A) (initial now : Reading S)
     (input : Option (List ℕ)) (n : ℕ) (version : Version) → now.version ≡ Some version
-    → TakesAll (Reads step state) begun now input n
-    → IfSome begun.version (λ known. version ≡ known)
-given_version step state begun now input n version is h =
-    same begun.version now.version is (h.takes begun [] (begun_so step state begun)).2
+    → TakesAll (Reads step state) initial now input n
+    → IfSome initial.version (λ known. version ≡ known)
+given_version step state initial now input n version is h =
+    same initial.version now.version is (h.takes initial [] (begun_so step state initial)).2
   where
     same : (old new : Option Version) → new ≡ Some version → StaysKnown old new
         → IfSome old (λ known. version ≡ known)
@@ -279,90 +281,92 @@ split_at [] n x h = absurd (cc)
 split_at (y ∷ ys) zero x h = ap (λ o. unwrap_or o y ∷ ys) h
 split_at (y ∷ ys) (suc n) x h = ap (λ l. y ∷ l) (split_at ys n x h)
 
-stopped_at : {S A : Type 0} (step : Rule S A) (state : S → A) (begun : Reading S)
+stopped_at : {S A : Type 0} (step : Rule S A) (state : S → A) (initial : Reading S)
     (input : Option (List ℕ)) (n : ℕ) (taken : List (List ℕ)) (at : Option (List ℕ))
-    (f : LineFault) → Faults step state begun taken at f → n ≡ length taken
+    (f : LineFault) → Faults step state initial taken at f → n ≡ length taken
     → IfSome input (λ bytes. take n (lines bytes) ≡ taken)
     → IfSome input (λ bytes. IfSome at (λ line. slice_get (lines bytes) n ≡ Some line))
-    → IfSome input (λ bytes. goes_on step state begun 1 (lines bytes) ≡ Err (n + 1, f))
-stopped_at step state begun None n taken at f faults count first next = tt
-stopped_at step state begun (Some bytes) n taken None f faults count first next = absurd faults
-stopped_at step state begun (Some bytes) n taken (Some line) f faults count first next =
+    → IfSome input (λ bytes. goes_on step state initial 1 (lines bytes) ≡ Err (n + 1, f))
+stopped_at step state initial None n taken at f faults count first next = tt
+stopped_at step state initial (Some bytes) n taken None f faults count first next = absurd faults
+stopped_at step state initial (Some bytes) n taken (Some line) f faults count first next =
     let more = drop (suc n) (lines bytes) in
     let all : lines bytes ≡ taken ++ line ∷ more =
     split_at (lines bytes) n line next ∙ ap (λ front. front ++ line ∷ more) first in
-    ap (goes_on step state begun 1) all
+    ap (goes_on step state initial 1) all
     ∙ (faults more ∙ ap (λ k. Err (k + 1, f)) (sym count))
 
 -- the first lines of an input have no fault
-spared_first : {S A : Type 0} (step : Rule S A) (state : S → A) (begun : Reading S)
-    (input : Option (List ℕ)) (n : ℕ) (taken : List (List ℕ)) → Spares step state begun taken
+spared_first : {S A : Type 0} (step : Rule S A) (state : S → A) (initial : Reading S)
+    (input : Option (List ℕ)) (n : ℕ) (taken : List (List ℕ)) → Spares step state initial taken
     → n ≡ length taken → IfSome input (λ bytes. take n (lines bytes) ≡ taken)
-    → IfSome input (λ bytes. IfErr (goes_on step state begun 1 (lines bytes)) (λ e. n < e.0))
-spared_first step state begun input n taken spares count first =
+    → IfSome input (λ bytes. IfErr (goes_on step state initial 1 (lines bytes)) (λ e. n < e.0))
+spared_first step state initial input n taken spares count first =
     if_some input
     (λ bytes e.
     let rest = drop n (lines bytes) in
     let all : taken ++ rest ≡ lines bytes =
     ap (λ l. l ++ rest) (sym e) ∙ take-append-drop n (lines bytes) in
-    subst (λ (m : ℕ). IfErr (goes_on step state begun 1 (lines bytes)) (λ x. m < x.0)) (sym count)
-    (subst (λ (ls : List (List ℕ)). IfErr (goes_on step state begun 1 ls)
+    subst (λ (m : ℕ). IfErr (goes_on step state initial 1 (lines bytes)) (λ x. m < x.0)) (sym count)
+    (subst (λ (ls : List (List ℕ)). IfErr (goes_on step state initial 1 ls)
     (λ x. length taken < x.0)) all (spares rest)))
     first
 
 -- if the lines ended early, the file has the fault that is returned
-pub ended_early : {F A T S : Type 0} (step : Rule F A) (state : F → A) (begun now : Reading F)
+pub ended_early : {F A T S : Type 0} (step : Rule F A) (state : F → A) (initial now : Reading F)
     (view : T → A) (role : Role) (n : ℕ) (cause : TakeFault LineStop)
     (remaining : S → Option (List ℕ)) (has_failed : S → Bool) (old new : S)
-    → MatchFault cause (TakesFirst (Reads step state) begun now (remaining old) n)
-    (TakesEnded (Reads step state) begun now (remaining old) (remaining new) n)
+    → MatchFault cause (TakesFirst (Reads step state) initial now (remaining old) n)
+    (TakesEnded (Reads step state) initial now (remaining old) (remaining new) n)
     (StopsAfter (Reads step state)
-    (λ b ls at _ stop. StopsReading step state b ls at stop) begun now (remaining old) n)
+    (λ b ls at _ stop. StopsReading step state b ls at stop) initial now (remaining old) n)
     → HasKeptUp (remaining old) (remaining new) n
     → MatchFault cause (has_failed new ≡ has_failed old)
     (IsReadFault (has_failed new) (remaining old)) (λ _. has_failed new ≡ has_failed old)
-    → ReadsFile role (goes_on step state begun 1) view (Err (file_fault role n cause)) remaining
+    → ReadsFile role (goes_on step state initial 1) view (Err (file_fault role n cause)) remaining
     has_failed old new
-ended_early step state begun now view role n ends.NoMemory remaining has_failed old new h recent
+ended_early step state initial now view role n ends.NoMemory remaining has_failed old new h recent
     reason =
     record {
       made = tt;
       end = tt;
       sound = tt;
       fault =
-          spares_most (goes_on step state begun 1) (remaining old) (remaining new) n recent
-          (spared_first step state begun (remaining old) n h.lines_taken
-          (Reads-spares step state begun now h.lines_taken
-          (h.takes begun [] (begun_so step state begun)))
+          spares_most (goes_on step state initial 1) (remaining old) (remaining new) n recent
+          (spared_first step state initial (remaining old) n h.lines_taken
+          (Reads-spares step state initial now h.lines_taken
+          (h.takes initial [] (begun_so step state initial)))
           h.count h.first);
       reason = reason;
     }
-ended_early step state begun now view role n ends.ReadFault remaining has_failed old new h recent
+ended_early step state initial now view role n ends.ReadFault remaining has_failed old new h recent
     reason =
     record {
       made = tt;
       end = tt;
       sound = tt;
       fault =
-          spares_all (goes_on step state begun 1) (remaining old) (remaining new) n h.read
-          (spared_first step state begun (remaining old) n h.first.lines_taken
-          (Reads-spares step state begun now h.first.lines_taken
-          (h.first.takes begun [] (begun_so step state begun))) h.first.count h.first.first);
+          spares_all (goes_on step state initial 1) (remaining old) (remaining new) n h.read
+          (spared_first step state initial (remaining old) n h.first.lines_taken
+          (Reads-spares step state initial now h.first.lines_taken
+          (h.first.takes initial [] (begun_so step state initial))) h.first.count h.first.first);
       reason = reason;
     }
-ended_early step state begun now view role n (ends.Stopped NoMemory) remaining has_failed old new h
+ended_early step state initial now view role n (ends.Stopped NoMemory) remaining has_failed old new
+    h
     recent reason =
     record {
       made = tt;
       end = tt;
       sound = tt;
       fault =
-          spares_most (goes_on step state begun 1) (remaining old) (remaining new) n recent
-          (spared_first step state begun (remaining old) n h.lines_taken
-          (h.stops begun [] (begun_so step state begun)) h.count h.first);
+          spares_most (goes_on step state initial 1) (remaining old) (remaining new) n recent
+          (spared_first step state initial (remaining old) n h.lines_taken
+          (h.stops initial [] (begun_so step state initial)) h.count h.first);
       reason = reason;
     }
-ended_early step state begun now view role n (ends.Stopped (Fault f)) remaining has_failed old new h
+ended_early step state initial now view role n (ends.Stopped (Fault f)) remaining has_failed old
+    new h
     recent reason =
     record {
       made = tt;
@@ -370,8 +374,8 @@ ended_early step state begun now view role n (ends.Stopped (Fault f)) remaining 
       sound = tt;
       fault = (
         refl,
-        stopped_at step state begun (remaining old) n h.lines_taken h.at f
-            (h.stops begun [] (begun_so step state begun)) h.count h.first h.next,
+        stopped_at step state initial (remaining old) n h.lines_taken h.at f
+            (h.stops initial [] (begun_so step state initial)) h.count h.first h.next,
       );
       reason = reason;
     }

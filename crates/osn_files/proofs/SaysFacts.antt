@@ -28,7 +28,7 @@ use Rattle.osn_request.specs.declared.version.Version.TheVariants.{First, Second
 use Rattle.osn_request.specs.Version.{newest_version, version_number}
 use Rattle.osn_files.specs.Commands.{command_in}
 use Rattle.osn_files.specs.JournalText.{change_data, edit_data, publish_data}
-use Rattle.osn_files.specs.Loaded.{HasEdit}
+use Rattle.osn_files.specs.LoadedText.{HasEdit}
 use Rattle.osn_files.specs.Version.{head_data, version_of}
 use Rattle.osn_files.proofs.TextFacts.{Fits, Fits-number, Fit-none, Fit-member}
 use Rattle.osn_files.proofs.EditFacts.{regime_of-words, Fits-word, Fits-calendar, Fits-style}

@@ -38,7 +38,7 @@ use Rattle.osn_request.specs.Field.{regime_of, source_if, source_at}
 use Rattle.osn_request.specs.Op.{op_of}
 use Rattle.osn_files.specs.Commands.{command_by, command_in}
 use Rattle.osn_files.specs.JournalText.{gives_source, give_source, version_for}
-use Rattle.osn_files.specs.Loaded.{HasStyle, HasSource, HasEdit, HasEdits}
+use Rattle.osn_files.specs.LoadedText.{HasStyle, HasSource, HasEdit, HasEdits}
 
 -- what two readings give after the same one
 same_first : {A B : Type 0} (r : Result A WireFault) (f g : A → Result B WireFault) (b : B)

@@ -1,7 +1,7 @@
 -- How much of a file counts: the lines that a line feed ends, and a last one that lacks it, unless
 -- that was not finished.
 use Rattle.std.specs.Prelude.{◌≡◌, ◌==◌, ◌+◌, ℕ, List, length, take, count_by}
-use Rattle.osn_lines.specs.Ended.{ended_length, unended_bytes}
+use Rattle.osn_lines.specs.LastLineFeed.{ended_length, unended_bytes}
 use Rattle.osn_files.specs.LastLine.{last_line}
 use Rattle.osn_files.specs.declared.last_line.LastLine.{LastLine}
 use Rattle.osn_files.specs.declared.last_line.LastLine.TheVariants.{Ended, LacksFeed, Unfinished}
@@ -21,9 +21,9 @@ last_line_of input = last_line (ended_count input) (unended_bytes input)
 
 -- a number for the lines that a line feed ends, and one for those with a last line that lacks it
 abbrev pub by_last : LastLine → ℕ → ℕ → ℕ
-by_last Ended ended all = ended
-by_last LacksFeed ended all = all
-by_last Unfinished ended all = ended
+by_last Ended whole all = whole
+by_last LacksFeed whole all = all
+by_last Unfinished whole all = whole
 
 -- how many bytes the lines have that count
 abbrev pub whole_length : List ℕ → ℕ

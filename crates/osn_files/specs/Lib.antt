@@ -12,7 +12,7 @@ pub mod Stops
 pub mod ReadingInside
 pub mod QuestionsInside
 pub mod EarlierRules
-pub mod Loaded
+pub mod LoadedText
 pub mod GreaterLimits
 pub mod LastLine
 pub mod CountedPrefix

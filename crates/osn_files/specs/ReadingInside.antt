@@ -9,7 +9,7 @@ use Rattle.osn_files.specs.declared.fault.LineFault.{LineFault}
 use Rattle.osn_files.specs.declared.reading.Reading.{Reading}
 use Rattle.osn_files.specs.declared.stop.LineStop.{LineStop}
 use Rattle.osn_files.specs.declared.stop.LineStop.TheVariants.{NoMemory, Fault}
-use Rattle.osn_files.specs.Loaded.{IsOfVersion}
+use Rattle.osn_files.specs.LoadedText.{IsOfVersion}
 use Rattle.osn_files.specs.Turns.{on_read, in_turn}
 use Rattle.osn_files.specs.Version.{version_in}
 
@@ -44,29 +44,29 @@ StaysKnown (Some version) now = now ≡ Some version
 -- lines after them. A version that was unknown is that of the lines, and a known one stays
 abbrev pub Reads : {S A : Type 0} → (S → Version → A → Data → Result A LineFault) → (S → A)
     → Reading S → List (List ℕ) → Reading S → Type 0
-Reads step state begun lines now =
+Reads step state initial lines now =
     ((more : List (List ℕ))
-    → goes_on step state begun 1 (lines ++ more) ≡ goes_on step state now (length lines + 1) more)
-    × (begun.version ≡ None → IsKnownOf lines now.version)
-    × StaysKnown begun.version now.version
+    → goes_on step state initial 1 (lines ++ more) ≡ goes_on step state now (length lines + 1) more)
+    × (initial.version ≡ None → IsKnownOf lines now.version)
+    × StaysKnown initial.version now.version
 
 -- the reading that was begun took these lines and found a fault at the next, whatever follows it
 abbrev pub Faults : {S A : Type 0} → (S → Version → A → Data → Result A LineFault) → (S → A)
     → Reading S → List (List ℕ) → Option (List ℕ) → LineFault → Type 0
-Faults step state begun lines None f = ⊥
-Faults step state begun lines (Some line) f =
+Faults step state initial lines None f = ⊥
+Faults step state initial lines (Some line) f =
     (more : List (List ℕ))
-    → goes_on step state begun 1 (lines ++ line ∷ more) ≡ Err (length lines + 1, f)
+    → goes_on step state initial 1 (lines ++ line ∷ more) ≡ Err (length lines + 1, f)
 
 -- the reading that was begun has no fault in these lines, whatever follows them
 abbrev pub Spares : {S A : Type 0} → (S → Version → A → Data → Result A LineFault) → (S → A)
     → Reading S → List (List ℕ) → Type 0
-Spares step state begun lines =
+Spares step state initial lines =
     (more : List (List ℕ))
-    → IfErr (goes_on step state begun 1 (lines ++ more)) (λ e. length lines < e.0)
+    → IfErr (goes_on step state initial 1 (lines ++ more)) (λ e. length lines < e.0)
 
 -- if memory ran out the lines that were taken have no fault. A fault is that of the next
 abbrev pub StopsReading : {S A : Type 0} → (S → Version → A → Data → Result A LineFault)
     → (S → A) → Reading S → List (List ℕ) → Option (List ℕ) → LineStop → Type 0
-StopsReading step state begun lines at NoMemory = Spares step state begun lines
-StopsReading step state begun lines at (Fault f) = Faults step state begun lines at f
+StopsReading step state initial lines at NoMemory = Spares step state initial lines
+StopsReading step state initial lines at (Fault f) = Faults step state initial lines at f

@@ -6,7 +6,7 @@ ghost use Rattle.osn_files.specs.Files.{ReadsFile};
 ghost use Rattle.osn_files.specs.GreaterLimits.{LoadsUnderGreater};
 ghost use Rattle.osn_files.specs.Journal.{after_object, load};
 ghost use Rattle.osn_files.specs.EarlierRules.{KeepsEditions};
-ghost use Rattle.osn_files.specs.Loaded.{IsOfVersion};
+ghost use Rattle.osn_files.specs.LoadedText.{IsOfVersion};
 ghost use Rattle.osn_files.specs.Turns.{in_turn};
 ghost use Rattle.osn_files.specs.declared.fault.Role.TheVariants.{Journal};
 
@@ -100,10 +100,10 @@ pub fn load_part<R: Source>(
         IfSome (R.remaining source.old) (λ input. IsOfVersion part.version (lines input))) }
     ensures same { IfOk result (λ part. IfSome version (λ known. part.version ≡ known)) }
 {
-    let read = read_file(alloc, Role::Journal, version, object, source)?;
+    let file = read_file(alloc, Role::Journal, version, object, source)?;
     Ok(JournalPart {
-        object: read.made,
-        version: read.version,
-        lines: read.lines,
+        object: file.fold,
+        version: file.version,
+        lines: file.lines,
     })
 }

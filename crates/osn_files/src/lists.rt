@@ -59,7 +59,7 @@ impl Lists {
     ///
     /// # Errors
     /// Returns `AllocError` if memory runs out.
-    pub(crate) fn put(&mut self, alloc: Global, reader: u32, query: Query) -> Result<(), AllocError>
+    pub(crate) fn add(&mut self, alloc: Global, reader: u32, query: Query) -> Result<(), AllocError>
         requires { 0 < reader }
         ensures { OnOk result (self.new ≡ with_query self.old reader query) }
     {
@@ -87,7 +87,7 @@ impl LineFold for Lists {
         object: &LineObject<'_>,
     ) -> Result<(), LineStop> {
         let (reader, query) = question_in(alloc, object)?;
-        self.put(alloc, reader, query)?;
+        self.add(alloc, reader, query)?;
         Ok(())
     }
 }

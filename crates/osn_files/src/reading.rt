@@ -9,7 +9,7 @@ ghost use Rattle.osn_request.specs.LineObject.{line_data};
 ghost use Rattle.osn_request.specs.Request as spec;
 ghost use Rattle.osn_files.specs.declared.fault.LineFault.{LineFault as Fault};
 ghost use Rattle.osn_files.specs.Files.{ReadsFile};
-ghost use Rattle.osn_files.specs.Loaded.{IsOfVersion};
+ghost use Rattle.osn_files.specs.LoadedText.{IsOfVersion};
 ghost use Rattle.osn_files.specs.Stops.{Stops, file_fault};
 ghost use Rattle.osn_files.specs.Turns.{in_turn, on_read};
 
@@ -134,7 +134,7 @@ impl<F: LineFold> LineTaker for Reading<F> {
 
     ghost after = { Reads F.step F.state };
 
-    ghost stopped = { λ begun lines at _ why. StopsReading F.step F.state begun lines at why };
+    ghost stopped = { λ initial lines at _ why. StopsReading F.step F.state initial lines at why };
 
     fn take(&mut self, line: Line<'_>) -> Result<(), LineStop> {
         Reading::take_line(
@@ -170,8 +170,8 @@ fn fault_of(role: Role, end: EndedEarly<TakeFault<LineStop>>) -> FileFault
 /// What was read of a file.
 #[derive(Drop)]
 pub(crate) struct FileRead<F> {
-    /// What its lines made.
-    pub(crate) made: F,
+    /// The fold after its lines.
+    pub(crate) fold: F,
     /// How many lines it has.
     pub(crate) lines: u64,
     /// The version by whose rules they were read.
@@ -188,12 +188,12 @@ pub(crate) fn read_file<F: LineFold + Drop, R: Source>(
     source: &mut R,
 ) -> Result<FileRead<F>, FileFault>
     ensures file { ReadsFile role (in_turn (F.step fold) 1 version (F.state fold))
-        (λ read. F.state read.made) result R.remaining R.has_failed source.old source.new }
-    ensures count { IfOk result (λ read. IfSome (R.remaining source.old) (λ input.
-        read.lines ≡ length (lines input))) }
-    ensures version { IfOk result (λ read. version ≡ None →
-        IfSome (R.remaining source.old) (λ input. IsOfVersion read.version (lines input))) }
-    ensures same { IfOk result (λ read. IfSome version (λ known. read.version ≡ known)) }
+        (λ file. F.state file.fold) result R.remaining R.has_failed source.old source.new }
+    ensures count { IfOk result (λ file. IfSome (R.remaining source.old) (λ input.
+        file.lines ≡ length (lines input))) }
+    ensures version { IfOk result (λ file. version ≡ None →
+        IfSome (R.remaining source.old) (λ input. IsOfVersion file.version (lines input))) }
+    ensures same { IfOk result (λ file. IfSome version (λ known. file.version ≡ known)) }
 {
     let mut reading = Reading {
         alloc,
@@ -204,7 +204,7 @@ pub(crate) fn read_file<F: LineFold + Drop, R: Source>(
     match take_lines(alloc, &mut reading, source) {
         Ok(lines) => match reading.version {
             Some(version) => Ok(FileRead {
-                made: reading.fold,
+                fold: reading.fold,
                 lines,
                 version,
             }),
@@ -235,10 +235,10 @@ pub fn read_lines<F: LineFold + Drop, R: Source>(
     source: &mut R,
 ) -> Result<(F, u64), FileFault>
     ensures file { ReadsFile role (in_turn (F.step fold) 1 version (F.state fold))
-        (λ read. F.state read.0) result R.remaining R.has_failed source.old source.new }
-    ensures count { IfOk result (λ read. IfSome (R.remaining source.old) (λ input.
-        read.1 ≡ length (lines input))) }
+        (λ pair. F.state pair.0) result R.remaining R.has_failed source.old source.new }
+    ensures count { IfOk result (λ pair. IfSome (R.remaining source.old) (λ input.
+        pair.1 ≡ length (lines input))) }
 {
-    let read = read_file(alloc, role, version, fold, source)?;
-    Ok((read.made, read.lines))
+    let file = read_file(alloc, role, version, fold, source)?;
+    Ok((file.fold, file.lines))
 }

@@ -11,7 +11,7 @@ use osn_request::{JsonObject, LineObject, Member, Version, WireFault};
 fn version_in(object: &LineObject<'_>) -> Option<Version>
     ensures { result ≡ spec.version_in (line_data object.now) }
 {
-    Version::numbered(object.whole(Member::Journal.name())?)
+    Version::from_number(object.whole(Member::Journal.name())?)
 }
 
 /// Returns the version of a head's object, or its fault.

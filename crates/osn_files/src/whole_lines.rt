@@ -27,9 +27,9 @@ fn ended_count(bytes: &[u8]) -> u64
 
 /// Returns how much of a file counts, by the state of its last line. The file has this many bytes,
 /// and this many of them are bytes of ended lines.
-fn part_by(last: LastLine, lines: u64, ended: usize, bytes: usize) -> CountedPrefix
+fn part_by(last: LastLine, lines: u64, whole_length: usize, bytes: usize) -> CountedPrefix
     requires { lines + 1 < 2 ^ 64 }
-    ensures bytes { result.bytes ≡ spec.by_last last ended bytes }
+    ensures bytes { result.bytes ≡ spec.by_last last whole_length bytes }
     ensures lines { result.lines ≡ spec.by_last last lines (lines + 1) }
     ensures last { result.last ≡ last }
 {
@@ -40,7 +40,7 @@ fn part_by(last: LastLine, lines: u64, ended: usize, bytes: usize) -> CountedPre
             last,
         },
         LastLine::Ended | LastLine::Unfinished => CountedPrefix {
-            bytes: ended as u64,
+            bytes: whole_length as u64,
             lines,
             last,
         },
@@ -57,8 +57,8 @@ pub fn counted_prefix(alloc: Global, bytes: &[u8]) -> Result<CountedPrefix, Allo
     // Another line can be counted.
     ensures few { IfOk result (λ part. part.lines < 2 ^ 63) }
 {
-    let ended = ended_length(bytes);
+    let whole_length = ended_length(bytes);
     let lines = ended_count(bytes);
-    let last = state_of(alloc, lines, &bytes[ended..])?;
-    Ok(part_by(last, lines, ended, bytes.len()))
+    let last = state_of(alloc, lines, &bytes[whole_length..])?;
+    Ok(part_by(last, lines, whole_length, bytes.len()))
 }

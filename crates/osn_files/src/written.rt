@@ -10,7 +10,7 @@ ghost use Rattle.osn_request.specs.Json.{value_tokens};
 ghost use Rattle.osn_request.specs.Version.{plain_version};
 ghost use Rattle.osn_files.specs.Journal.{load};
 ghost use Rattle.osn_files.specs.JournalText as spec;
-ghost use Rattle.osn_files.specs.Loaded.{HasEdits};
+ghost use Rattle.osn_files.specs.LoadedText.{HasEdits};
 ghost use Rattle.osn_files.specs.Version.{head_data};
 ghost use Rattle.osn_files.specs.WrittenInside.{object_of, rest_tokens, with_field};
 
@@ -349,8 +349,8 @@ fn journal_bytes(alloc: Global, version: Version, object: &Object) -> Result<Vec
 {
     let batches = object.batches();
     let head = head_of(alloc, version, ROOM)?;
-    let published = with_batches(head, batches)?;
-    with_edits(published, object.pending())
+    let text = with_batches(head, batches)?;
+    with_edits(text, object.pending())
 }
 
 /// Returns the journal of an object, as `journal_text`, with a head that says this version. If the

@@ -2,7 +2,7 @@
 use Rattle.std.proofs.Common.{◌≡◌, ◌∙◌, ◌≤◌, ◌==◌, ℕ, zero, suc, Bool, true, false, List, [], ◌∷◌}
 use Rattle.std.proofs.Common.{length, take, cond, refl, sym, ap, subst}
 use Rattle.std.proofs.lemmas.List.{length-take-le}
-use Rattle.osn_lines.specs.Ended.{with_byte, ended_length, ended_bytes}
+use Rattle.osn_lines.specs.LastLineFeed.{with_byte, ended_length, ended_bytes}
 use Rattle.osn_lines.proofs.EndedLemmas.{ended-le}
 use Rattle.osn_folder.specs.FollowedFile.{IsOfWholeLines}
 

@@ -109,14 +109,14 @@ CannotSafelySave path text fault k n = IsSafelyLeftAt (k.paths.place path) text 
 
 -- the text was saved at the place that the path leads to, and a crash leaves what is said here
 abbrev pub SavesSafely : List ℕ → Option (List ℕ) → List ℕ → Option Known → Option Known → Type 0
-SavesSafely path loaded text old new =
-    Changes (Saves path loaded text) old new × Changes (IsSafelySaved path text) old new
+SavesSafely path loaded_bytes text old new =
+    Changes (Saves path loaded_bytes text) old new × Changes (IsSafelySaved path text) old new
 
 -- it was not, by this fault, and a crash left the old file or the text, whole
 abbrev pub CannotSaveSafely : List ℕ → Option (List ℕ) → List ℕ → SaveFault → Option Known
     → Option Known → Type 0
-CannotSaveSafely path loaded text fault old new =
-    Changes (CannotSave path loaded text fault) old new
+CannotSaveSafely path loaded_bytes text fault old new =
+    Changes (CannotSave path loaded_bytes text fault) old new
     × Changes (CannotSafelySave path text fault) old new
 
 -- ---- of a save that keeps the old file too

@@ -228,39 +228,39 @@ CannotMove to moves.Failed k n = Fails k n
 -- what is at this place is what was there at first. No one else put another file there, and it
 -- contains the bytes that were loaded from it, if these are given
 abbrev pub IsUnchanged : List ℕ → Option (List ℕ) → Known → Type 0
-IsUnchanged place loaded k =
-    (k.paths.is_changed place ≡ false) × IfSome loaded (λ bytes. k.at place ≡ Some bytes)
+IsUnchanged place loaded_bytes k =
+    (k.paths.is_changed place ≡ false) × IfSome loaded_bytes (λ bytes. k.at place ≡ Some bytes)
 
 abbrev pub HasChanged : List ℕ → Option (List ℕ) → Known → Type 0
-HasChanged place loaded k =
+HasChanged place loaded_bytes k =
     (k.paths.is_changed place ≡ true)
-    ⊎ ((bytes : List ℕ) × (loaded ≡ Some bytes) × (k.at place ≢ Some bytes))
+    ⊎ ((bytes : List ℕ) × (loaded_bytes ≡ Some bytes) × (k.at place ≢ Some bytes))
 
 -- the text is at this place, and all other paths are as they were. A file that it replaced was what
 -- was there at first
 abbrev pub SavesAt : List ℕ → Option (List ℕ) → List ℕ → Known → Known → Type 0
-SavesAt place loaded text k n =
+SavesAt place loaded_bytes text k n =
     Becomes place (Some text) k n
-    × (k.paths.is_stream place ≡ false → IsUnchanged place loaded k)
+    × (k.paths.is_stream place ≡ false → IsUnchanged place loaded_bytes k)
 
 -- the text was not saved at this place, by this fault
 abbrev pub CannotSaveAt : List ℕ → Option (List ℕ) → List ℕ → SaveFault → Known → Known → Type 0
-CannotSaveAt place loaded text saves.NoMemory k n = Stays k n
-CannotSaveAt place loaded text (saves.WriteFault cause) k n =
+CannotSaveAt place loaded_bytes text saves.NoMemory k n = Stays k n
+CannotSaveAt place loaded_bytes text (saves.WriteFault cause) k n =
     KeepsOthers place k n × (n.has_failed ≡ true)
     × (k.paths.is_stream place ≡ false → n.at place ≡ k.at place)
-CannotSaveAt place loaded text saves.NotSynced k n =
+CannotSaveAt place loaded_bytes text saves.NotSynced k n =
     KeepsOthers place k n × (n.at place ≡ Some text) × (n.has_failed ≡ true)
-    × (k.paths.is_stream place ≡ false) × IsUnchanged place loaded k
-CannotSaveAt place loaded text (saves.Changed unfinished) k n =
-    HasChanged place loaded k × (k.paths.is_stream place ≡ false)
+    × (k.paths.is_stream place ≡ false) × IsUnchanged place loaded_bytes k
+CannotSaveAt place loaded_bytes text (saves.Changed unfinished) k n =
+    HasChanged place loaded_bytes k × (k.paths.is_stream place ≡ false)
     × WritesBeside place text (string_bytes unfinished) k n
 
 -- the text was saved at the place that the path leads to
 abbrev pub Saves : List ℕ → Option (List ℕ) → List ℕ → Known → Known → Type 0
-Saves path loaded text k n = SavesAt (k.paths.place path) loaded text k n
+Saves path loaded_bytes text k n = SavesAt (k.paths.place path) loaded_bytes text k n
 
 -- the text was not saved at the place that the path leads to, by this fault
 abbrev pub CannotSave : List ℕ → Option (List ℕ) → List ℕ → SaveFault → Known → Known → Type 0
-CannotSave path loaded text fault k n =
-    CannotSaveAt (k.paths.place path) loaded text fault k n
+CannotSave path loaded_bytes text fault k n =
+    CannotSaveAt (k.paths.place path) loaded_bytes text fault k n

@@ -10,30 +10,31 @@ use Rattle.osn_folder.specs.declared.fault.SaveFault.TheVariants as saves
 
 -- the file of this path contains the bytes that were loaded from it, if these are given
 abbrev pub HoldsLoaded : List ℕ → Option (List ℕ) → Known → Known → Type 0
-HoldsLoaded place loaded k n = Stays k n × IfSome loaded (λ bytes. k.at place ≡ Some bytes)
+HoldsLoaded place loaded_bytes k n = Stays k n
+    × IfSome loaded_bytes (λ bytes. k.at place ≡ Some bytes)
 
 -- a file was put at this place, which was as it was at first
 abbrev pub MovesLoaded : List ℕ → List ℕ → Option (List ℕ) → Known → Known → Type 0
-MovesLoaded from place loaded k n = Moves from place k n × IsUnchanged place loaded k
+MovesLoaded from place loaded_bytes k n = Moves from place k n × IsUnchanged place loaded_bytes k
 
 -- no file was put at this place, by this fault
 abbrev pub CannotMoveLoaded : List ℕ → Option (List ℕ) → MoveFault → Known → Known → Type 0
-CannotMoveLoaded place loaded moves.Changed k n = Stays k n × HasChanged place loaded k
-CannotMoveLoaded place loaded moves.Failed k n = Fails k n
+CannotMoveLoaded place loaded_bytes moves.Changed k n = Stays k n × HasChanged place loaded_bytes k
+CannotMoveLoaded place loaded_bytes moves.Failed k n = Fails k n
 
 -- the text is in a file at this place, which was as it was at first
 abbrev pub ReplacesAt : List ℕ → Option (List ℕ) → List ℕ → Known → Known → Type 0
-ReplacesAt place loaded text k n =
-    Becomes place (Some text) k n × IsUnchanged place loaded k
+ReplacesAt place loaded_bytes text k n =
+    Becomes place (Some text) k n × IsUnchanged place loaded_bytes k
 
 -- it isn't sure that the text is in a file at this place, by this fault
 abbrev pub CannotReplaceAt : List ℕ → Option (List ℕ) → List ℕ → SaveFault → Known → Known
     → Type 0
-CannotReplaceAt place loaded text saves.NoMemory k n = Stays k n
-CannotReplaceAt place loaded text (saves.WriteFault cause) k n =
+CannotReplaceAt place loaded_bytes text saves.NoMemory k n = Stays k n
+CannotReplaceAt place loaded_bytes text (saves.WriteFault cause) k n =
     KeepsOthers place k n × (n.has_failed ≡ true) × (n.at place ≡ k.at place)
-CannotReplaceAt place loaded text saves.NotSynced k n =
+CannotReplaceAt place loaded_bytes text saves.NotSynced k n =
     KeepsOthers place k n × (n.at place ≡ Some text) × (n.has_failed ≡ true)
-    × IsUnchanged place loaded k
-CannotReplaceAt place loaded text (saves.Changed unfinished) k n =
-    HasChanged place loaded k × WritesBeside place text (string_bytes unfinished) k n
+    × IsUnchanged place loaded_bytes k
+CannotReplaceAt place loaded_bytes text (saves.Changed unfinished) k n =
+    HasChanged place loaded_bytes k × WritesBeside place text (string_bytes unfinished) k n

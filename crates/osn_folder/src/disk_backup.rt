@@ -16,8 +16,8 @@ pub(crate) fn back_up<R: Files<File = File> + AllocGlobal>(
     alloc: Global,
     place: &str,
 ) -> Result<String, SaveFault> {
-    for tried in 0..MOST_NAMES {
-        let number = tried + 1;
+    for index in 0..MOST_NAMES {
+        let number = index + 1;
         let path = format!(in alloc; "{place}.~{number}~")?;
         match name_again(files, place, path.as_str()) {
             Ok(()) => {

@@ -59,7 +59,7 @@ impl<R: Files> DiskFile<'_, R> {
         ensures { self.new.fault ≡ self.old.fault }
     {
         self.check()?;
-        made(self.file.write_all(bytes))?;
+        change_result(self.file.write_all(bytes))?;
         self.length = self.length.saturating_add(bytes.len() as u64);
         Ok(())
     }
@@ -69,9 +69,9 @@ impl<R: Files> DiskFile<'_, R> {
     {
         self.check()?;
         self.check_length()?;
-        let left = length.min(self.length);
-        made(self.file.set_len(left))?;
-        self.length = left;
+        let new_length = length.min(self.length);
+        change_result(self.file.set_len(new_length))?;
+        self.length = new_length;
         Ok(())
     }
 
@@ -79,7 +79,7 @@ impl<R: Files> DiskFile<'_, R> {
         ensures { self.new.fault ≡ self.old.fault }
     {
         self.check()?;
-        made(self.file.sync_all())?;
+        change_result(self.file.sync_all())?;
         self.check_length()?;
         self.check_path()
     }
@@ -127,9 +127,9 @@ impl<R: Files> KeptFile for DiskFile<'_, R> {
         if matches!(self.fault, Some(KeptFileFault::Replaced)) {
             return Err(ChangeFailed);
         }
-        let left = length.min(self.length);
-        self.shorten(left)?;
-        self.length = left;
+        let new_length = length.min(self.length);
+        self.shorten(new_length)?;
+        self.length = new_length;
         Ok(())
     }
 
@@ -140,7 +140,7 @@ impl<R: Files> KeptFile for DiskFile<'_, R> {
 }
 
 /// Returns the result of a change of the file.
-fn made(change: io::Result<()>) -> Result<(), KeptFileFault> {
+fn change_result(change: io::Result<()>) -> Result<(), KeptFileFault> {
     match change {
         Ok(()) => Ok(()),
         Err(error) => Err(KeptFileFault::ChangeFailed(change_cause(&error))),
@@ -181,17 +181,17 @@ fn open_locked<'a, R: Files<File = File> + AllocGlobal>(
 ) -> Result<(DiskFile<'a, R>, Plain<File>), KeepFault>
     ensures { IfOk result (λ kept. (kept.0.fault ≡ None) × (failed_of kept.1 ≡ false)) }
 {
-    let opened = OpenOptions::new()
+    let open_result = OpenOptions::new()
         .read(true)
         .append(true)
         .create(true)
         .open(files, path);
-    let file = match opened {
+    let file = match open_result {
         Ok(file) => file,
         Err(error) => return Err(KeepFault::NotOpened(make_cause(&error))),
     };
     match settle(files, path, &file) {
-        Ok(settled) => Ok(kept_file(files, file, settled)),
+        Ok(settled_file) => Ok(kept_file(files, file, settled_file)),
         Err(fault) => {
             if is_new && matches!(fault, KeepFault::NotOpened(_)) {
                 remove_made(files, path, &file);
@@ -218,11 +218,11 @@ fn settle<R: Files<File = File> + AllocGlobal>(
     path: &str,
     file: &File,
 ) -> Result<SettledFile, KeepFault>
-    ensures { IfOk result (λ settled. failed_of settled.source ≡ false) }
+    ensures { IfOk result (λ settled_file. failed_of settled_file.source ≡ false) }
 {
     lock(file)?;
     match settle_locked(files, path, file) {
-        Ok(Some(settled)) => Ok(settled),
+        Ok(Some(settled_file)) => Ok(settled_file),
         Ok(None) => Err(KeepFault::NotOpened(OpenFailed::Other)),
         Err(error) => Err(KeepFault::NotOpened(open_cause(&error))),
     }
@@ -236,18 +236,18 @@ fn settle_locked<R: Files<File = File> + AllocGlobal>(
     path: &str,
     file: &File,
 ) -> io::Result<Option<SettledFile>>
-    ensures { IfOk result (λ found. IfSome found (λ settled.
-        failed_of settled.source ≡ false)) }
+    ensures { IfOk result (λ found. IfSome found (λ settled_file.
+        failed_of settled_file.source ≡ false)) }
 {
-    let held = file.metadata()?;
-    if !held.is_file() || !is_at(files, path, file)? {
+    let metadata = file.metadata()?;
+    if !metadata.is_file() || !is_at(files, path, file)? {
         return Ok(None);
     }
     file.sync_all()?;
     sync_name(files, path)?;
     Ok(Some(SettledFile {
         path: String::from_str(files.alloc(), path)?,
-        length: held.len(),
+        length: metadata.len(),
         source: Plain::new(file.try_clone()?),
     }))
 }
@@ -264,17 +264,17 @@ fn remove_made(files: &impl Files, path: &str, file: &File) {
 fn kept_file<'a, R: Files<File = File>>(
     files: &'a R,
     file: File,
-    settled: SettledFile,
+    settled_file: SettledFile,
 ) -> (DiskFile<'a, R>, Plain<File>)
     ensures fault { result.0.fault ≡ None }
-    ensures source { result.1 ≡ settled.source }
+    ensures source { result.1 ≡ settled_file.source }
 {
     let keeper = DiskFile {
         files,
-        path: settled.path,
+        path: settled_file.path,
         file,
-        length: settled.length,
+        length: settled_file.length,
         fault: None,
     };
-    (keeper, settled.source)
+    (keeper, settled_file.source)
 }

@@ -91,17 +91,17 @@ pub(crate) fn holds_bytes(lock: &DiskLock, bytes: &[u8]) -> Result<bool, ChangeF
 fn has_bytes(file: &File, bytes: &[u8]) -> io::Result<bool> {
     let mut buffer = [0u8; PIECE];
     let mut rest = bytes;
-    let mut place = 0u64;
+    let mut offset = 0u64;
     for _call in 0..u64::MAX {
-        let read = file.read_at(&mut buffer, place)?;
-        if read == 0 {
+        let count = file.read_at(&mut buffer, offset)?;
+        if count == 0 {
             return Ok(rest.is_empty());
         }
-        match rest.strip_prefix(&buffer[..read]) {
+        match rest.strip_prefix(&buffer[..count]) {
             Some(after) => rest = after,
             None => return Ok(false),
         }
-        place = place.saturating_add(read as u64);
+        offset = offset.saturating_add(count as u64);
     }
     Ok(false)
 }

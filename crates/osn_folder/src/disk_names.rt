@@ -23,8 +23,8 @@ pub(crate) fn has_nothing(files: &impl Files, path: &str) -> io::Result<bool> {
 
 /// Returns whether an open file is this one.
 pub(crate) fn is_same(file: &File, metadata: &Metadata) -> io::Result<bool> {
-    let opened = file.metadata()?;
-    Ok(opened.dev() == metadata.dev() && opened.ino() == metadata.ino())
+    let open_metadata = file.metadata()?;
+    Ok(open_metadata.dev() == metadata.dev() && open_metadata.ino() == metadata.ino())
 }
 
 /// Makes sure that the names in the folder of a file are on the disk.
@@ -56,13 +56,13 @@ pub(crate) fn write_new<R: Files<File = File>>(
     place: &str,
     text: &str,
 ) -> Result<String, SaveFault> {
-    for tried in 0..MOST_NAMES {
-        let path = name_beside(alloc, place, tried + 1)?;
-        let made = OpenOptions::new()
+    for index in 0..MOST_NAMES {
+        let path = name_beside(alloc, place, index + 1)?;
+        let file = OpenOptions::new()
             .write(true)
             .create_new(true)
             .open(files, path.as_str());
-        match made {
+        match file {
             Ok(file) => {
                 write_made(files, file, path.as_str(), place, text)?;
                 return Ok(path);

@@ -103,7 +103,7 @@ pub enum SaveFault {
 }
 
 impl From<ChangeFailed> for MoveFault {
-    ghost from_gives = { λ _ given. given ≡ MoveFault.Failed };
+    ghost from_gives = { λ _ value. value ≡ MoveFault.Failed };
 
     fn from(_error: ChangeFailed) -> MoveFault {
         MoveFault::Failed
@@ -113,7 +113,7 @@ impl From<ChangeFailed> for MoveFault {
 impl From<ChangeFailed> for SaveFault {
     ghost use Rattle.osn_folder.specs.declared.fault.ChangeCause.{ChangeCause};
 
-    ghost from_gives = { λ _ given. given ≡ SaveFault.WriteFault ChangeCause.Other };
+    ghost from_gives = { λ _ value. value ≡ SaveFault.WriteFault ChangeCause.Other };
 
     fn from(_error: ChangeFailed) -> SaveFault {
         SaveFault::WriteFault(ChangeCause::Other)
@@ -121,7 +121,7 @@ impl From<ChangeFailed> for SaveFault {
 }
 
 impl From<AllocError> for SaveFault {
-    ghost from_gives = { λ _ given. given ≡ SaveFault.NoMemory };
+    ghost from_gives = { λ _ value. value ≡ SaveFault.NoMemory };
 
     fn from(_error: AllocError) -> SaveFault {
         SaveFault::NoMemory
@@ -129,7 +129,7 @@ impl From<AllocError> for SaveFault {
 }
 
 impl From<AllocError> for FollowFault {
-    ghost from_gives = { λ _ given. given ≡ FollowFault.NoMemory };
+    ghost from_gives = { λ _ value. value ≡ FollowFault.NoMemory };
 
     fn from(_error: AllocError) -> FollowFault {
         FollowFault::NoMemory

@@ -48,12 +48,12 @@ fn read_fault(error: &io::Error) -> FollowFault {
 /// Reads from a place up to the end of the file or of the buffer, and returns how many bytes came.
 ///
 /// The file may have become shorter since its length was asked, if its last line was cut off.
-fn read_on(file: &File, buffer: &mut [u8], place: u64) -> io::Result<usize> {
+fn read_on(file: &File, buffer: &mut [u8], offset: u64) -> io::Result<usize> {
     let mut count = 0;
     for _call in 0..u32::MAX {
-        match file.read_at(&mut buffer[count..], place.saturating_add(count as u64)) {
+        match file.read_at(&mut buffer[count..], offset.saturating_add(count as u64)) {
             Ok(0) => break,
-            Ok(read) => count += read,
+            Ok(n) => count += n,
             Err(error) if error.kind() == ErrorKind::Interrupted => {}
             Err(error) => return Err(error),
         }
@@ -75,11 +75,11 @@ impl<'a, R: Files<File = File>> FollowedDiskFile<'a, R> {
     /// Opens the file that was found at the path.
     fn open(&self) -> io::Result<FoundFile> {
         let file = fs::open(self.files, self.path.as_str())?;
-        let held = file.metadata()?;
+        let metadata = file.metadata()?;
         Ok(FoundFile {
             file,
-            device: held.dev(),
-            inode: held.ino(),
+            device: metadata.dev(),
+            inode: metadata.ino(),
         })
     }
 
@@ -118,21 +118,21 @@ impl<'a, R: Files<File = File>> FollowedDiskFile<'a, R> {
 
     /// Returns the lines that end between what was read and this place.
     fn read_lines(&mut self, alloc: Global, end: u64) -> Result<Vec<u8>, FollowFault>
-        ensures lines { IfOk result (λ gained. IsOfWholeLines gained.items) }
-        ensures few { IfOk result (λ gained. length gained.items < 4294967295) }
+        ensures lines { IfOk result (λ bytes. IsOfWholeLines bytes.items) }
+        ensures few { IfOk result (λ bytes. length bytes.items < 4294967295) }
     {
         let Some(current) = &self.current else {
             return Ok(Vec::new(alloc));
         };
         let size = end.saturating_sub(self.length).min(MOST_BYTES);
-        let mut gained = vec![in alloc; 0u8; size as usize]?;
-        match read_on(&current.file, &mut gained, self.length) {
+        let mut bytes = vec![in alloc; 0u8; size as usize]?;
+        match read_on(&current.file, &mut bytes, self.length) {
             Ok(count) => {
-                gained.truncate(count);
-                let ended = ended_length(&gained);
-                gained.truncate(ended);
-                self.length = self.length.saturating_add(ended as u64);
-                Ok(gained)
+                bytes.truncate(count);
+                let whole_length = ended_length(&bytes);
+                bytes.truncate(whole_length);
+                self.length = self.length.saturating_add(whole_length as u64);
+                Ok(bytes)
             }
             Err(error) => Err(read_fault(&error)),
         }

@@ -20,9 +20,9 @@ pub trait FollowedFile {
     /// `NoMemory` if memory ran out, `NotRead` if the file can't be read. `Shorter` if it is
     /// shorter than those lines, `Replaced` if the path names another file, or none.
     fn look(&mut self, alloc: Global) -> Result<Vec<u8>, FollowFault>
-        ensures lines { IfOk result (λ gained. IsOfWholeLines gained.items) }
-        ensures few { IfOk result (λ gained. length gained.items < 4294967295) }
+        ensures lines { IfOk result (λ bytes. IsOfWholeLines bytes.items) }
+        ensures few { IfOk result (λ bytes. length bytes.items < 4294967295) }
         ensures ok { IfOk result
-            (λ gained. Appends (contents self.old) (contents self.new) gained.items) }
+            (λ bytes. Appends (contents self.old) (contents self.new) bytes.items) }
         ensures err { OnErr result (contents self.new ≡ contents self.old) };
 }

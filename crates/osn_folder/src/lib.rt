@@ -19,7 +19,7 @@ mod followed_disk_file;
 mod followed_file;
 mod kept_file;
 mod opening;
-mod saving;
+mod save;
 mod saving_beside;
 
 pub use disk::Disk;
@@ -34,5 +34,5 @@ pub use followed_disk_file::FollowedDiskFile;
 pub use followed_file::FollowedFile;
 pub use kept_file::KeptFile;
 pub use opening::{open_both, open_file, open_if, open_named};
-pub use saving::save_file;
+pub use save::save_file;
 pub use saving_beside::save_beside;

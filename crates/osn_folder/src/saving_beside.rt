@@ -5,7 +5,7 @@ ghost use Rattle.osn_folder.specs.Crash.{SavesBeside, CannotSaveBeside, GivesUp}
 
 use crate::fault::SaveFault;
 use crate::folder::Folder;
-use crate::saving::save_at;
+use crate::save::save_at;
 use std::alloc::Global;
 
 /// Puts a text in place of the file that was locked, as `save_file` does, and leaves that file at a

@@ -86,6 +86,26 @@ day_is day month first (Some later) year short read is = record {
   first = λ o last b after. rw (after, short, read.is, is) refl;
 }
 
+-- ---- a day of the year of another one
+
+abbrev pub beginning_tokens : Numeral → ℕ → List Token
+beginning_tokens day month = Number day ∷ Month month ∷ []
+
+-- before `to` and a day the parts are a day of its year
+beginning_first : (day : Numeral) (m : ℕ) (o : DateOrder) (last : List Token) (year : Year)
+    (month d : ℕ) → is_long day ≡ false
+    → day_in year m day.value ≡ Ok (date.Day year m day.value)
+    → partial_date o last ≡ Ok (date.Day year month d)
+    → extent_of o (beginning_tokens day m ++ To ∷ last)
+    ≡ Ok (extent.DaysOfYear (record { month = m; day = day.value })
+    (record { month = month; day = d }) year)
+unfolding date_or_range
+beginning_first day m o last year month d short is after = rw (after, short, is) refl
+
+beginning_adds : (day : Numeral) (month : ℕ) → Adds (beginning_tokens day month)
+beginning_adds day month rest ts w r a u s rest_says =
+    token_adds (Number day) refl (token_adds (Month month) refl rest_says)
+
 -- ---- a month
 
 pub month_is : (month : ℕ) (first : Numeral) (later : Option Numeral) (year : Year)
@@ -162,6 +182,20 @@ from_to_is {ps} {qs} {a} {b} first last = record {
   is = λ o. first.first o qs b (last.is o);
   dated = first.dated (To ∷ qs);
   adds = both_add ps (To ∷ qs) first.adds
+      (λ rest ts w r about doubt bracket rest_says.
+      token_adds To refl (last.adds rest ts w r about doubt bracket rest_says));
+}
+
+pub days_of_year_is : {qs : List Token} (day : Numeral) (m : ℕ) (year : Year) (month d : ℕ)
+    → is_long day ≡ false → day_in year m day.value ≡ Ok (date.Day year m day.value)
+    → IsDate qs (date.Day year month d)
+    → IsExtent (beginning_tokens day m ++ To ∷ qs)
+    (extent.DaysOfYear (record { month = m; day = day.value }) (record { month = month; day = d })
+    year)
+days_of_year_is {qs} day m year month d short is last = record {
+  is = λ o. beginning_first day m o qs year month d short is (last.is o);
+  dated = refl;
+  adds = both_add (beginning_tokens day m) (To ∷ qs) (beginning_adds day m)
       (λ rest ts w r about doubt bracket rest_says.
       token_adds To refl (last.adds rest ts w r about doubt bracket rest_says));
 }

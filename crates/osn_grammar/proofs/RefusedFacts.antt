@@ -14,14 +14,13 @@ use Rattle.osn_written.specs.declared.written_date.DateFault.{DateFault}
 use Rattle.osn_written.specs.declared.written_date.DateFault.TheVariants as faults
 use Rattle.osn_grammar.specs.declared.written.DateOrder.{DateOrder}
 use Rattle.osn_written.specs.declared.any_date.Extent.{Extent}
-use Rattle.osn_written.specs.declared.any_date.Extent.TheVariants as extent
 use Rattle.osn_written.specs.declared.any_date.Reckoning.{Reckoning}
 use Rattle.osn_written.specs.declared.any_date.PartialDate.{PartialDate}
 use Rattle.osn_written.specs.declared.any_date.AnyDate.{AnyDate}
 use Rattle.osn_grammar.specs.declared.extent.Beginning.{Beginning}
 use Rattle.osn_grammar.specs.declared.extent.Joining.TheVariants as joins
 use Rattle.osn_grammar.specs.Extent.{beginning_of, dashed_range, date_or_range, extent_of}
-use Rattle.osn_grammar.specs.Extent.{first_date, first_read}
+use Rattle.osn_grammar.specs.Extent.{first_date, first_read, from_to}
 use Rattle.osn_grammar.specs.Extent.{range_after, range_of}
 use Rattle.osn_grammar.specs.Tokens.{is_of_time}
 use Rattle.osn_grammar.specs.BothCalendars.{are_named, day_by_both}
@@ -60,7 +59,7 @@ range_refused : (none : Bool) (whole : Result PartialDate DateFault) (beginning 
 range_refused true whole beginning last wrong = refl
 range_refused false whole beginning last wrong =
     bind_err last (λ end. first_date whole beginning end >>= (λ start.
-    Ok (extent.FromTo start end))) wrong
+    Ok (from_to beginning start end))) wrong
 
 -- and so it is after a dash
 dashed_refused : (belongs none : Bool) (whole : Result PartialDate DateFault)

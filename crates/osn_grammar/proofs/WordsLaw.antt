@@ -23,6 +23,7 @@ use Rattle.osn_grammar.specs.Simple.{is_between}
 use Rattle.osn_grammar.proofs.FormFacts.{IsDate, IsExtent, year_tokens, day_is, month_is}
 use Rattle.osn_grammar.proofs.FormFacts.{year_is, on_is, from_to_is, before_is, after_is}
 use Rattle.osn_grammar.proofs.FormFacts.{not_before_is, not_after_is}
+use Rattle.osn_grammar.proofs.FormFacts.{beginning_tokens, days_of_year_is}
 use Rattle.osn_grammar.proofs.TokenFacts.{Say, TextSays, nothing_says, token_adds, weekday_adds}
 use Rattle.osn_grammar.proofs.TokenFacts.{reckoning_adds, text_read}
 use Rattle.osn_grammar.proofs.TextFacts.{Reads, Closes, blank, doubt, bracket_closes}
@@ -32,6 +33,9 @@ use Rattle.osn_grammar.proofs.WordFacts.{month_reads, weekday_begins, about_begi
 use Rattle.osn_grammar.proofs.WordFacts.{after_begins, not_before_begins, not_after_begins}
 use Rattle.osn_grammar.proofs.WordFacts.{to_begins, bracket_begins, old_style_closes}
 use Rattle.osn_grammar.proofs.WordFacts.{new_style_closes}
+use Rattle.osn_written.specs.declared.written_date.MonthDay.{MonthDay}
+use Rattle.osn_written.specs.AnyDate.{in_year}
+use Rattle.osn_written.specs.WrittenDate.{month_day_words}
 use Rattle.osn_written.specs.DateInWords.{words_of_date, words_of_extent, words_of, optional_word}
 use Rattle.osn_written.specs.DateInWords.{weekday_before, calendar_after}
 use Rattle.osn_grammar.specs.WordsRead.{AreWordsRead}
@@ -107,6 +111,31 @@ record IsExtentRead (text : List ℕ) (e : Extent) : Type 0 where
   reads : Reads text tokens
   is : IsExtent tokens e
 
+-- a day before the day of its year
+days_read : (a b : MonthDay) (y : Year) → is_writable_date (in_year a y) ≡ true
+    → IsDateRead (words_of_date (in_year b y)) (in_year b y)
+    → IsExtentRead (month_day_words a ++ (codes " to " ++ words_of_date (in_year b y)))
+    (extent.DaysOfYear a b y)
+days_read a b y ok last =
+    let oks = both (is_writable_year y) (is_between 1 12 a.month && is_between 1 31 a.day) ok in
+    let within = both (is_between 1 12 a.month) (is_between 1 31 a.day) oks.1 in
+    let bounds = both (nat_le 1 a.month) (nat_le a.month 12) within.0 in
+    let days = both (nat_le 1 a.day) (nat_le a.day 31) within.1 in
+    let low : a.day ≤ 31 = leb-true a.day 31 days.1 in
+    let number = numeral a.day (decimal a.day) in
+    let two : length (decimal a.day) ≤ 2 =
+    length-decimal-le 2 a.day (omega arith) (omega (arith, low)) (omega (arith, low)) in
+    record {
+      tokens = beginning_tokens number a.month ++ To ∷ last.tokens;
+      reads = joined_reads blank
+          (joined_reads blank (decimal_reads a.day (omega (arith, low)))
+          (month_reads a.month (leb-true 1 a.month bounds.0) (leb-true a.month 12 bounds.1)))
+          (begins_reads to_begins last.reads);
+      is = days_of_year_is number a.month y b.month b.day
+          (lt-leb 3 (length (decimal a.day)) (omega (arith, two)))
+          (rw (bounds.0, bounds.1, days.0, days.1) refl) last.is;
+    }
+
 extent_read : (e : Extent) → is_writable_extent e ≡ true → IsExtentRead (words_of_extent e) e
 unfolding words_of_extent
 extent_read (extent.On d) ok =
@@ -121,6 +150,9 @@ extent_read (extent.FromTo a b) ok =
       reads = joined_reads blank first.reads (begins_reads to_begins last.reads);
       is = from_to_is first.is last.is;
     }
+extent_read (extent.DaysOfYear a b y) ok =
+    let oks = both (is_writable_date (in_year a y)) (is_writable_date (in_year b y)) ok in
+    days_read a b y oks.0 (date_read (in_year b y) oks.1)
 extent_read (extent.Before d) ok =
     let read = date_read d ok in
     record {
@@ -250,6 +282,9 @@ extent_whole (extent.On d) ok = date_whole d ok
 extent_whole (extent.FromTo a b) ok =
     let oks = both (is_writable_date a) (is_writable_date b) ok in
     rw (date_whole a oks.0) (date_whole b oks.1)
+extent_whole (extent.DaysOfYear a b y) ok =
+    date_whole (in_year a y) (both (is_writable_date (in_year a y)) (is_writable_date (in_year b y))
+    ok).0
 extent_whole (extent.Before d) ok = date_whole d ok
 extent_whole (extent.NotAfter d) ok = date_whole d ok
 extent_whole (extent.After d) ok = date_whole d ok

@@ -21,7 +21,9 @@ use Rattle.osn_written.specs.declared.any_date.Extent.{Extent}
 use Rattle.osn_written.specs.declared.any_date.Extent.TheVariants as extent
 use Rattle.osn_written.specs.declared.any_date.PartialDate.{PartialDate}
 use Rattle.osn_written.specs.declared.any_date.PartialDate.TheVariants as date
-use Rattle.osn_written.specs.AnyDate.{has_three_digits}
+use Rattle.osn_written.specs.declared.any_date.Year.{Year}
+use Rattle.osn_written.specs.declared.written_date.MonthDay.{MonthDay}
+use Rattle.osn_written.specs.AnyDate.{has_three_digits, in_year}
 use Rattle.osn_grammar.specs.Forms.{date_in_digits, partial_date}
 use Rattle.osn_grammar.specs.Simple.{◌>>=◌, is_long, month_in, day_in}
 
@@ -53,6 +55,19 @@ first_date whole (begins.DayOfMonth m d) (date.Day year month day) = day_in year
 first_date whole (begins.Month m) (date.Month year month) = month_in year m
 first_date whole beginning last = whole
 
+-- a day that gets its year from the last date is a day of that year: one year is written for both
+abbrev pub days_of_year : PartialDate → Year → MonthDay → Extent
+days_of_year (date.Day y month day) year last =
+    extent.DaysOfYear (record { month = month; day = day }) last year
+days_of_year first year last = extent.FromTo first (in_year last year)
+
+abbrev pub from_to : Beginning → PartialDate → PartialDate → Extent
+from_to (begins.Day d) first (date.Day year month day) =
+    days_of_year first year (record { month = month; day = day })
+from_to (begins.DayOfMonth m d) first (date.Day year month day) =
+    days_of_year first year (record { month = month; day = day })
+from_to beginning first last = extent.FromTo first last
+
 -- there is no range if the first date has no form, on its own or as a beginning
 abbrev pub has_no_form : Result PartialDate DateFault → Beginning → Bool
 has_no_form (Err faults.Malformed) begins.Whole = true
@@ -63,7 +78,7 @@ abbrev pub range_of : Result PartialDate DateFault → Beginning → Result Part
 range_of whole beginning last = do
   end ← last
   start ← first_date whole beginning end
-  Ok (extent.FromTo start end)
+  Ok (from_to beginning start end)
 
 abbrev pub range : DateOrder → List Token → List Token → Result Extent DateFault
 range o first last =

@@ -1,5 +1,5 @@
 -- The forms in which a day, a month or a year is written. This project's profile.
-use Rattle.std.specs.Prelude.{ℕ, List, [], ◌∷◌, Option, Some, None, Result, Err}
+use Rattle.std.specs.Prelude.{ℕ, nat_le, if◌then◌else◌, List, [], ◌∷◌, Option, Some, None, Result, Err}
 use Rattle.osn_grammar.specs.declared.token.Numeral.{Numeral}
 use Rattle.osn_grammar.specs.declared.token.Token.{Token}
 use Rattle.osn_grammar.specs.declared.token.Token.TheVariants.{Number, Month, Dash, Slash, Dot}
@@ -83,11 +83,15 @@ day_in_words _ = Err faults.Malformed
 
 -- ---- a month or a year
 
+-- 1731-XX-XX is the year. One of three digits may lack a digit
+abbrev pub year_without_day : Numeral → Result PartialDate DateFault
+year_without_day y = if nat_le 4 y.digits then whole_year (one y) else Err faults.OpenYear
+
 -- 1731-02, 1731-02-XX, 1731-XX-XX
 abbrev pub after_dash : Numeral → List Token → Result PartialDate DateFault
 after_dash y (Number m ∷ []) = year_and_month y m
 after_dash y (Number m ∷ Dash ∷ Blank ∷ []) = month_in_digits (one y) m
-after_dash y (Blank ∷ Dash ∷ Blank ∷ []) = whole_year (one y)
+after_dash y (Blank ∷ Dash ∷ Blank ∷ []) = year_without_day y
 after_dash y _ = Err faults.Malformed
 
 -- 2/1731, 1731/2, 1731/2 February, 1731/2-02

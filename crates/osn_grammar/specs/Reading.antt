@@ -349,11 +349,13 @@ read_month_first o tokens timed fault =
     if has_month_first timed then or_this (reading_of_tokens o tokens (month_moved timed)) fault
     else Err fault
 
--- a double year after a dash, 11 Feb. 1675-6
+-- a double year after a dash, 11 Feb. 1675-6. A range of days after its month is tried before that:
+-- February 3-10, 1675
 abbrev pub read_slashed : DateOrder → List Token → List Token → DateFault
     → Result Written DateFault
 read_slashed o tokens timed fault =
-    if may_be_double timed then or_this (reading_of_tokens o tokens (slashed timed)) fault
+    if not (has_month_first timed) && may_be_double timed then
+    or_this (reading_of_tokens o tokens (slashed timed)) fault
     else read_month_first o tokens timed fault
 
 -- from one part of a time to another one, early 1675 - late 1676

@@ -10,6 +10,7 @@ use Rattle.osn_written.specs.declared.any_date.Extent.TheVariants as extent
 use Rattle.osn_written.specs.declared.any_date.PartialDate.{PartialDate}
 use Rattle.osn_written.specs.declared.any_date.PartialDate.TheVariants as date
 use Rattle.osn_written.specs.declared.any_date.Year.{Year}
+use Rattle.osn_written.specs.AnyDate.{in_year}
 use Rattle.osn_written.specs.DateInWords.{words_of}
 
 -- a year that is at most 10000, and is not written with three digits
@@ -26,6 +27,8 @@ is_writable_date (date.Year y) = is_writable_year y
 abbrev pub is_writable_extent : Extent → Bool
 is_writable_extent (extent.On d) = is_writable_date d
 is_writable_extent (extent.FromTo a b) = is_writable_date a && is_writable_date b
+is_writable_extent (extent.DaysOfYear a b y) =
+    is_writable_date (in_year a y) && is_writable_date (in_year b y)
 is_writable_extent (extent.Before d) = is_writable_date d
 is_writable_extent (extent.NotAfter d) = is_writable_date d
 is_writable_extent (extent.After d) = is_writable_date d

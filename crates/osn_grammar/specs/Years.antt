@@ -146,7 +146,8 @@ abbrev pub numbered : ℕ → ℕ → Option Years
 numbered a b = if are_two_digits a b then century (10 * digit a + digit b) else None
 
 abbrev pub is_th_c : ℕ → ℕ → ℕ → ℕ → Bool
-is_th_c t h s c = t == 116 && (h == 104 && (s == 32 && c == 99))
+is_th_c t h s c =
+    (t == 116 || t == 84) && ((h == 104 || h == 72) && (s == 32 && (c == 99 || c == 67)))
 
 abbrev pub century_by_letter : List ℕ → Option Years
 century_by_letter (a ∷ b ∷ t ∷ h ∷ s ∷ c ∷ []) =

@@ -10,7 +10,7 @@ use crate::token::Token::{
     Open, Or, Slash, Than, To, ToThe,
 };
 use crate::written::DateOrder;
-use osn_written::{DateFault, Extent, PartialDate};
+use osn_written::{DateFault, Extent, MonthDay, PartialDate, Year};
 
 /// By which parts the two dates of a range are joined.
 #[derive(Clone, Copy)]
@@ -94,6 +94,32 @@ fn first_date(
     }
 }
 
+/// Returns the range of two days of which the last one alone has a year.
+fn days_of_year(first: PartialDate, year: Year, last: MonthDay) -> Extent
+    ensures { result ≡ spec.days_of_year first year last }
+{
+    match first {
+        PartialDate::Day { month, day, .. } => Extent::DaysOfYear {
+            first: MonthDay { month, day },
+            last,
+            year,
+        },
+        _ => Extent::FromTo(first, last.in_year(year)),
+    }
+}
+
+/// Returns the range of two dates, of which the first one began so. A day that gets its year from
+/// the last date is a day of that year.
+fn from_to(beginning: Beginning, first: PartialDate, last: PartialDate) -> Extent
+    ensures { result ≡ spec.from_to beginning first last }
+{
+    match (beginning, last) {
+        (Beginning::Day(_) | Beginning::DayOfMonth { .. }, PartialDate::Day { year, month, day }) =>
+            days_of_year(first, year, MonthDay { month, day }),
+        _ => Extent::FromTo(first, last),
+    }
+}
+
 /// Returns whether the first date of a range has no form, on its own or as a beginning.
 fn has_no_form(whole: Result<PartialDate, DateFault>, beginning: Beginning) -> bool
     ensures { result ≡ spec.has_no_form whole beginning }
@@ -114,7 +140,8 @@ fn range(order: DateOrder, first: &[Token], last: &[Token]) -> Result<Extent, Da
         return Err(DateFault::Malformed);
     }
     let last = partial_date(order, last)?;
-    Ok(Extent::FromTo(first_date(whole, beginning, last)?, last))
+    let first = first_date(whole, beginning, last)?;
+    Ok(from_to(beginning, first, last))
 }
 
 /// Returns whether parts are an open end.

@@ -136,6 +136,17 @@ fn day_in_words(tokens: &[Token]) -> Result<PartialDate, DateFault>
     }
 }
 
+/// Returns the year of which the month and the day are open, unless it may lack a digit.
+fn year_without_day(year: Numeral) -> Result<PartialDate, DateFault>
+    ensures { result ≡ spec.year_without_day year }
+{
+    if year.digits >= 4 {
+        whole_year(one(year))
+    } else {
+        Err(DateFault::OpenYear)
+    }
+}
+
 /// Returns the month or the year of a year with a dash and these parts after it.
 fn after_dash(year: Numeral, rest: &[Token]) -> Result<PartialDate, DateFault>
     ensures { result ≡ spec.after_dash year rest.now }
@@ -143,7 +154,7 @@ fn after_dash(year: Numeral, rest: &[Token]) -> Result<PartialDate, DateFault>
     match rest {
         [Number(m)] => year_and_month(year, *m),
         [Number(m), Dash, Blank] => month_in_digits(one(year), *m),
-        [Blank, Dash, Blank] => whole_year(one(year)),
+        [Blank, Dash, Blank] => year_without_day(year),
         _ => Err(DateFault::Malformed),
     }
 }

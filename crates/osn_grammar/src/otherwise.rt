@@ -61,7 +61,7 @@ fn read_slashed(
 ) -> Result<Read, AllocError>
     ensures { IfOk result (λ read. read ≡ spec.read_slashed order tokens.now timed.now fault) }
 {
-    if !may_be_double(timed) {
+    if has_month_first(timed) || !may_be_double(timed) {
         return read_month_first(alloc, order, tokens, timed, fault);
     }
     let slashed = slashed(alloc, timed)?;

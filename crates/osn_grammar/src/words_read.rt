@@ -44,6 +44,9 @@ pub fn is_writable(date: AnyDate) -> bool
 {
     match date.extent {
         Extent::FromTo(first, last) => is_writable_date(first) && is_writable_date(last),
+        Extent::DaysOfYear { first, last, year } => {
+            is_writable_date(first.in_year(year)) && is_writable_date(last.in_year(year))
+        }
         Extent::Part(_, _) | Extent::Feast { .. } => false,
         Extent::On(date)
         | Extent::Before(date)

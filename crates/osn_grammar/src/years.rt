@@ -232,11 +232,11 @@ fn open_years(text: &[u8], is_supplied: bool) -> Option<AnyDate>
     }
 }
 
-/// Returns whether four bytes are `th c`.
+/// Returns whether four bytes are `th c`, in capital or small letters.
 fn is_th_c(t: u8, h: u8, s: u8, c: u8) -> bool
     ensures { result ≡ spec.is_th_c t h s c }
 {
-    t == b't' && h == b'h' && s == b' ' && c == b'c'
+    (t == b't' || t == b'T') && (h == b'h' || h == b'H') && s == b' ' && (c == b'c' || c == b'C')
 }
 
 /// Returns the century of two digits.

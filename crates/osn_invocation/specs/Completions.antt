@@ -1,5 +1,5 @@
 -- How a shell completes command lines, by the grammar that is parsed. This project's profile.
-use Rattle.std.specs.Prelude.{◌++◌, ◌∷◌, Bool, true, false, if◌then◌else◌, [], codes}
+use Rattle.std.specs.Prelude.{◌++◌, ◌∷◌, ◌&&◌, ◌||◌, Bool, true, false, if◌then◌else◌, [], codes}
 use Rattle.std.specs.Prelude.{Option, Some, None}
 use Rattle.std.specs.List.{flat_map, list_any}
 use Rattle.std.specs.Str.{bytes_eq}
@@ -30,19 +30,41 @@ is_file id = list_any (bytes_eq id)
     ∷ codes "schedule" ∷ codes "script" ∷ codes "questions" ∷ codes "transcript" ∷ codes "text"
     ∷ codes "table" ∷ codes "places" ∷ [])
 
--- what the value of the argument of this name may be: FILE is the path of a file, TEXT any text,
--- and otherwise it is one of these words
-abbrev pub values_named : Text → Text
-values_named id =
+-- the arguments whose value is a territory: by its code, or by its name, which is not completed
+abbrev pub is_place : Text → Bool
+is_place id = bytes_eq id (codes "code") || bytes_eq id (codes "in")
+
+abbrev pub weekdays : Text
+weekdays = codes " Monday Tuesday Wednesday Thursday Friday Saturday Sunday"
+
+abbrev pub months : Text
+months =
+    codes " January February March April May June July August September October November December"
+
+-- the value is the name of a weekday or a month: in the command letters it is that of a column
+abbrev pub is_weekday : Text → Text → Bool
+is_weekday command id = bytes_eq id (codes "weekday") && bytes_eq command (codes "read")
+
+abbrev pub is_month : Text → Text → Bool
+is_month command id = bytes_eq id (codes "month") && bytes_eq command (codes "month")
+
+-- what the value of the argument of this name of a command may be: FILE is the path of a file, CODE
+-- the code of a territory, TEXT any text, and otherwise it is one of these words
+abbrev pub values_named : Text → Text → Text
+values_named command id =
     if is_file id then codes " FILE"
     else (if bytes_eq id (codes "order") then codes " dmy mdy"
     else (if bytes_eq id (codes "separator") then codes " comma semicolon tab"
     else (if bytes_eq id (codes "calendar") then codes " gregorian julian swedish day jdn"
-    else (if bytes_eq id (codes "shell") then codes " bash zsh fish" else codes " TEXT"))))
+    else (if bytes_eq id (codes "shell") then codes " bash zsh fish"
+    else (if is_place id then codes " CODE"
+    else (if is_weekday command id then weekdays
+    else (if is_month command id then months else codes " TEXT")))))))
 
 -- that, or no text for an argument that takes no value
-abbrev pub values_of : Rule → Text
-values_of rule = if takes_value (action_of rule) then values_named rule.id else []
+abbrev pub values_of : Text → Rule → Text
+values_of command rule =
+    if takes_value (action_of rule) then values_named command rule.id else []
 
 -- the row of an argument of a command, by the option that names it or by its place alone
 abbrev pub row_by : Text → Option Text → Text → Text
@@ -52,7 +74,7 @@ row_by command None values =
     codes "_oldstyle_row " ++ (command ++ (codes " argument" ++ (values ++ codes "\n")))
 
 unfoldable pub row_of : Text → Rule → Text
-row_of command rule = row_by command rule.long (values_of rule)
+row_of command rule = row_by command rule.long (values_of command rule)
 
 -- the row that names a command
 unfoldable pub name_row : Text → Text

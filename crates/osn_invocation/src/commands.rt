@@ -183,7 +183,7 @@ is 1. The command plan says whether a journal accepts what TEXT says.",
 
 TEXT has the form that the command text prints. Each edit is a line, with its day as the territory
 dates it. A territory that TEXT does not name stays as it is. The journal is only read.",
-        arguments: &[JOURNAL, TEXT, JOURNAL_OPTION, LIMITS],
+        arguments: &[JOURNAL, TEXT, DEFAULT_JOURNAL, LIMITS],
     },
     CommandRow {
         name: "publish",
@@ -200,7 +200,7 @@ nothing. Nor does a text that would undo what an edition later than its own has 
                 "onto-newest",
                 "Publishes even if that undoes or changes again what later editions changed",
             ),
-            JOURNAL_OPTION,
+            DEFAULT_JOURNAL,
             LIMITS,
         ],
     },

@@ -22,10 +22,13 @@ const STATUSES: &str = "Statuses:
   4  memory ran out
 If the status is not 0, standard error says what was refused or failed.
 
-JOURNAL may be left out of a command that begins with it: --journal FILE then names the file. The
-commands read, day, month, year, territory, almanac, letters, text, editions and diff have a
-default: the file that OLDSTYLE_JOURNAL names, or else the user's own journal, if there is one,
-which is oldstyle/register.journal in XDG_DATA_HOME or ~/.local/share.";
+JOURNAL may be left out of a command that begins with it: --journal FILE then names the file. Each
+of these commands except audit has a default: the file that OLDSTYLE_JOURNAL names, or else the
+user's own journal, oldstyle/register.journal in XDG_DATA_HOME or ~/.local/share. The command
+publish makes it if it is not there.
+
+The script oldstyle of the sources also takes --prove, which only proves and builds the program,
+and install [PREFIX] and uninstall [PREFIX], by default under ~/.local.";
 
 /// Returns a command with these arguments added.
 fn with_arguments<'a>(

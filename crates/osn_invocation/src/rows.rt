@@ -12,8 +12,8 @@ use clap::{Arg, ArgAction, Command};
 use std::alloc::{AllocError, Global};
 use std::fmt::Write;
 
-/// The room that the text gets at first: it takes some 4,000 bytes.
-const ROOM: usize = 4096;
+/// The room that the text gets at first: it takes some 7,000 bytes.
+const ROOM: usize = 8192;
 
 /// Returns whether an argument with this action takes a value.
 fn takes_value(action: ArgAction) -> bool
@@ -25,10 +25,15 @@ fn takes_value(action: ArgAction) -> bool
     }
 }
 
-/// Returns what the value of the argument of this name may be: words of a list, a file or other
-/// text.
-fn values_named(id: &str) -> &'static str
-    ensures { result.now ≡ spec.values_named id.now }
+const WEEKDAYS: &str = " Monday Tuesday Wednesday Thursday Friday Saturday Sunday";
+
+const MONTHS: &str =
+    " January February March April May June July August September October November December";
+
+/// Returns what the value of the argument of this name of a command may be: words of a list, a
+/// file, the code of a territory, or other text.
+fn values_named(command: &str, id: &str) -> &'static str
+    ensures { result.now ≡ spec.values_named command.now id.now }
 {
     match id {
         "journal"
@@ -47,16 +52,20 @@ fn values_named(id: &str) -> &'static str
         "separator" => " comma semicolon tab",
         "calendar" => " gregorian julian swedish day jdn",
         "shell" => " bash zsh fish",
+        "code" | "in" => " CODE",
+        "weekday" if command == "read" => WEEKDAYS,
+        "month" if command == "month" => MONTHS,
         _ => " TEXT",
     }
 }
 
-/// Returns what the value of an argument may be, or an empty text if it takes no value.
-fn values_of(arg: &Arg<'_>) -> &'static str
-    ensures { result.now ≡ spec.values_of (rule_of arg.now) }
+/// Returns what the value of an argument of a command may be, or an empty text if it takes no
+/// value.
+fn values_of(command: &str, arg: &Arg<'_>) -> &'static str
+    ensures { result.now ≡ spec.values_of command.now (rule_of arg.now) }
 {
     if takes_value(arg.get_action()) {
-        values_named(arg.get_id())
+        values_named(command, arg.get_id())
     } else {
         ""
     }
@@ -68,7 +77,7 @@ fn push_row(out: &mut String, command: &str, arg: &Arg<'_>) -> Result<(), AllocE
     ensures { OnOk result (string_bytes out.new
         ≡ string_bytes out.old ++ spec.row_of command.now (rule_of arg.now)) }
 {
-    let values = values_of(arg);
+    let values = values_of(command, arg);
     match arg.get_long() {
         Some(name) => writeln!(out, "_oldstyle_row {command} --{name}{values}"),
         None => writeln!(out, "_oldstyle_row {command} argument{values}"),

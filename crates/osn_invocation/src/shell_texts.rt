@@ -5,7 +5,7 @@
 pub(crate) const BASH_HEAD: &str = r#"# Made by `oldstyle completions bash`.
 
 # Takes a row of the grammar: a command; or a command, then the word argument or an option, and what
-# its value may be, if it has one: FILE, TEXT, or one of the words that follow.
+# its value may be, if it has one: FILE, CODE, TEXT, or one of the words that follow.
 _oldstyle_row() {
     if [ $# = 1 ]; then
         commands+=("$1")
@@ -18,10 +18,15 @@ _oldstyle_row() {
     fi
 }
 
+# Prints the codes of the territories of a journal, or of the default one.
+_oldstyle_codes() {
+    command oldstyle territory "$@" 2> /dev/null < /dev/null | sed -n 's/.* (\(.*\))$/\1/p'
+}
+
 _oldstyle() {
-    local -a commands=() arguments=() words=()
+    local -a commands=() arguments=() words=() plain=() journal=()
     local -A options=([--help]="")
-    local command=oldstyle wanted="" at=0 word before
+    local command=oldstyle wanted="" option="" at word before
     for before in "${COMP_WORDS[@]:1:COMP_CWORD-1}"; do
         [ "$before" = = ] || words+=("$before")
     done
@@ -34,23 +39,41 @@ pub(crate) const BASH_END: &str = r#"    [ "$command" != oldstyle ] || options[-
     case $command in oldstyle | help) arguments=("${commands[*]} help") ;; esac
     for before in "${words[@]:1}"; do
         if [ -n "$wanted" ]; then
+            [ "$option" != --journal ] || journal=("$before")
             wanted=""
+        elif [[ $before == *[\<\>]* ]]; then
+            wanted=FILE option=""
         elif [[ $before == --* ]]; then
-            wanted=${options[$before]-}
+            wanted=${options[$before]-} option=$before
         else
-            at=$((at + 1))
+            plain+=("$before")
         fi
     done
+    at=${#plain[@]}
+    # The journal is left out if an option names it, or if the first argument is not a file.
+    if [ "${options[--journal]-}${arguments[0]-}" = FILEFILE ]; then
+        if [ ${#journal[@]} = 0 ] && [ -e "${plain[0]-}" ]; then
+            journal=("${plain[0]}")
+        elif [ "${#journal[@]}$at" != 00 ] && [ "${arguments[1]-}" != FILE ]; then
+            at=$((at + 1))
+        fi
+    fi
     if [ -z "$wanted" ]; then
         wanted=${arguments[at]-}
+        [ "$at${arguments[1]-}" != 0CODE ] || wanted="FILE CODE"
         [[ $word != -* ]] || wanted=${!options[*]}
     fi
+    COMPREPLY=()
     case $wanted in
-        FILE)
+        FILE*)
             compopt -o filenames 2> /dev/null
             mapfile -t COMPREPLY < <(compgen -f -- "$word")
+            ;;&
+        *CODE)
+            mapfile -t -O ${#COMPREPLY[@]} COMPREPLY \
+                < <(compgen -W "$(_oldstyle_codes "${journal[@]}")" -- "$word")
             ;;
-        TEXT) COMPREPLY=() ;;
+        FILE | TEXT) ;;
         *) mapfile -t COMPREPLY < <(compgen -W "$wanted" -- "$word") ;;
     esac
 }
@@ -63,11 +86,12 @@ pub(crate) const ZSH_HEAD: &str = r#"#compdef oldstyle
 # Made by `oldstyle completions zsh`.
 
 # Takes a row of the grammar: a command; or a command, then the word argument or an option, and what
-# its value may be, if it has one: FILE, TEXT, or one of the words that follow.
+# its value may be, if it has one: FILE, CODE, TEXT, or one of the words that follow.
 _oldstyle_row() {
     local values="${argv[3,-1]}"
     case $values in
         FILE) values=_files ;;
+        CODE) values=_oldstyle_codes ;;
         TEXT) values=' ' ;;
         *) values="($values)" ;;
     esac
@@ -84,9 +108,17 @@ _oldstyle_row() {
     fi
 }
 
+# Adds the codes of the territories of a journal, or of the default one.
+_oldstyle_codes() {
+    local -a codes
+    codes=(${(f)"$(command oldstyle territory $journal 2> /dev/null < /dev/null |
+        sed -n 's/.* (\(.*\))$/\1/p')"})
+    compadd "$@" -a codes
+}
+
 _oldstyle() {
-    local command=oldstyle
-    local -a commands wanted
+    local command=oldstyle word option
+    local -a commands wanted plain journal
     wanted=(--help)
     (( CURRENT == 2 )) || command=$words[2]
 "#;
@@ -99,6 +131,28 @@ pub(crate) const ZSH_END: &str = r#"    case $command in
     if [[ $command != oldstyle ]]; then
         shift words
         (( CURRENT-- ))
+    fi
+    for word in ${(Q)words[2,CURRENT-1]}; do
+        if [[ -n $option ]]; then
+            [[ $option != --journal ]] || journal=($word)
+            option=
+        elif [[ $word == --journal=* ]]; then
+            journal=(${word#*=})
+        elif [[ $word != --* ]]; then
+            plain+=($word)
+        elif (( ${wanted[(I)$word=*]} )); then
+            option=$word
+        fi
+    done
+    # The journal is left out if an option names it, or if the first argument is not a file.
+    if (( ${wanted[(I)--journal=*]} )) && [[ $wanted[2] == :value:_files ]]; then
+        if (( ! $#journal )) && [[ -e $plain[1] ]]; then
+            journal=($plain[1])
+        elif [[ $wanted[3] != :value:_files ]] && (( $#journal + $#plain )); then
+            wanted[2]=()
+        elif [[ $wanted[3] == :value:_oldstyle_codes ]]; then
+            wanted[2]=':value:{_files; _oldstyle_codes}'
+        fi
     fi
     _arguments : $wanted
 }
@@ -119,31 +173,62 @@ function _oldstyle_has -a command
     test "$words[2]" = $command
 end
 
-# Whether an argument of a command comes next, after this many others.
-function _oldstyle_wants -a command number
-    _oldstyle_has $command; or return
-    set -l count 0
-    set -l in_option 0
+# Reads what was typed after a command: how many arguments, with the journal if it is left out, that
+# journal, and the option whose value comes next.
+function _oldstyle_read -a command
+    set -g _oldstyle_option ''
+    set -g _oldstyle_journal
+    set -l plain
     for word in (commandline -opc)[3..]
-        if test $in_option = 1
-            set in_option 0
+        if test -n "$_oldstyle_option"
+            test $_oldstyle_option = --journal; and set _oldstyle_journal $word
+            set _oldstyle_option ''
         else if contains -- "$command $word" $_oldstyle_options
-            set in_option 1
+            set _oldstyle_option $word
+        else if string match -q -- '--journal=*' $word
+            set _oldstyle_journal (string sub -s 11 -- $word)
         else if not string match -q -- '--*' $word
-            set count (math $count + 1)
+            set -a plain $word
         end
     end
-    test $count = $number -a $in_option = 0
+    set -g _oldstyle_count (count $plain)
+    # It is left out if an option names it, or if the first argument is not a file.
+    if contains -- "$command --journal" $_oldstyle_options
+        if test -z "$_oldstyle_journal" -a -e "$plain[1]"
+            set _oldstyle_journal $plain[1]
+        else if test -n "$_oldstyle_journal$plain[1]"; and not contains $command $_oldstyle_pairs
+            set _oldstyle_count (math $_oldstyle_count + 1)
+        end
+    end
+end
+
+# Whether an argument of a command comes next, after this many others.
+function _oldstyle_at_argument -a command number
+    _oldstyle_has $command; or return
+    _oldstyle_read $command
+    test $_oldstyle_count = $number -a -z "$_oldstyle_option"
+end
+
+# Prints the codes of the territories of the journal of a command, or of the default one.
+function _oldstyle_codes -a command
+    _oldstyle_read $command
+    command oldstyle territory $_oldstyle_journal 2> /dev/null < /dev/null |
+        string replace -fr '.* \((.*)\)$' '$1'
 end
 
 # Takes a row of the grammar: a command; or a command, then the word argument or an option, and what
-# its value may be, if it has one: FILE, TEXT, or one of the words that follow.
+# its value may be, if it has one: FILE, CODE, TEXT, or one of the words that follow.
 function _oldstyle_row -a command place
     set -l values "$argv[3..]"
     set -l wanted -x -a $values
     switch $values
         case FILE
             set wanted -r -F
+            test "$place$_oldstyle_number" = argument1; and set -ga _oldstyle_pairs $command
+        case CODE
+            set wanted -x -a "(_oldstyle_codes $command)"
+            test "$place$_oldstyle_number" = argument1
+            and complete -c oldstyle -n "_oldstyle_at_argument $command 0" -a "$wanted[3]"
         case TEXT
             set wanted -x
         case ''
@@ -151,11 +236,11 @@ function _oldstyle_row -a command place
     end
     if test (count $argv) = 1
         set -g _oldstyle_number 0
-        complete -c oldstyle -n '_oldstyle_wants oldstyle 0' -a $command
-        complete -c oldstyle -n '_oldstyle_wants help 0' -a $command
+        complete -c oldstyle -n '_oldstyle_at_argument oldstyle 0' -a $command
+        complete -c oldstyle -n '_oldstyle_at_argument help 0' -a $command
         complete -c oldstyle -n "_oldstyle_has $command" -l help
     else if test $place = argument
-        complete -c oldstyle -n "_oldstyle_wants $command $_oldstyle_number" $wanted
+        complete -c oldstyle -n "_oldstyle_at_argument $command $_oldstyle_number" $wanted
         set _oldstyle_number (math $_oldstyle_number + 1)
     else
         test -z $values; or set -ga _oldstyle_options "$command $place"

@@ -6,7 +6,7 @@ use Rattle.std.proofs.Common.{subst}
 use Rattle.std.proofs.Common.{inl, inr}
 use Rattle.std.proofs.lemmas.List.Elements.{All-nil}
 use Rattle.osn_register.specs.declared.limits.Limits.{Limits}
-use Rattle.osn_lines.specs.Ended.{unended_bytes}
+use Rattle.osn_lines.specs.LastLineFeed.{unended_bytes}
 use Rattle.osn_lines.specs.declared.fault.EndedEarly.{EndedEarly}
 use Rattle.osn_lines.proofs.ByteLemmas.{Appends-nothing}
 use Rattle.osn_files.specs.declared.fault.FileFault.{FileFault}
@@ -31,7 +31,7 @@ use Rattle.osn_journal.specs.Follows.{Ends, HasNoRefusal, Follows, IsFirstRefuse
 use Rattle.osn_lines.specs.Streams.{Output}
 use Rattle.osn_journal.specs.Follows.{WritesAll, WritesFirst}
 use Rattle.osn_journal.specs.RoundInside.{Answers, Comes, ComesNot, EndsAfter}
-use Rattle.osn_journal.specs.RoundInside.{RefusesLine, is_end, waiting_after, GoesOn}
+use Rattle.osn_journal.specs.RoundInside.{RefusesLine, is_end, pending_after, GoesOn}
 use Rattle.osn_journal.specs.RoundInside.{IsOver, IsEarlyEnd, IsReadOf, IsUnloaded, LoadsNot}
 use Rattle.osn_journal.specs.Outcomes.{outcomes, outcomes_of}
 use Rattle.osn_journal.proofs.OutcomeLemmas.{Arrive-then, round_of}
@@ -41,16 +41,17 @@ use Rattle.osn_journal.proofs.RoundLemmas.{ends-early}
 -- ---- what the parts of a round have done
 
 -- the journal could not be loaded
-pub look_failed : (old : FollowedJournal) (before after : Option (List Arrival)) (gained : List ℕ)
-    (fault : FileFault) (said : FollowerFault) → Arrive before after (Gained gained ∷ [])
-    → IsUnloaded fault said → ((fault ≡ files.NoMemory → ⊥) → RefusesLine old gained fault)
+pub look_failed : (old : FollowedJournal) (before after : Option (List Arrival))
+    (new_bytes : List ℕ)
+    (fault : FileFault) (said : FollowerFault) → Arrive before after (Gained new_bytes ∷ [])
+    → IsUnloaded fault said → ((fault ≡ files.NoMemory → ⊥) → RefusesLine old new_bytes fault)
     → LoadsNot old before after said
-look_failed old before after gained files.NoMemory said arrive is refuses =
-    subst (LoadsNot old before after) (sym is) (refl, gained, arrive)
-look_failed old before after gained files.ReadFault said arrive is refuses =
-    subst (LoadsNot old before after) (sym is) (gained, arrive, refuses (λ e. absurd (cc)))
-look_failed old before after gained (files.BadLine role line why) said arrive is refuses =
-    subst (LoadsNot old before after) (sym is) (gained, arrive, refuses (λ e. absurd (cc)))
+look_failed old before after new_bytes files.NoMemory said arrive is refuses =
+    subst (LoadsNot old before after) (sym is) (refl, new_bytes, arrive)
+look_failed old before after new_bytes files.ReadFault said arrive is refuses =
+    subst (LoadsNot old before after) (sym is) (new_bytes, arrive, refuses (λ e. absurd (cc)))
+look_failed old before after new_bytes (files.BadLine role line why) said arrive is refuses =
+    subst (LoadsNot old before after) (sym is) (new_bytes, arrive, refuses (λ e. absurd (cc)))
 
 -- request bytes were read, and the look failed
 pub look_failed-after : (f : Follower) (front : LineFront)
@@ -81,14 +82,15 @@ look_failed-after f front before mid after lines (File why) read h = (
 -- lines have come, and this is the state of the follower once they are answered
 pub Round-come : (rules : ServeRules) (f m g : Follower) (before after : Option (List Arrival))
     (lines : RequestLines) (h : Comes f m before after lines) → g.journal ≡ m.journal
-    → g.requests ≡ m.requests → Round rules f g h.bytes h.gained lines.text.items
+    → g.requests ≡ m.requests → Round rules f g h.bytes h.new_bytes lines.text.items
 Round-come rules f m g before after lines h journal requests = record {
   stand = h.stand;
-  rest = λ waiting k.
-      subst (λ (front : LineFront). IsFrontOf (unended_bytes (waiting_after waiting h.bytes)) front)
-      (sym requests) (h.rest waiting k);
+  rest = λ pending_bytes k.
+      subst (λ (front : LineFront). IsFrontOf (unended_bytes (pending_after pending_bytes h.bytes))
+      front)
+      (sym requests) (h.rest pending_bytes k);
   journal = λ file k.
-      subst (λ (j : FollowedJournal). IsJournalOf f.journal.limits (file ++ h.gained) j)
+      subst (λ (j : FollowedJournal). IsJournalOf f.journal.limits (file ++ h.new_bytes) j)
       (sym journal) (h.journal file k);
 }
 
@@ -115,12 +117,13 @@ module _ (rules : ServeRules) (f m g : Follower) (before after : Option (List Ar
       × IsFirstRefused (outcomes rules g.journal.object lines.text.items) n
       × (rules.stop_at_refusal ≡ true))
       done.lines) whole (answers_here (Ok done) k) in (
-        round_of h.bytes h.gained,
+        round_of h.bytes h.new_bytes,
         h.arrive,
         ap (λ j. j.limits) journal ∙ h.limits,
-        λ begun arrivals all k. (
+        λ initial arrivals all k. (
           all ++ outcomes rules g.journal.object lines.text.items,
-          next-following rules f g h.bytes h.gained lines.text.items round begun arrivals all old
+          next-following rules f g h.bytes h.new_bytes lines.text.items round initial arrivals all
+              old
               k now done.lines counted answers.0 answers.1,
         ),
       )
@@ -131,14 +134,14 @@ module _ (rules : ServeRules) (f m g : Follower) (before after : Option (List Ar
       → IsOver rules before after old now f
       (record { lines = f.lines + done.lines; refused = done.refused })
   IsOver-round last k = (
-    round_of h.bytes h.gained,
+    round_of h.bytes h.new_bytes,
     h.arrive,
-    λ begun arrivals all following.
-        by_end done.refused refl begun arrivals all following (answers_here (Ok done) k),
+    λ initial arrivals all following.
+        by_end done.refused refl initial arrivals all following (answers_here (Ok done) k),
   )
     where
-      by_end : (b : Bool) → done.refused ≡ b → (begun : Option (List ℕ)) (arrivals : List Arrival)
-          (all : List Outcome) → IsFollowing rules f.journal.limits begun arrivals all f old
+      by_end : (b : Bool) → done.refused ≡ b → (initial : Option (List ℕ)) (arrivals : List Arrival)
+          (all : List Outcome) → IsFollowing rules f.journal.limits initial arrivals all f old
           → MatchServed b
           (λ n. WritesAll (outcomes rules g.journal.object lines.text.items) old now n
           × HasNoRefusal rules (outcomes rules g.journal.object lines.text.items))
@@ -146,17 +149,17 @@ module _ (rules : ServeRules) (f m g : Follower) (before after : Option (List Ar
           × IsFirstRefused (outcomes rules g.journal.object lines.text.items) n
           × (rules.stop_at_refusal ≡ true))
           done.lines
-          → Ends rules f.journal.limits (arrivals ++ round_of h.bytes h.gained)
-          (outcomes_of rules f.journal.limits [] [] (arrivals ++ round_of h.bytes h.gained))
-          begun now
+          → Ends rules f.journal.limits (arrivals ++ round_of h.bytes h.new_bytes)
+          (outcomes_of rules f.journal.limits [] [] (arrivals ++ round_of h.bytes h.new_bytes))
+          initial now
           (Ok (record { lines = f.lines + done.lines; refused = b }))
-      by_end false is begun arrivals all following answers =
-          ends-all rules f g h.bytes h.gained lines.text.items
-          (Round-come rules f m g before after lines h journal requests) begun arrivals all old
+      by_end false is initial arrivals all following answers =
+          ends-all rules f g h.bytes h.new_bytes lines.text.items
+          (Round-come rules f m g before after lines h journal requests) initial arrivals all old
           following now done.lines (last is) answers.0 answers.1
-      by_end true is begun arrivals all following answers =
-          ends-refused rules f g h.bytes h.gained lines.text.items
-          (Round-come rules f m g before after lines h journal requests) begun arrivals all old
+      by_end true is initial arrivals all following answers =
+          ends-refused rules f g h.bytes h.new_bytes lines.text.items
+          (Round-come rules f m g before after lines h journal requests) initial arrivals all old
           following now done.lines answers.2 answers.0 answers.1
 
   -- not all were
@@ -166,11 +169,11 @@ module _ (rules : ServeRules) (f m g : Follower) (before after : Option (List Ar
       → IsEarlyEnd rules before after old now f
       (record { lines = f.lines + n; cause = Serve why })
   IsEarlyEnd-round n why k = (
-    round_of h.bytes h.gained,
+    round_of h.bytes h.new_bytes,
     h.arrive,
-    λ begun arrivals all following.
-        ends-early rules f g h.bytes h.gained lines.text.items
-        (Round-come rules f m g before after lines h journal requests) begun arrivals all old
+    λ initial arrivals all following.
+        ends-early rules f g h.bytes h.new_bytes lines.text.items
+        (Round-come rules f m g before after lines h journal requests) initial arrivals all old
         following now n why
         (answers_here (Err (record { lines = n; cause = why })) k),
   )
@@ -178,12 +181,12 @@ module _ (rules : ServeRules) (f m g : Follower) (before after : Option (List Ar
 -- ---- all rounds
 
 -- nothing has arrived yet
-pub IsFollowing-none : (rules : ServeRules) (begun : Option (List ℕ)) (f : Follower)
+pub IsFollowing-none : (rules : ServeRules) (initial : Option (List ℕ)) (f : Follower)
     → IsJournalOf f.journal.limits [] f.journal → f.requests.bytes.items ≡ [] → f.lines ≡ 0
-    → IsFollowing rules f.journal.limits begun [] [] f begun
-IsFollowing-none rules begun f journal requests lines = record {
+    → IsFollowing rules f.journal.limits initial [] [] f initial
+IsFollowing-none rules initial f journal requests lines = record {
   file = [];
-  waiting = [];
+  pending_bytes = [];
   journal = journal;
   requests =
       record {
@@ -193,7 +196,7 @@ IsFollowing-none rules begun f journal requests lines = record {
       };
   goes_on = λ more. refl;
   file_is = refl;
-  written = Appends-nothing begun;
+  written = Appends-nothing initial;
   count = lines;
   spared = λ stop. All-nil (λ outcome. is_refused outcome ≡ false);
 }
@@ -218,17 +221,17 @@ Follows-after rules limits before mid after o old f arrivals next all result sam
 
 -- what holds after another round
 pub next_invariant : (rules : ServeRules) (before mid after : Option (List Arrival))
-    (begun old now : Option (List ℕ)) (f g : Follower) (arrivals : List Arrival)
+    (initial old now : Option (List ℕ)) (f g : Follower) (arrivals : List Arrival)
     (all : List Outcome) → Arrive before mid arrivals
-    → IsFollowing rules f.journal.limits begun arrivals all f old
+    → IsFollowing rules f.journal.limits initial arrivals all f old
     → GoesOn rules mid after old now f g
     → (arrivals : List Arrival) × (all : List Outcome) × Arrive before after arrivals
-    × IsFollowing rules g.journal.limits begun arrivals all g now
-next_invariant rules before mid after begun old now f g arrivals all first h next =
-    let more = next.3 begun arrivals all h in (
+    × IsFollowing rules g.journal.limits initial arrivals all g now
+next_invariant rules before mid after initial old now f g arrivals all first h next =
+    let more = next.3 initial arrivals all h in (
       arrivals ++ next.0,
       more.0,
       Arrive-then before mid after arrivals next.0 first next.1,
-      subst (λ (l : Limits). IsFollowing rules l begun (arrivals ++ next.0) more.0 g now)
+      subst (λ (l : Limits). IsFollowing rules l initial (arrivals ++ next.0) more.0 g now)
           (sym next.2) more.1,
     )

@@ -26,7 +26,7 @@ use Rattle.osn_service.specs.Refusals.{IsFirstRefused as IsFirst, NoneRefused}
 use Rattle.osn_service.specs.Served as served
 use Rattle.osn_service.specs.Served.{after_lines, outputs}
 use Rattle.osn_service.specs.Serves.{RefusesNone, Serves, ServesStore, ServesToRefusal}
-use Rattle.osn_service.specs.Session.{allowed, line_after, line_outcome, state_after}
+use Rattle.osn_service.specs.Session.{allowed_request, line_after, line_outcome, state_after}
 use Rattle.osn_service.specs.Faults.{MatchServed}
 use Rattle.osn_service.specs.declared.fault.ServeFault.{ServeFault}
 use Rattle.osn_service.specs.declared.fault.ServeFault.TheVariants.{NoMemory, ReadFault, WriteFault}
@@ -41,7 +41,7 @@ use Rattle.osn_journal.specs.Outcomes.{outcomes, texts}
 -- ---- lines that change nothing
 
 leaves : (takes_sources : Bool) (s : ObjectState) (r : Result Request WireFault)
-    → state_after s (allowed true takes_sources r) ≡ s
+    → state_after s (allowed_request true takes_sources r) ≡ s
 leaves takes_sources s (Ok (Stage edit)) = refl
 leaves takes_sources s (Ok Publish) = refl
 leaves takes_sources s (Ok (Ask reader query)) = refl
@@ -51,7 +51,7 @@ module _ (rules : ServeRules) (s : ObjectState) (reads : rules.read_only ≡ tru
   stays : (line : List ℕ) → line_after rules s line ≡ s
   stays line =
       let asked = request newest_version rules.readers line in
-      ap (λ b. state_after s (allowed b rules.takes_sources asked)) reads
+      ap (λ b. state_after s (allowed_request b rules.takes_sources asked)) reads
       ∙ leaves rules.takes_sources s asked
 
   stays_all : (ls : List (List ℕ)) → after_lines rules s ls ≡ s

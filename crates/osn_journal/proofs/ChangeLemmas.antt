@@ -10,7 +10,7 @@ use Rattle.osn_core.proofs.Batches.{joined-push}
 use Rattle.osn_core.specs.Sequential.{ObjectState, joined, with_pending}
 use Rattle.osn_request.specs.declared.version.Version.{Version}
 use Rattle.osn_files.specs.JournalText.{journal_text_of}
-use Rattle.osn_files.specs.Loaded.{HasEdit, HasEdits, IsJournalOf}
+use Rattle.osn_files.specs.LoadedText.{HasEdit, HasEdits, IsJournalOf}
 use Rattle.osn_files.proofs.LoadFacts.{loads_by_lines}
 use Rattle.osn_service.specs.Change.{change_refusal, changed}
 use Rattle.osn_service.specs.declared.store.Change.{Change}

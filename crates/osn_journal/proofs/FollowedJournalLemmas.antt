@@ -9,7 +9,7 @@ use Rattle.serde_json.specs.Data.{Data}
 use Rattle.osn_days.specs.Rules.{newest_rules}
 use Rattle.osn_core.specs.Sequential.{ObjectState}
 use Rattle.osn_register.specs.declared.limits.Limits.{Limits}
-use Rattle.osn_lines.specs.Ended.{with_byte, ended_length}
+use Rattle.osn_lines.specs.LastLineFeed.{with_byte, ended_length}
 use Rattle.osn_lines.specs.Faults.{IsReadFault}
 use Rattle.osn_lines.specs.Lines.{lines, onto_first, EndsWithFeed}
 use Rattle.osn_lines.proofs.EndedLemmas.{ended-within}
@@ -17,7 +17,7 @@ use Rattle.osn_lines.proofs.FeedLemmas as feed
 use Rattle.osn_request.specs.declared.version.Version.{Version}
 use Rattle.osn_request.specs.Request.{object_of}
 use Rattle.osn_files.specs.Journal.{after_object, load}
-use Rattle.osn_files.specs.Loaded.{IsOfVersion}
+use Rattle.osn_files.specs.LoadedText.{IsOfVersion}
 use Rattle.osn_files.specs.Turns.{on_read, go_on, in_turn}
 use Rattle.osn_files.specs.Faults.{MatchFileFault}
 use Rattle.osn_files.specs.declared.fault.FileFault.{FileFault}
@@ -165,16 +165,16 @@ most_later n k j is = omega (arith, is)
 -- ---- the journal
 
 -- what comes next continues from more lines
-next_from : (limits : Limits) (file gained : List ℕ) (j : FollowedJournal) (part : JournalPart)
-    → IsJournalOf limits file j → Some_lines (lines gained)
-    → in_turn (after_object newest_rules) 1 j.version j.object (lines gained) ≡ Ok part.object
-    → (j.version ≡ None → IsOfVersion part.version (lines gained))
+next_from : (limits : Limits) (file new_bytes : List ℕ) (j : FollowedJournal) (part : JournalPart)
+    → IsJournalOf limits file j → Some_lines (lines new_bytes)
+    → in_turn (after_object newest_rules) 1 j.version j.object (lines new_bytes) ≡ Ok part.object
+    → (j.version ≡ None → IsOfVersion part.version (lines new_bytes))
     → IfSome j.version (λ known. part.version ≡ known) → (more : List (List ℕ))
     → in_turn (after_object newest_rules) (length (lines file) + 1) j.version j.object
-    (lines gained ++ more)
-    ≡ in_turn (after_object newest_rules) (length (lines file) + length (lines gained) + 1)
+    (lines new_bytes ++ more)
+    ≡ in_turn (after_object newest_rules) (length (lines file) + length (lines new_bytes) + 1)
     (Some part.version) part.object more
-next_from limits file gained j part h some made head same more =
+next_from limits file new_bytes j part h some made head same more =
     by_version j.version (λ none. h.fresh none) made head same
   where
     headed : (ls : List (List ℕ)) → IsOfVersion part.version ls
@@ -195,59 +195,60 @@ next_from limits file gained j part h some made head same more =
         (omega arith))
 
     by_version : (v : Option Version) → (v ≡ None → lines file ≡ [])
-        → in_turn (after_object newest_rules) 1 v j.object (lines gained) ≡ Ok part.object
-        → (v ≡ None → IsOfVersion part.version (lines gained))
+        → in_turn (after_object newest_rules) 1 v j.object (lines new_bytes) ≡ Ok part.object
+        → (v ≡ None → IsOfVersion part.version (lines new_bytes))
         → IfSome v (λ known. part.version ≡ known)
         → in_turn (after_object newest_rules) (length (lines file) + 1) v j.object
-        (lines gained ++ more)
-        ≡ in_turn (after_object newest_rules) (length (lines file) + length (lines gained) + 1)
+        (lines new_bytes ++ more)
+        ≡ in_turn (after_object newest_rules) (length (lines file) + length (lines new_bytes) + 1)
         (Some part.version)
         part.object more
     by_version None fresh made head same =
         let none : length (lines file) ≡ 0 = ap length (fresh refl) in
-        ap (λ k. in_turn (after_object newest_rules) k None j.object (lines gained ++ more))
+        ap (λ k. in_turn (after_object newest_rules) k None j.object (lines new_bytes ++ more))
         (omega (arith, none))
-        ∙ (headed (lines gained) (head refl) made
+        ∙ (headed (lines new_bytes) (head refl) made
         ∙ ap (λ k. in_turn (after_object newest_rules) k (Some part.version) part.object more)
         (omega (arith, none)))
     by_version (Some v) fresh made head same =
         goes_on_from (after_object newest_rules) 1 (length (lines file) + 1) v j.object part.object
-        (lines gained) more
+        (lines new_bytes) more
         made
         ∙ (ap (λ k. in_turn (after_object newest_rules) k (Some v) part.object more) (omega arith)
         ∙ ap (λ w. in_turn (after_object newest_rules)
-        (length (lines file) + length (lines gained) + 1) (Some w)
+        (length (lines file) + length (lines new_bytes) + 1) (Some w)
         part.object more) (sym same))
 
 -- more lines were loaded
-pub IsJournalOf-more : (limits : Limits) (file gained : List ℕ) (j : FollowedJournal)
-    (part : JournalPart) → IsJournalOf limits file j → IsOfWholeLines gained → 0 < length gained
-    → in_turn (after_object newest_rules) 1 j.version j.object (lines gained) ≡ Ok part.object
-    → part.lines ≡ length (lines gained)
-    → (j.version ≡ None → IsOfVersion part.version (lines gained))
+pub IsJournalOf-more : (limits : Limits) (file new_bytes : List ℕ) (j : FollowedJournal)
+    (part : JournalPart) → IsJournalOf limits file j → IsOfWholeLines new_bytes
+    → 0 < length new_bytes
+    → in_turn (after_object newest_rules) 1 j.version j.object (lines new_bytes) ≡ Ok part.object
+    → part.lines ≡ length (lines new_bytes)
+    → (j.version ≡ None → IsOfVersion part.version (lines new_bytes))
     → IfSome j.version (λ known. part.version ≡ known)
-    → IsJournalOf limits (file ++ gained) (journal_after j part)
-IsJournalOf-more limits file gained j part h whole some made count head same =
-    let ls = some_lines gained some in
+    → IsJournalOf limits (file ++ new_bytes) (journal_after j part)
+IsJournalOf-more limits file new_bytes j part h whole some made count head same =
+    let ls = some_lines new_bytes some in
     let step = after_object newest_rules in
-    let cut = lines-whole file gained h.whole in
-    let size : length (lines (file ++ gained)) ≡ length (lines file) + length (lines gained) =
-    ap length cut ∙ length-append (lines file) (lines gained) in
-    let next = next_from limits file gained j part h ls made head same in
-    let goes : (more : List (List ℕ)) → load newest_rules limits (lines (file ++ gained) ++ more)
-    ≡ in_turn step (length (lines file) + length (lines gained) + 1) (Some part.version)
+    let cut = lines-whole file new_bytes h.whole in
+    let size : length (lines (file ++ new_bytes)) ≡ length (lines file) + length (lines new_bytes) =
+    ap length cut ∙ length-append (lines file) (lines new_bytes) in
+    let next = next_from limits file new_bytes j part h ls made head same in
+    let goes : (more : List (List ℕ)) → load newest_rules limits (lines (file ++ new_bytes) ++ more)
+    ≡ in_turn step (length (lines file) + length (lines new_bytes) + 1) (Some part.version)
     part.object more =
     λ more.
     ap (λ l. load newest_rules limits (l ++ more)) cut
-    ∙ (ap (load newest_rules limits) (append_assoc (lines file) (lines gained) more)
-    ∙ (h.goes_on (lines gained ++ more) ∙ next more)) in
+    ∙ (ap (load newest_rules limits) (append_assoc (lines file) (lines new_bytes) more)
+    ∙ (h.goes_on (lines new_bytes ++ more) ∙ next more)) in
     record {
-      whole = whole-append file gained h.whole whole;
+      whole = whole-append file new_bytes h.whole whole;
       object =
           ap (specs.object_of limits) cut
-          ∙ (loaded limits (lines file) (lines gained) ls
+          ∙ (loaded limits (lines file) (lines new_bytes) ls
           ∙ (ap (load newest_rules limits) (sym cut)
-          ∙ (ap (load newest_rules limits) (sym (append-nil (lines (file ++ gained))))
+          ∙ (ap (load newest_rules limits) (sym (append-nil (lines (file ++ new_bytes))))
           ∙ goes [])));
       fresh = λ none. absurd (cc);
       goes_on = λ more.
@@ -260,49 +261,51 @@ IsJournalOf-more limits file gained j part h whole some made count head same =
     }
 
 -- a line is refused
-pub IsRefused-more : (limits : Limits) (file gained : List ℕ) (j : FollowedJournal) (line : ℕ)
-    (why : LineFault) → IsJournalOf limits file j → 0 < length gained
-    → in_turn (after_object newest_rules) 1 j.version j.object (lines gained) ≡ Err (line, why)
-    → IsRefused limits (file ++ gained) (later (BadLine Journal line why) j.lines)
-IsRefused-more limits file gained j line why h some refused =
-    let ls = some_lines gained some in
-    let cut = lines-whole file gained h.whole in
+pub IsRefused-more : (limits : Limits) (file new_bytes : List ℕ) (j : FollowedJournal) (line : ℕ)
+    (why : LineFault) → IsJournalOf limits file j → 0 < length new_bytes
+    → in_turn (after_object newest_rules) 1 j.version j.object (lines new_bytes) ≡ Err (line, why)
+    → IsRefused limits (file ++ new_bytes) (later (BadLine Journal line why) j.lines)
+IsRefused-more limits file new_bytes j line why h some refused =
+    let ls = some_lines new_bytes some in
+    let cut = lines-whole file new_bytes h.whole in
     let n = length (lines file) in (
       refl,
       line + n,
       ap (specs.object_of limits) cut
-          ∙ (loaded limits (lines file) (lines gained) ls
-          ∙ (h.goes_on (lines gained) ∙ by_version j.version (λ none. h.fresh none) refused)),
+          ∙ (loaded limits (lines file) (lines new_bytes) ls
+          ∙ (h.goes_on (lines new_bytes) ∙ by_version j.version (λ none. h.fresh none) refused)),
       most_later n line j.lines h.count,
     )
   where
     by_version : (v : Option Version) → (v ≡ None → lines file ≡ [])
-        → in_turn (after_object newest_rules) 1 v j.object (lines gained) ≡ Err (line, why)
-        → in_turn (after_object newest_rules) (length (lines file) + 1) v j.object (lines gained)
+        → in_turn (after_object newest_rules) 1 v j.object (lines new_bytes) ≡ Err (line, why)
+        → in_turn (after_object newest_rules) (length (lines file) + 1) v j.object (lines new_bytes)
         ≡ Err (line + length (lines file), why)
     by_version None fresh refused =
         let none : length (lines file) ≡ 0 = ap length (fresh refl) in
-        ap (λ k. in_turn (after_object newest_rules) k None j.object (lines gained))
+        ap (λ k. in_turn (after_object newest_rules) k None j.object (lines new_bytes))
         (omega (arith, none))
         ∙ (refused ∙ ap (λ k. Err (k, why)) (omega (arith, none)))
     by_version (Some v) fresh refused =
-        ap (λ k. in_turn (after_object newest_rules) k (Some v) j.object (lines gained))
+        ap (λ k. in_turn (after_object newest_rules) k (Some v) j.object (lines new_bytes))
         (omega arith)
         ∙ refused_later (after_object newest_rules) (length (lines file)) 1 v j.object
-        (lines gained) (line, why) refused
+        (lines new_bytes) (line, why) refused
 
 -- the fault is that of a line, if there was memory
-pub refused_by : (limits : Limits) (file gained : List ℕ) (j : FollowedJournal) (fault : FileFault)
-    (P Q : Type 0) → IsJournalOf limits file j → 0 < length gained → (fault ≡ ReadFault → ⊥)
+pub refused_by : (limits : Limits) (file new_bytes : List ℕ) (j : FollowedJournal)
+    (fault : FileFault)
+    (P Q : Type 0) → IsJournalOf limits file j → 0 < length new_bytes → (fault ≡ ReadFault → ⊥)
     → MatchFileFault fault P Q (λ role line why. (role ≡ Journal)
-    × (in_turn (after_object newest_rules) 1 j.version j.object (lines gained) ≡ Err (line, why)))
+    × (in_turn (after_object newest_rules) 1 j.version j.object (lines new_bytes)
+    ≡ Err (line, why)))
     → (later fault j.lines ≡ NoMemory → ⊥)
-    → IsRefused limits (file ++ gained) (later fault j.lines)
-refused_by limits file gained j NoMemory P Q h some reads at memory = absurd (memory refl)
-refused_by limits file gained j ReadFault P Q h some reads at memory = absurd (reads refl)
-refused_by limits file gained j (BadLine role line why) P Q h some reads at memory =
-    subst (λ (r : Role). IsRefused limits (file ++ gained) (later (BadLine r line why) j.lines))
-    (sym at.0) (IsRefused-more limits file gained j line why h some at.1)
+    → IsRefused limits (file ++ new_bytes) (later fault j.lines)
+refused_by limits file new_bytes j NoMemory P Q h some reads at memory = absurd (memory refl)
+refused_by limits file new_bytes j ReadFault P Q h some reads at memory = absurd (reads refl)
+refused_by limits file new_bytes j (BadLine role line why) P Q h some reads at memory =
+    subst (λ (r : Role). IsRefused limits (file ++ new_bytes) (later (BadLine r line why) j.lines))
+    (sym at.0) (IsRefused-more limits file new_bytes j line why h some at.1)
 
 -- what is not empty has a byte
 pub some_bytes : (bytes : List ℕ) → (length bytes == 0) ≡ false → 0 < length bytes
@@ -310,28 +313,28 @@ some_bytes [] is = absurd (cc)
 some_bytes (b ∷ bs) is = omega arith
 
 -- bytes in memory are read to their end
-pub never_read : (fault : FileFault) (gained held : List ℕ) (old new : Bool) → held ≡ gained
-    → length gained < 4294967295 → MatchFileFault fault (new ≡ old)
+pub never_read : (fault : FileFault) (new_bytes held : List ℕ) (old new : Bool) → held ≡ new_bytes
+    → length new_bytes < 4294967295 → MatchFileFault fault (new ≡ old)
     (IsReadFault false (Some held)) (λ role line why. new ≡ old)
     → fault ≡ ReadFault → ⊥
-never_read NoMemory gained held old new is few h e = absurd (cc)
-never_read ReadFault gained held old new is few (inl failed) e = absurd (cc)
-never_read ReadFault gained held old new is few (inr long) e =
+never_read NoMemory new_bytes held old new is few h e = absurd (cc)
+never_read ReadFault new_bytes held old new is few (inl failed) e = absurd (cc)
+never_read ReadFault new_bytes held old new is few (inr long) e =
     absurd (omega (arith, few, long, ap length is))
-never_read (BadLine role line why) gained held old new is few h e = absurd (cc)
+never_read (BadLine role line why) new_bytes held old new is few h e = absurd (cc)
 
 -- a rule's fault, for the object and the lines that were given
 pub with_rule : (fault : FileFault) (version : Option Version) (s t : ObjectState)
-    (held gained : List ℕ) (P Q : Type 0) → s ≡ t → held ≡ gained
+    (held new_bytes : List ℕ) (P Q : Type 0) → s ≡ t → held ≡ new_bytes
     → MatchFileFault fault P Q (λ role line why. (role ≡ Journal)
     × (in_turn (after_object newest_rules) 1 version s (lines held) ≡ Err (line, why)))
     → MatchFileFault fault P Q (λ role line why. (role ≡ Journal)
-    × (in_turn (after_object newest_rules) 1 version t (lines gained) ≡ Err (line, why)))
-with_rule NoMemory version s t held gained P Q same is h = h
-with_rule ReadFault version s t held gained P Q same is h = h
-with_rule (BadLine role line why) version s t held gained P Q same is h = (
+    × (in_turn (after_object newest_rules) 1 version t (lines new_bytes) ≡ Err (line, why)))
+with_rule NoMemory version s t held new_bytes P Q same is h = h
+with_rule ReadFault version s t held new_bytes P Q same is h = h
+with_rule (BadLine role line why) version s t held new_bytes P Q same is h = (
   h.0,
-  subst (λ (u : ObjectState). in_turn (after_object newest_rules) 1 version u (lines gained)
+  subst (λ (u : ObjectState). in_turn (after_object newest_rules) 1 version u (lines new_bytes)
       ≡ Err (line, why)) same
       (subst (λ (l : List ℕ). in_turn (after_object newest_rules) 1 version s (lines l)
       ≡ Err (line, why)) is h.1),

@@ -3,7 +3,7 @@ use Rattle.std.proofs.Common.{◌≡◌, ◌<◌, ◌≤◌, ℕ, zero, suc, Lis
 use Rattle.std.proofs.Common.{◌==◌, Result, Ok, Err, false}
 use Rattle.std.proofs.Common.{IfOk, OnOk, refl, sym, ap, subst, arith, length-append, ⊎_elim}
 use Rattle.std.proofs.lemmas.Bool.{cases_lt, eqb-false}
-use Rattle.osn_lines.specs.Ended.{ended_bytes, ended_length, unended_bytes}
+use Rattle.osn_lines.specs.LastLineFeed.{ended_bytes, ended_length, unended_bytes}
 use Rattle.osn_lines.specs.Lines.{longest_line}
 use Rattle.osn_journal.specs.declared.line_front.LineFront.{LineFront}
 use Rattle.osn_journal.specs.FollowerInside.{HasFew, IsFrontOf, GivesSameLines}
@@ -15,18 +15,18 @@ module _ {T E : Type 0} (old new : LineFront) (bytes : List ℕ) where
   -- lines that have ended by bytes that were added
   pub ended-added : (items : T → List ℕ) (r : Result T E)
       → IfOk r (λ ended. items ended ≡ ended_bytes (old.bytes.items ++ bytes))
-      → IfOk r (λ ended. (waiting : List ℕ) → IsFrontOf waiting old
-      → GivesSameLines (items ended) (ended_bytes (waiting ++ bytes)))
-  ended-added items (Ok ended) is = λ waiting h.
-      subst (λ (l : List ℕ). GivesSameLines l (ended_bytes (waiting ++ bytes))) (sym is)
-      (lines-add waiting bytes old h)
+      → IfOk r (λ ended. (pending_bytes : List ℕ) → IsFrontOf pending_bytes old
+      → GivesSameLines (items ended) (ended_bytes (pending_bytes ++ bytes)))
+  ended-added items (Ok ended) is = λ pending_bytes h.
+      subst (λ (l : List ℕ). GivesSameLines l (ended_bytes (pending_bytes ++ bytes))) (sym is)
+      (lines-add pending_bytes bytes old h)
   ended-added items (Err e) is = tt
 
   pub rest-added : (r : Result T E)
       → OnOk r (new.bytes.items ≡ unended_bytes (old.bytes.items ++ bytes))
-      → OnOk r ((waiting : List ℕ) → IsFrontOf waiting old
-      → IsFrontOf (unended_bytes (waiting ++ bytes)) new)
-  rest-added (Ok ended) is = λ waiting h. rest-add waiting bytes old new h is
+      → OnOk r ((pending_bytes : List ℕ) → IsFrontOf pending_bytes old
+      → IsFrontOf (unended_bytes (pending_bytes ++ bytes)) new)
+  rest-added (Ok ended) is = λ pending_bytes h. rest-add pending_bytes bytes old new h is
   rest-added (Err e) is = tt
 
   -- no more waits than one line that is too long, and one read
@@ -63,22 +63,23 @@ module _ {T E : Type 0} (old new : LineFront) (some : 0 < length old.bytes.items
   -- a line was ended
   pub ended-front : (items : T → List ℕ) (r : Result T E)
       → IfOk r (λ ended. items ended ≡ ended_bytes (old.bytes.items ++ 10 ∷ []))
-      → IfOk r (λ ended. (waiting : List ℕ) → IsFrontOf waiting old
-      → GivesSameLines (items ended) (ended_bytes (with_feed waiting)))
-  ended-front items (Ok ended) is = λ waiting h.
+      → IfOk r (λ ended. (pending_bytes : List ℕ) → IsFrontOf pending_bytes old
+      → GivesSameLines (items ended) (ended_bytes (with_feed pending_bytes)))
+  ended-front items (Ok ended) is = λ pending_bytes h.
       subst (λ (l : List ℕ). GivesSameLines (items ended) (ended_bytes l))
-      (sym (with_feed-some waiting old h some))
-      (subst (λ (l : List ℕ). GivesSameLines l (ended_bytes (waiting ++ 10 ∷ []))) (sym is)
-      (lines-add waiting (10 ∷ []) old h))
+      (sym (with_feed-some pending_bytes old h some))
+      (subst (λ (l : List ℕ). GivesSameLines l (ended_bytes (pending_bytes ++ 10 ∷ []))) (sym is)
+      (lines-add pending_bytes (10 ∷ []) old h))
   ended-front items (Err e) is = tt
 
   pub rest-front : (r : Result T E)
       → OnOk r (new.bytes.items ≡ unended_bytes (old.bytes.items ++ 10 ∷ []))
-      → OnOk r ((waiting : List ℕ) → IsFrontOf waiting old
-      → IsFrontOf (unended_bytes (with_feed waiting)) new)
-  rest-front (Ok ended) is = λ waiting h.
+      → OnOk r ((pending_bytes : List ℕ) → IsFrontOf pending_bytes old
+      → IsFrontOf (unended_bytes (with_feed pending_bytes)) new)
+  rest-front (Ok ended) is = λ pending_bytes h.
       subst (λ (l : List ℕ). IsFrontOf (unended_bytes l) new)
-      (sym (with_feed-some waiting old h some)) (rest-add waiting (10 ∷ []) old new h is)
+      (sym (with_feed-some pending_bytes old h some))
+      (rest-add pending_bytes (10 ∷ []) old new h is)
   rest-front (Err e) is = tt
 
   pub few-front : (r : Result T E)

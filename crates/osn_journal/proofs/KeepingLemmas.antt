@@ -6,7 +6,7 @@ use Rattle.osn_core.specs.Sequential.{ObjectState}
 use Rattle.osn_lines.proofs.ByteLemmas.{Appends-nothing, Appends-then}
 use Rattle.osn_folder.specs.declared.fault.KeptFileFault.{KeptFileFault}
 use Rattle.osn_files.specs.JournalText.{journal_text_of}
-use Rattle.osn_files.specs.Loaded.{IsJournalOf}
+use Rattle.osn_files.specs.LoadedText.{IsJournalOf}
 use Rattle.osn_service.specs.Change.{change_refusal, changed}
 use Rattle.osn_service.specs.declared.store.Change.{Change}
 use Rattle.osn_service.specs.declared.store.Change.TheVariants.{Stage, Publish}

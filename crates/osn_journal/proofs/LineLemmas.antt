@@ -7,14 +7,14 @@ use Rattle.std.proofs.Math.Seq.{take-append-add, drop-append-add}
 use Rattle.std.proofs.lemmas.Bool.{eqb-true, lt-ltb}
 use Rattle.std.proofs.lemmas.List.{length-drop}
 use Rattle.osn_core.specs.Sequential.{ObjectState}
-use Rattle.osn_lines.specs.Ended.{with_byte, ended_length, ended_bytes, unended_bytes}
+use Rattle.osn_lines.specs.LastLineFeed.{with_byte, ended_length, ended_bytes, unended_bytes}
 use Rattle.osn_lines.specs.Lines.{lines, onto_first, longest_line}
 use Rattle.osn_lines.proofs.EndedLemmas.{ended-before, ended-within}
 use Rattle.osn_request.specs.Version.{newest_version}
 use Rattle.osn_request.specs.declared.wire_fault.WireFault.TheVariants.{LineTooLong}
 use Rattle.osn_request.specs.Field.{◌>>=◌}
 use Rattle.osn_request.specs.Request.{object_in, request_of, value_of}
-use Rattle.osn_service.specs.Session.{allowed, line_outcome, outcome_of}
+use Rattle.osn_service.specs.Session.{allowed_request, line_outcome, outcome_of}
 use Rattle.osn_service.specs.declared.rules.ServeRules.{ServeRules}
 use Rattle.osn_journal.specs.declared.line_front.LineFront.{LineFront}
 use Rattle.osn_journal.specs.FollowerInside.{HasNoLine, IsFrontOf, GivesSameLines}
@@ -92,9 +92,9 @@ IsLong line = longest_line < length line
 
 too_long : (rules : ServeRules) (s : ObjectState) (line : List ℕ) → IsLong line
     → line_outcome rules s line
-    ≡ outcome_of s (allowed rules.read_only rules.takes_sources (Err LineTooLong))
+    ≡ outcome_of s (allowed_request rules.read_only rules.takes_sources (Err LineTooLong))
 too_long rules s line long =
-    ap (λ t. outcome_of s (allowed rules.read_only rules.takes_sources
+    ap (λ t. outcome_of s (allowed_request rules.read_only rules.takes_sources
     (cond t (Err LineTooLong) (object_in (value_of line)) >>= request_of newest_version
     rules.readers)))
     (lt-ltb longest_line (length line) long)
@@ -173,77 +173,79 @@ alike (b ∷ bs) x y none_x none_y long_x long_y =
 -- ---- the beginning of a line
 
 -- bytes were added to a beginning, and to what waits
-pub lines-add : (waiting bytes : List ℕ) (old : LineFront) → IsFrontOf waiting old
-    → GivesSameLines (ended_bytes (old.bytes.items ++ bytes)) (ended_bytes (waiting ++ bytes))
-lines-add waiting bytes old h = by_front h.is
+pub lines-add : (pending_bytes bytes : List ℕ) (old : LineFront) → IsFrontOf pending_bytes old
+    → GivesSameLines (ended_bytes (old.bytes.items ++ bytes)) (ended_bytes (pending_bytes ++ bytes))
+lines-add pending_bytes bytes old h = by_front h.is
   where
-    by_front : (old.bytes.items ≡ waiting) ⊎ (IsLong old.bytes.items × IsLong waiting)
-        → GivesSameLines (ended_bytes (old.bytes.items ++ bytes)) (ended_bytes (waiting ++ bytes))
+    by_front : (old.bytes.items ≡ pending_bytes) ⊎ (IsLong old.bytes.items × IsLong pending_bytes)
+        → GivesSameLines (ended_bytes (old.bytes.items ++ bytes))
+        (ended_bytes (pending_bytes ++ bytes))
     by_front (inl same) = λ rules s. ap (λ l. outcomes rules s (ended_bytes (l ++ bytes))) same
     by_front (inr long) =
-        (alike bytes old.bytes.items waiting h.none_here h.none long.0 long.1).same_outcomes
+        (alike bytes old.bytes.items pending_bytes h.none_here h.none long.0 long.1).same_outcomes
 
-pub rest-add : (waiting bytes : List ℕ) (old new : LineFront) → IsFrontOf waiting old
+pub rest-add : (pending_bytes bytes : List ℕ) (old new : LineFront) → IsFrontOf pending_bytes old
     → new.bytes.items ≡ unended_bytes (old.bytes.items ++ bytes)
-    → IsFrontOf (unended_bytes (waiting ++ bytes)) new
-rest-add waiting bytes old new h is = record {
-  none = unended-none (waiting ++ bytes);
+    → IsFrontOf (unended_bytes (pending_bytes ++ bytes)) new
+rest-add pending_bytes bytes old new h is = record {
+  none = unended-none (pending_bytes ++ bytes);
   none_here =
       subst HasNoLine (sym is) (unended-none (old.bytes.items ++ bytes));
   is =
-      subst (λ (l : List ℕ). (l ≡ unended_bytes (waiting ++ bytes))
-      ⊎ (IsLong l × IsLong (unended_bytes (waiting ++ bytes)))) (sym is) (by_front h.is);
+      subst (λ (l : List ℕ). (l ≡ unended_bytes (pending_bytes ++ bytes))
+      ⊎ (IsLong l × IsLong (unended_bytes (pending_bytes ++ bytes)))) (sym is) (by_front h.is);
 }
   where
-    by_front : (old.bytes.items ≡ waiting) ⊎ (IsLong old.bytes.items × IsLong waiting)
-        → (unended_bytes (old.bytes.items ++ bytes) ≡ unended_bytes (waiting ++ bytes))
+    by_front : (old.bytes.items ≡ pending_bytes) ⊎ (IsLong old.bytes.items × IsLong pending_bytes)
+        → (unended_bytes (old.bytes.items ++ bytes) ≡ unended_bytes (pending_bytes ++ bytes))
         ⊎ (IsLong (unended_bytes (old.bytes.items ++ bytes))
-        × IsLong (unended_bytes (waiting ++ bytes)))
+        × IsLong (unended_bytes (pending_bytes ++ bytes)))
     by_front (inl same) = inl (ap (λ l. unended_bytes (l ++ bytes)) same)
     by_front (inr long) =
-        (alike bytes old.bytes.items waiting h.none_here h.none long.0 long.1).is
+        (alike bytes old.bytes.items pending_bytes h.none_here h.none long.0 long.1).is
 
 -- bytes of a line that is too long were skipped
-still_none : (waiting bytes : List ℕ) → HasNoLine waiting → HasNoLine bytes
-    → HasNoLine (waiting ++ bytes)
-still_none waiting bytes none more = ended-before waiting bytes more ∙ none
+still_none : (pending_bytes bytes : List ℕ) → HasNoLine pending_bytes → HasNoLine bytes
+    → HasNoLine (pending_bytes ++ bytes)
+still_none pending_bytes bytes none more = ended-before pending_bytes bytes more ∙ none
 
-pub no_line-pass : (waiting bytes : List ℕ) (old : LineFront) → IsFrontOf waiting old
-    → HasNoLine bytes → GivesSameLines [] (ended_bytes (waiting ++ bytes))
-no_line-pass waiting bytes old h more = λ rules s.
+pub no_line-pass : (pending_bytes bytes : List ℕ) (old : LineFront) → IsFrontOf pending_bytes old
+    → HasNoLine bytes → GivesSameLines [] (ended_bytes (pending_bytes ++ bytes))
+no_line-pass pending_bytes bytes old h more = λ rules s.
     sym (ap (outcomes rules s)
-    (none_ended (waiting ++ bytes) (still_none waiting bytes h.none more)))
+    (none_ended (pending_bytes ++ bytes) (still_none pending_bytes bytes h.none more)))
 
-pub rest-pass : (waiting bytes : List ℕ) (old : LineFront) → IsFrontOf waiting old
+pub rest-pass : (pending_bytes bytes : List ℕ) (old : LineFront) → IsFrontOf pending_bytes old
     → HasNoLine bytes → longest_line < length old.bytes.items
-    → IsFrontOf (unended_bytes (waiting ++ bytes)) old
-rest-pass waiting bytes old h more long =
-    let none = still_none waiting bytes h.none more in
-    subst (λ (w : List ℕ). IsFrontOf w old) (sym (all_unended (waiting ++ bytes) none))
+    → IsFrontOf (unended_bytes (pending_bytes ++ bytes)) old
+rest-pass pending_bytes bytes old h more long =
+    let none = still_none pending_bytes bytes h.none more in
+    subst (λ (w : List ℕ). IsFrontOf w old) (sym (all_unended (pending_bytes ++ bytes) none))
     (record {
       none = none;
       none_here = h.none_here;
-      is = inr (long, omega (arith, waits h.is, length-append waiting bytes));
+      is = inr (long, omega (arith, waits h.is, length-append pending_bytes bytes));
     })
   where
-    waits : (old.bytes.items ≡ waiting) ⊎ (IsLong old.bytes.items × IsLong waiting)
-        → longest_line < length waiting
+    waits : (old.bytes.items ≡ pending_bytes) ⊎ (IsLong old.bytes.items × IsLong pending_bytes)
+        → longest_line < length pending_bytes
     waits (inl same) = subst IsLong same long
     waits (inr both) = both.1
 
 -- the line was ended, if there is one
-some_feed : (waiting : List ℕ) → 0 < length waiting → missing_feed waiting ≡ 10 ∷ []
+some_feed : (pending_bytes : List ℕ) → 0 < length pending_bytes → missing_feed pending_bytes
+    ≡ 10 ∷ []
 some_feed [] h = absurd (omega (arith, h))
 some_feed (b ∷ bs) h = refl
 
-pub with_feed-some : (waiting : List ℕ) (old : LineFront) → IsFrontOf waiting old
-    → 0 < length old.bytes.items → with_feed waiting ≡ waiting ++ 10 ∷ []
-with_feed-some waiting old h some =
-    ap (λ l. waiting ++ l)
-    (ap missing_feed (all_unended waiting h.none) ∙ some_feed waiting (waits h.is))
+pub with_feed-some : (pending_bytes : List ℕ) (old : LineFront) → IsFrontOf pending_bytes old
+    → 0 < length old.bytes.items → with_feed pending_bytes ≡ pending_bytes ++ 10 ∷ []
+with_feed-some pending_bytes old h some =
+    ap (λ l. pending_bytes ++ l)
+    (ap missing_feed (all_unended pending_bytes h.none) ∙ some_feed pending_bytes (waits h.is))
   where
-    waits : (old.bytes.items ≡ waiting) ⊎ (IsLong old.bytes.items × IsLong waiting)
-        → 0 < length waiting
+    waits : (old.bytes.items ≡ pending_bytes) ⊎ (IsLong old.bytes.items × IsLong pending_bytes)
+        → 0 < length pending_bytes
     waits (inl same) = subst (λ (l : List ℕ). 0 < length l) same some
     waits (inr both) = omega (arith, both.1)
 

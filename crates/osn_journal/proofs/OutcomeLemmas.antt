@@ -11,7 +11,7 @@ use Rattle.std.specs.List.{All}
 use Rattle.std.specs.Io.KnownBytes.{Appends}
 use Rattle.osn_core.specs.Sequential.{ObjectState}
 use Rattle.osn_register.specs.declared.limits.Limits.{Limits}
-use Rattle.osn_lines.specs.Ended.{ended_bytes, unended_bytes}
+use Rattle.osn_lines.specs.LastLineFeed.{ended_bytes, unended_bytes}
 use Rattle.osn_lines.proofs.ByteLemmas.{Appends-then}
 use Rattle.osn_files.specs.declared.fault.LineFault.{LineFault}
 use Rattle.osn_service.specs.Outcome.{is_refused}
@@ -22,7 +22,7 @@ use Rattle.osn_journal.specs.Arrivals.{Arrival, Arrive, Ended, Gained, Requests,
 use Rattle.osn_journal.specs.Arrivals.{file_of}
 use Rattle.osn_journal.specs.Follows.{IsFirstRefused}
 use Rattle.osn_journal.specs.Follows.{WritesAll, WritesFirst, WritesInPart}
-use Rattle.osn_journal.specs.RoundInside.{waiting_after}
+use Rattle.osn_journal.specs.RoundInside.{pending_after}
 use Rattle.osn_journal.specs.Outcomes.{outcomes, journal_object, outcomes_of, outcomes_then, texts}
 
 -- ---- what arrived
@@ -48,51 +48,53 @@ file-append (Gained bytes ∷ xs) ys =
 
 -- a read and a look
 abbrev pub round_of : List ℕ → List ℕ → List Arrival
-round_of bytes gained = arrival_of bytes ∷ Gained gained ∷ []
+round_of bytes new_bytes = arrival_of bytes ∷ Gained new_bytes ∷ []
 
-pub file-round : (bytes gained : List ℕ) → file_of (round_of bytes gained) ≡ gained
-file-round [] gained = append-nil gained
-file-round (b ∷ bs) gained = append-nil gained
+pub file-round : (bytes new_bytes : List ℕ) → file_of (round_of bytes new_bytes) ≡ new_bytes
+file-round [] new_bytes = append-nil new_bytes
+file-round (b ∷ bs) new_bytes = append-nil new_bytes
 
 -- ---- the outcomes
 
 module _ (rules : ServeRules) (limits : Limits) where
-  pub outcomes-read : (file waiting bytes : List ℕ) (more : List Arrival)
-      → outcomes_of rules limits file waiting (arrival_of bytes ∷ more)
-      ≡ outcomes_of rules limits file (waiting_after waiting bytes) more
-  outcomes-read file waiting [] more = refl
-  outcomes-read file waiting (b ∷ bs) more = refl
+  pub outcomes-read : (file pending_bytes bytes : List ℕ) (more : List Arrival)
+      → outcomes_of rules limits file pending_bytes (arrival_of bytes ∷ more)
+      ≡ outcomes_of rules limits file (pending_after pending_bytes bytes) more
+  outcomes-read file pending_bytes [] more = refl
+  outcomes-read file pending_bytes (b ∷ bs) more = refl
 
   -- by a round whose look shows this object
-  pub outcomes-round : (file waiting bytes gained : List ℕ) (s : ObjectState) (more : List Arrival)
-      → journal_object limits (file ++ gained) ≡ Ok s
-      → outcomes_of rules limits file waiting (round_of bytes gained ++ more)
-      ≡ outcomes rules s (ended_bytes (waiting_after waiting bytes))
-      ++ outcomes_of rules limits (file ++ gained) (unended_bytes (waiting_after waiting bytes))
+  pub outcomes-round : (file pending_bytes bytes new_bytes : List ℕ) (s : ObjectState)
+      (more : List Arrival)
+      → journal_object limits (file ++ new_bytes) ≡ Ok s
+      → outcomes_of rules limits file pending_bytes (round_of bytes new_bytes ++ more)
+      ≡ outcomes rules s (ended_bytes (pending_after pending_bytes bytes))
+      ++ outcomes_of rules limits (file ++ new_bytes)
+      (unended_bytes (pending_after pending_bytes bytes))
       more
-  outcomes-round file waiting bytes gained s more is =
-      let w = waiting_after waiting bytes in
-      outcomes-read file waiting bytes (Gained gained ∷ more)
+  outcomes-round file pending_bytes bytes new_bytes s more is =
+      let w = pending_after pending_bytes bytes in
+      outcomes-read file pending_bytes bytes (Gained new_bytes ∷ more)
       ∙ ap (λ r. outcomes_then rules r (ended_bytes w)
-      (outcomes_of rules limits (file ++ gained) (unended_bytes w) more)) is
+      (outcomes_of rules limits (file ++ new_bytes) (unended_bytes w) more)) is
 
   -- by one whose look shows a line that is refused
-  pub outcomes-refused : (file waiting bytes gained : List ℕ) (e : ℕ × LineFault)
-      → journal_object limits (file ++ gained) ≡ Err e
-      → outcomes_of rules limits file waiting (round_of bytes gained) ≡ []
-  outcomes-refused file waiting bytes gained e is =
-      let w = waiting_after waiting bytes in
-      outcomes-read file waiting bytes (Gained gained ∷ [])
+  pub outcomes-refused : (file pending_bytes bytes new_bytes : List ℕ) (e : ℕ × LineFault)
+      → journal_object limits (file ++ new_bytes) ≡ Err e
+      → outcomes_of rules limits file pending_bytes (round_of bytes new_bytes) ≡ []
+  outcomes-refused file pending_bytes bytes new_bytes e is =
+      let w = pending_after pending_bytes bytes in
+      outcomes-read file pending_bytes bytes (Gained new_bytes ∷ [])
       ∙ ap (λ r. outcomes_then rules r (ended_bytes w)
-      (outcomes_of rules limits (file ++ gained) (unended_bytes w) [])) is
+      (outcomes_of rules limits (file ++ new_bytes) (unended_bytes w) [])) is
 
 texts-append : (xs ys : List Outcome) → texts (xs ++ ys) ≡ texts xs ++ texts ys
 texts-append xs ys = flat_map-append reply_line xs ys
 
 -- ---- what was written
 
-module _ (begun old new : Option (List ℕ)) (before : List Outcome)
-    (written : Appends begun old (texts before)) where
+module _ (initial old new : Option (List ℕ)) (before : List Outcome)
+    (written : Appends initial old (texts before)) where
   front : (more : List Outcome) (n : ℕ)
       → take (length before + n) (before ++ more) ≡ before ++ take n more
   front more n = take-append-add before more n
@@ -102,25 +104,25 @@ module _ (begun old new : Option (List ℕ)) (before : List Outcome)
   front_texts more n = ap texts (front more n) ∙ texts-append before (take n more)
 
   pub all-after : (more : List Outcome) (n : ℕ) → WritesAll more old new n
-      → WritesAll (before ++ more) begun new (length before + n)
+      → WritesAll (before ++ more) initial new (length before + n)
   all-after more n h = record {
     count = omega (arith, h.count, length-append before more);
     written =
-        subst (Appends begun new) (sym (texts-append before more))
-        (Appends-then begun old new (texts before) (texts more) written h.written);
+        subst (Appends initial new) (sym (texts-append before more))
+        (Appends-then initial old new (texts before) (texts more) written h.written);
   }
 
   pub first-after : (more : List Outcome) (n : ℕ) → WritesFirst more old new n
-      → WritesFirst (before ++ more) begun new (length before + n)
+      → WritesFirst (before ++ more) initial new (length before + n)
   first-after more n h = record {
     enough = omega (arith, h.enough, length-append before more);
     written =
-        subst (Appends begun new) (sym (front_texts more n))
-        (Appends-then begun old new (texts before) (texts (take n more)) written h.written);
+        subst (Appends initial new) (sym (front_texts more n))
+        (Appends-then initial old new (texts before) (texts (take n more)) written h.written);
   }
 
   pub in_part-after : (more : List Outcome) (n : ℕ) → WritesInPart more old new n
-      → WritesInPart (before ++ more) begun new (length before + n)
+      → WritesInPart (before ++ more) initial new (length before + n)
   in_part-after more n h =
       let size : (k : ℕ) → length (texts (take (length before + k) (before ++ more)))
       ≡ length (texts before) + length (texts (take k more)) =
@@ -129,10 +131,10 @@ module _ (begun old new : Option (List ℕ)) (before : List Outcome)
         bytes = length (texts before) + h.bytes;
         enough = omega (arith, h.enough, length-append before more);
         written =
-            subst (Appends begun new)
+            subst (Appends initial new)
             (sym (ap (take (length (texts before) + h.bytes)) (texts-append before more)
             ∙ take-append-add (texts before) (texts more) h.bytes))
-            (Appends-then begun old new (texts before) (take h.bytes (texts more)) written
+            (Appends-then initial old new (texts before) (take h.bytes (texts more)) written
             h.written);
         whole = omega (arith, size n, h.whole);
         no_more = λ less.

@@ -47,11 +47,11 @@ module _ {K : Type 0} (contents synced : K → Option (List ℕ))
         → OnOk result (Makes object_of has_kept old new (changed (object_of old) change))
     Makes-changed (Ok done) h = record {
       is = h.0;
-      keeps = λ begun before.
+      keeps = λ initial before.
           subst
-          (λ (t : ObjectState). KeepsAll (object_of begun) t (file_at begun) (file_at new))
+          (λ (t : ObjectState). KeepsAll (object_of initial) t (file_at initial) (file_at new))
           (sym h.0)
-          (KeepsAll-then (object_of begun) (object_of old) change (file_at begun) (file_at old)
+          (KeepsAll-then (object_of initial) (object_of old) change (file_at initial) (file_at old)
           (file_at new) before
           (KeepsAll-change (object_of old) change (file_at old) (file_at new) lawful h.1 h.2));
     }
@@ -66,27 +66,28 @@ module _ {K : Type 0} (contents synced : K → Option (List ℕ))
     Faults-changed (Ok done) h = tt
     Faults-changed (Err store_faults.NoMemory) h = record {
       is = h.0;
-      keeps = λ begun before.
-          subst (λ (t : ObjectState). KeepsAll (object_of begun) t (file_at begun) (file_at new))
+      keeps = λ initial before.
+          subst (λ (t : ObjectState). KeepsAll (object_of initial) t (file_at initial)
+          (file_at new))
           (sym h.0)
           (subst
-          (λ (f : FileState). KeepsAll (object_of begun) (object_of old) (file_at begun) f)
+          (λ (f : FileState). KeepsAll (object_of initial) (object_of old) (file_at initial) f)
           (sym h.1) before);
     }
     Faults-changed (Err (store_faults.NotKept why)) h = record {
       is = h.0;
-      fails = λ begun before.
+      fails = λ initial before.
           subst
-          (λ (t : ObjectState). KeepsUntil (object_of begun) (object_of old) t (file_at begun)
+          (λ (t : ObjectState). KeepsUntil (object_of initial) (object_of old) t (file_at initial)
           (file_at new) why) (sym h.0)
-          (KeepsUntil-from (object_of begun) (object_of old) change why (file_at begun)
+          (KeepsUntil-from (object_of initial) (object_of old) change why (file_at initial)
           (file_at old) (file_at new) before h.1);
     }
 
   module _ (rules : ServeRules) (old new : KeptObject K) (i : Input) where
     -- nothing is kept yet
-    begun : KeepsAll (object_of old) (object_of old) (file_at old) (file_at old)
-    begun = KeepsAll-nothing (object_of old) (file_at old)
+    initial : KeepsAll (object_of old) (object_of old) (file_at old) (file_at old)
+    initial = KeepsAll-nothing (object_of old) (file_at old)
 
     -- the file was kept from its first state on, or from any state from which it was kept before
     abbrev KeepsFromFirst : Type 0
@@ -99,8 +100,8 @@ module _ {K : Type 0} (contents synced : K → Option (List ℕ))
     served : (refused : Bool) (n : ℕ)
         → MatchServed refused (λ _. KeepsFromAny) (λ _. KeepsFromAny) n
         → MatchServed refused (λ _. KeepsFromFirst) (λ _. KeepsFromFirst) n
-    served false n h = h old begun
-    served true n h = h old begun
+    served false n h = h old initial
+    served true n h = h old initial
 
     -- if it ended by a fault
     ended : (n : ℕ) (cause : ServiceFault KeptFileFault)
@@ -108,8 +109,8 @@ module _ {K : Type 0} (contents synced : K → Option (List ℕ))
         (Err (record { lines = n; cause = cause }))
         → KeepsFile rules (object_of old) (object_of new) i.bytes (file_at old) (file_at new)
         (Err (record { lines = n; cause = cause }))
-    ended n (Serve why) h = h old begun
-    ended n (NotKept why) h = record { before = h.0; stands = h.1; keeps = h.2 old begun }
+    ended n (Serve why) h = h old initial
+    ended n (NotKept why) h = record { before = h.0; stands = h.1; keeps = h.2 old initial }
 
     -- what the store has kept since it began
     pub KeepsFile-begun : (result : Result Served (EndedEarly (ServiceFault KeptFileFault)))

@@ -12,7 +12,7 @@ use Rattle.osn_core.specs.Sequential.{ObjectState, joined}
 use Rattle.osn_request.specs.declared.version.Version.{Version}
 use Rattle.osn_request.specs.declared.version.Version.TheVariants.{First, Second, Fourth}
 use Rattle.osn_request.specs.Version.{plain_version}
-use Rattle.osn_files.specs.Loaded.{HasEdit, HasEdits, HasSource}
+use Rattle.osn_files.specs.LoadedText.{HasEdit, HasEdits, HasSource}
 use Rattle.osn_files.proofs.VersionFacts.{newest_edit}
 use Rattle.osn_service.specs.Sources.{GivesNoSource, KeepsSourceless}
 use Rattle.osn_service.specs.declared.rules.ServeRules.{ServeRules}

@@ -7,7 +7,7 @@ use Rattle.std.specs.Io.KnownBytes.{Appends}
 use Rattle.osn_days.specs.Rules.{newest_rules}
 use Rattle.osn_core.specs.Sequential.{ObjectState}
 use Rattle.osn_register.specs.declared.limits.Limits.{Limits}
-use Rattle.osn_lines.specs.Ended.{ended_length}
+use Rattle.osn_lines.specs.LastLineFeed.{ended_length}
 use Rattle.osn_lines.specs.Lines.{lines, longest_line}
 use Rattle.osn_service.specs.Outcome.{is_refused}
 use Rattle.osn_service.specs.declared.outcome.Outcome.{Outcome}
@@ -32,11 +32,11 @@ abbrev pub HasFew : LineFront → Type 0
 HasFew front = length front.bytes.items ≤ 131072
 
 -- the bytes are those that wait, or both are too long for a line. No line of them has ended
-pub record IsFrontOf (waiting : List ℕ) (front : LineFront) : Type 0 where
-  pub none : HasNoLine waiting
+pub record IsFrontOf (pending_bytes : List ℕ) (front : LineFront) : Type 0 where
+  pub none : HasNoLine pending_bytes
   pub none_here : HasNoLine front.bytes.items
-  pub is : (front.bytes.items ≡ waiting)
-      ⊎ ((longest_line < length front.bytes.items) × (longest_line < length waiting))
+  pub is : (front.bytes.items ≡ pending_bytes)
+      ⊎ ((longest_line < length front.bytes.items) × (longest_line < length pending_bytes))
 
 -- the lines of two texts get the same replies from every object
 abbrev pub GivesSameLines : List ℕ → List ℕ → Type 0
@@ -63,11 +63,11 @@ pub record IsFollowing (rules : ServeRules) (limits : Limits) (old : Option (Lis
     (arrivals : List Arrival) (all : List Outcome) (f : Follower) (now : Option (List ℕ)) : Type 0
   where
     pub file : List ℕ
-    pub waiting : List ℕ
+    pub pending_bytes : List ℕ
     pub journal : IsJournalOf limits file f.journal
-    pub requests : IsFrontOf waiting f.requests
+    pub requests : IsFrontOf pending_bytes f.requests
     pub goes_on : (more : List Arrival) → outcomes_of rules limits [] [] (arrivals ++ more)
-        ≡ all ++ outcomes_of rules limits file waiting more
+        ≡ all ++ outcomes_of rules limits file pending_bytes more
     pub file_is : file ≡ file_of arrivals
     pub written : Appends old now (texts all)
     pub count : f.lines ≡ length all

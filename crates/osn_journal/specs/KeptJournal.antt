@@ -10,7 +10,7 @@ use Rattle.osn_folder.specs.declared.fault.KeptFileFault.{KeptFileFault}
 use Rattle.osn_request.specs.declared.version.Version.{Version}
 use Rattle.osn_request.specs.declared.version.Version.TheVariants.{First, Second, Fourth}
 use Rattle.osn_files.specs.JournalText.{journal_text_of, edits_text}
-use Rattle.osn_files.specs.Loaded.{HasEdits, IsJournalOf}
+use Rattle.osn_files.specs.LoadedText.{HasEdits, IsJournalOf}
 use Rattle.osn_service.specs.declared.fault.ServiceFault.{ServiceFault}
 use Rattle.osn_service.specs.declared.rules.ServeRules.{ServeRules}
 use Rattle.osn_service.specs.declared.service.Served.{Served}

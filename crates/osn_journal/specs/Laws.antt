@@ -9,7 +9,7 @@ use Rattle.osn_request.specs.declared.version.Version.{Version}
 use Rattle.osn_request.specs.Version.{newest_version, plain_version}
 use Rattle.osn_files.specs.JournalText.{journal_text_of, version_for, edit_data, publish_data}
 use Rattle.osn_files.specs.JournalText.{line_text}
-use Rattle.osn_files.specs.Loaded.{HasEdit, HasEdits, IsJournalOf, LoadsByLines}
+use Rattle.osn_files.specs.LoadedText.{HasEdit, HasEdits, IsJournalOf, LoadsByLines}
 
 -- An edit adds its line to the journal of an object, and a publish adds one, whichever version its
 -- head says.

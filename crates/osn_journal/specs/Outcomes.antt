@@ -6,7 +6,7 @@ use Rattle.std.specs.List.{flat_map}
 use Rattle.osn_days.specs.Rules.{newest_rules}
 use Rattle.osn_register.specs.declared.limits.Limits.{Limits}
 use Rattle.osn_core.specs.Sequential.{ObjectState, opened}
-use Rattle.osn_lines.specs.Ended.{ended_bytes, unended_bytes}
+use Rattle.osn_lines.specs.LastLineFeed.{ended_bytes, unended_bytes}
 use Rattle.osn_lines.specs.Lines.{lines}
 use Rattle.osn_service.specs.ReplyText.{reply_line}
 use Rattle.osn_service.specs.declared.outcome.Outcome.{Outcome}
@@ -62,14 +62,14 @@ outcomes_then rules (Err refused) text rest = []
 -- the outcomes of arrivals, if the file contained these bytes before, and these bytes of request
 -- lines wait
 abbrev pub outcomes_of : ServeRules → Limits → List ℕ → List ℕ → List Arrival → List Outcome
-outcomes_of rules limits file waiting [] = []
-outcomes_of rules limits file waiting (Requests bytes ∷ rest) =
-    outcomes_of rules limits file (waiting ++ bytes) rest
-outcomes_of rules limits file waiting (Ended ∷ rest) =
-    outcomes_of rules limits file (with_feed waiting) rest
-outcomes_of rules limits file waiting (Gained bytes ∷ rest) =
-    outcomes_then rules (journal_object limits (file ++ bytes)) (ended_bytes waiting)
-    (outcomes_of rules limits (file ++ bytes) (unended_bytes waiting) rest)
+outcomes_of rules limits file pending_bytes [] = []
+outcomes_of rules limits file pending_bytes (Requests bytes ∷ rest) =
+    outcomes_of rules limits file (pending_bytes ++ bytes) rest
+outcomes_of rules limits file pending_bytes (Ended ∷ rest) =
+    outcomes_of rules limits file (with_feed pending_bytes) rest
+outcomes_of rules limits file pending_bytes (Gained bytes ∷ rest) =
+    outcomes_then rules (journal_object limits (file ++ bytes)) (ended_bytes pending_bytes)
+    (outcomes_of rules limits (file ++ bytes) (unended_bytes pending_bytes) rest)
 
 -- the reply lines of outcomes
 abbrev pub texts : List Outcome → List ℕ

@@ -2,7 +2,7 @@
 use Rattle.std.specs.Prelude.{◌≡◌, ◌≤◌, ◌⊎◌, ℕ, Bool, true, false, List, [], ◌∷◌, ◌++◌, length}
 use Rattle.std.specs.Prelude.{Option, Result, Ok, Err}
 use Rattle.osn_core.specs.Sequential.{ObjectState}
-use Rattle.osn_lines.specs.Ended.{ended_bytes, unended_bytes}
+use Rattle.osn_lines.specs.LastLineFeed.{ended_bytes, unended_bytes}
 use Rattle.osn_lines.specs.declared.fault.EndedEarly.{EndedEarly}
 use Rattle.osn_files.specs.declared.fault.FileFault.{FileFault}
 use Rattle.osn_files.specs.declared.fault.FileFault.TheVariants as files
@@ -34,9 +34,9 @@ is_end [] = true
 is_end (b ∷ bs) = false
 
 -- the bytes that wait once these were read
-abbrev pub waiting_after : List ℕ → List ℕ → List ℕ
-waiting_after waiting [] = with_feed waiting
-waiting_after waiting (b ∷ bs) = waiting ++ b ∷ bs
+abbrev pub pending_after : List ℕ → List ℕ → List ℕ
+pending_after pending_bytes [] = with_feed pending_bytes
+pending_after pending_bytes (b ∷ bs) = pending_bytes ++ b ∷ bs
 
 -- lines have ended by a read
 pub record IsReadOf (old new : LineFront) (before after : Option (List Arrival))
@@ -45,10 +45,10 @@ pub record IsReadOf (old new : LineFront) (before after : Option (List Arrival))
   pub arrive : Arrive before after (arrival_of bytes ∷ [])
   pub last : lines.is_last ≡ is_end bytes
   pub few : length lines.text.items ≤ 196608
-  pub stand : (waiting : List ℕ) → IsFrontOf waiting old
-      → GivesSameLines lines.text.items (ended_bytes (waiting_after waiting bytes))
-  pub rest : (waiting : List ℕ) → IsFrontOf waiting old
-      → IsFrontOf (unended_bytes (waiting_after waiting bytes)) new
+  pub stand : (pending_bytes : List ℕ) → IsFrontOf pending_bytes old
+      → GivesSameLines lines.text.items (ended_bytes (pending_after pending_bytes bytes))
+  pub rest : (pending_bytes : List ℕ) → IsFrontOf pending_bytes old
+      → IsFrontOf (unended_bytes (pending_after pending_bytes bytes)) new
 
 -- none have: nothing arrived, or there was no memory for what did
 abbrev pub IsUnreadOf : Option (List Arrival) → Option (List Arrival) → ServeFault → Type 0
@@ -60,26 +60,26 @@ IsUnreadOf before after fault = service.MatchFault fault
 
 -- the lines that a look found were loaded
 pub record Loads (old new : FollowedJournal) (before after : Option (List Arrival)) : Type 0 where
-  pub gained : List ℕ
-  pub arrive : Arrive before after (Gained gained ∷ [])
+  pub new_bytes : List ℕ
+  pub arrive : Arrive before after (Gained new_bytes ∷ [])
   pub limits : new.limits ≡ old.limits
   pub journal : (file : List ℕ) → IsJournalOf old.limits file old
-      → IsJournalOf old.limits (file ++ gained) new
+      → IsJournalOf old.limits (file ++ new_bytes) new
 
 -- a line that is found is refused, in the file of the journal
 abbrev pub RefusesLine : FollowedJournal → List ℕ → FileFault → Type 0
-RefusesLine old gained fault =
+RefusesLine old new_bytes fault =
     (file : List ℕ) → IsJournalOf old.limits file old
-    → IsRefused old.limits (file ++ gained) fault
+    → IsRefused old.limits (file ++ new_bytes) fault
 
 -- they were not: there was no memory, or one of them is refused, or nothing was found
 abbrev pub LoadsNot : FollowedJournal → Option (List Arrival) → Option (List Arrival)
     → FollowerFault → Type 0
 LoadsNot old before after fault = MatchFollower fault
     (λ fault. (fault ≡ NoMemory)
-    × (gained : List ℕ) × Arrive before after (Gained gained ∷ []))
-    (λ fault. (gained : List ℕ) × Arrive before after (Gained gained ∷ [])
-    × RefusesLine old gained fault)
+    × (new_bytes : List ℕ) × Arrive before after (Gained new_bytes ∷ []))
+    (λ fault. (new_bytes : List ℕ) × Arrive before after (Gained new_bytes ∷ [])
+    × RefusesLine old new_bytes fault)
     (λ fault. Arrive before after [])
 
 -- NoMemory is reported as that, and each other fault of the journal as it is
@@ -94,33 +94,33 @@ IsUnloaded (files.BadLine role line why) fault = fault ≡ Journal (files.BadLin
 pub record Comes (old new : Follower) (before after : Option (List Arrival))
     (lines : RequestLines) : Type 0 where
   pub bytes : List ℕ
-  pub gained : List ℕ
-  pub arrive : Arrive before after (arrival_of bytes ∷ Gained gained ∷ [])
+  pub new_bytes : List ℕ
+  pub arrive : Arrive before after (arrival_of bytes ∷ Gained new_bytes ∷ [])
   pub last : lines.is_last ≡ is_end bytes
   pub few : length lines.text.items ≤ 196608
-  pub stand : (waiting : List ℕ) → IsFrontOf waiting old.requests
-      → GivesSameLines lines.text.items (ended_bytes (waiting_after waiting bytes))
-  pub rest : (waiting : List ℕ) → IsFrontOf waiting old.requests
-      → IsFrontOf (unended_bytes (waiting_after waiting bytes)) new.requests
+  pub stand : (pending_bytes : List ℕ) → IsFrontOf pending_bytes old.requests
+      → GivesSameLines lines.text.items (ended_bytes (pending_after pending_bytes bytes))
+  pub rest : (pending_bytes : List ℕ) → IsFrontOf pending_bytes old.requests
+      → IsFrontOf (unended_bytes (pending_after pending_bytes bytes)) new.requests
   pub limits : new.journal.limits ≡ old.journal.limits
   pub journal : (file : List ℕ) → IsJournalOf old.journal.limits file old.journal
-      → IsJournalOf old.journal.limits (file ++ gained) new.journal
+      → IsJournalOf old.journal.limits (file ++ new_bytes) new.journal
 
 -- what arrived if no line is answered: at most a read, and at most a look
 abbrev pub ArrivesInPart : Option (List Arrival) → Option (List Arrival) → Type 0
 ArrivesInPart before after =
     Arrive before after []
     ⊎ ((bytes : List ℕ) × (Arrive before after (arrival_of bytes ∷ [])
-    ⊎ ((gained : List ℕ) × Arrive before after (arrival_of bytes ∷ Gained gained ∷ []))))
+    ⊎ ((new_bytes : List ℕ) × Arrive before after (arrival_of bytes ∷ Gained new_bytes ∷ []))))
 
 -- it was not
 abbrev pub ComesNot : Follower → Option (List Arrival) → Option (List Arrival) → FollowerFault
     → Type 0
 ComesNot old before after fault = MatchFollower fault
     (λ fault. service.MatchFault fault (ArrivesInPart before after) (Arrive before after []) ⊥)
-    (λ fault. (bytes : List ℕ) × (gained : List ℕ)
-    × Arrive before after (arrival_of bytes ∷ Gained gained ∷ [])
-    × RefusesLine old.journal gained fault)
+    (λ fault. (bytes : List ℕ) × (new_bytes : List ℕ)
+    × Arrive before after (arrival_of bytes ∷ Gained new_bytes ∷ [])
+    × RefusesLine old.journal new_bytes fault)
     (λ fault. (bytes : List ℕ) × Arrive before after (arrival_of bytes ∷ []))
 
 -- ---- an answer
@@ -145,19 +145,19 @@ abbrev pub GoesOn : ServeRules → Option (List Arrival) → Option (List Arriva
     → Option (List ℕ) → Follower → Follower → Type 0
 GoesOn rules before after old new f g =
     (next : List Arrival) × Arrive before after next × (g.journal.limits ≡ f.journal.limits)
-    × ((begun : Option (List ℕ)) (arrivals : List Arrival) (all : List Outcome)
-    → IsFollowing rules f.journal.limits begun arrivals all f old
+    × ((initial : Option (List ℕ)) (arrivals : List Arrival) (all : List Outcome)
+    → IsFollowing rules f.journal.limits initial arrivals all f old
     → (more : List Outcome)
-    × IsFollowing rules f.journal.limits begun (arrivals ++ next) more g new)
+    × IsFollowing rules f.journal.limits initial (arrivals ++ next) more g new)
 
 -- it ended so, whatever the replies before were
 abbrev pub EndsAfter : ServeRules → Option (List ℕ) → Option (List ℕ) → Follower
     → List Arrival → Result Served (EndedEarly FollowerFault) → Type 0
 EndsAfter rules old new f next result =
-    (begun : Option (List ℕ)) (arrivals : List Arrival) (all : List Outcome)
-    → IsFollowing rules f.journal.limits begun arrivals all f old
+    (initial : Option (List ℕ)) (arrivals : List Arrival) (all : List Outcome)
+    → IsFollowing rules f.journal.limits initial arrivals all f old
     → Ends rules f.journal.limits (arrivals ++ next)
-    (outcomes_of rules f.journal.limits [] [] (arrivals ++ next)) begun new result
+    (outcomes_of rules f.journal.limits [] [] (arrivals ++ next)) initial new result
 
 -- all lines were answered, or one was refused and ended the service
 abbrev pub IsOver : ServeRules → Option (List Arrival) → Option (List Arrival) → Option (List ℕ)

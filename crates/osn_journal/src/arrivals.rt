@@ -40,13 +40,13 @@ pub trait Arrivals {
     ///
     /// Why that isn't known, or that the file is no longer the one that was read so far.
     fn look(&mut self, alloc: Global) -> Result<Vec<u8>, FollowFault>
-        ensures lines { IfOk result (λ gained. IsOfWholeLines gained.items) }
-        ensures few { IfOk result (λ gained. length gained.items < 4294967295) }
-        ensures ok { IfOk result (λ gained. Arrive (arrived self.old) (arrived self.new)
-            (Gained gained.items ∷ [])) }
+        ensures lines { IfOk result (λ bytes. IsOfWholeLines bytes.items) }
+        ensures few { IfOk result (λ bytes. length bytes.items < 4294967295) }
+        ensures ok { IfOk result (λ bytes. Arrive (arrived self.old) (arrived self.new)
+            (Gained bytes.items ∷ [])) }
         ensures err { OnErr result (Arrive (arrived self.old) (arrived self.new) []) }
         ensures gained { IfOk result
-            (λ gained. Appends (contents self.old) (contents self.new) gained.items) }
+            (λ bytes. Appends (contents self.old) (contents self.new) bytes.items) }
         ensures ungained { OnErr result (contents self.new ≡ contents self.old) }
         ensures unread { remaining self.new ≡ remaining self.old };
 }

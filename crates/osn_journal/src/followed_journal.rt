@@ -69,21 +69,21 @@ impl FollowedJournal {
     ///
     /// The first of them that is refused, by its number in the file, or that memory ran out.
     /// Nothing is known of the journal then.
-    pub(crate) fn add(&mut self, alloc: Global, gained: &[u8]) -> Result<(), FileFault>
-        requires lines { IsOfWholeLines gained.now }
-        requires few { length gained.now < 4294967295 }
+    pub(crate) fn add(&mut self, alloc: Global, new_bytes: &[u8]) -> Result<(), FileFault>
+        requires lines { IsOfWholeLines new_bytes.now }
+        requires few { length new_bytes.now < 4294967295 }
         ensures limits { OnOk result (self.new.limits ≡ self.old.limits) }
         ensures ok { OnOk result ((file : List ℕ) → IsJournalOf self.old.limits file self.old →
-            IsJournalOf self.old.limits (file ++ gained.now) self.new) }
+            IsJournalOf self.old.limits (file ++ new_bytes.now) self.new) }
         ensures err { IfErr result (λ fault. fault ≢ NoMemory → (file : List ℕ) →
             IsJournalOf self.old.limits file self.old →
-            IsRefused self.old.limits (file ++ gained.now) fault) }
+            IsRefused self.old.limits (file ++ new_bytes.now) fault) }
     {
-        if gained.is_empty() {
+        if new_bytes.is_empty() {
             return Ok(());
         }
         let object = mem::replace(&mut self.object, Object::new(alloc, self.limits));
-        match load_part(alloc, self.version, object, &mut Bytes::new(gained)) {
+        match load_part(alloc, self.version, object, &mut Bytes::new(new_bytes)) {
             Ok(part) => {
                 self.take(part);
                 Ok(())

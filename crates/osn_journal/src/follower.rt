@@ -91,8 +91,8 @@ fn look<A: Arrivals>(
     ensures err { IfErr result (LoadsNot journal.old (A.arrived arrivals.old)
         (A.arrived arrivals.new)) }
 {
-    let gained = arrivals.look(alloc)?;
-    match journal.add(alloc, &gained) {
+    let new_bytes = arrivals.look(alloc)?;
+    match journal.add(alloc, &new_bytes) {
         Ok(()) => Ok(()),
         Err(fault) => Err(unloaded(fault)),
     }

@@ -19,7 +19,7 @@ pub enum FollowerFault {
 }
 
 impl From<ServeFault> for FollowerFault {
-    ghost from_gives = { λ fault given. given ≡ Serve fault };
+    ghost from_gives = { λ fault value. value ≡ Serve fault };
 
     fn from(fault: ServeFault) -> FollowerFault {
         FollowerFault::Serve(fault)
@@ -27,7 +27,7 @@ impl From<ServeFault> for FollowerFault {
 }
 
 impl From<FollowFault> for FollowerFault {
-    ghost from_gives = { λ fault given. given ≡ File fault };
+    ghost from_gives = { λ fault value. value ≡ File fault };
 
     fn from(fault: FollowFault) -> FollowerFault {
         FollowerFault::File(fault)

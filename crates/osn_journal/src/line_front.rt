@@ -1,6 +1,6 @@
 //! What has come of a request line that has not ended yet.
 ghost use Rattle.std.specs.Prelude.{◌≡◌, ◌++◌, ◌≤◌, ◌<◌, ◌+◌, ℕ, List, [], length, IfOk, OnOk};
-ghost use Rattle.osn_lines.specs.Ended.{ended_bytes, unended_bytes};
+ghost use Rattle.osn_lines.specs.LastLineFeed.{ended_bytes, unended_bytes};
 ghost use Rattle.osn_journal.specs.FollowerInside.{HasFew, IsFrontOf, GivesSameLines};
 ghost use Rattle.osn_journal.specs.Outcomes.{with_feed};
 
@@ -27,14 +27,14 @@ impl LineFront {
 
     /// Adds bytes, and returns the lines that have ended by them.
     fn add(&mut self, more: &[u8]) -> Result<Vec<u8>, AllocError>
-        ensures ended { IfOk result (λ ended.
-            ended.items ≡ ended_bytes (self.old.bytes.items ++ more.now)) }
+        ensures ended { IfOk result (λ bytes.
+            bytes.items ≡ ended_bytes (self.old.bytes.items ++ more.now)) }
         ensures rest { OnOk result
             (self.new.bytes.items ≡ unended_bytes (self.old.bytes.items ++ more.now)) }
     {
         self.bytes.extend_from_slice(more)?;
-        let ended = ended_length(&self.bytes);
-        let rest = self.bytes.split_off(ended)?;
+        let whole_length = ended_length(&self.bytes);
+        let rest = self.bytes.split_off(whole_length)?;
         Ok(mem::replace(&mut self.bytes, rest))
     }
 
@@ -44,11 +44,12 @@ impl LineFront {
         requires few { length more.now ≤ 65536 }
         requires front { HasFew self.old }
         ensures few { OnOk result (HasFew self.new) }
-        ensures ended { IfOk result (λ ended. length ended.items ≤ 196608) }
-        ensures lines { IfOk result (λ ended. (waiting : List ℕ) → IsFrontOf waiting self.old →
-            GivesSameLines ended.items (ended_bytes (waiting ++ more.now))) }
-        ensures rest { OnOk result ((waiting : List ℕ) → IsFrontOf waiting self.old →
-            IsFrontOf (unended_bytes (waiting ++ more.now)) self.new) }
+        ensures ended { IfOk result (λ bytes. length bytes.items ≤ 196608) }
+        ensures lines { IfOk result (λ bytes. (pending_bytes : List ℕ) →
+            IsFrontOf pending_bytes self.old →
+            GivesSameLines bytes.items (ended_bytes (pending_bytes ++ more.now))) }
+        ensures rest { OnOk result ((pending_bytes : List ℕ) → IsFrontOf pending_bytes self.old →
+            IsFrontOf (unended_bytes (pending_bytes ++ more.now)) self.new) }
     {
         if self.bytes.len() > LONGEST_LINE && ended_length(more) == 0 {
             return Ok(Vec::new(alloc));
@@ -60,11 +61,12 @@ impl LineFront {
     pub(crate) fn end(&mut self, alloc: Global) -> Result<Vec<u8>, AllocError>
         requires front { HasFew self.old }
         ensures few { OnOk result (HasFew self.new) }
-        ensures ended { IfOk result (λ ended. length ended.items ≤ 196608) }
-        ensures lines { IfOk result (λ ended. (waiting : List ℕ) → IsFrontOf waiting self.old →
-            GivesSameLines ended.items (ended_bytes (with_feed waiting))) }
-        ensures rest { OnOk result ((waiting : List ℕ) → IsFrontOf waiting self.old →
-            IsFrontOf (unended_bytes (with_feed waiting)) self.new) }
+        ensures ended { IfOk result (λ bytes. length bytes.items ≤ 196608) }
+        ensures lines { IfOk result (λ bytes. (pending_bytes : List ℕ) →
+            IsFrontOf pending_bytes self.old →
+            GivesSameLines bytes.items (ended_bytes (with_feed pending_bytes))) }
+        ensures rest { OnOk result ((pending_bytes : List ℕ) → IsFrontOf pending_bytes self.old →
+            IsFrontOf (unended_bytes (with_feed pending_bytes)) self.new) }
     {
         if self.bytes.is_empty() {
             return Ok(Vec::new(alloc));

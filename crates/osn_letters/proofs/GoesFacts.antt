@@ -27,11 +27,12 @@ pub text_before_twice : (xs ys : List ℕ) (w : Written)
     → text_before xs (text_before ys w) ≡ text_before (xs ++ ys) w
 text_before_twice xs ys w = ap (λ l. with_text l w.fault) (sym (append_assoc xs ys w.text))
 
-row_later : (n line : ℕ) (text : List ℕ) (more : Written) (same : Bool)
-    → (if same then text_before text (later n more) else ended_by (BadRecord (line + n)))
-    ≡ later n (if same then text_before text more else ended_by (BadRecord line))
-row_later n line text more true = refl
-row_later n line text more false = refl
+row_later : (n line count width : ℕ) (text : List ℕ) (more : Written) (same : Bool)
+    → (if same then text_before text (later n more)
+    else ended_by (BadRecord (line + n) count width))
+    ≡ later n (if same then text_before text more else ended_by (BadRecord line count width))
+row_later n line count width text more true = refl
+row_later n line count width text more false = refl
 
 fields_later : (s : TableBasis) (heading : Heading) (n line : ℕ)
     (fields : Result (List (List ℕ)) LettersFault) (more : Written)
@@ -39,7 +40,8 @@ fields_later : (s : TableBasis) (heading : Heading) (n line : ℕ)
     ≡ later n (row_by s heading line fields more)
 fields_later s heading n line (Err fault) more = refl
 fields_later s heading n line (Ok fields) more =
-    row_later n line (letter_text s heading.separator heading.columns fields) more
+    row_later n line (length fields) heading.width
+    (letter_text s heading.separator heading.columns fields) more
     (length fields == heading.width)
 
 pub rows_later : (s : TableBasis) (heading : Heading) (n : ℕ) (records : List PlacedRecord)
@@ -54,13 +56,13 @@ rows_later s heading n (r ∷ rest) =
 abbrev GoesOn : Written → Written → Written → Type 0
 GoesOn first more all = first.fault ≡ None → all ≡ text_before first.text more
 
-row_goes : (line : ℕ) (text : List ℕ) (first more all : Written) (same : Bool)
+row_goes : (line count width : ℕ) (text : List ℕ) (first more all : Written) (same : Bool)
     → GoesOn first more all
-    → GoesOn (if same then text_before text first else ended_by (BadRecord line)) more
-    (if same then text_before text all else ended_by (BadRecord line))
-row_goes line text first more all true goes whole =
+    → GoesOn (if same then text_before text first else ended_by (BadRecord line count width)) more
+    (if same then text_before text all else ended_by (BadRecord line count width))
+row_goes line count width text first more all true goes whole =
     ap (text_before text) (goes whole) ∙ text_before_twice text first.text more
-row_goes line text first more all false goes whole = absurd (cc whole)
+row_goes line count width text first more all false goes whole = absurd (cc whole)
 
 fields_go : (s : TableBasis) (heading : Heading) (line : ℕ)
     (fields : Result (List (List ℕ)) LettersFault) (first more all : Written)
@@ -68,7 +70,8 @@ fields_go : (s : TableBasis) (heading : Heading) (line : ℕ)
     → GoesOn (row_by s heading line fields first) more (row_by s heading line fields all)
 fields_go s heading line (Err fault) first more all goes whole = absurd (cc whole)
 fields_go s heading line (Ok fields) first more all goes whole =
-    row_goes line (letter_text s heading.separator heading.columns fields) first more all
+    row_goes line (length fields) heading.width
+    (letter_text s heading.separator heading.columns fields) first more all
     (length fields == heading.width) goes whole
 
 pub rows_go : (s : TableBasis) (heading : Heading) (xs ys : List PlacedRecord)
@@ -79,11 +82,11 @@ rows_go s heading (r ∷ xs) ys whole =
     fields_go s heading r.line r.fields (rows_written s heading xs) (rows_written s heading ys)
     (rows_written s heading (xs ++ ys)) (rows_go s heading xs ys) whole
 
-row_sound : (line : ℕ) (text : List ℕ) (more : Written) (same : Bool)
-    → (if same then text_before text more else ended_by (BadRecord line)).fault ≡ None
+row_sound : (line count width : ℕ) (text : List ℕ) (more : Written) (same : Bool)
+    → (if same then text_before text more else ended_by (BadRecord line count width)).fault ≡ None
     → more.fault ≡ None
-row_sound line text more true whole = whole
-row_sound line text more false whole = absurd (cc whole)
+row_sound line count width text more true whole = whole
+row_sound line count width text more false whole = absurd (cc whole)
 
 fields_sound : (s : TableBasis) (heading : Heading) (line : ℕ)
     (fields : Result (List (List ℕ)) LettersFault) (more : Written)
@@ -91,7 +94,8 @@ fields_sound : (s : TableBasis) (heading : Heading) (line : ℕ)
 fields_sound s heading line (Err fault) more whole = absurd (cc whole)
 fields_sound s heading line (Ok fields) more whole = (
   refl,
-  row_sound line (letter_text s heading.separator heading.columns fields) more
+  row_sound line (length fields) heading.width
+      (letter_text s heading.separator heading.columns fields) more
       (length fields == heading.width) whole,
 )
 

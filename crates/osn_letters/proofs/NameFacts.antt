@@ -1,14 +1,23 @@
--- The only territory that is called by a text, as it is looked for.
+-- The only territory that is called by a text, as the map of a finder is made.
 use Rattle.std.proofs.Common.{◌≡◌, ◌∙◌, ℕ, zero, suc, ◌+◌, ◌≤◌, List, [], ◌∷◌, drop, length, cond}
 use Rattle.std.proofs.Common.{Bool, true, false, ◌||◌, Option, Some, None, option_map, filter}
-use Rattle.std.proofs.Common.{Result, Ok, Err, refl, sym, ap}
+use Rattle.std.proofs.Common.{◌≢◌, Result, Ok, Err, refl, sym, ap}
 use Rattle.std.proofs.lemmas.List.{drop_more}
 use Rattle.std.proofs.lemmas.Option.{slice_get_within, get_or_from_slice_get, slice_get_past}
+use Rattle.std.specs.Borrow.{Bor}
+use Rattle.std.specs.Cmp.Lexicographic.{bytes_decides}
+use Rattle.std.specs.HashMap.{HashMap}
 use Rattle.std.specs.List.{slice_get}
-use Rattle.std.specs.Str.{str_eq_ignore_ascii_case}
+use Rattle.std.specs.Map.{lookup, update}
+use Rattle.std.specs.Prelude.{unwrap_or}
+use Rattle.std.specs.Result.{result_map_both}
+use Rattle.std.specs.Str.{bytes_eq, str_eq_ignore_ascii_case, str_to_ascii_lowercase}
+use Rattle.std.specs.String.{string_bytes}
+use Rattle.std.specs.declared.string.String.{String}
 use Rattle.osn_territory.specs.Territory.{TerritoryModel}
 use Rattle.osn_letters.specs.declared.no_place.NoPlace.{NoPlace}
 use Rattle.osn_letters.specs.declared.no_place.NoPlace.TheVariants.{Unknown, Ambiguous}
+use Rattle.osn_letters.specs.FinderInside.{found_in}
 use Rattle.osn_letters.specs.TerritoryNames.{is_called, only_called, only_of, with_territory}
 use Rattle.osn_register.specs.Named.{listing_of}
 use Rattle.osn_register.specs.Plain.{EntryModel}
@@ -55,6 +64,59 @@ only_of_all text (l ∷ rest) =
       | false ↦ only_of_all text rest
     ]
 
+-- ---- the map
+
+abbrev Held : Type 0
+Held = Result (Bor TerritoryModel) NoPlace
+
+abbrev pub shown : Option Held → Found
+shown o = result_map_both (λ t. t.now) (λ reason. reason) (unwrap_or o (Err Unknown))
+
+pub none_called : {Y S : Type 0} (called : HashMap (String Y) Held S) (text : List ℕ)
+    → called.entries ≡ [] → found_in called text ≡ Err Unknown
+none_called called text empty =
+    let key = str_to_ascii_lowercase text in
+    ap (λ es. shown (lookup (λ k. bytes_eq key (string_bytes k)) es)) empty
+
+-- a territory was added under its code or its name
+pub called_added : (under : List ℕ → Option Held) (key name text : List ℕ) (found : Held)
+    (t : TerritoryModel) → key ≡ str_to_ascii_lowercase name
+    → result_map_both (λ t. t.now) (λ reason. reason) found
+    ≡ with_territory true (shown (under key)) t
+    → shown (update bytes_eq under key (Some found) (str_to_ascii_lowercase text))
+    ≡ with_territory (str_eq_ignore_ascii_case name text)
+    (shown (under (str_to_ascii_lowercase text))) t
+called_added under key name text found t low is =
+    ap (λ k. shown (update bytes_eq under k (Some found) (str_to_ascii_lowercase text))) low
+    ∙ by (str_eq_ignore_ascii_case name text) refl
+  where
+    by : (b : Bool) → str_eq_ignore_ascii_case name text ≡ b
+        → shown (cond b (Some found) (under (str_to_ascii_lowercase text)))
+        ≡ with_territory b (shown (under (str_to_ascii_lowercase text))) t
+    by true e = is ∙ ap (λ k. with_territory true (shown (under k)) t)
+        (low ∙ (bytes_decides (str_to_ascii_lowercase name) (str_to_ascii_lowercase text)).0 e)
+    by false e = refl
+
+-- a territory was added under its code and under its name
+pub added_both : (code name text : List ℕ) (old : Found) (t : TerritoryModel)
+    → str_to_ascii_lowercase code ≢ str_to_ascii_lowercase name
+    → with_territory (str_eq_ignore_ascii_case name text)
+    (with_territory (str_eq_ignore_ascii_case code text) old t) t
+    ≡ with_territory (str_eq_ignore_ascii_case code text
+    || str_eq_ignore_ascii_case name text) old t
+added_both code name text old t apart =
+    by (str_eq_ignore_ascii_case code text) (str_eq_ignore_ascii_case name text) refl refl
+  where
+    by : (a b : Bool) → str_eq_ignore_ascii_case code text ≡ a
+        → str_eq_ignore_ascii_case name text ≡ b
+        → with_territory b (with_territory a old t) t ≡ with_territory (a || b) old t
+    by true true one two =
+        let low = str_to_ascii_lowercase in
+        absurd (apart ((bytes_decides (low code) (low text)).0 one
+        ∙ sym ((bytes_decides (low name) (low text)).0 two)))
+    by true false one two = refl
+    by false b one two = refl
+
 -- ---- the walk over the territories
 
 module _ {X : Type 0} where
@@ -81,13 +143,13 @@ Listing = List ℕ × List ℕ × TerritoryModel
 
 -- the territory at a place was read
 pub territory_read : (all : List EntryModel) (place : ℕ) (code name : List ℕ) (t : TerritoryModel)
-    (text : List ℕ) (called : Bool) (old new : Found)
+    (text : List ℕ) (old new : Found)
     → option_map listing_of (slice_get all place) ≡ Some (code, name, t)
-    → called ≡ (str_eq_ignore_ascii_case code text || str_eq_ignore_ascii_case name text)
-    → new ≡ with_territory called old t
+    → new ≡ with_territory (str_eq_ignore_ascii_case code text
+    || str_eq_ignore_ascii_case name text) old t
     → with_rest text old (drop place all) ≡ only_called text all
     → with_rest text new (drop (place + 1) all) ≡ only_called text all
-territory_read all place code name t text called old new listed test is before =
+territory_read all place code name t text old new listed is before =
     by (slice_get all place) refl listed
   where
     rest : List EntryModel
@@ -101,13 +163,11 @@ territory_read all place code name t text called old new listed test is before =
         let code_is : l.code ≡ code = ap (λ (x : Listing). x.0) same in
         let name_is : l.name ≡ name = ap (λ (x : Listing). x.1) same in
         let territory_is : l.territory ≡ t = ap (λ (x : Listing). x.2) same in
-        let is_so : called ≡ is_called text l = test
-        ∙ ap (λ c. str_eq_ignore_ascii_case c text || str_eq_ignore_ascii_case name text)
-        (sym code_is)
-        ∙ ap (λ n. str_eq_ignore_ascii_case l.code text || str_eq_ignore_ascii_case n text)
-        (sym name_is) in
         ap (λ found. with_rest text found rest) (is
-        ∙ ap (λ b. with_territory b old t) is_so
+        ∙ ap (λ c. with_territory (str_eq_ignore_ascii_case c text
+        || str_eq_ignore_ascii_case name text) old t) (sym code_is)
+        ∙ ap (λ n. with_territory (str_eq_ignore_ascii_case l.code text
+        || str_eq_ignore_ascii_case n text) old t) (sym name_is)
         ∙ ap (λ u. with_territory (is_called text l) old u) (sym territory_is))
         ∙ ap (λ ls. with_rest text old ls) (sym (left_from all place l at))
         ∙ before

@@ -23,7 +23,7 @@ use Rattle.osn_letters.proofs.GoesFacts.{table_goes}
 use Rattle.osn_letters.proofs.LaterFacts.{IsLater, IsLater-after_all, records_later}
 use Rattle.osn_letters.proofs.LawFacts.{kit_records}
 use Rattle.osn_letters.proofs.MarkFacts.{strip_after}
-use Rattle.osn_letters.proofs.SeamFacts.{IsPast, IsPast-after_all, IsPast-itself, Stands}
+use Rattle.osn_letters.proofs.SeamFacts.{IsPast, IsPast-after_all, IsPast-itself, IsBetweenRecords}
 use Rattle.osn_letters.proofs.SeamFacts.{first_records, line_after, seam_later}
 use Rattle.osn_letters.proofs.SeparatorFacts.{found_stays}
 
@@ -43,11 +43,11 @@ record Heads (s : TableBasis) (header : List ℕ) : Type 0 where
   heading : Heading
   reading : Reading
   separator : Separator
-  between : Stands separator reading
+  between : IsBetweenRecords separator reading
   goes : (part : List ℕ) → letters_written s (header ++ part)
       ≡ text_before (letters_written s header).text
       (rows_written s heading (records_from reading part))
-  stands : (part : List ℕ) → reading_after (at_start s.separator) (strip_bom (header ++ part))
+  reading_is : (part : List ℕ) → reading_after (at_start s.separator) (strip_bom (header ++ part))
       ≡ reading_after reading part
 
 header_heads : (s : TableBasis) (header : List ℕ) → IsWholeTable s header → Heads s header
@@ -73,7 +73,7 @@ header_heads s header h =
           (ap (records_from start) (whole_strip s header part h)
           ∙ records_after start (strip_bom header) part h.ends table.sound)
           ∙ table.goes (records_from reading part);
-      stands = λ part.
+      reading_is = λ part.
           ap (reading_after start) (whole_strip s header part h)
           ∙ fold-append after start (strip_bom header) part;
     }
@@ -90,7 +90,7 @@ record IsPart (s : TableBasis) (heading : Heading) (r : Reading) (part : List �
 header_part : (s : TableBasis) (header part : List ℕ) (h : Heads s header)
     → IsWholeTable s (header ++ part) → IsPart s h.heading h.reading part
 header_part s header part h k = record {
-  between = subst (λ r. is_between r.state ≡ true) (h.stands part) k.ends;
+  between = subst (λ r. is_between r.state ≡ true) (h.reading_is part) k.ends;
   whole = sym (ap (λ w. w.fault) (h.goes part)) ∙ k.whole;
 }
 
@@ -115,14 +115,15 @@ part_goes s heading r q n part more h k =
 
 -- the first byte of a part ends no record
 first_written : (s : TableBasis) (heading : Heading) (x : Separator) (r : Reading) (b : ℕ)
-    (bytes : List ℕ) → Stands x r
+    (bytes : List ℕ) → IsBetweenRecords x r
     → part_written s heading r (b ∷ bytes) ≡ part_written s heading (after r b) bytes
 first_written s heading x r b bytes h =
     ap (rows_written s heading) (first_records r b bytes h.clear h.between)
 
 -- the same from any later reading between two records
 seam_goes : (s : TableBasis) (heading : Heading) (x : Separator) (r q : Reading)
-    (part more : List ℕ) → Stands x r → Stands x q → IsPast r q → IsPart s heading r part
+    (part more : List ℕ) → IsBetweenRecords x r → IsBetweenRecords x q → IsPast r q
+    → IsPart s heading r part
     → part_written s heading q (part ++ more)
     ≡ text_before (part_written s heading r part).text
     (part_written s heading (reading_after q part) more)
@@ -139,7 +140,8 @@ seam_goes s heading x r q (b ∷ bytes) more h k past part =
     ∙ ap (λ w. text_before w.text (part_written s heading (reading_after q (b ∷ bytes)) more))
     (sym first))
 
-seam_between : (x : Separator) (r q : Reading) (part : List ℕ) → Stands x r → Stands x q
+seam_between : (x : Separator) (r q : Reading) (part : List ℕ) → IsBetweenRecords x r
+    → IsBetweenRecords x q
     → IsPast r q → is_between (reading_after r part).state ≡ true
     → is_between (reading_after q part).state ≡ true
 seam_between x r q [] h k past ends = k.between
@@ -156,7 +158,7 @@ record IsWrittenLater (s : TableBasis) (heading : Heading) (r q : Reading) (text
       ≡ text_before text (later more (part_written s heading r last))
 
 last_goes : (s : TableBasis) (heading : Heading) (x : Separator) (r q : Reading)
-    (last : List ℕ) → Stands x r → Stands x q → IsPast r q
+    (last : List ℕ) → IsBetweenRecords x r → IsBetweenRecords x q → IsPast r q
     → IsWrittenLater s heading r q [] last last
 last_goes s heading x r q [] h k past = record {
   more = q.line - r.line;
@@ -181,7 +183,8 @@ last_goes s heading x r q (b ∷ bytes) h k past =
 
 -- all parts, one after another
 parts_go : (s : TableBasis) (heading : Heading) (x : Separator) (r q : Reading)
-    (parts : List (List ℕ)) (last : List ℕ) → Stands x r → Stands x q → IsPast r q
+    (parts : List (List ℕ)) (last : List ℕ) → IsBetweenRecords x r → IsBetweenRecords x q
+    → IsPast r q
     → All (IsPart s heading r) parts
     → IsWrittenLater s heading r q
     (flat_map (λ part. (part_written s heading r part).text) parts) (concat parts ++ last) last
@@ -189,12 +192,13 @@ parts_go s heading x r q [] last h k past each = last_goes s heading x r q last 
 parts_go s heading x r q (part ∷ parts) last h k past each =
     let first = All-head (IsPart s heading r) part parts each in
     let next = reading_after q part in
-    let stands : Stands x next = record {
+    let next_between : IsBetweenRecords x next = record {
       clear = IsClear-after_all q part k.clear;
       between = seam_between x r q part h k past first.between;
       separator_is = found_stays q part x k.separator_is;
     } in
-    let rest = parts_go s heading x r next parts last h stands (IsPast-after_all r q part past)
+    let rest = parts_go s heading x r next parts last h next_between
+    (IsPast-after_all r q part past)
     (All-tail (IsPart s heading r) part parts each) in
     let text = (part_written s heading r part).text in
     let texts = flat_map (λ p. (part_written s heading r p).text) parts in
@@ -226,7 +230,7 @@ flat_map_same f g (x ∷ xs) same =
 lines_after : (s : TableBasis) (header : List ℕ) (h : Heads s header) (part : List ℕ)
     → (reading_after h.reading part).line ≡ 1 + lines_in (header ++ part)
 lines_after s header h part =
-    ap (λ r. r.line) (sym (h.stands part))
+    ap (λ r. r.line) (sym (h.reading_is part))
     ∙ line_after (at_start s.separator) (strip_bom (header ++ part))
 
 -- the law

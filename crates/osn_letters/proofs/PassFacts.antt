@@ -48,9 +48,9 @@ passes_written c d s t out bytes taken none takes all more =
 
 table_inner : (fault : LettersFault) → is_of_table fault ≡ true → is_of_stream fault ≡ false
 table_inner NoHeader h = refl
-table_inner (LacksColumn column line found) h = refl
+table_inner (LacksColumn column line found nearest) h = refl
 table_inner (HasColumn line column) h = refl
-table_inner (BadRecord line) h = refl
+table_inner (BadRecord line fields width) h = refl
 table_inner (TooLong line) h = refl
 table_inner (OpenQuote line) h = refl
 table_inner (TextAfterQuote line) h = refl

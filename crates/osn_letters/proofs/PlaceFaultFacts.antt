@@ -32,9 +32,9 @@ unread_letters (letters.TooLong line) = refl
 unread_letters (letters.OpenQuote line) = refl
 unread_letters (letters.TextAfterQuote line) = refl
 unread_letters letters.NoHeader = refl
-unread_letters (letters.LacksColumn column line found) = refl
+unread_letters (letters.LacksColumn column line found nearest) = refl
 unread_letters (letters.HasColumn line column) = refl
-unread_letters (letters.BadRecord line) = refl
+unread_letters (letters.BadRecord line fields width) = refl
 unread_letters letters.ReadFault = refl
 unread_letters letters.WriteFault = refl
 unread_letters letters.NoMemory = refl
@@ -59,17 +59,17 @@ unread_columns line header =
     columns_by line header (column_named (column_name column.Place) header)
     (column_named (column_name column.Code) header)
 
-entry_by : (line : ℕ) (is_wide : Bool) (place code : Option (List ℕ))
-    → Unread (if is_wide then entry_of line place code else Err (faults.BadRecord line))
-entry_by line false place code = record { other = refl }
-entry_by line true None code = record { other = refl }
-entry_by line true (Some place) None = record { other = refl }
-entry_by line true (Some place) (Some code) = record { other = tt }
+entry_by : (line n width : ℕ) (is_wide : Bool) (place code : Option (List ℕ))
+    → Unread (if is_wide then entry_of line place code else Err (faults.BadRecord line n width))
+entry_by line n width false place code = record { other = refl }
+entry_by line n width true None code = record { other = refl }
+entry_by line n width true (Some place) None = record { other = refl }
+entry_by line n width true (Some place) (Some code) = record { other = tt }
 
 unread_entry : (columns : PlaceColumns) (line : ℕ) (fields : List (List ℕ))
     → Unread (entry_at columns line fields)
 unread_entry columns line fields =
-    entry_by line (length fields == columns.width)
+    entry_by line (length fields) columns.width (length fields == columns.width)
     (text_in_field (get_or fields columns.place []))
     (text_in_field (get_or fields columns.code []))
 
@@ -114,7 +114,7 @@ unread_fault text faults.ReadFault unless_unmade =
     (unread_all [] (records_of None text)).other
 unread_fault text faults.NoHeader unless_unmade = refl
 unread_fault text (faults.LacksColumn column line found) unless_unmade = refl
-unread_fault text (faults.BadRecord line) unless_unmade = refl
+unread_fault text (faults.BadRecord line fields width) unless_unmade = refl
 unread_fault text (faults.TooLong line) unless_unmade = refl
 unread_fault text (faults.OpenQuote line) unless_unmade = refl
 unread_fault text (faults.TextAfterQuote line) unless_unmade = refl

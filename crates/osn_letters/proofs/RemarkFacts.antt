@@ -22,6 +22,7 @@ use Rattle.osn_written.specs.Finding.{extent_meant, is_by_other_calendar, reckon
 use Rattle.osn_written.specs.Double.{is_extent_not_counted_double}
 use Rattle.osn_written.specs.Meaning.{dated_by, meaning}
 use Rattle.osn_written.specs.PlainDay.{one_day}
+use Rattle.osn_written.specs.Spans.{ends_in_next_year}
 use Rattle.osn_letters.specs.declared.columns.Columns.{Columns}
 use Rattle.osn_letters.specs.declared.fault.LettersFault.{LettersFault}
 use Rattle.osn_letters.specs.declared.no_place.NoPlace.{NoPlace}
@@ -183,16 +184,18 @@ meaning_apart edition w day given reason b (first ∷ rest) =
     apart_those (remarks_on_days day given (first ∷ rest) ++ beside b)
     (days_apart day given (first ∷ rest) b)
 
-single_apart : (single : Bool) (b : Beside)
-    → AreApart (remarks_in ((single, remark.NotCountedDouble) ∷ beside b))
-single_apart single b = (refl, beside_apart b)
+single_apart : (single later : Bool) (b : Beside)
+    → AreApart (remarks_in ((single, remark.NotCountedDouble) ∷ (later, remark.EndsInNextYear)
+    ∷ beside b))
+single_apart single later b = (refl, (refl, beside_apart b))
 
-found_apart : (edition : ℕ) (w : AnyDate) (single : Bool) (b : Beside)
+found_apart : (edition : ℕ) (w : AnyDate) (single later : Bool) (b : Beside)
     (r : Result (List Run) NoDay)
-    → AreApart (fields_of_found edition w single (beside b) r).remarks
-found_apart edition w single b (Ok runs) =
-    apart_those ((single, remark.NotCountedDouble) ∷ beside b) (single_apart single b)
-found_apart edition w single b (Err reason) =
+    → AreApart (fields_of_found edition w single later (beside b) r).remarks
+found_apart edition w single later b (Ok runs) =
+    apart_those ((single, remark.NotCountedDouble) ∷ (later, remark.EndsInNextYear) ∷ beside b)
+    (single_apart single later b)
+found_apart edition w single later b (Err reason) =
     apart_those ((true, remark.NoDay reason) ∷ beside b) (absence_apart true reason b)
 
 either_apart : (p : Rules) (edition : ℕ) (own t : TerritoryModel) (w : AnyDate)
@@ -202,8 +205,8 @@ either_apart p edition own t w given b (Some day) =
     meaning_apart edition w day given (none.Absent (absence p t day)) b
     (dated_by p own (meaning p t day given))
 either_apart p edition own t w given b None =
-    found_apart edition w (is_extent_not_counted_double p own t w.extent) b
-    (extent_meant p t w.extent)
+    found_apart edition w (is_extent_not_counted_double p own t w.extent)
+    (ends_in_next_year p t w.extent) b (extent_meant p t w.extent)
 
 -- ---- of a set of dates
 

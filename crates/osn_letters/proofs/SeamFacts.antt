@@ -151,13 +151,14 @@ begun_later n i j k l false false true u v e line x y = absurd (cc e)
 begun_later n i j k l false false false u v e line x y = x ∙ line ∙ ap (λ m. m + n) (sym y)
 
 -- a reading is between two records of a text whose separator is found
-pub record Stands (x : Separator) (r : Reading) : Type 0 where
+pub record IsBetweenRecords (x : Separator) (r : Reading) : Type 0 where
   pub clear : IsClear r
   pub between : is_between r.state ≡ true
   pub separator_is : r.separator ≡ Some x
 
 -- from the first byte on, one is as many lines later
-first_later : (x : Separator) (r q : Reading) (b n : ℕ) → Stands x r → Stands x q
+first_later : (x : Separator) (r q : Reading) (b n : ℕ) → IsBetweenRecords x r
+    → IsBetweenRecords x q
     → (after q b).line ≡ (after r b).line + n → IsLater n (after r b) (after q b)
 first_later x r q b n h k line =
     let s = read_byte r.separator r.state b in
@@ -199,7 +200,8 @@ pub record IsLaterOn (r q : Reading) : Type 0 where
   pub more : ℕ
   pub later : IsLater more r q
 
-pub seam_later : (x : Separator) (r q : Reading) (b : ℕ) → Stands x r → Stands x q → IsPast r q
+pub seam_later : (x : Separator) (r q : Reading) (b : ℕ) → IsBetweenRecords x r
+    → IsBetweenRecords x q → IsPast r q
     → IsLaterOn (after r b) (after q b)
 seam_later x r q b h k past =
     let low : (after r b).line ≤ (after q b).line =

@@ -337,14 +337,14 @@ row_counted old remarks rows remarked counts rows_are remarked_are counts_are =
     rw (rows_are, remarked_are, counts_are) refl
 
 -- the lines before those of the remarks
-pub first_lines : (front begun first second : List ℕ) (tally : TallyModel)
-    (es : List (Bor (List ℕ) × ℕ)) → begun ≡ []
-    → first ≡ begun ++ count_line front (codes "rows") tally.rows
+pub first_lines : (front initial first second : List ℕ) (tally : TallyModel)
+    (es : List (Bor (List ℕ) × ℕ)) → initial ≡ []
+    → first ≡ initial ++ count_line front (codes "rows") tally.rows
     → second ≡ first ++ count_line front (codes "rows with a remark") tally.remarked
     → map plain_entry es ≡ tally.by_remark
     → second ++ remark_lines front (map plain_entry es) ≡ tally_text front tally
 unfolding tally_text
-first_lines front begun first second tally es empty first_is second_is counts =
+first_lines front initial first second tally es empty first_is second_is counts =
     let line = count_line front (codes "rows") tally.rows in
     ap (λ t. t ++ remark_lines front (map plain_entry es))
     (second_is ∙ ap (λ t. t ++ count_line front (codes "rows with a remark") tally.remarked)

@@ -20,6 +20,7 @@ use Rattle.osn_letters.specs.declared.fault.Column.TheVariants as column
 use Rattle.osn_letters.specs.declared.fault.LettersFault.{LettersFault}
 use Rattle.osn_letters.specs.declared.fault.LettersFault.TheVariants.{LacksColumn, HasColumn}
 use Rattle.osn_letters.specs.AddedColumns.{added_columns, added_name}
+use Rattle.osn_letters.specs.NearColumn.{nearest_column}
 use Rattle.osn_letters.specs.RowFields.{trimmed}
 use Rattle.osn_grammar.specs.Simple.{◌>>=◌}
 
@@ -92,13 +93,15 @@ abbrev pub names_text : List (List ℕ) → List ℕ
 names_text [] = []
 names_text (name ∷ names) = name ++ flat_map after_comma names
 
--- a header on that line lacks a column
-abbrev pub lacks : ℕ → List (List ℕ) → Column → LettersFault
-lacks line header column = LacksColumn column line (utf8_lossy (names_text header))
+-- a header on that line lacks a column of that name
+abbrev pub lacks : ℕ → List (List ℕ) → Column → List ℕ → LettersFault
+lacks line header column name =
+    LacksColumn column line (utf8_lossy (names_text header)) (nearest_column name header)
 
 -- the index of a column in a header on that line, which must have it
 abbrev pub column_in : ℕ → List (List ℕ) → Column → List ℕ → Result ℕ LettersFault
-column_in line header column name = ok_or (column_named name header) (lacks line header column)
+column_in line header column name =
+    ok_or (column_named name header) (lacks line header column name)
 
 -- the same of a column that may not be named
 abbrev pub part_column_in : ℕ → List (List ℕ) → Column → Option (List ℕ)
@@ -118,16 +121,19 @@ date_columns_in line header (PartTexts year month day) =
     >>= λ day. Ok (Apart year month day)
 
 -- the index of the column of the weekdays, which must be there if it is needed
-abbrev pub weekday_at : ℕ → List (List ℕ) → Bool → Option ℕ → Result (Option ℕ) LettersFault
-weekday_at line header needs_weekday index =
-    if needs_weekday && is_none index then Err (lacks line header column.Weekday) else Ok index
+abbrev pub weekday_at : ℕ → List (List ℕ) → Bool → List ℕ → Option ℕ
+    → Result (Option ℕ) LettersFault
+weekday_at line header needs_weekday name index =
+    if needs_weekday && is_none index then Err (lacks line header column.Weekday name)
+    else Ok index
 
 -- the columns of these names in a header on that line
 abbrev pub columns_at : NameTexts → ℕ → List (List ℕ) → Result Columns LettersFault
 columns_at names line header =
     part_column_in line header column.Place names.place
     >>= λ place. date_columns_in line header names.date
-    >>= λ date. weekday_at line header names.needs_weekday (column_named names.weekday header)
+    >>= λ date. weekday_at line header names.needs_weekday names.weekday
+    (column_named names.weekday header)
     >>= λ weekday. Ok (record {
       place = place;
       date = date;

@@ -10,9 +10,9 @@ use Rattle.osn_letters.specs.declared.fault.LettersFault.TheVariants.{WriteFault
 -- whether a fault is one of the table itself, and not of memory, of the input or of the output
 abbrev pub is_of_table : LettersFault → Bool
 is_of_table NoHeader = true
-is_of_table (LacksColumn column line found) = true
+is_of_table (LacksColumn column line found nearest) = true
 is_of_table (HasColumn line column) = true
-is_of_table (BadRecord line) = true
+is_of_table (BadRecord line fields width) = true
 is_of_table (TooLong line) = true
 is_of_table (OpenQuote line) = true
 is_of_table (TextAfterQuote line) = true
@@ -41,7 +41,7 @@ EndsStream false old new Long = new ≡ old
 
 -- the same fault as many lines later
 abbrev pub later_fault : ℕ → LettersFault → LettersFault
-later_fault n (BadRecord line) = BadRecord (line + n)
+later_fault n (BadRecord line fields width) = BadRecord (line + n) fields width
 later_fault n (TooLong line) = TooLong (line + n)
 later_fault n (OpenQuote line) = OpenQuote (line + n)
 later_fault n (TextAfterQuote line) = TextAfterQuote (line + n)

@@ -35,6 +35,7 @@ use Rattle.osn_written.specs.Kind.{kind_of, kind_word}
 use Rattle.osn_written.specs.Meaning.{dated_by, meaning}
 use Rattle.osn_written.specs.PlainDay.{one_day}
 use Rattle.osn_written.specs.SetsMeant.{set_meant, is_set_approximate, is_set_uncertain}
+use Rattle.osn_written.specs.Spans.{ends_in_next_year}
 use Rattle.osn_letters.specs.declared.added_fields.Summary.{Summary}
 use Rattle.osn_letters.specs.declared.day_field.DayField.{DayField}
 use Rattle.osn_letters.specs.declared.day_field.DayField.TheVariants as field
@@ -155,49 +156,55 @@ fields_of_runs edition w runs remarks =
 -- of the days that a date means which is one day
 abbrev pub fields_of_meaning : ℕ → AnyDate → WrittenDate → Option Weekday → NoDay
     → List (Bool × Remark) → List DatedDay → FieldsAndRemarks
-fields_of_meaning edition w day given reason beside [] = fields_of_absence edition w reason beside
-fields_of_meaning edition w day given reason beside (first ∷ rest) =
+fields_of_meaning edition w day weekday_beside reason beside [] =
+    fields_of_absence edition w reason beside
+fields_of_meaning edition w day weekday_beside reason beside (first ∷ rest) =
     fields_of_days edition w (first ∷ rest)
-    (remarks_on_days day given (first ∷ rest) ++ beside)
+    (remarks_on_days day weekday_beside (first ∷ rest) ++ beside)
 
 -- of a date that is one day, by the reckoning of a territory, each day as the place dated it
 abbrev pub fields_of_one_day : Rules → ℕ → TerritoryModel → TerritoryModel → AnyDate
     → WrittenDate → Option Weekday → List (Bool × Remark) → FieldsAndRemarks
-fields_of_one_day p edition own t w day given beside =
-    fields_of_meaning edition w day given (Absent (absence p t day)) beside
-    (dated_by p own (meaning p t day given))
+fields_of_one_day p edition own t w day weekday_beside beside =
+    fields_of_meaning edition w day weekday_beside (Absent (absence p t day)) beside
+    (dated_by p own (meaning p t day weekday_beside))
 
--- of a date that is not one day. It is said if the place counted one of its days not double
-abbrev pub fields_of_found : ℕ → AnyDate → Bool → List (Bool × Remark) → Result (List Run) NoDay
-    → FieldsAndRemarks
-fields_of_found edition w single beside (Ok runs) =
-    fields_of_runs edition w runs ((single, remark.NotCountedDouble) ∷ beside)
-fields_of_found edition w single beside (Err reason) = fields_of_absence edition w reason beside
+-- of a date that is not one day. It is said if the place counted one of its days not double, and if
+-- a range with one year ends in the next one
+abbrev pub fields_of_found : ℕ → AnyDate → Bool → Bool → List (Bool × Remark)
+    → Result (List Run) NoDay → FieldsAndRemarks
+fields_of_found edition w single later beside (Ok runs) =
+    fields_of_runs edition w runs
+    ((single, remark.NotCountedDouble) ∷ (later, remark.EndsInNextYear) ∷ beside)
+fields_of_found edition w single later beside (Err reason) =
+    fields_of_absence edition w reason beside
 
 abbrev pub fields_of_many_days : Rules → ℕ → TerritoryModel → TerritoryModel → AnyDate
     → List (Bool × Remark) → FieldsAndRemarks
 fields_of_many_days p edition own t w beside =
-    fields_of_found edition w (is_extent_not_counted_double p own t w.extent) beside
-    (extent_meant p t w.extent)
+    fields_of_found edition w (is_extent_not_counted_double p own t w.extent)
+    (ends_in_next_year p t w.extent) beside (extent_meant p t w.extent)
 
 -- of either
 abbrev pub fields_of_either : Rules → ℕ → TerritoryModel → TerritoryModel → AnyDate
     → Option Weekday → List (Bool × Remark) → Option WrittenDate → FieldsAndRemarks
-fields_of_either p edition own t w given beside (Some day) =
-    fields_of_one_day p edition own t w day given beside
-fields_of_either p edition own t w given beside None = fields_of_many_days p edition own t w beside
+fields_of_either p edition own t w weekday_beside beside (Some day) =
+    fields_of_one_day p edition own t w day weekday_beside beside
+fields_of_either p edition own t w weekday_beside beside None =
+    fields_of_many_days p edition own t w beside
 
 -- by the reckoning of a territory, in a place of its own reckoning, with the field of the weekday
 abbrev pub fields_by : Rules → ℕ → TerritoryModel → TerritoryModel → Bool → AnyDate
     → Option (List ℕ) → FieldsAndRemarks
-fields_by p edition own t is_other w named =
-    fields_of_either p edition own t w (weekday_in named)
-    (remarks_beside w (weekday_in named) is_other (is_malformed_weekday named)) (one_day w)
+fields_by p edition own t is_other w weekday_field =
+    fields_of_either p edition own t w (weekday_in weekday_field)
+    (remarks_beside w (weekday_in weekday_field) is_other (is_malformed_weekday weekday_field))
+    (one_day w)
 
 -- in its territory, by the calendar that it names
 abbrev pub fields_in : Rules → ℕ → TerritoryModel → AnyDate → Option (List ℕ) → FieldsAndRemarks
-fields_in p edition t w named =
-    fields_by p edition t (reckoned t w.reckoning) (is_by_other_calendar p t w) w named
+fields_in p edition t w weekday_field =
+    fields_by p edition t (reckoned t w.reckoning) (is_by_other_calendar p t w) w weekday_field
 
 -- ---- a set of dates
 
@@ -231,24 +238,25 @@ fields_of_members p edition (Err reason) ws beside =
 -- with the field of the weekday
 abbrev pub fields_of_set : Rules → ℕ → Result TerritoryModel NoPlace → List AnyDate
     → Option (List ℕ) → FieldsAndRemarks
-fields_of_set p edition t ws named =
+fields_of_set p edition t ws weekday_field =
     fields_of_members p edition t ws
-    (remarks_beside_set (weekday_in named) (is_malformed_weekday named))
+    (remarks_beside_set (weekday_in weekday_field) (is_malformed_weekday weekday_field))
 
 -- ---- the whole
 
 -- of a date whose place is not known, for that reason
 abbrev pub fields_without_place : ℕ → NoPlace → AnyDate → Option (List ℕ) → FieldsAndRemarks
-fields_without_place edition reason w named =
+fields_without_place edition reason w weekday_field =
     fields_of_none edition (Some (kind_of w.extent))
     ((true, remark.NoPlace reason)
-    ∷ remarks_beside w (weekday_in named) false (is_malformed_weekday named))
+    ∷ remarks_beside w (weekday_in weekday_field) false (is_malformed_weekday weekday_field))
 
 -- of a date in its place, if that is known
 abbrev pub fields_of_date : Rules → ℕ → Result TerritoryModel NoPlace → AnyDate → Option (List ℕ)
     → FieldsAndRemarks
-fields_of_date p edition (Ok t) w named = fields_in p edition t w named
-fields_of_date p edition (Err reason) w named = fields_without_place edition reason w named
+fields_of_date p edition (Ok t) w weekday_field = fields_in p edition t w weekday_field
+fields_of_date p edition (Err reason) w weekday_field =
+    fields_without_place edition reason w weekday_field
 
 -- what is said of the place
 abbrev pub place_remark : Result TerritoryModel NoPlace → Bool × Remark
@@ -258,27 +266,30 @@ place_remark (Err reason) = (true, remark.NoPlace reason)
 -- if no date is read
 abbrev pub fields_without_date : ℕ → DateFault → Bool × Remark → Option (List ℕ)
     → FieldsAndRemarks
-fields_without_date edition fault place named =
+fields_without_date edition fault place weekday_field =
     fields_of_none edition None
     ((true, remark.NotRead fault)
     ∷ place
-    ∷ (is_malformed_weekday named, remark.MalformedWeekday)
+    ∷ (is_malformed_weekday weekday_field, remark.MalformedWeekday)
     ∷ [])
 
 -- of what the field of the date says, which may be a set of these dates
 abbrev pub fields_of_reading : Rules → ℕ → Result TerritoryModel NoPlace → Option (List ℕ)
     → List AnyDate → Result Written DateFault → FieldsAndRemarks
-fields_of_reading p edition t named ws (Ok (written.Date w)) = fields_of_date p edition t w named
-fields_of_reading p edition t named ws (Ok written.Set) = fields_of_set p edition t ws named
-fields_of_reading p edition t named ws (Ok written.NoDate) =
-    fields_without_date edition NoDate (place_remark t) named
-fields_of_reading p edition t named ws (Err fault) =
-    fields_without_date edition fault (place_remark t) named
+fields_of_reading p edition t weekday_field ws (Ok (written.Date w)) =
+    fields_of_date p edition t w weekday_field
+fields_of_reading p edition t weekday_field ws (Ok written.Set) =
+    fields_of_set p edition t ws weekday_field
+fields_of_reading p edition t weekday_field ws (Ok written.NoDate) =
+    fields_without_date edition NoDate (place_remark t) weekday_field
+fields_of_reading p edition t weekday_field ws (Err fault) =
+    fields_without_date edition fault (place_remark t) weekday_field
 
 -- the twelve fields for a place, a date and perhaps a weekday, by the territories of an edition and
 -- a table of places
 abbrev pub row_fields : Rules → List EntryModel → ℕ → DateOrder → List PlaceEntry → List ℕ
     → List ℕ → Option (List ℕ) → FieldsAndRemarks
-row_fields p territories edition order places place date named =
-    fields_of_reading p edition (territory_in territories places place) named (members_in date)
+row_fields p territories edition order places place date weekday_field =
+    fields_of_reading p edition (territory_in territories places place) weekday_field
+    (members_in date)
     (date_of_field order date)

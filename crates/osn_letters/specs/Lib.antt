@@ -2,12 +2,14 @@ pub mod Faults
 pub mod PlaceEntries
 pub mod RowFields
 pub mod TerritoryNames
+pub mod FinderInside
 pub mod Span
 pub mod Edtf
 pub mod EdtfLaw
 pub mod Remarks
 pub mod Fields
 pub mod AddedColumns
+pub mod NearColumn
 pub mod Columns
 pub mod DateParts
 pub mod PlacesFaults

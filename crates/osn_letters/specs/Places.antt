@@ -2,7 +2,7 @@
 -- call a place. This project's profile.
 use Rattle.std.specs.Prelude.{ℕ, ◌==◌, if◌then◌else◌, List, [], ◌∷◌, ◌++◌, length, get_or}
 use Rattle.std.specs.Prelude.{Option, Some, None, ok_or, Result, Ok, Err}
-use Rattle.std.specs.Str.{bytes_eq}
+use Rattle.std.specs.Str.{bytes_eq, str_to_ascii_uppercase}
 use Rattle.std.specs.Str.Lossy.{utf8_lossy}
 use Rattle.osn_letters.specs.declared.place_columns.PlaceColumns.{PlaceColumns}
 use Rattle.osn_letters.specs.declared.places_fault.PlacesColumn.{PlacesColumn}
@@ -38,11 +38,12 @@ columns_in line header =
 
 -- ---- the records after it
 
--- the entry of a place and a code, if both are texts
+-- the entry of a place and a code, if both are texts. The code may be in small letters
 abbrev pub entry_of : ℕ → Option (List ℕ) → Option (List ℕ) → Result PlaceEntry PlacesFault
 entry_of line None code = Err (NotUtf8 line)
 entry_of line (Some place) None = Err (NotUtf8 line)
-entry_of line (Some place) (Some code) = Ok (record { place = place; code = code })
+entry_of line (Some place) (Some code) =
+    Ok (record { place = place; code = str_to_ascii_uppercase code })
 
 -- the entry of a record on that line, without the white space around its place and its code
 abbrev pub entry_at : PlaceColumns → ℕ → List (List ℕ) → Result PlaceEntry PlacesFault
@@ -50,7 +51,7 @@ entry_at columns line fields =
     if length fields == columns.width then
     entry_of line (text_in_field (get_or fields columns.place []))
     (text_in_field (get_or fields columns.code []))
-    else Err (BadRecord line)
+    else Err (BadRecord line (length fields) columns.width)
 
 -- with an entry more, if its place has no other code among the entries. A place has one code
 abbrev pub with_code : List PlaceEntry → ℕ → PlaceEntry → Option (List ℕ)

@@ -40,7 +40,7 @@ of_record (Err fault) = Err (of_letters fault)
 abbrev pub is_of_table : PlacesFault → Bool
 is_of_table NoHeader = true
 is_of_table (LacksColumn column line found) = true
-is_of_table (BadRecord line) = true
+is_of_table (BadRecord line fields width) = true
 is_of_table (TooLong line) = true
 is_of_table (OpenQuote line) = true
 is_of_table (TextAfterQuote line) = true

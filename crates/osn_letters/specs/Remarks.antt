@@ -29,6 +29,7 @@ remark_words remark.ByItsWeekday = codes "by its weekday"
 remark_words remark.SeveralDays = codes "several days"
 remark_words remark.WeekdayDiffers = codes "weekday differs"
 remark_words remark.NotCountedDouble = codes "not counted double there"
+remark_words remark.EndsInNextYear = codes "ends in the next year"
 remark_words remark.Supplied = codes "supplied by an editor"
 remark_words remark.YearOfThreeDigits = codes "year of three digits"
 remark_words remark.ByAnotherCalendar = codes "by another calendar"
@@ -45,37 +46,37 @@ remark_text remarks = join_by remark_words (codes "; ") remarks
 
 -- a weekday is given, by the date itself or beside it
 abbrev pub is_weekday_given : Option Weekday → Option Weekday → Bool
-is_weekday_given named given = is_some named || is_some given
+is_weekday_given date_weekday weekday = is_some date_weekday || is_some weekday
 
 -- a weekday is given, and that many of the days have it
 abbrev pub are_on_weekday : ℕ → WrittenDate → Option Weekday → List DatedDay → Bool
-are_on_weekday count w given days =
-    is_weekday_given w.weekday given && count_by (has_weekday w given) days == count
+are_on_weekday count w weekday days =
+    is_weekday_given w.weekday weekday && count_by (has_weekday w weekday) days == count
 
 -- the remark on several days: whether the given weekday decides between them
 abbrev pub several_remark : WrittenDate → Option Weekday → List DatedDay → Remark
-several_remark w given days =
-    if are_on_weekday 1 w given days then remark.ByItsWeekday else remark.SeveralDays
+several_remark w weekday days =
+    if are_on_weekday 1 w weekday days then remark.ByItsWeekday else remark.SeveralDays
 
 -- what is said of days
 abbrev pub remarks_on_days : WrittenDate → Option Weekday → List DatedDay → List (Bool × Remark)
-remarks_on_days w given days =
-    (nat_lt 1 (length days), several_remark w given days)
-    ∷ (are_on_weekday 0 w given days, remark.WeekdayDiffers)
+remarks_on_days w weekday days =
+    (nat_lt 1 (length days), several_remark w weekday days)
+    ∷ (are_on_weekday 0 w weekday days, remark.WeekdayDiffers)
     ∷ (list_any (is_not_counted_double w) days, remark.NotCountedDouble)
     ∷ []
 
 -- what is said beside the days, of a date that is read
 abbrev pub remarks_beside : AnyDate → Option Weekday → Bool → Bool → List (Bool × Remark)
-remarks_beside w given is_by_other_calendar is_malformed =
+remarks_beside w weekday is_by_other_calendar is_malformed =
     (w.is_supplied, remark.Supplied)
     ∷ (has_three_digits w.extent, remark.YearOfThreeDigits)
     ∷ (is_by_other_calendar, remark.ByAnotherCalendar)
-    ∷ (is_none (one_day w) && is_weekday_given w.weekday given, remark.WeekdayNotCompared)
+    ∷ (is_none (one_day w) && is_weekday_given w.weekday weekday, remark.WeekdayNotCompared)
     ∷ (is_malformed, remark.MalformedWeekday)
     ∷ []
 
 -- of a set of dates
 abbrev pub remarks_beside_set : Option Weekday → Bool → List (Bool × Remark)
-remarks_beside_set given is_malformed =
-    (is_some given, remark.WeekdayNotCompared) ∷ (is_malformed, remark.MalformedWeekday) ∷ []
+remarks_beside_set weekday is_malformed =
+    (is_some weekday, remark.WeekdayNotCompared) ∷ (is_malformed, remark.MalformedWeekday) ∷ []

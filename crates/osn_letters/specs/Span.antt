@@ -36,6 +36,7 @@ span_of_set runs = span (first_of runs) (last_of runs)
 abbrev pub span_of_runs : Extent → List Run → Span
 span_of_runs (extent.On date) runs = span (first_of runs) (last_of runs)
 span_of_runs (extent.FromTo a b) runs = span (first_of runs) (last_of runs)
+span_of_runs (extent.DaysOfYear a b year) runs = span (first_of runs) (last_of runs)
 span_of_runs (extent.Part portion date) runs = span (first_of runs) (last_of runs)
 span_of_runs (extent.Before date) runs = span None (last_of runs)
 span_of_runs (extent.NotAfter date) runs = span None (last_of runs)

@@ -101,7 +101,7 @@ row_by s heading line (Err fault) more = ended_by fault
 row_by s heading line (Ok record_fields) more =
     if length record_fields == heading.width then
     text_before (letter_text s heading.separator heading.columns record_fields) more
-    else ended_by (BadRecord line)
+    else ended_by (BadRecord line (length record_fields) heading.width)
 
 -- what is written of the records after the header
 abbrev pub rows_written : TableBasis → Heading → List PlacedRecord → Written

@@ -18,7 +18,7 @@ use Rattle.osn_letters.specs.WriterInside.{waiting}
 
 -- by what it is made
 abbrev pub source_of : Table → TableBasis
-source_of t = basis newest_rules t.register.now.territories t.edition t.settings
+source_of t = basis newest_rules t.territories t.edition t.settings
 
 -- what the header said, if it came
 abbrev pub heading_by : Separator → Option Rows → Option Heading

@@ -10,6 +10,7 @@ ghost use Rattle.osn_letters.specs.declared.fault.LettersFault.TheVariants.{NoMe
 
 use crate::added_column::{ADDED_COLUMNS, AddedColumn};
 use crate::fault::{Column, LettersFault};
+use crate::near_column::nearest_column;
 use crate::row_field::trimmed;
 use csv::ByteRecord;
 use osn_register::Text;
@@ -177,19 +178,22 @@ pub(crate) fn names_found(alloc: Global, header: &ByteRecord) -> Result<Text, Al
     Ok(Text::new(String::from_utf8_lossy(alloc, &names)?))
 }
 
-/// Returns the fault of a header that lacks a column.
+/// Returns the fault of a header that lacks a column of that name.
 fn lacks(
     alloc: Global,
     header: &ByteRecord,
     line: u64,
     column: Column,
+    name: &str,
 ) -> Result<LettersFault, AllocError>
-    ensures { IfOk result (λ fault. fault ≡ spec.lacks line (fields_of header.now) column) }
+    ensures { IfOk result
+        (λ fault. fault ≡ spec.lacks line (fields_of header.now) column name.now) }
 {
     Ok(LettersFault::LacksColumn {
         column,
         line,
         header: names_found(alloc, header)?,
+        nearest: nearest_column(alloc, header, name)?,
     })
 }
 
@@ -247,7 +251,7 @@ fn find_column(
 {
     match column_named(header, name) {
         Some(index) => Ok(index),
-        None => Err(lacks(alloc, header, line, column)?),
+        None => Err(lacks(alloc, header, line, column, name)?),
     }
 }
 
@@ -328,9 +332,10 @@ pub fn find_columns(
     }
     let place = find_part_column(alloc, header, line, Column::Place, names.place)?;
     let date = find_date_columns(alloc, header, line, names.date)?;
-    let weekday = column_named(header, names.weekday.name());
+    let name = names.weekday.name();
+    let weekday = column_named(header, name);
     if names.weekday.is_required() && weekday.is_none() {
-        return Err(lacks(alloc, header, line, Column::Weekday)?);
+        return Err(lacks(alloc, header, line, Column::Weekday, name)?);
     }
     Ok(Columns {
         place,

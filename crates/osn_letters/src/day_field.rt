@@ -53,16 +53,16 @@ fn push_day_text(
     alloc: Global,
     text: &mut Vec<u8>,
     field: DayField,
-    dated: DatedDay,
+    dated_day: DatedDay,
 ) -> Result<(), AllocError>
-    ensures { OnOk result (text.new.items ≡ text.old.items ++ spec.day_text field dated) }
+    ensures { OnOk result (text.new.items ≡ text.old.items ++ spec.day_text field dated_day) }
 {
-    let day = dated.day;
+    let day = dated_day.day;
     match field {
         DayField::Number => push_number(text, u64::from(day.number())),
         DayField::Gregorian => push_date(alloc, text, date_of(Calendar::Gregorian, day)),
         DayField::Julian => push_date(alloc, text, date_of(Calendar::Julian, day)),
-        DayField::Dual => text.extend_from_slice(format!(in alloc; "{dated}")?.as_bytes()),
+        DayField::Dual => text.extend_from_slice(format!(in alloc; "{dated_day}")?.as_bytes()),
         DayField::Weekday => text.extend_from_slice(day.weekday().name().as_bytes()),
         DayField::JulianDayNumber => push_number(text, u64::from(day.julian_day_number())),
     }

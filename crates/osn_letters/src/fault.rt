@@ -36,6 +36,8 @@ pub enum LettersFault {
         column: Column,
         line: u64,
         header: Text,
+        /// The name that may be meant, if one is near.
+        nearest: Option<Text>,
     },
     /// The header, on that line, has a column already that is put after its own. Nothing was
     /// written.
@@ -47,6 +49,10 @@ pub enum LettersFault {
     /// were written.
     BadRecord {
         line: u64,
+        /// How many fields the record has.
+        fields: usize,
+        /// How many fields the header has.
+        width: usize,
     },
     /// The record on that line has more than 65,536 bytes. The records before it were written.
     TooLong {

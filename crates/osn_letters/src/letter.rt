@@ -9,19 +9,18 @@ ghost use Rattle.osn_letters.specs.Fields as spec;
 use crate::added_fields::Summary;
 use crate::edtf::{edtf_of_days, edtf_of_span, sign};
 use crate::no_place::NoPlace;
-use crate::place_territory::territory_in;
 use crate::places::Places;
 use crate::remark::{PossibleRemark, Remark, applying, remarks_beside, remarks_on_days};
 use crate::row_field::{date_of_field, is_malformed_weekday, weekday_in};
 use crate::set::fields_of_set;
 use crate::span::{NO_SPAN, span_of_days, span_of_runs};
+use crate::territory_finder::TerritoryFinder;
 use osn_days::Weekday;
 use osn_grammar::{DateOrder, Written};
-use osn_register::Register;
 use osn_territory::{DatedDay, Run, Territory};
 use osn_written::{
     AnyDate, DateFault, Kind, NoDay, WrittenDate, absence_of, by_reckoning, dated_by, days_meant,
-    find_runs, is_by_other_calendar, is_extent_not_counted_double, kind_of,
+    ends_in_next_year, find_runs, is_by_other_calendar, is_extent_not_counted_double, kind_of,
 };
 use std::alloc::{AllocError, Global};
 
@@ -64,7 +63,7 @@ pub(crate) fn fields_of_none(
     reasons: &[PossibleRemark],
     beside: &[PossibleRemark],
 ) -> Result<LetterFields, AllocError>
-    ensures { IfOk result (λ made. spec.fields_and_remarks made
+    ensures { IfOk result (λ fields. spec.fields_and_remarks fields
         ≡ spec.fields_of_none edition kind (reasons.now ++ beside.now)) }
 {
     let summary = Summary {
@@ -85,7 +84,7 @@ fn fields_of_days(
     on_days: &[PossibleRemark],
     beside: &[PossibleRemark],
 ) -> Result<LetterFields, AllocError>
-    ensures { IfOk result (λ made. spec.fields_and_remarks made
+    ensures { IfOk result (λ fields. spec.fields_and_remarks fields
         ≡ spec.fields_of_days edition date days.items (on_days.now ++ beside.now)) }
 {
     let summary = Summary {
@@ -112,7 +111,7 @@ fn fields_of_runs(
     on_days: &[PossibleRemark],
     beside: &[PossibleRemark],
 ) -> Result<LetterFields, AllocError>
-    ensures { IfOk result (λ made. spec.fields_and_remarks made
+    ensures { IfOk result (λ fields. spec.fields_and_remarks fields
         ≡ spec.fields_of_runs edition date runs.now (on_days.now ++ beside.now)) }
 {
     let summary = Summary {
@@ -133,7 +132,7 @@ fn fields_of_absence(
     reason: NoDay,
     beside: &[PossibleRemark],
 ) -> Result<LetterFields, AllocError>
-    ensures { IfOk result (λ made. spec.fields_and_remarks made
+    ensures { IfOk result (λ fields. spec.fields_and_remarks fields
         ≡ spec.fields_of_absence edition date reason beside.now) }
 {
     let kind = Some(kind_of(date.extent));
@@ -155,20 +154,20 @@ fn fields_of_one_day(
     territory: &Territory,
     date: AnyDate,
     day: WrittenDate,
-    given: Option<Weekday>,
+    weekday: Option<Weekday>,
     beside: &[PossibleRemark],
 ) -> Result<LetterFields, AllocError>
-    ensures { IfOk result (λ made. spec.fields_and_remarks made
+    ensures { IfOk result (λ fields. spec.fields_and_remarks fields
         ≡ spec.fields_of_one_day newest_rules
-        edition own.now territory.now date day given beside.now) }
+        edition own.now territory.now date day weekday beside.now) }
 {
-    let meant = days_meant(alloc, territory, day, given)?;
-    let days = dated_by(alloc, own, meant.as_slice())?;
+    let meant_days = days_meant(alloc, territory, day, weekday)?;
+    let days = dated_by(alloc, own, meant_days.as_slice())?;
     if days.is_empty() {
         let reason = NoDay::Absent(absence_of(territory, day)?);
         return fields_of_absence(alloc, edition, date, reason, beside);
     }
-    let on_days = remarks_on_days(day, given, &days);
+    let on_days = remarks_on_days(day, weekday, &days);
     fields_of_days(alloc, edition, date, days, &on_days, beside)
 }
 
@@ -181,12 +180,16 @@ fn fields_of_many_days(
     date: AnyDate,
     beside: &[PossibleRemark],
 ) -> Result<LetterFields, AllocError>
-    ensures { IfOk result (λ made. spec.fields_and_remarks made
+    ensures { IfOk result (λ fields. spec.fields_and_remarks fields
         ≡ spec.fields_of_many_days newest_rules
         edition own.now territory.now date beside.now) }
 {
     let is_single = is_extent_not_counted_double(alloc, own, territory, date.extent)?;
-    let on_days = [(is_single, Remark::NotCountedDouble)];
+    let is_later = ends_in_next_year(alloc, territory, date.extent)?;
+    let on_days = [
+        (is_single, Remark::NotCountedDouble),
+        (is_later, Remark::EndsInNextYear),
+    ];
     match find_runs(alloc, territory, date.extent)? {
         Ok(runs) => fields_of_runs(alloc, edition, date, &runs, &on_days, beside),
         Err(reason) => fields_of_absence(alloc, edition, date, reason, beside),
@@ -202,17 +205,17 @@ fn fields_by(
     territory: &Territory,
     is_by_other_calendar: bool,
     date: AnyDate,
-    named: Option<&[u8]>,
+    weekday_field: Option<&[u8]>,
 ) -> Result<LetterFields, AllocError>
-    ensures { IfOk result (λ made. spec.fields_and_remarks made
+    ensures { IfOk result (λ fields. spec.fields_and_remarks fields
         ≡ spec.fields_by newest_rules edition own.now
-        territory.now is_by_other_calendar date (option_map (λ w. w.now) named.entry)) }
+        territory.now is_by_other_calendar date (option_map (λ w. w.now) weekday_field.entry)) }
 {
-    let given = weekday_in(named);
-    let is_malformed = is_malformed_weekday(named);
-    let beside = remarks_beside(date, given, is_by_other_calendar, is_malformed);
+    let weekday = weekday_in(weekday_field);
+    let is_malformed = is_malformed_weekday(weekday_field);
+    let beside = remarks_beside(date, weekday, is_by_other_calendar, is_malformed);
     match WrittenDate::of_one_day(date) {
-        Some(day) => fields_of_one_day(alloc, edition, own, territory, date, day, given, &beside),
+        Some(day) => fields_of_one_day(alloc, edition, own, territory, date, day, weekday, &beside),
         None => fields_of_many_days(alloc, edition, own, territory, date, &beside),
     }
 }
@@ -223,18 +226,34 @@ fn fields_in(
     edition: usize,
     territory: &Territory,
     date: AnyDate,
-    named: Option<&[u8]>,
+    weekday_field: Option<&[u8]>,
 ) -> Result<LetterFields, AllocError>
-    ensures { IfOk result (λ made. spec.fields_and_remarks made
+    ensures { IfOk result (λ fields. spec.fields_and_remarks fields
         ≡ spec.fields_in newest_rules edition
-        territory.now date (option_map (λ w. w.now) named.entry)) }
+        territory.now date (option_map (λ w. w.now) weekday_field.entry)) }
 {
     let Some(reckoning) = date.reckoning else {
-        return fields_by(alloc, edition, territory, territory, false, date, named);
+        return fields_by(
+            alloc,
+            edition,
+            territory,
+            territory,
+            false,
+            date,
+            weekday_field,
+        );
     };
     let is_other = is_by_other_calendar(alloc, territory, date)?;
-    let reckoned = by_reckoning(alloc, territory, reckoning)?;
-    fields_by(alloc, edition, territory, &reckoned, is_other, date, named)
+    let reckoned_territory = by_reckoning(alloc, territory, reckoning)?;
+    fields_by(
+        alloc,
+        edition,
+        territory,
+        &reckoned_territory,
+        is_other,
+        date,
+        weekday_field,
+    )
 }
 
 /// Returns the fields of a date whose place is not known, for that reason, with the field of the
@@ -244,15 +263,15 @@ fn fields_without_place(
     edition: usize,
     reason: NoPlace,
     date: AnyDate,
-    named: Option<&[u8]>,
+    weekday_field: Option<&[u8]>,
 ) -> Result<LetterFields, AllocError>
-    ensures { IfOk result (λ made. spec.fields_and_remarks made
+    ensures { IfOk result (λ fields. spec.fields_and_remarks fields
         ≡ spec.fields_without_place edition reason date
-        (option_map (λ w. w.now) named.entry)) }
+        (option_map (λ w. w.now) weekday_field.entry)) }
 {
-    let given = weekday_in(named);
-    let is_malformed = is_malformed_weekday(named);
-    let beside = remarks_beside(date, given, false, is_malformed);
+    let weekday = weekday_in(weekday_field);
+    let is_malformed = is_malformed_weekday(weekday_field);
+    let beside = remarks_beside(date, weekday, false, is_malformed);
     let kind = Some(kind_of(date.extent));
     fields_of_none(
         alloc,
@@ -269,16 +288,16 @@ fn fields_of_date(
     edition: usize,
     territory: Result<&Territory, NoPlace>,
     date: AnyDate,
-    named: Option<&[u8]>,
+    weekday_field: Option<&[u8]>,
 ) -> Result<LetterFields, AllocError>
-    ensures { IfOk result (λ made. spec.fields_and_remarks made
+    ensures { IfOk result (λ fields. spec.fields_and_remarks fields
         ≡ spec.fields_of_date newest_rules edition
         (result_map_both (λ t. t.now) (λ reason. reason) territory.entry) date
-        (option_map (λ w. w.now) named.entry)) }
+        (option_map (λ w. w.now) weekday_field.entry)) }
 {
     match territory {
-        Ok(territory) => fields_in(alloc, edition, territory, date, named),
-        Err(reason) => fields_without_place(alloc, edition, reason, date, named),
+        Ok(territory) => fields_in(alloc, edition, territory, date, weekday_field),
+        Err(reason) => fields_without_place(alloc, edition, reason, date, weekday_field),
     }
 }
 
@@ -300,14 +319,17 @@ fn fields_without_date(
     edition: usize,
     fault: DateFault,
     place: PossibleRemark,
-    named: Option<&[u8]>,
+    weekday_field: Option<&[u8]>,
 ) -> Result<LetterFields, AllocError>
-    ensures { IfOk result (λ made. spec.fields_and_remarks made
+    ensures { IfOk result (λ fields. spec.fields_and_remarks fields
         ≡ spec.fields_without_date edition fault
-        place (option_map (λ w. w.now) named.entry)) }
+        place (option_map (λ w. w.now) weekday_field.entry)) }
 {
     let reasons = [(true, Remark::NotRead(fault)), place];
-    let beside = [(is_malformed_weekday(named), Remark::MalformedWeekday)];
+    let beside = [(
+        is_malformed_weekday(weekday_field),
+        Remark::MalformedWeekday,
+    )];
     fields_of_none(alloc, edition, None, &reasons, &beside)
 }
 
@@ -328,7 +350,7 @@ fn fields_without_date(
 #[tactic(auto, using(crate::proofs::EdtfFacts::runs_read, crate::proofs::EdtfFacts::days_read))]
 pub fn row_fields(
     alloc: Global,
-    register: &Register,
+    territories: &TerritoryFinder<'_>,
     edition: usize,
     order: DateOrder,
     places: Option<&Places>,
@@ -336,15 +358,15 @@ pub fn row_fields(
     date: &[u8],
     weekday: Option<&[u8]>,
 ) -> Result<LetterFields, AllocError>
-    ensures value { IfOk result (λ made. spec.fields_and_remarks made
-        ≡ spec.row_fields newest_rules register.now.territories edition order
+    ensures value { IfOk result (λ fields. spec.fields_and_remarks fields
+        ≡ spec.row_fields newest_rules territories.now edition order
         (unwrap_or (option_map (λ places. places.now) places.entry) []) place.now date.now
         (option_map (λ w. w.now) weekday.entry)) }
     // as laws: what `edtf` has of several runs or days is read as the set of these
     ensures runs { AreRunsRead newest_rules }
     ensures days { AreDaysRead newest_rules }
 {
-    let territory = territory_in(register, places, place);
+    let territory = territories.find(alloc, places, place)?;
     match date_of_field(alloc, order, date)? {
         Ok(Written::Date(date)) => fields_of_date(alloc, edition, territory, date, weekday),
         Ok(Written::Set) => fields_of_set(alloc, edition, territory, date, weekday),

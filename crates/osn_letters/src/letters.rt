@@ -18,8 +18,9 @@ use crate::settings::TableSettings;
 use crate::start::{ByteOrderMark, MARK};
 use crate::table::Table;
 use crate::tally::Tally;
+use crate::territory_finder::TerritoryFinder;
 use osn_register::Register;
-use std::alloc::Global;
+use std::alloc::{AllocError, Global};
 
 /// The records that come, and the table that is made of them.
 #[derive(Drop)]
@@ -36,30 +37,31 @@ impl<'a> Letters<'a> {
         register: &'a Register,
         edition: usize,
         settings: TableSettings<'a>,
-    ) -> Letters<'a>
-        ensures ready { inside.IsReady result }
-        ensures line { result.parser.line ≡ 1 }
-        ensures empty { waiting result.table.out ≡ [] }
-        ensures text { (text : List ℕ) → inside.text_from result text
+    ) -> Result<Letters<'a>, AllocError>
+        ensures ready { IfOk result inside.IsReady }
+        ensures line { IfOk result (λ letters. letters.parser.line ≡ 1) }
+        ensures empty { IfOk result (λ letters. waiting letters.table.out ≡ []) }
+        ensures text { IfOk result (λ letters. (text : List ℕ) → inside.text_from letters text
             ≡ letters_written (basis newest_rules register.now.territories edition settings.entry)
-            text }
-        ensures tally { (text : List ℕ) → inside.tally_from result text
+            text) }
+        ensures tally { IfOk result (λ letters. (text : List ℕ) → inside.tally_from letters text
             ≡ letters_tally (basis newest_rules register.now.territories edition settings.entry)
-            text }
+            text) }
     {
-        Letters {
+        let territories = TerritoryFinder::new(alloc, register)?;
+        Ok(Letters {
             start: ByteOrderMark::Nothing,
             parser: RecordParser::new(alloc, settings.separator),
             table: Table {
                 alloc,
-                register,
+                territories,
                 edition,
                 settings,
                 rows: None,
                 tally: Tally::new(alloc),
                 out: RowWriter::new(Separator::Comma, Vec::new(alloc)),
             },
-        }
+        })
     }
 }
 
@@ -185,9 +187,9 @@ impl Letters<'_> {
         ensures counts { OnOk result (inside.CountsBytes self.old self.new piece.now) }
         ensures stops { IfErr result (inside.StopsAt self.old self.new piece.now) }
     {
-        let mut taken = 0;
-        while taken < piece.len() {
-            taken += self.take_some(&piece[taken..])?;
+        let mut count = 0;
+        while count < piece.len() {
+            count += self.take_some(&piece[count..])?;
         }
         Ok(())
     }

@@ -67,14 +67,19 @@ impl PlaceReader {
     {
         let row = &self.parser.fields;
         if row.len() != columns.width {
-            return Err(PlacesFault::BadRecord { line });
+            return Err(PlacesFault::BadRecord {
+                line,
+                fields: row.len(),
+                width: columns.width,
+            });
         }
         let place = text_in_field(field_at(row, columns.place));
         let code = text_in_field(field_at(row, columns.code));
         let (Some(place), Some(code)) = (place, code) else {
             return Err(PlacesFault::NotUtf8 { line });
         };
-        self.places.take(self.alloc, line, place, code)
+        let code = code.to_ascii_uppercase(self.alloc)?;
+        self.places.take(self.alloc, line, place, &code)
     }
 
     /// Takes the record that is in the parser.

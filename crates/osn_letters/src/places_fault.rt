@@ -45,6 +45,10 @@ pub enum PlacesFault {
     /// The record on that line has another number of fields than the header.
     BadRecord {
         line: u64,
+        /// How many fields the record has.
+        fields: usize,
+        /// How many fields the header has.
+        width: usize,
     },
     /// The record on that line has more than 65,536 bytes.
     TooLong {
@@ -83,7 +87,7 @@ impl From<AllocError> for PlacesFault {
 
 /// The parser of records returns three faults of a record, and `NoMemory`.
 impl From<LettersFault> for PlacesFault {
-    ghost from_gives = { λ fault given. given ≡ spec.of_letters fault };
+    ghost from_gives = { λ fault value. value ≡ spec.of_letters fault };
 
     fn from(fault: LettersFault) -> PlacesFault {
         match fault {
@@ -96,7 +100,7 @@ impl From<LettersFault> for PlacesFault {
 }
 
 impl From<ReadAllFault> for PlacesFault {
-    ghost from_gives = { λ fault given. given ≡ spec.of_reading fault };
+    ghost from_gives = { λ fault value. value ≡ spec.of_reading fault };
 
     fn from(fault: ReadAllFault) -> PlacesFault {
         match fault {

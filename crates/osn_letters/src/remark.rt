@@ -30,6 +30,8 @@ pub enum Remark {
     WeekdayDiffers,
     /// Its date is a double one, and the territory wrote the later year alone.
     NotCountedDouble,
+    /// Its date is a range of days with one year written, and ends in the next year.
+    EndsInNextYear,
     /// An editor supplied its date.
     Supplied,
     /// A year of its date has three digits and no zero before them, so that it may lack its last.
@@ -55,6 +57,7 @@ impl Remark {
             Remark::SeveralDays => "several days",
             Remark::WeekdayDiffers => "weekday differs",
             Remark::NotCountedDouble => "not counted double there",
+            Remark::EndsInNextYear => "ends in the next year",
             Remark::Supplied => "supplied by an editor",
             Remark::YearOfThreeDigits => "year of three digits",
             Remark::ByAnotherCalendar => "by another calendar",
@@ -100,18 +103,18 @@ pub(crate) fn remark_text(alloc: Global, remarks: &[Remark]) -> Result<String, A
 }
 
 /// Returns whether a weekday is given, by the date itself or beside it.
-fn is_weekday_given(named: Option<Weekday>, given: Option<Weekday>) -> bool
-    ensures { result ≡ spec.is_weekday_given named given }
+fn is_weekday_given(date_weekday: Option<Weekday>, weekday: Option<Weekday>) -> bool
+    ensures { result ≡ spec.is_weekday_given date_weekday weekday }
 {
-    named.is_some() || given.is_some()
+    date_weekday.is_some() || weekday.is_some()
 }
 
 /// Returns how many of the days have the weekday.
-fn count_on_weekday(date: WrittenDate, given: Option<Weekday>, days: &[DatedDay]) -> usize
-    ensures { result ≡ count_by (meaning.has_weekday date given) days.now }
+fn count_on_weekday(date: WrittenDate, weekday: Option<Weekday>, days: &[DatedDay]) -> usize
+    ensures { result ≡ count_by (meaning.has_weekday date weekday) days.now }
 {
     days.iter()
-        .filter(|day| has_weekday(date, given, day))
+        .filter(|day| has_weekday(date, weekday, day))
         .count()
 }
 
@@ -119,19 +122,19 @@ fn count_on_weekday(date: WrittenDate, given: Option<Weekday>, days: &[DatedDay]
 fn are_on_weekday(
     count: usize,
     date: WrittenDate,
-    given: Option<Weekday>,
+    weekday: Option<Weekday>,
     days: &[DatedDay],
 ) -> bool
-    ensures { result ≡ spec.are_on_weekday count date given days.now }
+    ensures { result ≡ spec.are_on_weekday count date weekday days.now }
 {
-    is_weekday_given(date.weekday, given) && count_on_weekday(date, given, days) == count
+    is_weekday_given(date.weekday, weekday) && count_on_weekday(date, weekday, days) == count
 }
 
 /// Returns the remark on several days: whether the given weekday decides between them.
-fn several_remark(date: WrittenDate, given: Option<Weekday>, days: &[DatedDay]) -> Remark
-    ensures { result ≡ spec.several_remark date given days.now }
+fn several_remark(date: WrittenDate, weekday: Option<Weekday>, days: &[DatedDay]) -> Remark
+    ensures { result ≡ spec.several_remark date weekday days.now }
 {
-    if are_on_weekday(1, date, given, days) {
+    if are_on_weekday(1, date, weekday, days) {
         Remark::ByItsWeekday
     } else {
         Remark::SeveralDays
@@ -149,24 +152,30 @@ fn has_not_counted_double(date: WrittenDate, days: &[DatedDay]) -> bool
 /// Returns the remarks on days.
 pub(crate) fn remarks_on_days(
     date: WrittenDate,
-    given: Option<Weekday>,
+    weekday: Option<Weekday>,
     days: &[DatedDay],
 ) -> [PossibleRemark; 3]
-    ensures { result ≡ spec.remarks_on_days date given days.now }
+    ensures { result ≡ spec.remarks_on_days date weekday days.now }
 {
     [
-        (days.len() > 1, several_remark(date, given, days)),
-        (are_on_weekday(0, date, given, days), Remark::WeekdayDiffers),
+        (days.len() > 1, several_remark(date, weekday, days)),
+        (
+            are_on_weekday(0, date, weekday, days),
+            Remark::WeekdayDiffers,
+        ),
         (has_not_counted_double(date, days), Remark::NotCountedDouble),
     ]
 }
 
 /// Returns the remarks that a set has in addition to those on its days.
-pub(crate) fn remarks_beside_set(given: Option<Weekday>, is_malformed: bool) -> [PossibleRemark; 2]
-    ensures { result ≡ spec.remarks_beside_set given is_malformed }
+pub(crate) fn remarks_beside_set(
+    weekday: Option<Weekday>,
+    is_malformed: bool,
+) -> [PossibleRemark; 2]
+    ensures { result ≡ spec.remarks_beside_set weekday is_malformed }
 {
     [
-        (given.is_some(), Remark::WeekdayNotCompared),
+        (weekday.is_some(), Remark::WeekdayNotCompared),
         (is_malformed, Remark::MalformedWeekday),
     ]
 }
@@ -174,14 +183,14 @@ pub(crate) fn remarks_beside_set(given: Option<Weekday>, is_malformed: bool) -> 
 /// Returns the remarks that a date has in addition to those on its days.
 pub(crate) fn remarks_beside(
     date: AnyDate,
-    given: Option<Weekday>,
+    weekday: Option<Weekday>,
     is_by_other_calendar: bool,
     is_malformed: bool,
 ) -> [PossibleRemark; 5]
-    ensures { result ≡ spec.remarks_beside date given is_by_other_calendar is_malformed }
+    ensures { result ≡ spec.remarks_beside date weekday is_by_other_calendar is_malformed }
 {
     let is_one_day = WrittenDate::of_one_day(date).is_some();
-    let is_not_looked_for = !is_one_day && is_weekday_given(date.weekday, given);
+    let is_not_looked_for = !is_one_day && is_weekday_given(date.weekday, weekday);
     [
         (date.is_supplied, Remark::Supplied),
         (

@@ -47,18 +47,18 @@ pub(crate) fn members_in(alloc: Global, field: &[u8]) -> Result<Vec<AnyDate>, Al
 }
 
 /// Returns the weekday of a field, which may be missing.
-pub(crate) fn weekday_in(named: Option<&[u8]>) -> Option<Weekday>
-    ensures { result ≡ spec.weekday_in (option_map (λ w. w.now) named.entry) }
+pub(crate) fn weekday_in(weekday_field: Option<&[u8]>) -> Option<Weekday>
+    ensures { result ≡ spec.weekday_in (option_map (λ w. w.now) weekday_field.entry) }
 {
-    weekday_named(text_in_field(named?)?)
+    weekday_named(text_in_field(weekday_field?)?)
 }
 
 /// Returns whether the field is not empty and is not the name of a weekday.
-pub(crate) fn is_malformed_weekday(named: Option<&[u8]>) -> bool
-    ensures { result ≡ spec.is_malformed_weekday (option_map (λ w. w.now) named.entry) }
+pub(crate) fn is_malformed_weekday(weekday_field: Option<&[u8]>) -> bool
+    ensures { result ≡ spec.is_malformed_weekday (option_map (λ w. w.now) weekday_field.entry) }
 {
-    match named {
-        Some(name) => !trimmed(name).is_empty() && weekday_in(named).is_none(),
+    match weekday_field {
+        Some(name) => !trimmed(name).is_empty() && weekday_in(weekday_field).is_none(),
         None => false,
     }
 }

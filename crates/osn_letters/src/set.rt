@@ -25,7 +25,7 @@ fn fields_of_set_runs(
     runs: &[Run],
     beside: &[PossibleRemark],
 ) -> Result<LetterFields, AllocError>
-    ensures { IfOk result (λ made. spec.fields_and_remarks made
+    ensures { IfOk result (λ fields. spec.fields_and_remarks fields
         ≡ spec.fields_of_set_runs edition members.now runs.now beside.now) }
 {
     let summary = Summary {
@@ -46,7 +46,7 @@ fn fields_of_no_set(
     reason: Remark,
     beside: &[PossibleRemark],
 ) -> Result<LetterFields, AllocError>
-    ensures { IfOk result (λ made. spec.fields_and_remarks made
+    ensures { IfOk result (λ fields. spec.fields_and_remarks fields
         ≡ spec.fields_of_no_set edition reason beside.now) }
 {
     fields_of_none(alloc, edition, Some(Kind::Set), &[(true, reason)], beside)
@@ -60,7 +60,7 @@ fn fields_of_found_set(
     outcome: Result<Vec<Run>, AbsentMember>,
     beside: &[PossibleRemark],
 ) -> Result<LetterFields, AllocError>
-    ensures { IfOk result (λ made. spec.fields_and_remarks made
+    ensures { IfOk result (λ fields. spec.fields_and_remarks fields
         ≡ spec.fields_of_found_set edition members.now beside.now (set_list_of outcome)) }
 {
     match outcome {
@@ -77,7 +77,7 @@ fn fields_of_members(
     members: &[AnyDate],
     beside: &[PossibleRemark],
 ) -> Result<LetterFields, AllocError>
-    ensures { IfOk result (λ made. spec.fields_and_remarks made
+    ensures { IfOk result (λ fields. spec.fields_and_remarks fields
         ≡ spec.fields_of_members newest_rules edition
         (result_map_both (λ t. t.now) (λ reason. reason) territory.entry) members.now beside.now) }
 {
@@ -96,14 +96,17 @@ pub(crate) fn fields_of_set(
     edition: usize,
     territory: Result<&Territory, NoPlace>,
     date: &[u8],
-    named: Option<&[u8]>,
+    weekday_field: Option<&[u8]>,
 ) -> Result<LetterFields, AllocError>
-    ensures { IfOk result (λ made. spec.fields_and_remarks made
+    ensures { IfOk result (λ fields. spec.fields_and_remarks fields
         ≡ spec.fields_of_set newest_rules edition
         (result_map_both (λ t. t.now) (λ reason. reason) territory.entry)
-        (members_in_field date.now) (option_map (λ w. w.now) named.entry)) }
+        (members_in_field date.now) (option_map (λ w. w.now) weekday_field.entry)) }
 {
     let members = members_in(alloc, date)?;
-    let beside = remarks_beside_set(weekday_in(named), is_malformed_weekday(named));
+    let beside = remarks_beside_set(
+        weekday_in(weekday_field),
+        is_malformed_weekday(weekday_field),
+    );
     fields_of_members(alloc, edition, territory, &members, &beside)
 }

@@ -71,6 +71,10 @@ pub(crate) fn span_of_runs(extent: Extent, runs: &[Run]) -> Span
             latest: None,
             ..span
         },
-        Extent::On(_) | Extent::FromTo(_, _) | Extent::Part(_, _) | Extent::Feast { .. } => span,
+        Extent::On(_)
+        | Extent::FromTo(_, _)
+        | Extent::DaysOfYear { .. }
+        | Extent::Part(_, _)
+        | Extent::Feast { .. } => span,
     }
 }

@@ -20,10 +20,10 @@ use osn_register::Register;
 use std::alloc::Global;
 
 /// Returns whether it is known what waits of what was taken: it is not if memory ran out.
-fn is_known(taken: &Result<(), LettersFault>) -> bool
-    ensures { result ≡ inside.is_known taken.now }
+fn is_known(outcome: &Result<(), LettersFault>) -> bool
+    ensures { result ≡ inside.is_known outcome.now }
 {
-    match taken {
+    match outcome {
         Ok(()) => true,
         Err(fault) => fault.is_of_table(),
     }
@@ -35,27 +35,27 @@ fn write_out<W: Sink>(
     alloc: Global,
     sink: &mut W,
     out: &mut RowWriter,
-    taken: Result<(), LettersFault>,
+    outcome: Result<(), LettersFault>,
 ) -> Result<(), LettersFault>
-    requires inner { IfErr taken (λ f. is_of_stream f ≡ false) }
+    requires inner { IfErr outcome (λ f. is_of_stream f ≡ false) }
     ensures all { OnOk result (inside.WritesAll (W.contents sink.old) (W.contents sink.new)
-        out.old out.new taken) }
+        out.old out.new outcome) }
     ensures passed { OnOk result (W.holds_back sink.new ≡ false) }
-    ensures early { IfErr result (λ f. (w : spec.Written) → inside.Waits (waiting out.old) taken w
+    ensures early { IfErr result (λ f. (w : spec.Written) → inside.Waits (waiting out.old) outcome w
         → spec.EndsEarly (W.contents sink.old) (W.contents sink.new) w f) }
     ensures sink { MatchResult result (λ _. W.has_failed sink.new ≡ W.has_failed sink.old)
         (λ f. EndsStream (is_write_fault f) (W.has_failed sink.old) (W.has_failed sink.new)
-        ((w : spec.Written) → inside.Waits (waiting out.old) taken w → spec.IsLong w)) }
+        ((w : spec.Written) → inside.Waits (waiting out.old) outcome w → spec.IsLong w)) }
     ensures unread { IfErr result (λ f. is_read_fault f ≡ false) }
 {
-    if !is_known(&taken) {
-        return taken;
+    if !is_known(&outcome) {
+        return outcome;
     }
     let Ok(text) = out.take_text(alloc) else {
         return Err(LettersFault::NoMemory);
     };
     match write_all(sink, &text) {
-        Ok(()) => taken,
+        Ok(()) => outcome,
         Err(_) => Err(LettersFault::WriteFault),
     }
 }
@@ -83,8 +83,8 @@ fn take_and_write<W: Sink>(
         (W.has_failed sink.new) letters.old piece.now) }
     ensures unread { IfErr result (λ f. is_read_fault f ≡ false) }
 {
-    let taken = letters.take_piece(piece);
-    write_out(letters.table.alloc, sink, &mut letters.table.out, taken)
+    let outcome = letters.take_piece(piece);
+    write_out(letters.table.alloc, sink, &mut letters.table.out, outcome)
 }
 
 /// Ends the text, writes what that adds to the table, and takes the tally of the rows out.
@@ -103,8 +103,8 @@ fn finish_and_write<W: Sink>(letters: &mut Letters<'_>, sink: &mut W) -> Result<
         (W.has_failed sink.new) (spec.IsLong (inside.text_from letters.old []))) }
     ensures unread { IfErr result (λ f. is_read_fault f ≡ false) }
 {
-    let finished = letters.finish();
-    match write_out(letters.table.alloc, sink, &mut letters.table.out, finished) {
+    let outcome = letters.finish();
+    match write_out(letters.table.alloc, sink, &mut letters.table.out, outcome) {
         Ok(()) => Ok(letters.table.take_tally()),
         Err(fault) => Err(fault),
     }
@@ -118,9 +118,10 @@ fn finish_and_write<W: Sink>(letters: &mut Letters<'_>, sink: &mut W) -> Result<
 /// if there is none. The table is written with the same separator. A byte order mark at the
 /// beginning is ignored.
 ///
-/// What a read gives is written before the next read. In addition to the register, memory contains
-/// one read of at most 65,536 bytes, what is written of them, and at most 65,536 bytes of a record
-/// that hasn't ended yet. `progress` counts each read that gave bytes.
+/// What a read gives is written before the next read. In addition to the register and a map of its
+/// codes and names, memory contains one read of at most 65,536 bytes, what is written of them, and
+/// at most 65,536 bytes of a record that hasn't ended yet. `progress` counts each read that gave
+/// bytes.
 ///
 /// If the whole table was written, the tally of its rows is returned.
 ///
@@ -183,7 +184,9 @@ pub fn write_letters<R: Source, W: Sink, P: Progress>(
     let Ok(mut buffer) = read_buffer(alloc) else {
         return Err(LettersFault::NoMemory);
     };
-    let mut letters = Letters::new(alloc, register, edition, settings);
+    let Ok(mut letters) = Letters::new(alloc, register, edition, settings) else {
+        return Err(LettersFault::NoMemory);
+    };
     for _call in 0..u32::MAX {
         let Ok(read) = source.read(&mut buffer) else {
             return Err(LettersFault::ReadFault);

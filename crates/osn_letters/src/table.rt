@@ -18,8 +18,8 @@ use crate::letter::{LetterFields, row_fields};
 use crate::separator::Separator;
 use crate::settings::TableSettings;
 use crate::tally::Tally;
+use crate::territory_finder::TerritoryFinder;
 use csv::ByteRecord;
-use osn_register::Register;
 use std::alloc::{AllocError, Global};
 use std::mem;
 
@@ -36,7 +36,7 @@ pub(crate) struct Rows {
 #[derive(Drop)]
 pub(crate) struct Table<'a> {
     pub(crate) alloc: Global,
-    pub(crate) register: &'a Register,
+    pub(crate) territories: TerritoryFinder<'a>,
     pub(crate) edition: usize,
     pub(crate) settings: TableSettings<'a>,
     pub(crate) rows: Option<Rows>,
@@ -109,12 +109,12 @@ impl Table<'_> {
         row: &ByteRecord,
         date: &[u8],
     ) -> Result<LetterFields, AllocError>
-        ensures { IfOk result (λ made. fields_and_remarks made ≡ spec.letter_with_date
+        ensures { IfOk result (λ fields. fields_and_remarks fields ≡ spec.letter_with_date
             (inside.source_of self.now) columns (fields_of row.now) date.now) }
     {
         row_fields(
             self.alloc,
-            self.register,
+            &self.territories,
             self.edition,
             self.settings.order,
             self.settings.places,
@@ -126,7 +126,7 @@ impl Table<'_> {
 
     /// Returns the twelve fields of a record, and its remarks.
     fn letter_of(&self, columns: Columns, row: &ByteRecord) -> Result<LetterFields, AllocError>
-        ensures { IfOk result (λ made. fields_and_remarks made ≡ spec.letter_of
+        ensures { IfOk result (λ fields. fields_and_remarks fields ≡ spec.letter_of
             (inside.source_of self.now) columns (fields_of row.now)) }
     {
         match columns.date {
@@ -152,10 +152,10 @@ impl Table<'_> {
         ensures tally { OnOk result (self.new.tally ≡ with_row self.old.tally
             (spec.letter_of (inside.source_of self.old) columns (fields_of row.old)).remarks) }
     {
-        let made = self.letter_of(columns, row)?;
+        let fields = self.letter_of(columns, row)?;
         keep_fields(row, columns.own);
-        made.push_to(self.alloc, row)?;
-        self.tally.count(&made.remarks)?;
+        fields.push_to(self.alloc, row)?;
+        self.tally.count(&fields.remarks)?;
         self.out.write_row(row)
     }
 
@@ -171,7 +171,11 @@ impl Table<'_> {
         ensures between { OnOk result (IsBetweenRows self.new.out) }
     {
         if row.len() != rows.width {
-            return Err(LettersFault::BadRecord { line });
+            return Err(LettersFault::BadRecord {
+                line,
+                fields: row.len(),
+                width: rows.width,
+            });
         }
         self.push_row(rows.columns, row)?;
         Ok(())

@@ -3,7 +3,7 @@ use Rattle.std.proofs.Common.{◌≡◌, ◌+◌, ◌-◌, ◌≤◌, ◌==◌, 
 use Rattle.std.proofs.Common.{[], ◌∷◌, ◌++◌, length, refl, ap, ◌∙◌, arith, cond}
 use Rattle.std.proofs.Common.{zero-le}
 use Rattle.memchr.specs.Find.{Nowhere, NoneAfter, Passes, is_byte}
-use Rattle.osn_lines.specs.Ended.{with_byte, ended_length}
+use Rattle.osn_lines.specs.LastLineFeed.{with_byte, ended_length}
 
 -- ---- by the last line feed
 

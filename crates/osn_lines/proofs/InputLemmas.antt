@@ -12,8 +12,8 @@ use Rattle.osn_lines.specs.declared.unended_line.UnendedLine.{UnendedLine}
 use Rattle.osn_lines.specs.Faults.{MatchFault}
 use Rattle.osn_lines.specs.Inside.{IsUnended, IsTaken, IsStopped}
 use Rattle.osn_lines.specs.Lines.{lines}
-use Rattle.osn_lines.specs.Taking.{Takes, Stops, TakesAll, TakesFirst, StopsAfter, HasRead}
-use Rattle.osn_lines.specs.Taking.{TakesEnded, HasKeptUp}
+use Rattle.osn_lines.specs.Takers.{Takes, Stops, TakesAll, TakesFirst, StopsAfter, HasRead}
+use Rattle.osn_lines.specs.Takers.{TakesEnded, HasKeptUp}
 use Rattle.osn_lines.proofs.LineLemmas.{lines-feed}
 use Rattle.osn_lines.proofs.TakeLemmas.{Takes-then}
 
@@ -76,9 +76,9 @@ TakesFirst-from after s t a b bytes n Left h consumed = record {
 
 -- this many lines have ended of the bytes that were read
 ended_of : {S : Type 0} (after : S → List (List ℕ) → S → Type 0) (s t : S) (bytes : List ℕ)
-    (unended : UnendedLine) (n : ℕ) → IsTaken after s t bytes 0 n (IsUnended unended) →
+    (partial_line : UnendedLine) (n : ℕ) → IsTaken after s t bytes 0 n (IsUnended partial_line) →
     length (lines (bytes ++ 10 ∷ [])) ≡ n + 1
-ended_of after s t bytes unended n h =
+ended_of after s t bytes partial_line n h =
     omega (
       arith,
       h.count,
@@ -88,12 +88,12 @@ ended_of after s t bytes unended n h =
     )
 
 pub HasRead-from : {S : Type 0} (after : S → List (List ℕ) → S → Type 0) (s t : S)
-    (a b : Option (List ℕ)) (bytes : List ℕ) (unended : UnendedLine) (n : ℕ) →
-    IsTaken after s t bytes 0 n (IsUnended unended) → Consumes a b bytes → HasRead a b n
-HasRead-from after s t a b bytes unended n h consumed = record {
+    (a b : Option (List ℕ)) (bytes : List ℕ) (partial_line : UnendedLine) (n : ℕ) →
+    IsTaken after s t bytes 0 n (IsUnended partial_line) → Consumes a b bytes → HasRead a b n
+HasRead-from after s t a b bytes partial_line n h consumed = record {
   read = bytes;
   consumed = consumed;
-  ended = ended_of after s t bytes unended n h;
+  ended = ended_of after s t bytes partial_line n h;
 }
 
 -- each of them was taken
@@ -113,15 +113,15 @@ HasKeptUp-at_end a b m n h same =
 
 -- after one more read, of which lines may be left
 pub HasKeptUp-more : {S : Type 0} (after : S → List (List ℕ) → S → Type 0) (s t : S)
-    (a b : Option (List ℕ)) (bytes more : List ℕ) (unended : UnendedLine) (m n : ℕ) →
-    IsTaken after s t bytes 0 m (IsUnended unended) → Consumes a b (bytes ++ more) →
+    (a b : Option (List ℕ)) (bytes more : List ℕ) (partial_line : UnendedLine) (m n : ℕ) →
+    IsTaken after s t bytes 0 m (IsUnended partial_line) → Consumes a b (bytes ++ more) →
     length more ≤ 65536 → m ≤ n → HasKeptUp a b n
-HasKeptUp-more after s t a b bytes more unended m n h consumed few le = record {
+HasKeptUp-more after s t a b bytes more partial_line m n h consumed few le = record {
   earlier = bytes;
   last = more;
   consumed = consumed;
   few = few;
-  ended = omega (arith, ended_of after s t bytes unended m h, le);
+  ended = omega (arith, ended_of after s t bytes partial_line m h, le);
 }
 
 -- a cause for which lines that were read may be left
@@ -133,28 +133,29 @@ counts_on (Stopped why) n m h = h
 
 -- if no more is read than was taken and kept
 pub TakesEnded-from : {S : Type 0} (after : S → List (List ℕ) → S → Type 0) (s t : S)
-    (a b : Option (List ℕ)) (bytes : List ℕ) (unended : UnendedLine) (n : ℕ) →
-    IsTaken after s t bytes 0 n (IsUnended unended) → Consumes a b bytes →
+    (a b : Option (List ℕ)) (bytes : List ℕ) (partial_line : UnendedLine) (n : ℕ) →
+    IsTaken after s t bytes 0 n (IsUnended partial_line) → Consumes a b bytes →
     TakesEnded after s t a b n
-TakesEnded-from after s t a b bytes unended n h consumed = record {
-  first = TakesFirst-from after s t a b bytes n (IsUnended unended) h consumed;
-  read = HasRead-from after s t a b bytes unended n h consumed;
+TakesEnded-from after s t a b bytes partial_line n h consumed = record {
+  first = TakesFirst-from after s t a b bytes n (IsUnended partial_line) h consumed;
+  read = HasRead-from after s t a b bytes partial_line n h consumed;
 }
 
 -- at the end all lines were taken
 lines_at_end : {S : Type 0} (after : S → List (List ℕ) → S → Type 0) (s t : S) (bytes : List ℕ)
-    (unended : UnendedLine) (n : ℕ) (h : IsTaken after s t bytes 0 n (IsUnended unended)) →
+    (partial_line : UnendedLine) (n : ℕ) (h : IsTaken after s t bytes 0 n (IsUnended partial_line))
+    →
     lines bytes ≡ h.lines_taken ++ lines h.left
-lines_at_end after s t bytes unended n h =
+lines_at_end after s t bytes partial_line n h =
     ap lines (sym (append-nil bytes))
     ∙ (h.cuts.whole [] ∙ ap (λ l. h.lines_taken ++ lines l) (append-nil h.left))
 
 pub TakesAll-from : {S : Type 0} (after : S → List (List ℕ) → S → Type 0) (s t u : S)
-    (a b : Option (List ℕ)) (bytes : List ℕ) (unended : UnendedLine) (m n : ℕ) →
-    IsTaken after s t bytes 0 m (IsUnended unended) → Consumes a b bytes → IsAtEnd b →
-    ((part : List ℕ) → IsUnended unended part →
+    (a b : Option (List ℕ)) (bytes : List ℕ) (partial_line : UnendedLine) (m n : ℕ) →
+    IsTaken after s t bytes 0 m (IsUnended partial_line) → Consumes a b bytes → IsAtEnd b →
+    ((part : List ℕ) → IsUnended partial_line part →
     Takes after t u (lines part) × (n ≡ m + length (lines part))) → TakesAll after s u a n
-TakesAll-from after s t u a b bytes unended m n h consumed end next =
+TakesAll-from after s t u a b bytes partial_line m n h consumed end next =
     let k = next h.left h.rest in
     record {
       lines_taken = h.lines_taken ++ lines h.left;
@@ -162,36 +163,36 @@ TakesAll-from after s t u a b bytes unended m n h consumed end next =
       count = omega (arith, h.count, k.1, length-append h.lines_taken (lines h.left));
       all =
           known_whole (λ input. lines input ≡ h.lines_taken ++ lines h.left) a b bytes consumed end
-          (lines_at_end after s t bytes unended m h);
+          (lines_at_end after s t bytes partial_line m h);
     }
 
 -- if memory runs out at the last line
 pub TakesFirst-at_end : {S : Type 0} (after : S → List (List ℕ) → S → Type 0) (s t u : S)
-    (a b : Option (List ℕ)) (bytes : List ℕ) (unended : UnendedLine) (m n : ℕ) →
-    IsTaken after s t bytes 0 m (IsUnended unended) → Consumes a b bytes → n ≡ m → u ≡ t →
+    (a b : Option (List ℕ)) (bytes : List ℕ) (partial_line : UnendedLine) (m n : ℕ) →
+    IsTaken after s t bytes 0 m (IsUnended partial_line) → Consumes a b bytes → n ≡ m → u ≡ t →
     TakesFirst after s u a n
-TakesFirst-at_end {S} after s t u a b bytes unended m n h consumed same still =
+TakesFirst-at_end {S} after s t u a b bytes partial_line m n h consumed same still =
     subst (λ (v : S). TakesFirst after s v a n) (sym still)
     (subst (λ (i : ℕ). TakesFirst after s t a i) (sym same)
-    (TakesFirst-from after s t a b bytes m (IsUnended unended) h consumed))
+    (TakesFirst-from after s t a b bytes m (IsUnended partial_line) h consumed))
 
 -- if the taker stops at the last line
 pub StopsAfter-at_end : {S W : Type 0} (after : S → List (List ℕ) → S → Type 0)
     (stopped : S → List (List ℕ) → Option (List ℕ) → S → W → Type 0) (s t u : S)
-    (a b : Option (List ℕ)) (bytes : List ℕ) (unended : UnendedLine) (m n : ℕ) (why : W) →
-    IsTaken after s t bytes 0 m (IsUnended unended) → Consumes a b bytes → IsAtEnd b → n ≡ m →
-    ((part : List ℕ) → IsUnended unended part →
+    (a b : Option (List ℕ)) (bytes : List ℕ) (partial_line : UnendedLine) (m n : ℕ) (why : W) →
+    IsTaken after s t bytes 0 m (IsUnended partial_line) → Consumes a b bytes → IsAtEnd b → n ≡ m →
+    ((part : List ℕ) → IsUnended partial_line part →
     (lines part ≡ part ∷ []) × Stops after stopped t u (Some part) why) →
     StopsAfter after stopped s u a n why
-StopsAfter-at_end after stopped s t u a b bytes unended m n why h consumed end same next =
+StopsAfter-at_end after stopped s t u a b bytes partial_line m n why h consumed end same next =
     let k = next h.left h.rest in
     let count = from_none n _ (same ∙ h.count) in
     let all : lines bytes ≡ h.lines_taken ++ h.left ∷ [] =
-    lines_at_end after s t bytes unended m h ∙ ap (λ l. h.lines_taken ++ l) k.0 in
+    lines_at_end after s t bytes partial_line m h ∙ ap (λ l. h.lines_taken ++ l) k.0 in
     record {
       lines_taken = h.lines_taken;
       at = Some h.left;
-      stops = λ begun before x. k.1 begun (before ++ h.lines_taken) (h.takes begun before x);
+      stops = λ initial before x. k.1 initial (before ++ h.lines_taken) (h.takes initial before x);
       count = count;
       first =
           known_whole (λ input. take n (lines input) ≡ h.lines_taken) a b bytes consumed end

@@ -5,28 +5,28 @@ use Rattle.std.proofs.Common.{append_assoc, append-nil, length-append, Option, S
 use Rattle.std.proofs.lemmas.List.{take-append-drop, take_all}
 use Rattle.osn_lines.specs.declared.unended_line.UnendedLine.{UnendedLine}
 use Rattle.osn_lines.specs.Inside.{HasNoFeed, Holds, IsUnended, Cuts, IsTaken, IsStopped}
-use Rattle.osn_lines.specs.Taking.{Takes, Rests, Stops}
+use Rattle.osn_lines.specs.Takers.{Takes, Rests, Stops}
 use Rattle.osn_lines.proofs.LineLemmas.{HasNoFeed-append, HasNoFeed-take, seen_line, Cuts-nothing}
 use Rattle.osn_lines.proofs.LineLemmas.{Cuts-line, Cuts-more, Cuts-then}
 
 pub Takes-nothing : {S : Type 0} (after : S → List (List ℕ) → S → Type 0) (s : S) →
     Takes after s s []
 Takes-nothing {S} after s =
-    λ begun before h. subst (λ (l : List (List ℕ)). after begun l s) (sym (append-nil before)) h
+    λ initial before h. subst (λ (l : List (List ℕ)). after initial l s) (sym (append-nil before)) h
 
 pub Takes-then : {S : Type 0} (after : S → List (List ℕ) → S → Type 0) (s t u : S)
     (xs ys : List (List ℕ)) → Takes after s t xs → Takes after t u ys → Takes after s u (xs ++ ys)
 Takes-then {S} after s t u xs ys h k =
-    λ begun before b.
-    subst (λ (l : List (List ℕ)). after begun l u) (append_assoc before xs ys)
-    (k begun (before ++ xs) (h begun before b))
+    λ initial before b.
+    subst (λ (l : List (List ℕ)). after initial l u) (append_assoc before xs ys)
+    (k initial (before ++ xs) (h initial before b))
 
 -- nothing is taken yet
 pub IsTaken-nothing : {S : Type 0} (after : S → List (List ℕ) → S → Type 0) (s : S)
-    (part : List ℕ) (unended : UnendedLine) (n : ℕ) → IsUnended unended part →
-    IsTaken after s s (part ++ []) n n (IsUnended unended)
-IsTaken-nothing after s part unended n h =
-    subst (λ (l : List ℕ). IsTaken after s s l n n (IsUnended unended)) (sym (append-nil part))
+    (part : List ℕ) (partial_line : UnendedLine) (n : ℕ) → IsUnended partial_line part →
+    IsTaken after s s (part ++ []) n n (IsUnended partial_line)
+IsTaken-nothing after s part partial_line n h =
+    subst (λ (l : List ℕ). IsTaken after s s l n n (IsUnended partial_line)) (sym (append-nil part))
     (record {
       lines_taken = [];
       left = part;
@@ -82,12 +82,12 @@ found_bytes part piece hay end from place f =
 
 -- the line that ends at `place` of the rest is taken next
 pub IsTaken-next : {S : Type 0} (after : S → List (List ℕ) → S → Type 0) (s t u : S)
-    (part piece hay end : List ℕ) (unended unended' : UnendedLine) (n m from place : ℕ) →
-    IsTaken after s t (part ++ take from piece) n m (IsUnended unended) →
-    ((p : List ℕ) → Holds unended p → Takes after t u ((p ++ end) ∷ [])) →
+    (part piece hay end : List ℕ) (partial_line unended' : UnendedLine) (n m from place : ℕ) →
+    IsTaken after s t (part ++ take from piece) n m (IsUnended partial_line) →
+    ((p : List ℕ) → Holds partial_line p → Takes after t u ((p ++ end) ∷ [])) →
     FeedAt piece hay end from place → Holds unended' [] →
     IsTaken after s u (part ++ take (from + place + 1) piece) n (m + 1) (IsUnended unended')
-IsTaken-next after s t u part piece hay end unended unended' n m from place h line f empty =
+IsTaken-next after s t u part piece hay end partial_line unended' n m from place h line f empty =
     subst (λ (l : List ℕ). IsTaken after s u l n (m + 1) (IsUnended unended'))
     (found_bytes part piece hay end from place f)
     (record {
@@ -112,11 +112,11 @@ rest_bytes part piece from =
 
 -- no line ends in the rest, or memory ran out at the next
 pub IsTaken-rest : {S : Type 0} (after : S → List (List ℕ) → S → Type 0) (s t u : S)
-    (part piece : List ℕ) (unended : UnendedLine) (n m from : ℕ) (Left : List ℕ → Type 0) →
-    IsTaken after s t (part ++ take from piece) n m (IsUnended unended) → u ≡ t →
-    ((left : List ℕ) → IsUnended unended left → Left (left ++ drop from piece)) →
+    (part piece : List ℕ) (partial_line : UnendedLine) (n m from : ℕ) (Left : List ℕ → Type 0) →
+    IsTaken after s t (part ++ take from piece) n m (IsUnended partial_line) → u ≡ t →
+    ((left : List ℕ) → IsUnended partial_line left → Left (left ++ drop from piece)) →
     IsTaken after s u (part ++ piece) n m Left
-IsTaken-rest {S} after s t u part piece unended n m from Left h same rest =
+IsTaken-rest {S} after s t u part piece partial_line n m from Left h same rest =
     subst (λ (v : S). IsTaken after s v (part ++ piece) n m Left) (sym same)
     (subst (λ (l : List ℕ). IsTaken after s t l n m Left) (rest_bytes part piece from)
     (record {
@@ -131,11 +131,12 @@ IsTaken-rest {S} after s t u part piece unended n m from Left h same rest =
 -- the taker stopped at the line that ends at `place` of the rest
 pub IsStopped-next : {S W : Type 0} (after : S → List (List ℕ) → S → Type 0)
     (stopped : S → List (List ℕ) → Option (List ℕ) → S → W → Type 0) (s t u : S)
-    (part piece hay end : List ℕ) (unended : UnendedLine) (n m q from place : ℕ) (why : W) →
-    IsTaken after s t (part ++ take from piece) n m (IsUnended unended) →
-    ((p : List ℕ) → Holds unended p → Stops after stopped t u (Some (p ++ end)) why) →
+    (part piece hay end : List ℕ) (partial_line : UnendedLine) (n m q from place : ℕ) (why : W) →
+    IsTaken after s t (part ++ take from piece) n m (IsUnended partial_line) →
+    ((p : List ℕ) → Holds partial_line p → Stops after stopped t u (Some (p ++ end)) why) →
     FeedAt piece hay end from place → q ≡ m → IsStopped after stopped s u (part ++ piece) n q why
-IsStopped-next after stopped s t u part piece hay end unended n m q from place why h stops f same =
+IsStopped-next after stopped s t u part piece hay end partial_line n m q from place why h stops f
+    same =
     let k = from + place + 1 in
     let here : Cuts (part ++ take k piece) (h.lines_taken ++ (h.left ++ end) ∷ []) [] =
     subst (λ (l : List ℕ). Cuts l (h.lines_taken ++ (h.left ++ end) ∷ []) [])
@@ -153,17 +154,17 @@ IsStopped-next after stopped s t u part piece hay end unended n m q from place w
           (h.lines_taken ++ (h.left ++ end) ∷ [])
           here);
       stops =
-          λ begun before b. stops h.left h.rest.0 begun (before ++ h.lines_taken)
-          (h.takes begun before b);
+          λ initial before b. stops h.left h.rest.0 initial (before ++ h.lines_taken)
+          (h.takes initial before b);
       count = same ∙ h.count;
     }
 
 -- what the rest adds to the bytes that are kept
-pub IsUnended-more : (unended unended' : UnendedLine) (hay rest left : List ℕ) → hay ≡ rest →
-    ((line : List ℕ) → Holds unended line → Holds unended' (line ++ hay)) →
+pub IsUnended-more : (partial_line unended' : UnendedLine) (hay rest left : List ℕ) → hay ≡ rest →
+    ((line : List ℕ) → Holds partial_line line → Holds unended' (line ++ hay)) →
     ((i : ℕ) → 0 ≤ i → i < length hay → (slice_index hay i == 10) ≡ true → ⊥) →
-    IsUnended unended left → IsUnended unended' (left ++ rest)
-IsUnended-more unended unended' hay rest left is_hay more none h =
+    IsUnended partial_line left → IsUnended unended' (left ++ rest)
+IsUnended-more partial_line unended' hay rest left is_hay more none h =
     let no_feed : HasNoFeed rest =
     subst HasNoFeed (take_all (length hay) hay (omega arith) ∙ is_hay)
     (HasNoFeed-take hay (length hay) (λ i lt. none i (omega arith) lt)) in (
@@ -173,11 +174,11 @@ IsUnended-more unended unended' hay rest left is_hay more none h =
 
 -- another piece was read
 pub IsTaken-then : {S : Type 0} (after : S → List (List ℕ) → S → Type 0) (s t u : S)
-    (bytes given piece : List ℕ) (unended : UnendedLine) (n m q : ℕ) (Left : List ℕ → Type 0) →
-    IsTaken after s t bytes n m (IsUnended unended) → given ≡ piece →
-    ((part : List ℕ) → IsUnended unended part → IsTaken after t u (part ++ given) m q Left) →
+    (bytes given piece : List ℕ) (partial_line : UnendedLine) (n m q : ℕ) (Left : List ℕ → Type 0) →
+    IsTaken after s t bytes n m (IsUnended partial_line) → given ≡ piece →
+    ((part : List ℕ) → IsUnended partial_line part → IsTaken after t u (part ++ given) m q Left) →
     IsTaken after s u (bytes ++ piece) n q Left
-IsTaken-then after s t u bytes given piece unended n m q Left h same next =
+IsTaken-then after s t u bytes given piece partial_line n m q Left h same next =
     let k =
     subst (λ (l : List ℕ). IsTaken after t u (h.left ++ l) m q Left) same (next h.left h.rest) in
     record {
@@ -192,12 +193,12 @@ IsTaken-then after s t u bytes given piece unended n m q Left h same next =
 -- and the taker stopped in it
 pub IsStopped-then : {S W : Type 0} (after : S → List (List ℕ) → S → Type 0)
     (stopped : S → List (List ℕ) → Option (List ℕ) → S → W → Type 0) (s t u : S)
-    (bytes given piece : List ℕ) (unended : UnendedLine) (n m q : ℕ) (why : W) →
-    IsTaken after s t bytes n m (IsUnended unended) → given ≡ piece →
-    ((part : List ℕ) → IsUnended unended part →
+    (bytes given piece : List ℕ) (partial_line : UnendedLine) (n m q : ℕ) (why : W) →
+    IsTaken after s t bytes n m (IsUnended partial_line) → given ≡ piece →
+    ((part : List ℕ) → IsUnended partial_line part →
     IsStopped after stopped t u (part ++ given) m q why) →
     IsStopped after stopped s u (bytes ++ piece) n q why
-IsStopped-then {S} {W} after stopped s t u bytes given piece unended n m q why h same next =
+IsStopped-then {S} {W} after stopped s t u bytes given piece partial_line n m q why h same next =
     let k =
     subst (λ (l : List ℕ). IsStopped after stopped t u (h.left ++ l) m q why) same
     (next h.left h.rest) in
@@ -210,10 +211,10 @@ IsStopped-then {S} {W} after stopped s t u bytes given piece unended n m q why h
           (sym (append_assoc h.lines_taken k.lines_taken (k.line ∷ [])))
           (Cuts-then bytes h.left piece k.left h.lines_taken (k.lines_taken ++ k.line ∷ [])
           h.cuts k.cuts);
-      stops = λ begun before b.
-          subst (λ (l : List (List ℕ)). stopped begun l (Some k.line) u why)
+      stops = λ initial before b.
+          subst (λ (l : List (List ℕ)). stopped initial l (Some k.line) u why)
           (append_assoc before h.lines_taken k.lines_taken)
-          (k.stops begun (before ++ h.lines_taken) (h.takes begun before b));
+          (k.stops initial (before ++ h.lines_taken) (h.takes initial before b));
       count = omega (arith, h.count, k.count, length-append h.lines_taken k.lines_taken);
     }
 
@@ -225,7 +226,7 @@ IsTaken-rests after s t u bytes n m Left h r = record {
   lines_taken = h.lines_taken;
   left = h.left;
   cuts = h.cuts;
-  takes = λ begun before b. r begun (before ++ h.lines_taken) (h.takes begun before b);
+  takes = λ initial before b. r initial (before ++ h.lines_taken) (h.takes initial before b);
   count = h.count;
   rest = h.rest;
 }

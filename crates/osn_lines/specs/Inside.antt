@@ -3,7 +3,7 @@ use Rattle.std.specs.Prelude.{◌≡◌, ◌<◌, ◌≤◌, ℕ, ◌+◌, List,
 use Rattle.std.specs.Prelude.{length, Option, Some}
 use Rattle.osn_lines.specs.declared.unended_line.UnendedLine.{UnendedLine}
 use Rattle.osn_lines.specs.Lines.{lines, longest_line}
-use Rattle.osn_lines.specs.Taking.{Takes}
+use Rattle.osn_lines.specs.Takers.{Takes}
 
 -- no byte is a line feed
 abbrev pub HasNoFeed : List ℕ → Type 0
@@ -22,11 +22,11 @@ HoldsBytes true bytes line = (longest_line < length line) × (length bytes ≤ l
 
 -- the beginning of a line, or that it is too long
 abbrev pub Holds : UnendedLine → List ℕ → Type 0
-Holds unended line = HoldsBytes unended.is_too_long unended.bytes.items line
+Holds partial_line line = HoldsBytes partial_line.is_too_long partial_line.bytes.items line
 
 -- this is the beginning of a line that hasn't ended yet
 abbrev pub IsUnended : UnendedLine → List ℕ → Type 0
-IsUnended unended line = Holds unended line × HasNoFeed line
+IsUnended partial_line line = Holds partial_line line × HasNoFeed line
 
 -- of these bytes lines were taken, which made n lines into m, and Left holds of the bytes that are
 -- left
@@ -47,6 +47,6 @@ pub record IsStopped {S W : Type 0} (after : S → List (List ℕ) → S → Typ
   pub line : List ℕ
   pub left : List ℕ
   pub cuts : Cuts bytes (lines_taken ++ line ∷ []) left
-  pub stops : (begun : S) (before : List (List ℕ)) → after begun before s →
-      stopped begun (before ++ lines_taken) (Some line) t why
+  pub stops : (initial : S) (before : List (List ℕ)) → after initial before s →
+      stopped initial (before ++ lines_taken) (Some line) t why
   pub count : m ≡ n + length lines_taken

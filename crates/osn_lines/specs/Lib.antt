@@ -1,11 +1,11 @@
 pub mod Bytes
-pub mod Ended
+pub mod LastLineFeed
 pub mod Lines
 pub mod Plain
 pub mod Streams
-pub mod Taking
+pub mod Takers
 pub mod Faults
 pub mod Inside
 pub mod Whole
-pub mod Escaped
+pub mod Escape
 pub mod Near

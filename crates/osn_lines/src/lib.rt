@@ -7,12 +7,12 @@
 #![tactic(auto)]
 
 mod bytes;
-mod cut;
-mod ended;
-mod escaped;
+mod escape;
 mod fault;
+mod last_line_feed;
 mod line;
 mod near;
+mod pieces;
 mod plain;
 mod progress;
 mod sink;
@@ -23,9 +23,9 @@ mod unended_line;
 mod whole;
 
 pub use bytes::Bytes;
-pub use ended::ended_length;
-pub use escaped::{Escaped, EscapedLines};
+pub use escape::{Escaped, EscapedLines};
 pub use fault::{EndedEarly, TakeFault};
+pub use last_line_feed::ended_length;
 pub use line::{LONGEST_LINE, Line};
 pub use near::is_near;
 pub use plain::Plain;

@@ -58,18 +58,18 @@ pub fn write_all<W: Sink>(sink: &mut W, bytes: &[u8]) -> Result<(), usize>
     ensures reason { OnErr result
         (WriteFails (W.has_failed sink.old) (W.has_failed sink.new) bytes.now) }
 {
-    let mut written = 0;
+    let mut count = 0;
     for _call in 0..u32::MAX {
-        if written == bytes.len() {
+        if count == bytes.len() {
             return match sink.flush() {
                 Ok(()) => Ok(()),
-                Err(_) => Err(written),
+                Err(_) => Err(count),
             };
         }
-        match sink.write(&bytes[written..]) {
-            Ok(n) => written += n,
-            Err(_) => return Err(written),
+        match sink.write(&bytes[count..]) {
+            Ok(n) => count += n,
+            Err(_) => return Err(count),
         }
     }
-    Err(written)
+    Err(count)
 }

@@ -5,11 +5,11 @@ ghost use Rattle.std.specs.Io.KnownBytes.{IsAtEnd};
 ghost use Rattle.osn_lines.specs.Faults.{MatchFault, IsReadFault};
 ghost use Rattle.osn_lines.specs.Inside.{IsUnended};
 ghost use Rattle.osn_lines.specs.Lines.{lines};
-ghost use Rattle.osn_lines.specs.Taking.{Takes, Stops, TakesAll, TakesFirst, TakesEnded};
-ghost use Rattle.osn_lines.specs.Taking.{HasKeptUp, StopsAfter};
+ghost use Rattle.osn_lines.specs.Takers.{Takes, Stops, TakesAll, TakesFirst, TakesEnded};
+ghost use Rattle.osn_lines.specs.Takers.{HasKeptUp, StopsAfter};
 
-use crate::cut::{take_line, take_piece};
 use crate::fault::{EndedEarly, TakeFault};
+use crate::pieces::{take_line, take_piece};
 use crate::source::{Source, buffer_of};
 use crate::taker::LineTaker;
 use crate::unended_line::UnendedLine;
@@ -19,23 +19,23 @@ use std::alloc::Global;
 /// lines.
 fn take_rest<T: LineTaker>(
     taker: &mut T,
-    unended: &mut UnendedLine,
+    partial_line: &mut UnendedLine,
     count: u64,
 ) -> Result<u64, EndedEarly<TakeFault<T::Stop>>>
     requires { count + 1 < 2 ^ 64 }
-    ensures takes { IfOk result (λ n. (part : List ℕ) → IsUnended unended.old part →
+    ensures takes { IfOk result (λ n. (part : List ℕ) → IsUnended partial_line.old part →
         Takes T.after taker.old taker.new (lines part) × (n ≡ count + length (lines part))) }
     ensures fault { IfErr result (λ end. (end.lines ≡ count) × MatchFault end.cause
         (taker.new ≡ taker.old)
         ⊥
-        (λ why. (part : List ℕ) → IsUnended unended.old part →
+        (λ why. (part : List ℕ) → IsUnended partial_line.old part →
         (lines part ≡ part ∷ [])
         × Stops T.after T.stopped taker.old taker.new (Some part) why)) }
 {
-    if unended.is_empty() {
+    if partial_line.is_empty() {
         return Ok(count);
     }
-    match take_line(taker, unended, &[]) {
+    match take_line(taker, partial_line, &[]) {
         Ok(()) => Ok(count + 1),
         Err(cause) => Err(EndedEarly {
             lines: count,
@@ -96,7 +96,7 @@ pub fn take_lines<T: LineTaker, R: Source>(
             cause: TakeFault::NoMemory,
         });
     };
-    let mut unended = UnendedLine::new(alloc);
+    let mut partial_line = UnendedLine::new(alloc);
     let mut lines = 0;
     for _call in 0..u32::MAX {
         if let Err(why) = taker.before_read() {
@@ -112,9 +112,9 @@ pub fn take_lines<T: LineTaker, R: Source>(
             });
         };
         if read == 0 {
-            return take_rest(taker, &mut unended, lines);
+            return take_rest(taker, &mut partial_line, lines);
         }
-        if let Err(cause) = take_piece(taker, &mut unended, &buffer[..read], &mut lines) {
+        if let Err(cause) = take_piece(taker, &mut partial_line, &buffer[..read], &mut lines) {
             return Err(EndedEarly { lines, cause });
         }
     }

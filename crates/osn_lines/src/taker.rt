@@ -1,7 +1,7 @@
 //! What takes lines.
 ghost use Rattle.std.specs.Prelude.{ℕ, List, [], ◌∷◌, Option, Some, None, OnOk, IfErr, ⊤};
 ghost use Rattle.osn_lines.specs.Lines.{IsLine};
-ghost use Rattle.osn_lines.specs.Taking.{Takes, Rests, Stops};
+ghost use Rattle.osn_lines.specs.Takers.{Takes, Rests, Stops};
 
 use crate::line::Line;
 
@@ -11,10 +11,10 @@ pub trait LineTaker {
     /// Why it stops.
     type Stop;
 
-    // `after begun taken now`: what was `begun` is `now`, once it took these lines.
+    // `after initial taken now`: from `initial` it became `now`, once it took these lines.
     ghost after: { Self → List (List ℕ) → Self → Type 0 };
 
-    // `stopped begun taken at now why`: what was `begun` took these lines, and stopped at this
+    // `stopped initial taken at now why`: from `initial` it took these lines, and stopped at this
     // line, or between two lines if no line is given. It is `now`, and has this reason.
     ghost stopped: { Self → List (List ℕ) → Option (List ℕ) → Self → Self.Stop → Type 0 };
 

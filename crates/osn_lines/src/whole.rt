@@ -17,7 +17,7 @@ pub enum ReadAllFault {
 }
 
 impl From<AllocError> for ReadAllFault {
-    ghost from_gives = { λ _ given. given ≡ ReadAllFault.NoMemory };
+    ghost from_gives = { λ _ value. value ≡ ReadAllFault.NoMemory };
 
     fn from(_error: AllocError) -> ReadAllFault {
         ReadAllFault::NoMemory

@@ -15,7 +15,7 @@ use Rattle.core.specs.declared.thread.PromisedHandle.{PromisedHandle}
 use Rattle.osn_register.specs.declared.query.Query.{Query}
 use Rattle.osn_core.specs.declared.step.Reply.{Reply}
 use Rattle.osn_live.specs.declared.protocol.Origin.{Origin}
-use Rattle.osn_live.specs.declared.work.Worked.{Worked}
+use Rattle.osn_live.specs.declared.work.WorkResult.{WorkResult}
 use Rattle.osn_live.specs.declared.work.Works.{Works}
 use Rattle.osn_live.specs.declared.work_fault.WorkFault.{WorkFault}
 use Rattle.osn_live.specs.declared.work_fault.WorkFault.TheVariants as Work
@@ -87,23 +87,23 @@ module _ {A B : Type 0} (R : List A → List B → Type 0) (all : List A) where
 
 -- ---- readers at work
 module _ {G : Type 0} where
-  pub started_rest : (o : Origin) (hs more : List (PromisedHandle Worked (Works G)))
-      (ls next : List (Vec Query Global)) (h : PromisedHandle Worked (Works G))
+  pub started_rest : (o : Origin) (hs more : List (PromisedHandle WorkResult (Works G)))
+      (ls next : List (Vec Query Global)) (h : PromisedHandle WorkResult (Works G))
       (l : Vec Query Global) →
       hs ≡ h ∷ more → ls ≡ l ∷ next → AreStarted o hs ls → AreStarted o more next
   started_rest o hs more ls next h l e f a =
       (subst (λ (x : List (Vec Query Global)). AreStarted o (h ∷ more) x) f
-      (subst (λ (x : List (PromisedHandle Worked (Works G))). AreStarted o x ls) e a)).1
+      (subst (λ (x : List (PromisedHandle WorkResult (Works G))). AreStarted o x ls) e a)).1
 
-  pub started_first : (o : Origin) (hs more : List (PromisedHandle Worked (Works G)))
-      (ls next : List (Vec Query Global)) (h : PromisedHandle Worked (Works G))
+  pub started_first : (o : Origin) (hs more : List (PromisedHandle WorkResult (Works G)))
+      (ls next : List (Vec Query Global)) (h : PromisedHandle WorkResult (Works G))
       (l : Vec Query Global) →
       hs ≡ h ∷ more → ls ≡ l ∷ next → AreStarted o hs ls → IsStarted o h l
   started_first o hs more ls next h l e f a =
       (subst (λ (x : List (Vec Query Global)). AreStarted o (h ∷ more) x) f
-      (subst (λ (x : List (PromisedHandle Worked (Works G))). AreStarted o x ls) e a)).0
+      (subst (λ (x : List (PromisedHandle WorkResult (Works G))). AreStarted o x ls) e a)).0
 
-  pub started_count : (o : Origin) (hs : List (PromisedHandle Worked (Works G)))
+  pub started_count : (o : Origin) (hs : List (PromisedHandle WorkResult (Works G)))
       (ls : List (Vec Query Global)) → AreStarted o hs ls → length hs ≡ length ls
   started_count o [] [] a = refl
   started_count o (h ∷ hs) (l ∷ ls) a = ap suc (started_count o hs ls a.1)

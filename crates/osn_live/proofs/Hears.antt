@@ -7,7 +7,7 @@ use Rattle.core.specs.declared.thread.PromisedHandle.{PromisedHandle}
 use Rattle.osn_register.specs.declared.query.Query.{Query}
 use Rattle.osn_core.specs.declared.step.Reply.{Reply}
 use Rattle.osn_live.specs.declared.faults.DeskFault.{DeskFault}
-use Rattle.osn_live.specs.declared.work.Worked.{Worked}
+use Rattle.osn_live.specs.declared.work.WorkResult.{WorkResult}
 use Rattle.osn_live.specs.declared.work.Works.{Works}
 use Rattle.osn_live.specs.declared.work_fault.WorkFault.{WorkFault}
 use Rattle.osn_live.specs.declared.work_fault.WorkFault.TheVariants as Work
@@ -47,19 +47,20 @@ module _ {G : Type 0} where
       (subst (λ (v : Vec Query Global). HearsOf let_pass saw_end p.2.value p.3 (length v.items))
       same h))
 
-  pub numbers_more : (n : ℕ) (hs : List (PromisedHandle Worked (Works G)))
-      (h : PromisedHandle Worked (Works G)) → AreNumbered n hs → h.promise.3 ≡ n + length hs →
+  pub numbers_more : (n : ℕ) (hs : List (PromisedHandle WorkResult (Works G)))
+      (h : PromisedHandle WorkResult (Works G)) → AreNumbered n hs → h.promise.3 ≡ n + length hs →
       AreNumbered n (hs ++ h ∷ [])
   numbers_more n [] h a e = (omega (arith, e), tt)
   numbers_more n (x ∷ hs) h a e = (a.0, numbers_more (n + 1) hs h a.1 (omega (arith, e)))
 
-  pub numbers_rest : (n : ℕ) (hs rest : List (PromisedHandle Worked (Works G)))
-      (h : PromisedHandle Worked (Works G)) → hs ≡ h ∷ rest → AreNumbered n hs →
+  pub numbers_rest : (n : ℕ) (hs rest : List (PromisedHandle WorkResult (Works G)))
+      (h : PromisedHandle WorkResult (Works G)) → hs ≡ h ∷ rest → AreNumbered n hs →
       (h.promise.3 ≡ n) × AreNumbered (n + 1) rest
   numbers_rest n hs rest h e a =
-      subst (λ (x : List (PromisedHandle Worked (Works G))). AreNumbered n x) e a
+      subst (λ (x : List (PromisedHandle WorkResult (Works G))). AreNumbered n x) e a
 
-  module _ (Kept : Works G → Worked → Type 0) (handles : List (PromisedHandle Worked (Works G)))
+  module _ (Kept : Works G → WorkResult → Type 0)
+      (handles : List (PromisedHandle WorkResult (Works G)))
     where
       work_names : (f : WorkFault) → NamesReader Kept handles (by_work f)
       work_names Work.NoMemory = tt

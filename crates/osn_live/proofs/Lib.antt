@@ -1,6 +1,6 @@
 pub mod Prefixes
-pub mod Adding
+pub mod BatchAddition
 pub mod OneRule
-pub mod Answered
+pub mod ReplyLemmas
 pub mod AtWork
 pub mod Hears

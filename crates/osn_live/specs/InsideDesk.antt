@@ -12,7 +12,7 @@ use Rattle.osn_live.specs.declared.protocol.Origin.{Origin}
 use Rattle.osn_live.specs.Desk.{HearsOfLists}
 use Rattle.osn_live.specs.Faults.{IsOfGate}
 use Rattle.osn_live.specs.InsideFaults.{by_work}
-use Rattle.osn_live.specs.declared.work.Worked.{Worked}
+use Rattle.osn_live.specs.declared.work.WorkResult.{WorkResult}
 use Rattle.osn_live.specs.declared.work.Works.{Works}
 use Rattle.osn_live.specs.declared.work_fault.WorkFault.{WorkFault}
 
@@ -33,13 +33,13 @@ IsFaultOf who seen published replies fault =
     ⊎ ((fault ≡ Desk.HistoryBroken who seen published) × (published < seen))
 
 -- a reader of this origin at work on this list
-pub record IsStarted {G : Type 0} (o : Origin) (h : PromisedHandle Worked (Works G))
+pub record IsStarted {G : Type 0} (o : Origin) (h : PromisedHandle WorkResult (Works G))
     (list : Vec Query Global) : Type 0 where
   pub reader : h.promise.0.value.origin ≡ o
   pub list_is : h.promise.1.value ≡ list
 
 -- one for each list, in its place
-abbrev pub AreStarted : {G : Type 0} → Origin → List (PromisedHandle Worked (Works G)) →
+abbrev pub AreStarted : {G : Type 0} → Origin → List (PromisedHandle WorkResult (Works G)) →
     List (Vec Query Global) → Type 0
 AreStarted o [] [] = Unit {0}
 AreStarted o (h ∷ hs) (l ∷ ls) = IsStarted o h l × AreStarted o hs ls
@@ -47,40 +47,41 @@ AreStarted o [] (l ∷ ls) = ⊥
 AreStarted o (h ∷ hs) [] = ⊥
 
 -- each works at this gate
-abbrev pub AreAt : {G : Type 0} → G → List (PromisedHandle Worked (Works G)) → Type 0
+abbrev pub AreAt : {G : Type 0} → G → List (PromisedHandle WorkResult (Works G)) → Type 0
 AreAt gate handles = All (λ h. h.promise.2.value ≡ gate) handles
 
 -- a fault of what works at one gate: one that is known to let every item pass was closed to none
 pub record IsOfTheirGate {G : Type 0} (is_open : G → Bool)
-    (handles : List (PromisedHandle Worked (Works G))) (f : DeskFault) : Type 0 where
+    (handles : List (PromisedHandle WorkResult (Works G))) (f : DeskFault) : Type 0 where
   pub of : (gate : G) → AreAt gate handles → IsOfGate (is_open gate) f
 
 -- they are numbered from this number, in their order
-abbrev pub AreNumbered : {G : Type 0} → ℕ → List (PromisedHandle Worked (Works G)) → Type 0
+abbrev pub AreNumbered : {G : Type 0} → ℕ → List (PromisedHandle WorkResult (Works G)) → Type 0
 AreNumbered who [] = Unit {0}
 AreNumbered who (h ∷ hs) = (h.promise.3 ≡ who) × AreNumbered (who + 1) hs
 
 -- what works at one gate called it for the items of each list
 pub record CallTheirGate {G : Type 0} (let_pass saw_end : G → ℕ → ℕ → Type 0)
-    (handles : List (PromisedHandle Worked (Works G))) (lists : List (Vec Query Global)) : Type 0
+    (handles : List (PromisedHandle WorkResult (Works G))) (lists : List (Vec Query Global)) : Type
+    0
   where
     pub of : (gate : G) → AreAt gate handles → HearsOfLists let_pass saw_end gate 1 lists
 
 -- the reader of this number, counted from 1, brought back work whose last edition is this
-pub record HasSeen {G : Type 0} (Kept : Works G → Worked → Type 0)
-    (handles : List (PromisedHandle Worked (Works G))) (reader last : ℕ) : Type 0 where
-  pub before : List (PromisedHandle Worked (Works G))
-  pub handle : PromisedHandle Worked (Works G)
-  pub after : List (PromisedHandle Worked (Works G))
+pub record HasSeen {G : Type 0} (Kept : Works G → WorkResult → Type 0)
+    (handles : List (PromisedHandle WorkResult (Works G))) (reader last : ℕ) : Type 0 where
+  pub before : List (PromisedHandle WorkResult (Works G))
+  pub handle : PromisedHandle WorkResult (Works G)
+  pub after : List (PromisedHandle WorkResult (Works G))
   pub place : handles ≡ before ++ handle ∷ after
   pub number : reader ≡ length before + 1
-  pub work : Worked
+  pub work : WorkResult
   pub kept : Kept handle.promise work
   pub seen : length work.reader.seen ≡ last
 
 -- so did the reader that a broken history names
-abbrev pub NamesReader : {G : Type 0} → (Works G → Worked → Type 0)
-    → List (PromisedHandle Worked (Works G)) → DeskFault → Type 0
+abbrev pub NamesReader : {G : Type 0} → (Works G → WorkResult → Type 0)
+    → List (PromisedHandle WorkResult (Works G)) → DeskFault → Type 0
 NamesReader Kept handles Desk.NoMemory = Unit {0}
 NamesReader Kept handles (Desk.HistoryBroken reader last editions) =
     HasSeen Kept handles reader last

@@ -19,7 +19,7 @@ use crate::note::Note;
 use crate::opening::open;
 use crate::reader::Reader;
 use crate::turns::Turns;
-use crate::work::{Worked, Works, work};
+use crate::work::{WorkResult, Works, work};
 use crate::work_fault::WorkFault;
 use osn_core::{Command, Reply};
 use osn_register::{Limits, Query};
@@ -28,7 +28,7 @@ use std::sync::Wait;
 use std::thread;
 use std::thread::{PromisedHandle, Scope, Threads};
 
-type Handle<G> = PromisedHandle<Worked, Works<G>>;
+type Handle<G> = PromisedHandle<WorkResult, Works<G>>;
 
 /// Starts one reader at work for each list.
 fn start_all<'s, E, G: Gate + Sync>(
@@ -88,21 +88,21 @@ fn edit_all<R: Wait, G: Gate>(
 
 /// Returns the replies to one reader, compared with what was published in the end.
 fn check_against_note(
-    worked: Worked,
+    work_result: WorkResult,
     note: Note,
     who: u32,
     questions: &[Query],
 ) -> Result<Vec<Reply>, DeskFault>
-    requires origin { worked.reader.origin ≡ note.origin }
-    requires replies { IfOk worked.replies (λ rs. AreReplies newest_rules note.origin.limits
-        worked.reader.seen 0 questions.now rs.items) }
+    requires origin { work_result.reader.origin ≡ note.origin }
+    requires replies { IfOk work_result.replies (λ rs. AreReplies newest_rules note.origin.limits
+        work_result.reader.seen 0 questions.now rs.items) }
     ensures replies { IfOk result (λ rs.
         AreReplies newest_rules note.origin.limits note.batches 0 questions.now rs.items) }
-    ensures same { IfOk result (λ rs. worked.replies ≡ Ok rs) }
+    ensures same { IfOk result (λ rs. work_result.replies ≡ Ok rs) }
     ensures fault { IfErr result
-        (IsFaultOf who (length worked.reader.seen) (length note.batches) worked.replies) }
+        (IsFaultOf who (length work_result.reader.seen) (length note.batches) work_result.replies) }
 {
-    let Worked { reader, replies } = worked;
+    let WorkResult { reader, replies } = work_result;
     let mut reader = reader;
     let (last, editions) = (reader.edition(), note.edition());
     if last > editions {
@@ -141,8 +141,8 @@ fn collect<R: Threads, G: Gate>(
     let mut who = 0u32;
     for (list, handle) in lists.iter().zip(handles) {
         who += 1;
-        let worked = handle.join(rt);
-        let replies = check_against_note(worked, editor.note(), who, list.as_slice())?;
+        let work_result = handle.join(rt);
+        let replies = check_against_note(work_result, editor.note(), who, list.as_slice())?;
         all.push(replies)?;
     }
     Ok(all)
@@ -211,23 +211,37 @@ pub fn run_desk<R: Threads + Wait, G: Gate + Sync>(
         return Err(DeskFault::BadCount);
     };
     let (mut editor, readers) = open(rt, alloc, limits, count)?;
-    let held = &mut editor;
+    let shared_editor = &mut editor;
     let all = thread::scope(
         thread::scope_env(),
         rt,
         |scope| -> Result<Vec<Vec<Reply>>, DeskFault>
             requires few { length lists.now ≤ 64 }
             requires count { vec_len readers ≡ length lists.now }
-            requires new { All (λ r. IsNew held.now r) readers.items }
+            requires new { All (λ r. IsNew shared_editor.now r) readers.items }
             ensures hears { OnOk result (HearsOfAll G.let_pass G.saw_end gate.entry.now
                 (length commands.entry.now) lists.entry.now) }
-            ensures replies { IfOk result (λ all. AreAll newest_rules held.entry.now.origin.limits
-                (script_after newest_rules held.entry.now.object commands.entry.now).batches
+            ensures replies { IfOk result (λ all. AreAll newest_rules
+                shared_editor.entry.now.origin.limits
+                (script_after newest_rules shared_editor.entry.now.object
+                commands.entry.now).batches
                 lists.entry.now all.items) }
             ensures fault { IfErr result (IsFaultAt (length lists.entry.now) (length
-                (script_after newest_rules held.entry.now.object commands.entry.now).batches)) }
+                (script_after newest_rules shared_editor.entry.now.object
+                commands.entry.now).batches)) }
             ensures gate { IfErr result (IsOfGate (G.is_open gate.entry.now)) }
-        { at_desk(rt, scope, alloc, gate, held, readers, commands, lists) },
+        {
+            at_desk(
+                rt,
+                scope,
+                alloc,
+                gate,
+                shared_editor,
+                readers,
+                commands,
+                lists,
+            )
+        },
     );
     editor.close(rt);
     all

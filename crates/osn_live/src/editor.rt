@@ -30,7 +30,7 @@ use std::sync::{Arc, Wait};
 pub type EditionWriter = Writer<Edition, Edition, View, OneOrigin>;
 
 /// The copies after a publish, and whether it showed what it was to show.
-pub type Turned = (EditionWriter, Result<(), AllocError>);
+pub type ShowResult = (EditionWriter, Result<(), AllocError>);
 
 /// The one editor. It behaves as the sequential object.
 ///
@@ -57,7 +57,7 @@ impl Model for Editor {
 }
 
 /// Shows readers the next edition, at one moment.
-pub(crate) fn show<R: Wait>(copies: EditionWriter, next: Edition, rt: &R) -> Turned
+pub(crate) fn show<R: Wait>(copies: EditionWriter, next: Edition, rt: &R) -> ShowResult
     requires { origin_of next ≡ origin_of copies.desk.shown.value }
     ensures ok { OnOk result.1 ((result.0.desk.shown.value ≡ next)
         × (view result.0.desk.place ≡ Some (origin_of next))) }
@@ -233,22 +233,22 @@ impl Editor {
             (self.new ≡ record self.old { object = with_edition self.old.object }) }
         ensures err { OnErr result (self.new ≡ self.old) }
     {
-        let published = self.draft.register().copy()?;
-        let Ok(register) = Arc::new(self.alloc, published) else {
+        let register_copy = self.draft.register().copy()?;
+        let Ok(register) = Arc::new(self.alloc, register_copy) else {
             return Err(AllocError);
         };
         let Some(certificate) = self.history.add(&self.certificate, self.draft.pending()) else {
             return Err(AllocError);
         };
         let next = Edition::new(self.draft.limits(), register, certificate.again());
-        let turned = replace_with(
+        let show_result = replace_with(
             &mut self.copies,
             (next, rt),
-            |copies: EditionWriter, with: (Edition, &R)| -> Turned
+            |copies: EditionWriter, with: (Edition, &R)| -> ShowResult
                 requires { origin_of with.0 ≡ origin_of copies.desk.shown.value }
             { show(copies, with.0, with.1) },
         );
-        turned?;
+        show_result?;
         self.certificate = certificate;
         let _published = self.draft.make_edition();
         Ok(())

@@ -23,7 +23,7 @@ pub enum OpenFault {
 }
 
 impl From<AllocError> for OpenFault {
-    ghost from_gives = { λ _ given. given ≡ OpenFault.NoMemory };
+    ghost from_gives = { λ _ value. value ≡ OpenFault.NoMemory };
 
     fn from(_error: AllocError) -> OpenFault {
         OpenFault::NoMemory
@@ -31,7 +31,7 @@ impl From<AllocError> for OpenFault {
 }
 
 impl<T: Drop> From<AllocFailed<T>> for OpenFault {
-    ghost from_gives = { λ _ given. given ≡ OpenFault.NoMemory };
+    ghost from_gives = { λ _ value. value ≡ OpenFault.NoMemory };
 
     fn from(_failed: AllocFailed<T>) -> OpenFault {
         OpenFault::NoMemory
@@ -120,7 +120,7 @@ impl DeskFault {
 }
 
 impl From<OpenFault> for DeskFault {
-    ghost from_gives = { λ fault given. given ≡ by_open fault };
+    ghost from_gives = { λ fault value. value ≡ by_open fault };
 
     fn from(fault: OpenFault) -> DeskFault {
         match fault {
@@ -132,7 +132,7 @@ impl From<OpenFault> for DeskFault {
 }
 
 impl<T: Drop> From<AllocFailed<T>> for DeskFault {
-    ghost from_gives = { λ _ given. given ≡ DeskFault.NoMemory };
+    ghost from_gives = { λ _ value. value ≡ DeskFault.NoMemory };
 
     fn from(_failed: AllocFailed<T>) -> DeskFault {
         DeskFault::NoMemory

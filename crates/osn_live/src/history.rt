@@ -111,26 +111,27 @@ pub fn begin() -> (History, Certificate)
 
 impl History {
     /// Adds a batch after those of the certificate, unless the history has more of them.
-    pub fn add(&self, known: &Certificate, batch: &Vec<Edit>) -> Option<Certificate>
-        requires book { known.now.book ≡ self.now }
-        requires room { length known.now.batches + 1 < 2 ^ 32 }
+    pub fn add(&self, certificate: &Certificate, batch: &Vec<Edit>) -> Option<Certificate>
+        requires book { certificate.now.book ≡ self.now }
+        requires room { length certificate.now.batches + 1 < 2 ^ 32 }
         ensures { IfSome result (λ c.
-            c ≡ record known.now { batches = known.now.batches ++ batch.now.items ∷ [] }) }
+            c ≡ record certificate.now
+            { batches = certificate.now.batches ++ batch.now.items ∷ [] }) }
     {
-        let mut seen = known.seen.again();
+        let mut seen = certificate.seen.again();
         let mut offer: Offer<HistoryCell, u64, HistoryRule, Nothing> = seen.plain::<
             Nothing,
             Vec<Edit>,
             Add,
         >(batch);
         let mut pen = seen.no_pen();
-        let count = known.count as u64;
+        let count = certificate.count as u64;
         let before = self
             .head
             .compare_exchange::<Add, Nothing>(count, count + 1, &mut seen, &mut offer, &mut pen);
         if before == count {
             Some(Certificate {
-                count: known.count + 1,
+                count: certificate.count + 1,
                 seen,
             })
         } else {

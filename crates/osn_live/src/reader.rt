@@ -94,7 +94,7 @@ impl Reader {
             (reply_at newest_rules self.new.origin.limits self.new.seen query.now).answer ≡ true) }
         ensures no_place { IfErr result (λ f. f ≡ AskFault.NoPlace → self.new ≡ self.old) }
     {
-        let looked = replace_with(
+        let read_result = replace_with(
             &mut self.place,
             query,
             |place: Place, query: &Query| -> ReadResult
@@ -104,7 +104,7 @@ impl Reader {
                     view place.place ≡ Some o → IsAnswerAt o query.entry.now result.1 }
             { look(place, query) },
         );
-        let Some((certificate, answer)) = looked else {
+        let Some((certificate, answer)) = read_result else {
             return Err(AskFault::NoPlace);
         };
         if !self.certificate.follow(certificate) {

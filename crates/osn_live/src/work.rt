@@ -17,7 +17,7 @@ use std::thread::Promise;
 
 /// A reader that has worked, with the replies that it got.
 #[derive(Drop)]
-pub struct Worked {
+pub struct WorkResult {
     pub reader: Reader,
     pub replies: Result<Vec<Reply>, WorkFault>,
 }
@@ -26,7 +26,7 @@ pub struct Worked {
 #[derive(Drop)]
 pub struct Works<G>(Snapshot<Reader>, Snapshot<Vec<Query>>, Snapshot<G>, u32);
 
-impl<G: Gate> Promise<Worked> for Works<G> {
+impl<G: Gate> Promise<WorkResult> for Works<G> {
     ghost use Rattle.osn_live.specs.InsideWork.{IsWork};
 
     ghost kept_by = { λ p w. IsWork G.is_open G.let_pass G.saw_end p.2.value p.3 p.0.value
@@ -82,11 +82,11 @@ pub fn work<G: Gate>(
     who: u32,
     reader: Reader,
     questions: &[Query],
-) -> Worked
+) -> WorkResult
     ensures { IsWork G.is_open G.let_pass G.saw_end gate.now who reader questions.now result }
 {
     let mut reader = reader;
     let mut turns = Turns::new(gate, who);
     let replies = answer_all(alloc, &mut turns, &mut reader, questions);
-    Worked { reader, replies }
+    WorkResult { reader, replies }
 }

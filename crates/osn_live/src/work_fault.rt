@@ -18,7 +18,7 @@ pub enum WorkFault {
 }
 
 impl From<AllocError> for WorkFault {
-    ghost from_gives = { λ _ given. given ≡ WorkFault.NoMemory };
+    ghost from_gives = { λ _ value. value ≡ WorkFault.NoMemory };
 
     fn from(_error: AllocError) -> WorkFault {
         WorkFault::NoMemory
@@ -26,7 +26,7 @@ impl From<AllocError> for WorkFault {
 }
 
 impl<T: Drop> From<AllocFailed<T>> for WorkFault {
-    ghost from_gives = { λ _ given. given ≡ WorkFault.NoMemory };
+    ghost from_gives = { λ _ value. value ≡ WorkFault.NoMemory };
 
     fn from(_failed: AllocFailed<T>) -> WorkFault {
         WorkFault::NoMemory
@@ -34,7 +34,7 @@ impl<T: Drop> From<AllocFailed<T>> for WorkFault {
 }
 
 impl From<AskFault> for WorkFault {
-    ghost from_gives = { λ fault given. given ≡ by_ask fault };
+    ghost from_gives = { λ fault value. value ≡ by_ask fault };
 
     fn from(fault: AskFault) -> WorkFault {
         match fault {
@@ -45,7 +45,7 @@ impl From<AskFault> for WorkFault {
 }
 
 impl From<WorkFault> for DeskFault {
-    ghost from_gives = { λ fault given. given ≡ by_work fault };
+    ghost from_gives = { λ fault value. value ≡ by_work fault };
 
     fn from(fault: WorkFault) -> DeskFault {
         match fault {

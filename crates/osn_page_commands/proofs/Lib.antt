@@ -4,5 +4,6 @@ pub mod PageLemmas
 pub mod ConversionLemmas
 pub mod PieceLemmas
 pub mod HintLemmas
+pub mod PlaceLemmas
 pub mod EditionLemmas
 pub mod EditionListLemmas

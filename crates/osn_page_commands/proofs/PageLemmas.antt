@@ -11,7 +11,7 @@ use Rattle.osn_register.specs.declared.refusal.Refusal.TheVariants as refusals
 use Rattle.osn_page_commands.specs.PageRequest.{territory_word, date_text_of, topic_of_words}
 use Rattle.osn_page_commands.specs.Page.{PrintsTopic, RunsNumbered, PrintsPageOf, PrintsPageOn}
 use Rattle.osn_page_commands.specs.Page.{topic_refusal, topic_text, refusal_line}
-use Rattle.osn_page_commands.specs.Page.{ended, lacks_strict_day, PrintsTopicText}
+use Rattle.osn_page_commands.specs.Page.{page_status, lacks_strict_day, PrintsTopicText}
 use Rattle.osn_page_commands.specs.declared.place.Place.{Place}
 use Rattle.osn_page_commands.specs.declared.place.Place.TheVariants.{One, NotOne}
 use Rattle.osn_page_commands.specs.declared.page_request.Topic.{Topic}
@@ -26,7 +26,7 @@ use Rattle.osn_report.specs.declared.status.Status.TheVariants as statuses
 
 -- NoMemory stays what it is, whatever day is missing
 unmade_same : (lacks : Bool) (status : Status) → status ≡ statuses.NoMemory
-    → status ≡ ended lacks status
+    → status ≡ page_status lacks status
 unmade_same lacks status is = rw is refl
 
 -- there was no memory for the text of a page
@@ -46,10 +46,10 @@ module _ (s : EditionModel) (path code date : List ℕ) (topic : Topic) (o e : O
         → topic_refusal s.territories code topic ≡ None
         → lacks ≡ lacks_strict_day s.territories code date topic
         → PrintsTopicText topic (topic_text s code date topic) o e printed
-        → status ≡ ended lacks printed
+        → status ≡ page_status lacks printed
         → PrintsPageOf s path code date topic o e status
     page_made printed lacks none is h same =
-        rw none (printed, h, same ∙ ap (λ x. ended x printed) is)
+        rw none (printed, h, same ∙ ap (λ x. page_status x printed) is)
 
     -- memory ran out, whatever is refused
     unmade_by : (refused : Option Refusal) → topic_refusal s.territories code topic ≡ refused

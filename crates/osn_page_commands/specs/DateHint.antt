@@ -4,9 +4,11 @@ use Rattle.std.specs.Prelude.{Option, Some, None, is_some}
 use Rattle.std.specs.Result.{is_ok}
 use Rattle.osn_grammar.specs.ReadDate.{written_date}
 use Rattle.osn_lines.specs.Near.{is_near}
-use Rattle.osn_lines.specs.Escaped.{escaped}
-use Rattle.osn_written.specs.WrittenDate.{number_of, parts_at}
+use Rattle.osn_lines.specs.Escape.{escaped}
+use Rattle.osn_written.specs.WrittenDate.{parts_at}
 use Rattle.osn_written.specs.declared.written_date.DateFault.TheVariants as faults
+use Rattle.osn_page_commands.specs.DateAdvice.{empty_help, form_help, month_help, order_help}
+use Rattle.osn_page_commands.specs.DateAdvice.{year_help}
 use Rattle.osn_page_commands.specs.MonthWord.{month_in_date}
 use Rattle.osn_page_commands.specs.Pieces.{pieces}
 use Rattle.osn_page_commands.specs.Place.{first_or}
@@ -59,25 +61,66 @@ hint_line (Some hint) = codes "help: "
 abbrev pub name_help : List ℕ → List ℕ
 name_help text = hint_line (first_hint (pieces 32 text))
 
--- the line on two years with a slash between, in the place of one year
-abbrev pub first_year : Option (List ℕ × List ℕ) → List ℕ
-first_year None = []
-first_year (Some parts) =
-    if is_some (number_of parts.0)
-    then codes "help: write the first of the two years alone: " ++ (parts.0 ++ codes "\n") else []
+-- that, or else what is missing or too much in a text that is almost a date
+abbrev pub hint_or_form : Option (List ℕ × List ℕ) → List ℕ → List ℕ
+hint_or_form None text = form_help text
+hint_or_form (Some hint) text = hint_line (Some hint)
+
+abbrev pub date_help : List ℕ → List ℕ
+date_help text = hint_or_form (first_hint (pieces 32 text)) text
+
+-- ---- a word of a short list
+
+-- the words that an argument may be
+abbrev pub calendar_words : List (List ℕ)
+calendar_words = codes "gregorian" ∷ codes "julian" ∷ codes "swedish" ∷ codes "day" ∷ codes "jdn"
+    ∷ []
+
+abbrev pub order_words : List (List ℕ)
+order_words = codes "dmy" ∷ codes "mdy" ∷ []
+
+abbrev pub separator_words : List (List ℕ)
+separator_words = codes "comma" ∷ codes "semicolon" ∷ codes "tab" ∷ []
+
+-- the nearest of these: the one that differs in capital and small letters alone, or else the first
+-- that is one step away, or else the first that is two steps away
+abbrev pub nearest_other : List (List ℕ) → List ℕ → Option (List ℕ)
+nearest_other names word =
+    first_or (find (is_near 1 word) names) (find (is_near 2 word) names)
+
+abbrev pub nearest_of : List (List ℕ) → List ℕ → Option (List ℕ)
+nearest_of names word = first_or (find (is_near 0 word) names) (nearest_other names word)
+
+-- the line on a word that is not one of these
+abbrev pub with_name : List ℕ → Option (List ℕ) → Option (List ℕ × List ℕ)
+with_name word None = None
+with_name word (Some name) = Some (word, name)
+
+abbrev pub word_help : List (List ℕ) → List ℕ → List ℕ
+word_help names word = hint_line (with_name word (nearest_of names word))
+
+-- ---- all arguments
 
 -- the lines on a wrong argument: what is allowed there, and what may be meant
 abbrev pub misuse_help : Misuse → List ℕ → List ℕ
-misuse_help (misuses.Date faults.Malformed) typed = name_help typed
-misuse_help (misuses.Date faults.Year) typed = first_year (parts_at 47 typed)
-misuse_help misuses.Weekday typed = name_help typed
-misuse_help misuses.Month typed = name_help typed
-misuse_help misuse typed = []
+misuse_help (misuses.Date faults.Malformed) argument = date_help argument
+misuse_help (misuses.Date faults.ShortYear) argument = date_help argument
+misuse_help (misuses.Date faults.Month) argument = month_help argument
+misuse_help (misuses.Date faults.DayOrMonth) argument = order_help argument
+misuse_help misuses.OpenOrder argument = order_help argument
+misuse_help (misuses.Date faults.Year) argument = year_help (parts_at 47 argument) argument
+misuse_help (misuses.Date faults.NoDate) argument = empty_help argument
+misuse_help misuses.Weekday argument = name_help argument
+misuse_help misuses.Month argument = name_help argument
+misuse_help misuses.Calendar argument = word_help calendar_words argument
+misuse_help misuses.Order argument = word_help order_words argument
+misuse_help misuses.Separator argument = word_help separator_words argument
+misuse_help misuse argument = []
 
 abbrev pub misuse_lines : Misuse → List ℕ → List ℕ
-misuse_lines misuse typed = misuse_line misuse typed ++ misuse_help misuse typed
+misuse_lines misuse argument = misuse_line misuse argument ++ misuse_help misuse argument
 
 -- those were written
 abbrev pub ReportsWord : Output → Misuse → List ℕ → Status → Type 0
-ReportsWord e misuse typed status =
-    ReportsIfMade e statuses.Misused (misuse_lines misuse typed) status
+ReportsWord e misuse argument status =
+    ReportsIfMade e statuses.Misused (misuse_lines misuse argument) status

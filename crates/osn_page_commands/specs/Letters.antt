@@ -1,16 +1,18 @@
 -- What a command has written of a table of letters when it ends.
 use Rattle.std.specs.Prelude.{◌≡◌, ◌==◌, ◌⊎◌, ◌≤◌, ◌++◌, ◌&&◌, ℕ, Bool, true, false}
-use Rattle.std.specs.Prelude.{if◌then◌else◌}
-use Rattle.std.specs.Prelude.{List, [], length, codes}
-use Rattle.std.specs.Prelude.{Option, IfSome, option_map, unwrap_or}
+use Rattle.std.specs.Prelude.{if◌then◌else◌, nat_eq}
+use Rattle.std.specs.Prelude.{List, [], ◌∷◌, length, codes}
+use Rattle.std.specs.Prelude.{Option, Some, None, IfSome, option_map, unwrap_or}
+use Rattle.std.specs.Option.{MatchOption}
 use Rattle.std.specs.Fmt.{decimal}
-use Rattle.std.specs.List.{list_any}
+use Rattle.std.specs.List.{list_any, starts_with}
 use Rattle.osn_days.specs.Rules.{newest_rules}
 use Rattle.osn_grammar.specs.declared.written.DateOrder.{DateOrder}
 use Rattle.osn_register.specs.declared.limits.Limits.{Limits}
 use Rattle.osn_core.specs.Sequential.{ObjectState}
 use Rattle.osn_core.specs.Edition.{EditionModel}
 use Rattle.osn_page_commands.specs.Editions.{OnEdition}
+use Rattle.osn_page_commands.specs.PlaceOfAll.{place_fault, place_fault_lines}
 use Rattle.osn_lines.specs.Streams.{Input, Output}
 use Rattle.osn_files.specs.declared.fault.FileFault.{FileFault}
 use Rattle.osn_files.specs.declared.fault.FileFault.TheVariants as file_faults
@@ -31,7 +33,7 @@ use Rattle.osn_letters.specs.declared.separator.Separator.{Separator}
 use Rattle.osn_letters.specs.declared.settings.TableSettings.{TableSettings}
 use Rattle.osn_page_commands.specs.declared.letters.TableRules.{TableRules}
 use Rattle.osn_report.specs.Journal.{MakesObject, MakesNoObject}
-use Rattle.osn_lines.specs.Escaped.{escaped}
+use Rattle.osn_lines.specs.Escape.{escaped}
 use Rattle.osn_report.specs.Printing.{EndsUnwritten, PrintsNoneAt}
 use Rattle.osn_report.specs.Messages.{EndsBy, Reports, ReportsIfMade, ReportsNothing}
 use Rattle.osn_report.specs.declared.fault.CommandFault.TheVariants.{File, NoMemory}
@@ -61,6 +63,13 @@ settings_model settings = record {
 abbrev pub record_line : ℕ → List ℕ → List ℕ
 record_line line text =
     codes "oldstyle: letters line " ++ (decimal line ++ (codes ": " ++ (text ++ codes "\n")))
+
+-- the line on a record whose number of fields is not that of the header, with both numbers
+abbrev pub fields_line : ℕ → ℕ → ℕ → List ℕ
+fields_line line fields width = codes "oldstyle: letters line "
+    ++ (decimal line
+    ++ (codes ": a different number of fields than the header: "
+    ++ (decimal fields ++ (codes " instead of " ++ (decimal width ++ codes "\n")))))
 
 -- the name by which a column of the date was looked for, if one was
 abbrev pub date_name_of : DateTexts → Column → List ℕ
@@ -92,6 +101,18 @@ is_wide = list_any (λ byte. byte == 0)
 abbrev pub wide_text : List ℕ
 wide_text = codes "the table is in UTF-16: save it as CSV in UTF-8"
 
+-- a workbook of a spreadsheet is a zip archive, which begins with this mark
+abbrev pub is_workbook : List ℕ → Bool
+is_workbook header = starts_with nat_eq header (0x50 ∷ 0x4B ∷ 3 ∷ 4 ∷ [])
+
+abbrev pub workbook_text : List ℕ
+workbook_text = codes "the table is a workbook (.xlsx, .ods): save it as CSV in UTF-8"
+
+-- the line on the column that may be meant, if one is near
+abbrev pub nearest_line : Option (List ℕ) → List ℕ
+nearest_line None = []
+nearest_line (Some name) = codes "help: did you mean " ++ (escaped name ++ codes "?\n")
+
 -- the line on a header that lacks a column and has these
 abbrev pub columns_line : NameTexts → Column → ℕ → List ℕ → List ℕ
 columns_line names missing line found = codes "oldstyle: letters line "
@@ -101,10 +122,12 @@ columns_line names missing line found = codes "oldstyle: letters line "
     ++ (codes ": the columns are "
     ++ (escaped found ++ (codes ": name yours with " ++ (option_of missing ++ codes "\n")))))))
 
--- the line on a header that lacks a column
-abbrev pub lacks_line : NameTexts → Column → ℕ → List ℕ → List ℕ
-lacks_line names missing line found =
-    if is_wide found then record_line line wide_text else columns_line names missing line found
+-- the lines on a header that lacks a column, and has one that may be meant or not
+abbrev pub lacks_lines : NameTexts → Column → ℕ → List ℕ → Option (List ℕ) → List ℕ
+lacks_lines names missing line found nearest =
+    if is_workbook found then record_line line workbook_text
+    else if is_wide found then record_line line wide_text
+    else columns_line names missing line found ++ nearest_line nearest
 
 -- the line on a column of a header
 abbrev pub column_line : ℕ → List ℕ → List ℕ → List ℕ
@@ -122,12 +145,12 @@ has_line line added =
 abbrev pub ReportsTable : NameTexts → Output → LettersFault → Status → Type 0
 ReportsTable names e ends.NoHeader status = ReportsIfMade e statuses.Refused
     (record_line 1 (codes "no header: the first line has the names of the columns")) status
-ReportsTable names e (ends.LacksColumn missing line found) status =
-    ReportsIfMade e statuses.Refused (lacks_line names missing line found) status
+ReportsTable names e (ends.LacksColumn missing line found nearest) status =
+    ReportsIfMade e statuses.Refused (lacks_lines names missing line found nearest) status
 ReportsTable names e (ends.HasColumn line added) status =
     ReportsIfMade e statuses.Refused (has_line line added) status
-ReportsTable names e (ends.BadRecord line) status = ReportsIfMade e statuses.Refused
-    (record_line line (codes "a different number of fields than the header")) status
+ReportsTable names e (ends.BadRecord line fields width) status =
+    ReportsIfMade e statuses.Refused (fields_line line fields width) status
 ReportsTable names e (ends.TooLong line) status = ReportsIfMade e statuses.Refused
     (record_line line (codes "a record of more than 65536 bytes")) status
 ReportsTable names e (ends.OpenQuote line) status = ReportsIfMade e statuses.Refused
@@ -206,6 +229,18 @@ WritesTable s settings rules i o e status =
     ⊎ ((ended : LettersFault) × ReportsTable settings.names e ended status
     × EndsTable (table_of s settings) i o ended × IsReason (table_of s settings) i o ended)
 
+-- what was written and reported, by an edition of the journal of a path: the place of all rows has
+-- no territory, which was reported, and nothing was written; or else that. Memory may run out
+-- before a place of all rows is known, which was reported too
+abbrev pub WritesLetters : List ℕ → EditionModel → SettingsModel → TableRules → Input → Output
+    → Output → Status → Type 0
+WritesLetters path s settings rules i o e status =
+    ((o.new ≡ o.old) × EndsBy e NoMemory status)
+    ⊎ MatchOption (place_fault s.territories settings.places settings.names)
+    (WritesTable s settings rules i o e status)
+    (λ reason. (o.new ≡ o.old) × ReportsIfMade e statuses.Refused
+    (place_fault_lines path settings.names.place_of_all reason s.territories) status)
+
 -- how the command ends: the journal of a path is refused, and nothing was written; or it makes an
 -- object, and that was done by its edition that the rules ask for
 abbrev pub PrintsLetters : Limits → List ℕ → Input → SettingsModel → TableRules → Input → Output
@@ -215,4 +250,4 @@ PrintsLetters limits path journal settings rules i o e status =
     × PrintsNoneAt path (File fault) o e status)
     ⊎ ((s : ObjectState) × MakesObject limits journal.bytes s
     × OnEdition rules.edition s
-    (λ edition. WritesTable edition settings rules i o e status) o e status)
+    (λ edition. WritesLetters path edition settings rules i o e status) o e status)

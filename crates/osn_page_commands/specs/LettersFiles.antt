@@ -17,7 +17,8 @@ use Rattle.osn_page_commands.specs.declared.letters.TableRules.{TableRules}
 use Rattle.osn_report.specs.Folders.{Folders, IsReadOf, ReadsOne}
 use Rattle.osn_core.specs.Edition.{edition_of_word}
 use Rattle.osn_page_commands.specs.Editions.{ReportsEditionWord}
-use Rattle.osn_report.specs.Messages.{ReportsIfMade, ReportsMisuse}
+use Rattle.osn_page_commands.specs.DateHint.{ReportsWord}
+use Rattle.osn_report.specs.Messages.{ReportsIfMade}
 use Rattle.osn_report.specs.OpenFailure.{open_failure_line}
 use Rattle.osn_report.specs.declared.status.Status.{Status}
 use Rattle.osn_report.specs.declared.status.Status.TheVariants as statuses
@@ -77,7 +78,7 @@ RunsNumbered limits journal options number CanFail d i o e status = MatchResult
     (settings_of_options options)
     (λ settings. PrintsTable limits journal options.places settings (rules_of options number)
     CanFail d i o e status)
-    (λ wrong. (d.after ≡ d.before) × (o.new ≡ o.old) × ReportsMisuse e wrong.0 wrong.1 status)
+    (λ wrong. (d.after ≡ d.before) × (o.new ≡ o.old) × ReportsWord e wrong.0 wrong.1 status)
 
 -- what the command has done: that, by the word of the edition, if there is one; or it is not the
 -- number of an edition, which was reported, and no file was opened and nothing written
@@ -86,4 +87,4 @@ abbrev pub RunsLetters : Limits → List ℕ → LettersModel → (Bool → Type
 RunsLetters limits journal options CanFail d i o e status = MatchResult
     (edition_of_word options.edition)
     (λ number. RunsNumbered limits journal options number CanFail d i o e status)
-    (λ typed. (d.after ≡ d.before) × (o.new ≡ o.old) × ReportsEditionWord typed e status)
+    (λ word. (d.after ≡ d.before) × (o.new ≡ o.old) × ReportsEditionWord word e status)

@@ -4,9 +4,11 @@ pub mod MonthWord
 pub mod PageRequest
 pub mod Pieces
 pub mod Place
+pub mod DateAdvice
 pub mod DateHint
 pub mod Page
 pub mod Conversion
+pub mod PlaceOfAll
 pub mod Letters
 pub mod Places
 pub mod TableWords

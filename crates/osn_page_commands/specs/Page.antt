@@ -50,7 +50,7 @@ use Rattle.osn_page_commands.specs.declared.place.Place.TheVariants.{One, NotOne
 use Rattle.osn_report.specs.Fault.{numbered_line}
 use Rattle.osn_report.specs.Folders.{Folders, ReadsOne}
 use Rattle.osn_report.specs.Journal.{MakesObject, MakesNoObject}
-use Rattle.osn_lines.specs.Escaped.{escaped}
+use Rattle.osn_lines.specs.Escape.{escaped}
 use Rattle.osn_report.specs.Printing.{PrintsIfMade, PrintsOrReports}
 use Rattle.osn_report.specs.Messages.{EndsBy, ReportsIfMade}
 use Rattle.osn_report.specs.declared.fault.CommandFault.{CommandFault}
@@ -139,9 +139,9 @@ lacks_strict_day territories code date (Set given form) = form.is_strict
 lacks_strict_day territories code date (Territories is_json) = false
 
 -- the status of a page that was printed: that of a refusal, if such a day is missing
-abbrev pub ended : Bool → Status → Status
-ended lacks statuses.Done = if lacks then statuses.Refused else statuses.Done
-ended lacks status = status
+abbrev pub page_status : Bool → Status → Status
+page_status lacks statuses.Done = if lacks then statuses.Refused else statuses.Done
+page_status lacks status = status
 
 -- ---- what is printed about a refusal
 
@@ -202,7 +202,7 @@ PrintsTopicText (Territories is_json) text o e status = PrintsIfMade text o e st
 -- that, with its status
 abbrev pub PrintsPageText : Topic → List ℕ → Bool → Output → Output → Status → Type 0
 PrintsPageText topic text lacks o e status =
-    (printed : Status) × PrintsTopicText topic text o e printed × (status ≡ ended lacks printed)
+    (own : Status) × PrintsTopicText topic text o e own × (status ≡ page_status lacks own)
 
 -- for an edition: the page was printed, unless what was asked for is refused, or memory ran out
 abbrev pub PrintsPageOf : EditionModel → List ℕ → List ℕ → List ℕ → Topic → Output → Output
@@ -266,7 +266,7 @@ abbrev pub RunsPage : Limits → List ℕ → Option (List ℕ) → PageRequestM
     → Folders → Output → Output → Status → Type 0
 RunsPage limits path edition words CanFail d o e status = MatchResult (edition_of_word edition)
     (λ number. RunsNumbered limits path number words CanFail d o e status)
-    (λ typed. (d.after ≡ d.before) × (o.new ≡ o.old) × ReportsEditionWord typed e status)
+    (λ word. (d.after ≡ d.before) × (o.new ≡ o.old) × ReportsEditionWord word e status)
 
 -- ---- why it ended early
 

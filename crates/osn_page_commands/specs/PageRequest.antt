@@ -70,18 +70,18 @@ weekday_of_word (Some name) = do
 -- the weekday that is given beside a date, which must be the one that the date names, if it names
 -- one
 abbrev pub weekday_beside : Option Weekday → Option Weekday → Result (Option Weekday) Misuse
-weekday_beside None given = Ok given
-weekday_beside (Some named) None = Ok None
-weekday_beside (Some named) (Some given) =
-    if bytes_eq (weekday_name named) (weekday_name given) then Ok (Some given)
-    else Err (misuses.OtherWeekday named)
+weekday_beside None weekday = Ok weekday
+weekday_beside (Some date_weekday) None = Ok None
+weekday_beside (Some date_weekday) (Some weekday) =
+    if bytes_eq (weekday_name date_weekday) (weekday_name weekday) then Ok (Some weekday)
+    else Err (misuses.OtherWeekday date_weekday)
 
 -- the reading of a date that was asked for
 abbrev pub reading_of : Result AnyDate Misuse → Option (List ℕ) → Result Page Misuse
 reading_of date_result name = do
   date ← date_result
-  given ← weekday_of_word name
-  beside ← weekday_beside date.weekday given
+  weekday ← weekday_of_word name
+  beside ← weekday_beside date.weekday weekday
   Ok (pages.Reading date beside)
 
 -- a page on a territory, as what is asked for
@@ -93,13 +93,13 @@ territory_topic page_result form = do
 -- the page on a set of dates
 abbrev pub topic_of_set : Option (List ℕ) → Form → Result Topic Misuse
 topic_of_set name form = do
-  given ← weekday_of_word name
-  Ok (Set given form)
+  weekday ← weekday_of_word name
+  Ok (Set weekday form)
 
 -- the page on what a text says
 abbrev pub topic_of_read : Result Written DateFault → Option (List ℕ) → Form → Result Topic Misuse
 topic_of_read (Ok say.Set) name form = topic_of_set name form
-topic_of_read read name form = territory_topic (reading_of (any_date_or_misuse read) name) form
+topic_of_read date name form = territory_topic (reading_of (any_date_or_misuse date) name) form
 
 -- the same for a text, and for the word of the order of its numbers, if there is one
 abbrev pub topic_of_reading : List ℕ → Option (List ℕ) → Option (List ℕ) → Form
@@ -262,7 +262,7 @@ territory_word (territory_words (Some code) json) = code
 -- the word that is wrong
 abbrev pub wrong_word_of_reading : List ℕ → Option (List ℕ) → Option (List ℕ) → Misuse → List ℕ
 wrong_word_of_reading date (Some weekday) order misuses.Weekday = weekday
-wrong_word_of_reading date (Some weekday) order (misuses.OtherWeekday named) = weekday
+wrong_word_of_reading date (Some weekday) order (misuses.OtherWeekday date_weekday) = weekday
 wrong_word_of_reading date weekday (Some order) misuses.Order = order
 wrong_word_of_reading date weekday order misuse = date
 

@@ -10,10 +10,10 @@ use Rattle.osn_letters.specs.declared.places_fault.PlacesColumn.{PlacesColumn}
 use Rattle.osn_letters.specs.declared.places_fault.PlacesFault.{PlacesFault}
 use Rattle.osn_letters.specs.declared.places_fault.PlacesFault.TheVariants as faults
 use Rattle.osn_lines.specs.Streams.{Input, Output}
-use Rattle.osn_page_commands.specs.Letters.{is_wide, wide_text}
+use Rattle.osn_page_commands.specs.Letters.{is_wide, is_workbook, wide_text, workbook_text}
 use Rattle.osn_report.specs.Messages.{EndsBy, ReportsIfMade}
 use Rattle.osn_report.specs.OpenFailure.{open_failure_line}
-use Rattle.osn_lines.specs.Escaped.{escaped}
+use Rattle.osn_lines.specs.Escape.{escaped}
 use Rattle.osn_report.specs.declared.fault.CommandFault.TheVariants.{NoMemory}
 use Rattle.osn_report.specs.declared.status.Status.{Status}
 use Rattle.osn_report.specs.declared.status.Status.TheVariants as statuses
@@ -45,7 +45,19 @@ columns_line path missing line found = codes "oldstyle: "
 -- the line on a header that lacks a column
 abbrev pub lacks_line : List ℕ → PlacesColumn → ℕ → List ℕ → List ℕ
 lacks_line path missing line found =
-    if is_wide found then places_line path line wide_text else columns_line path missing line found
+    if is_workbook found then places_line path line workbook_text
+    else if is_wide found then places_line path line wide_text
+    else columns_line path missing line found
+
+-- the line on a record whose number of fields is not that of the header, with both numbers
+abbrev pub fields_line : List ℕ → ℕ → ℕ → ℕ → List ℕ
+fields_line path line fields width = codes "oldstyle: "
+    ++ (escaped path
+    ++ (codes " line "
+    ++ (decimal line
+    ++ (codes ": a different number of fields than the header: "
+    ++ (decimal fields
+    ++ (codes " instead of " ++ (decimal width ++ codes ": give each row as many\n")))))))
 
 -- the line on a place that has two codes
 abbrev pub codes_line : List ℕ → ℕ → List ℕ → List ℕ
@@ -64,8 +76,8 @@ ReportsPlaces path e (faults.LacksColumn missing line found) status =
     ReportsIfMade e statuses.Refused (lacks_line path missing line found) status
 ReportsPlaces path e (faults.TwoCodes line place) status =
     ReportsIfMade e statuses.Refused (codes_line path line place) status
-ReportsPlaces path e (faults.BadRecord line) status = ReportsIfMade e statuses.Refused (places_line
-    path line (codes "a different number of fields than the header: give each row as many")) status
+ReportsPlaces path e (faults.BadRecord line fields width) status =
+    ReportsIfMade e statuses.Refused (fields_line path line fields width) status
 ReportsPlaces path e (faults.TooLong line) status = ReportsIfMade e statuses.Refused (places_line
     path line (codes "a record of more than 65536 bytes: look for a quote that is not closed"))
     status

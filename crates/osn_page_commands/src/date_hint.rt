@@ -5,11 +5,14 @@ ghost use Rattle.osn_lines.specs.Near.{is_near as is_name_near};
 ghost use Rattle.osn_page_commands.specs.DateHint as spec;
 ghost use Rattle.osn_page_commands.specs.Pieces.{pieces};
 
+use crate::date_advice::{
+    push_empty_help, push_form_help, push_month_help, push_order_help, push_year_help,
+};
 use crate::month_word::month_in_date;
 use osn_grammar::parse_day;
 use osn_lines::{Escaped, Sink, is_near};
 use osn_report::{Misuse, Status, misuse_line, report_line};
-use osn_written::{DateFault, number_of, parts_at};
+use osn_written::{DateFault, parts_at};
 use std::alloc::{AllocError, Global};
 
 /// The names that are suggested.
@@ -34,6 +37,15 @@ const NAMES: [&str; 19] = [
     "Friday",
     "Saturday",
 ];
+
+/// The words that name a calendar, or the number of a day.
+const CALENDARS: [&str; 5] = ["gregorian", "julian", "swedish", "day", "jdn"];
+
+/// The words that name an order.
+const ORDERS: [&str; 2] = ["dmy", "mdy"];
+
+/// The words that name a separator.
+const SEPARATORS: [&str; 3] = ["comma", "semicolon", "tab"];
 
 /// Returns whether a date may have the word as its month or its weekday.
 fn is_date_word(alloc: Global, word: &str) -> Result<bool, AllocError>
@@ -119,19 +131,61 @@ fn push_name_help(lines: &mut String, alloc: Global, text: &str) -> Result<(), A
     }
 }
 
-/// Appends the line on two years with a slash between, if the text is that.
-fn push_year_help(lines: &mut String, text: &str) -> Result<(), AllocError>
-    ensures { OnOk result (string_bytes lines.new
-        ≡ string_bytes lines.old ++ spec.misuse_help (Misuse.Date DateFault.Year) text.now) }
+/// Returns the first of these names that is near a word: one step away, or else two.
+fn nearest_other(
+    alloc: Global,
+    word: &str,
+    names: &[&'static str],
+) -> Result<Option<&'static str>, AllocError>
+    ensures { IfOk result (λ found. option_map (λ name. name.now) found
+        ≡ spec.nearest_other (map (λ name. name.now) names.now) word.now) }
 {
-    match parts_at(text, '/') {
-        Some((first, _)) if number_of(first).is_some() => {
-            writeln!(
-                lines,
-                "help: write the first of the two years alone: {first}"
-            )
-        }
-        _ => Ok(()),
+    match first_near(alloc, 1, word, names)? {
+        Some(name) => Ok(Some(name)),
+        None => first_near(alloc, 2, word, names),
+    }
+}
+
+/// Returns the nearest of these names, if one is near a word.
+fn nearest_of(
+    alloc: Global,
+    word: &str,
+    names: &[&'static str],
+) -> Result<Option<&'static str>, AllocError>
+    ensures { IfOk result (λ found. option_map (λ name. name.now) found
+        ≡ spec.nearest_of (map (λ name. name.now) names.now) word.now) }
+{
+    match first_near(alloc, 0, word, names)? {
+        Some(name) => Ok(Some(name)),
+        None => nearest_other(alloc, word, names),
+    }
+}
+
+/// Appends the line on a word that is not one of these, if one of them is near.
+fn push_word_help(
+    lines: &mut String,
+    alloc: Global,
+    names: &[&'static str],
+    word: &str,
+) -> Result<(), AllocError>
+    ensures { OnOk result (string_bytes lines.new ≡ string_bytes lines.old
+        ++ spec.word_help (map (λ name. name.now) names.now) word.now) }
+{
+    match nearest_of(alloc, word, names)? {
+        Some(name) => writeln!(lines, "help: {}: did you mean {name}?", Escaped(word)),
+        None => Ok(()),
+    }
+}
+
+/// Appends the line on the first word of a text that has a nearest name, or else on what is missing
+/// or too much in it.
+fn push_date_help(lines: &mut String, alloc: Global, text: &str) -> Result<(), AllocError>
+    ensures { OnOk result (string_bytes lines.new
+        ≡ string_bytes lines.old ++ spec.date_help text.now) }
+{
+    match first_hint(alloc, text)? {
+        Some((word, name)) => writeln!(lines, "help: {}: did you mean {name}?", Escaped(word)),
+        None => push_form_help(lines, alloc, text),
     }
 }
 
@@ -140,26 +194,35 @@ fn push_help(
     lines: &mut String,
     alloc: Global,
     misuse: Misuse,
-    typed: &str,
+    argument: &str,
 ) -> Result<(), AllocError>
     ensures { OnOk result (string_bytes lines.new
-        ≡ string_bytes lines.old ++ spec.misuse_help misuse typed.now) }
+        ≡ string_bytes lines.old ++ spec.misuse_help misuse argument.now) }
 {
     match misuse {
-        Misuse::Date(DateFault::Malformed) | Misuse::Weekday | Misuse::Month => {
-            push_name_help(lines, alloc, typed)
+        Misuse::Date(DateFault::Malformed | DateFault::ShortYear) => {
+            push_date_help(lines, alloc, argument)
         }
-        Misuse::Date(DateFault::Year) => push_year_help(lines, typed),
+        Misuse::Weekday | Misuse::Month => push_name_help(lines, alloc, argument),
+        Misuse::Date(DateFault::Month) => push_month_help(lines, alloc, argument),
+        Misuse::Date(DateFault::DayOrMonth) | Misuse::OpenOrder => {
+            push_order_help(lines, alloc, argument)
+        }
+        Misuse::Date(DateFault::Year) => push_year_help(lines, alloc, argument),
+        Misuse::Date(DateFault::NoDate) => push_empty_help(lines, argument),
+        Misuse::Calendar => push_word_help(lines, alloc, &CALENDARS, argument),
+        Misuse::Order => push_word_help(lines, alloc, &ORDERS, argument),
+        Misuse::Separator => push_word_help(lines, alloc, &SEPARATORS, argument),
         _ => Ok(()),
     }
 }
 
 /// Returns the line on a word, as it was typed, and the one on what may be meant.
-fn misuse_lines(alloc: Global, misuse: Misuse, typed: &str) -> Result<String, AllocError>
-    ensures { IfOk result (λ lines. string_bytes lines ≡ spec.misuse_lines misuse typed.now) }
+fn misuse_lines(alloc: Global, misuse: Misuse, argument: &str) -> Result<String, AllocError>
+    ensures { IfOk result (λ lines. string_bytes lines ≡ spec.misuse_lines misuse argument.now) }
 {
-    let mut lines = misuse_line(alloc, misuse, typed)?;
-    push_help(&mut lines, alloc, misuse, typed)?;
+    let mut lines = misuse_line(alloc, misuse, argument)?;
+    push_help(&mut lines, alloc, misuse, argument)?;
     Ok(lines)
 }
 
@@ -169,11 +232,15 @@ pub(crate) fn report_word<E: Sink>(
     alloc: Global,
     errors: &mut E,
     misuse: Misuse,
-    typed: &str,
+    argument: &str,
 ) -> Status
     ensures { spec.ReportsWord
-        (output_of E.contents E.has_failed E.holds_back errors.old errors.new) misuse typed.now
+        (output_of E.contents E.has_failed E.holds_back errors.old errors.new) misuse argument.now
         result }
 {
-    report_line(errors, Status::Misused, misuse_lines(alloc, misuse, typed))
+    report_line(
+        errors,
+        Status::Misused,
+        misuse_lines(alloc, misuse, argument),
+    )
 }

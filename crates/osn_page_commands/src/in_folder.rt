@@ -146,6 +146,6 @@ pub fn page_in_folder<'a, D: Folder, W: Sink, E: Sink>(
         Ok(number) => numbered_page_in_folder(
             alloc, limits, folder, journal, number, words, output, errors,
         ),
-        Err(typed) => Ok(report_edition_word(alloc, errors, typed)),
+        Err(word) => Ok(report_edition_word(alloc, errors, word)),
     }
 }

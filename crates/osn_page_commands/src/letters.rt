@@ -6,13 +6,14 @@ ghost use Rattle.osn_lines.specs.Streams.{input_of, output_of};
 ghost use Rattle.osn_page_commands.specs.Letters as spec;
 
 use crate::edition_lines::report_edition_fault;
+use crate::place_of_all::{place_fault, place_fault_lines};
 use crate::table_faults::report_table;
 use osn_core::{Edition, Object, edition_of};
 use osn_files::load_journal;
 use osn_letters::{TableSettings, Tally, write_letters};
 use osn_lines::{Progress, Sink, Source};
 use osn_register::Limits;
-use osn_report::{CommandFault, Status, report_at, report_line};
+use osn_report::{CommandFault, Status, report_at, report_line, report_no_memory};
 use std::alloc::Global;
 
 /// The options of a table besides those that name its columns.
@@ -75,9 +76,43 @@ fn write_table<R: Source, W: Sink, E: Sink, P: Progress>(
     }
 }
 
+/// Writes the table, by an edition, if its rows don't all have one place without a territory. The
+/// path is that of the journal.
+fn write_placed<R: Source, W: Sink, E: Sink, P: Progress>(
+    alloc: Global,
+    path: &str,
+    edition: &Edition,
+    settings: TableSettings<'_>,
+    rules: TableRules,
+    input: &mut R,
+    output: &mut W,
+    errors: &mut E,
+    progress: &mut P,
+) -> Status
+    ensures { spec.WritesLetters path.now (edition_model edition.now)
+        (spec.settings_model settings.entry) rules
+        (input_of R.remaining R.has_failed input.old input.new)
+        (output_of W.contents W.has_failed W.holds_back output.old output.new)
+        (output_of E.contents E.has_failed E.holds_back errors.old errors.new) result }
+{
+    let register = edition.register();
+    match place_fault(alloc, register, settings) {
+        Ok(None) => write_table(
+            alloc, edition, settings, rules, input, output, errors, progress,
+        ),
+        Ok(Some(reason)) => {
+            let place = settings.names.place_of_all;
+            let lines = place_fault_lines(alloc, path, place, reason, register);
+            report_line(errors, Status::Refused, lines)
+        }
+        Err(_) => report_no_memory(errors),
+    }
+}
+
 /// Writes the table, by the edition that the rules ask for.
 fn write_numbered<R: Source, W: Sink, E: Sink, P: Progress>(
     alloc: Global,
+    path: &str,
     object: Object,
     settings: TableSettings<'_>,
     rules: TableRules,
@@ -86,7 +121,7 @@ fn write_numbered<R: Source, W: Sink, E: Sink, P: Progress>(
     errors: &mut E,
     progress: &mut P,
 ) -> Status
-    ensures { OnEdition rules.edition object (λ edition. spec.WritesTable edition
+    ensures { OnEdition rules.edition object (λ edition. spec.WritesLetters path.now edition
         (spec.settings_model settings.entry) rules
         (input_of R.remaining R.has_failed input.old input.new)
         (output_of W.contents W.has_failed W.holds_back output.old output.new)
@@ -95,8 +130,8 @@ fn write_numbered<R: Source, W: Sink, E: Sink, P: Progress>(
         (output_of E.contents E.has_failed E.holds_back errors.old errors.new) result }
 {
     match edition_of(alloc, object, rules.edition) {
-        Ok(edition) => write_table(
-            alloc, &edition, settings, rules, input, output, errors, progress,
+        Ok(edition) => write_placed(
+            alloc, path, &edition, settings, rules, input, output, errors, progress,
         ),
         Err(fault) => report_edition_fault(alloc, errors, fault),
     }
@@ -109,9 +144,10 @@ fn write_numbered<R: Source, W: Sink, E: Sink, P: Progress>(
 /// read, what separates the fields, the order of a date's three numbers and the table of places.
 /// The progress shows how much of the table was read.
 ///
-/// If it ends early, a line on standard error reports why, and the status says so. If it is written
-/// whole and a remark is a refusal, `Refused` says that a row has one. If that is asked for,
-/// standard error reports how many rows have each remark.
+/// If all rows have one place, and that has no territory, lines on standard error report that, and
+/// nothing is read or written. If it ends early, a line reports why, and the status says so. If it
+/// is written whole and a remark is a refusal, `Refused` says that a row has one. If that is asked
+/// for, standard error reports how many rows have each remark.
 pub fn letters_command<J: Source, R: Source, W: Sink, E: Sink, P: Progress>(
     alloc: Global,
     limits: Limits,
@@ -133,7 +169,7 @@ pub fn letters_command<J: Source, R: Source, W: Sink, E: Sink, P: Progress>(
 {
     match load_journal(alloc, limits, journal) {
         Ok(object) => write_numbered(
-            alloc, object, settings, rules, input, output, errors, progress,
+            alloc, path, object, settings, rules, input, output, errors, progress,
         ),
         Err(fault) => report_at(alloc, errors, path, CommandFault::File(fault)),
     }

@@ -8,6 +8,7 @@ ghost use Rattle.osn_page_commands.specs.Letters.{settings_model};
 ghost use Rattle.osn_page_commands.specs.LettersFiles as spec;
 ghost use Rattle.osn_report.specs.Folders.{folders_of};
 
+use crate::date_hint::report_word;
 use crate::edition_lines::report_edition_word;
 use crate::letters::{TableRules, letters_command};
 use crate::places::report_places;
@@ -18,7 +19,7 @@ use osn_invocation::LettersOptions;
 use osn_letters::{TableSettings, read_places};
 use osn_lines::{Progress, Sink, Source};
 use osn_register::Limits;
-use osn_report::{ReadProgress, Status, report_misuse, report_open_failure};
+use osn_report::{ReadProgress, Status, report_open_failure};
 use std::alloc::Global;
 
 /// Returns the options of a table besides those that name its columns, with the number of the
@@ -164,7 +165,7 @@ fn numbered_letters_in_folder<D: Folder, R: Source, W: Sink, E: Sink, T: Sink + 
             alloc, limits, folder, journal, options, number, settings, input, output, errors,
             terminal,
         ),
-        Err(wrong) => Ok(report_misuse(alloc, errors, wrong.misuse, wrong.typed)),
+        Err(wrong) => Ok(report_word(alloc, errors, wrong.misuse, wrong.argument)),
     }
 }
 
@@ -203,6 +204,6 @@ pub fn letters_in_folder<D: Folder, R: Source, W: Sink, E: Sink, T: Sink + Drop>
         Ok(number) => numbered_letters_in_folder(
             alloc, limits, folder, journal, options, number, input, output, errors, terminal,
         ),
-        Err(typed) => Ok(report_edition_word(alloc, errors, typed)),
+        Err(argument) => Ok(report_edition_word(alloc, errors, argument)),
     }
 }

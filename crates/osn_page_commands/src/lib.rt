@@ -5,6 +5,7 @@
 
 mod answer_line;
 mod conversion;
+mod date_advice;
 mod date_hint;
 mod day_number;
 mod edition_lines;
@@ -19,6 +20,7 @@ mod page;
 mod page_request;
 mod place;
 mod place_lines;
+mod place_of_all;
 mod places;
 mod refusal_lines;
 mod table_faults;

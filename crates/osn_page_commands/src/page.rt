@@ -214,12 +214,12 @@ fn page_of(
 }
 
 /// Returns the status of a page that was printed, by whether a day that was asked for is missing.
-fn ended(lacks_day: bool, printed: Status) -> Status
-    ensures { result ≡ spec.ended lacks_day printed }
+fn page_status(lacks_day: bool, status: Status) -> Status
+    ensures { result ≡ spec.page_status lacks_day status }
 {
-    match printed {
+    match status {
         Status::Done if lacks_day => Status::Refused,
-        _ => printed,
+        _ => status,
     }
 }
 
@@ -259,7 +259,7 @@ fn print_page_of<W: Sink, E: Sink>(
 {
     match page_of(alloc, edition, code, date, topic) {
         Ok(Made { text, lacks_day }) => {
-            ended(lacks_day, print_text_of(topic, text, output, errors))
+            page_status(lacks_day, print_text_of(topic, text, output, errors))
         }
         Err(Refusal::NoMemory) => report_no_memory(errors),
         Err(refusal) => {

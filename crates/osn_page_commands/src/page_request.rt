@@ -62,10 +62,10 @@ fn date_of_word(alloc: Global, text: &str) -> Result<Result<WrittenDate, Misuse>
 }
 
 /// Returns the date that was read from a text, which must contain one that is not a set.
-fn any_date_or_misuse(read: Result<Written, DateFault>) -> Result<AnyDate, Misuse>
-    ensures { result ≡ spec.any_date_or_misuse read }
+fn any_date_or_misuse(date: Result<Written, DateFault>) -> Result<AnyDate, Misuse>
+    ensures { result ≡ spec.any_date_or_misuse date }
 {
-    match read {
+    match date {
         Ok(Written::Date(date)) => Ok(date),
         Ok(Written::Set) => Err(Misuse::Date(DateFault::NotOneDay)),
         Ok(Written::NoDate) => Err(Misuse::Date(DateFault::NoDate)),
@@ -85,14 +85,17 @@ fn weekday_of_word(name: Option<&str>) -> Result<Option<Weekday>, Misuse>
 }
 
 /// Returns the weekday that is given beside a date, unless the date names another one.
-fn weekday_beside(named: Option<Weekday>, given: Option<Weekday>) -> Result<Option<Weekday>, Misuse>
-    ensures { result ≡ spec.weekday_beside named given }
+fn weekday_beside(
+    date_weekday: Option<Weekday>,
+    weekday: Option<Weekday>,
+) -> Result<Option<Weekday>, Misuse>
+    ensures { result ≡ spec.weekday_beside date_weekday weekday }
 {
-    match (named, given) {
-        (Some(named), Some(given)) if named.name() != given.name() => {
-            Err(Misuse::OtherWeekday(named))
+    match (date_weekday, weekday) {
+        (Some(date_weekday), Some(weekday)) if date_weekday.name() != weekday.name() => {
+            Err(Misuse::OtherWeekday(date_weekday))
         }
-        _ => Ok(given),
+        _ => Ok(weekday),
     }
 }
 
@@ -102,10 +105,10 @@ fn reading_of(date: Result<AnyDate, Misuse>, name: Option<&str>) -> Result<Page,
     ensures { result ≡ spec.reading_of date (option_map (λ name. name.now) name.entry) }
 {
     let date = date?;
-    let given = weekday_of_word(name)?;
+    let weekday = weekday_of_word(name)?;
     Ok(Page::Reading {
         date,
-        weekday: weekday_beside(date.weekday, given)?,
+        weekday: weekday_beside(date.weekday, weekday)?,
     })
 }
 
@@ -121,16 +124,16 @@ fn topic_of_set(name: Option<&str>, form: Form) -> Result<Topic, Misuse>
 
 /// Returns the page on what was read from a text, by the weekday of that name, if there is a name.
 fn topic_of_read(
-    read: Result<Written, DateFault>,
+    date: Result<Written, DateFault>,
     name: Option<&str>,
     form: Form,
 ) -> Result<Topic, Misuse>
     ensures { result
-        ≡ spec.topic_of_read read (option_map (λ name. name.now) name.entry) form }
+        ≡ spec.topic_of_read date (option_map (λ name. name.now) name.entry) form }
 {
-    match read {
+    match date {
         Ok(Written::Set) => topic_of_set(name, form),
-        _ => territory_topic(reading_of(any_date_or_misuse(read), name), form),
+        _ => territory_topic(reading_of(any_date_or_misuse(date), name), form),
     }
 }
 
@@ -149,8 +152,8 @@ fn topic_of_reading(
 {
     match order_of_word(order) {
         Ok(order) => {
-            let read = read_date(alloc, text, order)?;
-            Ok(topic_of_read(read, weekday, form))
+            let date = read_date(alloc, text, order)?;
+            Ok(topic_of_read(date, weekday, form))
         }
         Err(misuse) => Ok(Err(misuse)),
     }

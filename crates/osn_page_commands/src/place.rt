@@ -1,10 +1,11 @@
 //! Which territory of a register a word names.
 ghost use Rattle.std.specs.Prelude.{◌≡◌, find, IfOk, option_map};
+ghost use Rattle.std.specs.List.{filter};
 ghost use Rattle.osn_page_commands.specs.Place as spec;
 
 use osn_lines::is_near;
 use osn_register::{Land, LandList, Register, Text};
-use osn_written::Listing;
+use osn_written::{Listing, parts_at};
 use std::alloc::{AllocError, Global};
 
 /// What a word names.
@@ -35,7 +36,7 @@ fn only_of(territories: Vec<Land>) -> Result<Place, AllocError>
 }
 
 /// Returns the territories that have the word as their code or their name.
-fn territories_called(register: &Register, word: &str) -> Result<Vec<Land>, AllocError>
+pub(crate) fn territories_called(register: &Register, word: &str) -> Result<Vec<Land>, AllocError>
     ensures { IfOk result (λ territories.
         territories.items ≡ spec.territories_called word.now register.now.territories) }
 {
@@ -93,7 +94,7 @@ fn first_near<'a>(
 }
 
 /// Returns the nearest of these territories, by its code or its name, if one is near the word.
-pub(crate) fn nearest_territory<'a>(
+fn nearest_territory<'a>(
     alloc: Global,
     word: &str,
     territories: &'a [Land],
@@ -104,5 +105,83 @@ pub(crate) fn nearest_territory<'a>(
     match first_near(alloc, 1, word, territories)? {
         Some(territory) => Ok(Some(territory)),
         None => first_near(alloc, 2, word, territories),
+    }
+}
+
+/// Returns whether a code begins with a word of two letters or more, in capital or small letters.
+fn begins_with(alloc: Global, word: &str, code: &str) -> Result<bool, AllocError>
+    ensures { IfOk result (λ begins. begins ≡ spec.begins_with word.now code.now) }
+{
+    let start = word.to_ascii_lowercase(alloc)?;
+    let code = code.to_ascii_lowercase(alloc)?;
+    Ok(word.len() >= 2 && code.as_bytes().starts_with(start.as_bytes()))
+}
+
+/// Returns whether one of the words of a name is near a word.
+fn has_word_near(alloc: Global, word: &str, name: &str) -> Result<bool, AllocError>
+    ensures { IfOk result (λ near. near ≡ spec.has_word_near word.now name.now) }
+{
+    let mut rest = name;
+    while let Some((part, further)) = parts_at(rest, ' ') {
+        if is_near(alloc, 2, word, part)? {
+            return Ok(true);
+        }
+        rest = further;
+    }
+    is_near(alloc, 2, word, rest)
+}
+
+/// Returns whether the code of a territory begins with a word, or one of the words of its name is
+/// near it.
+fn is_similar(alloc: Global, word: &str, territory: &Land) -> Result<bool, AllocError>
+    ensures { IfOk result (λ similar. similar ≡ spec.is_similar word.now territory.now) }
+{
+    Ok(
+        begins_with(alloc, word, territory.code.as_str())?
+            || has_word_near(alloc, word, territory.name.as_str())?,
+    )
+}
+
+/// Returns the same territory.
+fn copy_of(territory: &Land) -> Result<Land, AllocError>
+    ensures { IfOk result (λ copy. copy ≡ territory.now) }
+{
+    Ok(Land {
+        code: territory.code.copy()?,
+        name: territory.name.copy()?,
+    })
+}
+
+/// Returns those of these territories that are similar to a word.
+fn similar_territories(
+    alloc: Global,
+    word: &str,
+    territories: &[Land],
+) -> Result<Vec<Land>, AllocError>
+    ensures { IfOk result (λ similar.
+        similar.items ≡ filter (spec.is_similar word.now) territories.now) }
+{
+    let mut similar = Vec::new(alloc);
+    for territory in territories {
+        if is_similar(alloc, word, territory)? {
+            similar.push(copy_of(territory)?)?;
+        }
+    }
+    Ok(similar)
+}
+
+/// Returns those of these territories that may be meant by a word that names none: the nearest one,
+/// or else those whose code begins with the word, and those that have a word near it in their name.
+pub(crate) fn suggested_territories(
+    alloc: Global,
+    word: &str,
+    territories: &[Land],
+) -> Result<Vec<Land>, AllocError>
+    ensures { IfOk result (λ suggested.
+        suggested.items ≡ spec.suggested word.now territories.now) }
+{
+    match nearest_territory(alloc, word, territories)? {
+        Some(territory) => Ok(vec![in alloc; copy_of(territory)?]?),
+        None => similar_territories(alloc, word, territories),
     }
 }

@@ -1,10 +1,11 @@
 //! The lines on standard error about a word that does not name one territory.
-ghost use Rattle.std.specs.Prelude.{◌≡◌, ◌++◌, map, IfOk, OnOk, option_map, string_bytes};
+ghost use Rattle.std.specs.Prelude.{◌≡◌, ◌++◌, map, option_map, IfOk, OnOk};
+ghost use Rattle.std.specs.Prelude.{string_bytes};
 ghost use Rattle.std.specs.List.{flat_map};
 ghost use Rattle.osn_register.specs.Answer.{listed};
 ghost use Rattle.osn_page_commands.specs.Place as spec;
 
-use crate::place::nearest_territory;
+use crate::place::suggested_territories;
 use osn_lines::Escaped;
 use osn_register::{Land, Register};
 use std::alloc::{AllocError, Global};
@@ -27,25 +28,71 @@ impl<'a> fmt::Display for TerritoryTitle<'a> {
     }
 }
 
-/// Appends the territory that may be meant, if one is near.
-fn push_suggestion(line: &mut String, nearest: Option<&Land>) -> Result<(), AllocError>
-    ensures { OnOk result (string_bytes line.new ≡ string_bytes line.old
-        ++ spec.suggestion (option_map (λ territory. territory.now) nearest.entry)) }
+/// Appends a line for each of these territories.
+fn push_notes(lines: &mut String, territories: &[Land]) -> Result<(), AllocError>
+    ensures { OnOk result (string_bytes lines.new
+        ≡ string_bytes lines.old ++ flat_map spec.note_line territories.now) }
 {
-    match nearest {
-        Some(territory) => write!(line, ": did you mean {}?", TerritoryTitle(territory)),
-        None => Ok(()),
+    for territory in territories {
+        writeln!(lines, "note: {}", TerritoryTitle(territory))?;
+    }
+    Ok(())
+}
+
+/// Returns the only one of these territories, if there is one alone.
+fn only_meant(suggested: &[Land]) -> Option<&Land>
+    ensures { option_map (λ territory. territory.now) result ≡ spec.only_meant suggested.now }
+{
+    if let [only] = suggested {
+        Some(only)
+    } else {
+        None
     }
 }
 
-/// Returns the line on a word that names no territory, without its end.
-fn unknown_line(alloc: Global, word: &str, nearest: Option<&Land>) -> Result<String, AllocError>
-    ensures { IfOk result (λ line. string_bytes line
-        ≡ spec.unknown_line word.now (option_map (λ territory. territory.now) nearest.entry)) }
+/// Appends the end of the line on a word that may mean one of these territories, and a line for
+/// each.
+fn push_each(line: &mut String, suggested: &[Land]) -> Result<(), AllocError>
+    ensures { OnOk result
+        (string_bytes line.new ≡ string_bytes line.old ++ spec.each_meant suggested.now) }
+{
+    line.push_str(": did you mean one of these?\n")?;
+    push_notes(line, suggested)
+}
+
+/// Appends the end of the line on a word that names no territory. If several may be meant, a line
+/// for each comes after it.
+fn push_several(line: &mut String, suggested: &[Land]) -> Result<(), AllocError>
+    ensures { OnOk result
+        (string_bytes line.new ≡ string_bytes line.old ++ spec.several_meant suggested.now) }
+{
+    if suggested.is_empty() {
+        line.push_str("\n")
+    } else {
+        push_each(line, suggested)
+    }
+}
+
+/// Appends the end of the line on a word that names no territory: the only one that may be meant,
+/// or each of several.
+fn push_suggestion(line: &mut String, suggested: &[Land]) -> Result<(), AllocError>
+    ensures { OnOk result
+        (string_bytes line.new ≡ string_bytes line.old ++ spec.suggestion suggested.now) }
+{
+    match only_meant(suggested) {
+        Some(only) => writeln!(line, ": did you mean {}?", TerritoryTitle(only)),
+        None => push_several(line, suggested),
+    }
+}
+
+/// Returns the line on a word that names no territory, with those that may be meant.
+fn unknown_line(alloc: Global, word: &str, suggested: &[Land]) -> Result<String, AllocError>
+    ensures { IfOk result
+        (λ line. string_bytes line ≡ spec.unknown_line word.now suggested.now) }
 {
     let word = Escaped(word);
     let mut line = format!(in alloc; "oldstyle: no territory has the code or the name {word}")?;
-    push_suggestion(&mut line, nearest)?;
+    push_suggestion(&mut line, suggested)?;
     Ok(line)
 }
 
@@ -59,25 +106,14 @@ fn unknown_lines(
     ensures { IfOk result (λ lines.
         string_bytes lines ≡ spec.unknown_lines path.now word.now territories.now) }
 {
-    let nearest = nearest_territory(alloc, word, territories)?;
-    let mut lines = unknown_line(alloc, word, nearest)?;
+    let suggested = suggested_territories(alloc, word, territories)?;
+    let mut lines = unknown_line(alloc, word, suggested.as_slice())?;
     let path = Escaped(path);
-    write!(
+    writeln!(
         lines,
-        "\nhelp: oldstyle territory {path} lists the territories\n"
+        "help: oldstyle territory {path} lists the territories"
     )?;
     Ok(lines)
-}
-
-/// Appends a line for each of these territories.
-fn push_notes(lines: &mut String, territories: &[Land]) -> Result<(), AllocError>
-    ensures { OnOk result (string_bytes lines.new
-        ≡ string_bytes lines.old ++ flat_map spec.note_line territories.now) }
-{
-    for territory in territories {
-        writeln!(lines, "note: {}", TerritoryTitle(territory))?;
-    }
-    Ok(())
 }
 
 /// Returns the lines on a word that names all of these territories.
@@ -99,16 +135,16 @@ pub(crate) fn place_lines(
     alloc: Global,
     path: &str,
     word: &str,
-    named: &[Land],
+    matches: &[Land],
     register: &Register,
 ) -> Result<String, AllocError>
     ensures { IfOk result (λ lines. string_bytes lines
-        ≡ spec.place_lines path.now word.now named.now (map listed register.now.territories)) }
+        ≡ spec.place_lines path.now word.now matches.now (map listed register.now.territories)) }
 {
-    if named.is_empty() {
+    if matches.is_empty() {
         let territories = register.listed()?;
         unknown_lines(alloc, path, word, territories.as_slice())
     } else {
-        several_lines(alloc, word, named)
+        several_lines(alloc, word, matches)
     }
 }

@@ -5,7 +5,7 @@ ghost use Rattle.osn_page_commands.specs.Places as spec;
 ghost use Rattle.osn_report.specs.Messages.{ReportsIfMade};
 ghost use Rattle.osn_report.specs.declared.status.Status.{Status};
 
-use crate::table_faults::{WIDE, is_wide};
+use crate::table_faults::{WIDE, WORKBOOK, is_wide, is_workbook};
 use osn_folder::OpenFailed;
 use osn_letters::{PlacesColumn, PlacesFault};
 use osn_lines::{Escaped, Sink};
@@ -13,8 +13,6 @@ use osn_report::{Status, report_line, report_no_memory, report_open_failure};
 use std::alloc::{AllocError, Global};
 
 const NO_HEADER: &str = "no header: the first line names the columns place and code";
-
-const BAD_RECORD: &str = "a different number of fields than the header: give each row as many";
 
 const TOO_LONG: &str = "a record of more than 65536 bytes: look for a quote that is not closed";
 
@@ -62,10 +60,32 @@ fn lacks_line(
     ensures { IfOk result (λ text. string_bytes text
         ≡ spec.lacks_line path.now column line header.now) }
 {
+    if is_workbook(header) {
+        return places_line(alloc, path, line, WORKBOOK);
+    }
     if is_wide(header) {
         return places_line(alloc, path, line, WIDE);
     }
     columns_line(alloc, path, column, line, header)
+}
+
+/// Returns the line on a record whose number of fields is not that of the header, with both
+/// numbers.
+fn fields_line(
+    alloc: Global,
+    path: &str,
+    line: u64,
+    fields: usize,
+    width: usize,
+) -> Result<String, AllocError>
+    ensures { IfOk result
+        (λ message. string_bytes message ≡ spec.fields_line path.now line fields width) }
+{
+    format!(in alloc;
+        "oldstyle: {} line {line}: a different number of fields than the header: {fields} \
+instead of {width}: give each row as many\n",
+        Escaped(path)
+    )
 }
 
 /// Returns the line on a place that has two codes.
@@ -124,7 +144,14 @@ pub(crate) fn report_places<E: Sink>(
             let message = codes_line(alloc, path, *line, place.as_str());
             report_line(errors, Status::Refused, message)
         }
-        PlacesFault::BadRecord { line } => report_record(alloc, errors, path, *line, BAD_RECORD),
+        PlacesFault::BadRecord {
+            line,
+            fields,
+            width,
+        } => {
+            let message = fields_line(alloc, path, *line, *fields, *width);
+            report_line(errors, Status::Refused, message)
+        }
         PlacesFault::TooLong { line } => report_record(alloc, errors, path, *line, TOO_LONG),
         PlacesFault::OpenQuote { line } => report_record(alloc, errors, path, *line, OPEN_QUOTE),
         PlacesFault::TextAfterQuote { line } => {

@@ -5,7 +5,7 @@ ghost use Rattle.osn_page_commands.specs.Page as spec;
 use crate::page_request::Topic;
 use osn_lines::Escaped;
 use osn_register::Refusal;
-use osn_report::refused;
+use osn_report::refusal_number_line;
 use std::alloc::{AllocError, Global};
 use std::fmt;
 use std::fmt::Write;
@@ -69,7 +69,7 @@ pub fn territory_refusal_line(
     match refusal {
         Refusal::BadCode => format!(in alloc; "oldstyle: {}\n", NoCode(code)),
         Refusal::UnknownLand => format!(in alloc; "oldstyle: {}\n", NoTerritory { path, code }),
-        _ => refused(alloc, refusal.number(), refusal.name()),
+        _ => refusal_number_line(alloc, refusal.number(), refusal.name()),
     }
 }
 
@@ -103,7 +103,7 @@ fn almanac_lines(
     ensures { IfOk result (λ lines.
         string_bytes lines ≡ spec.almanac_refusal_lines path.now code.now year refusal) }
 {
-    let mut lines = refused(alloc, refusal.number(), refusal.name())?;
+    let mut lines = refusal_number_line(alloc, refusal.number(), refusal.name())?;
     push_help(&mut lines, path, code, year, refusal)?;
     Ok(lines)
 }
@@ -124,6 +124,6 @@ pub(crate) fn refusal_line(
         Topic::Year(_) | Topic::Territory { .. } | Topic::Set { .. } => {
             territory_refusal_line(alloc, path, code, refusal)
         }
-        Topic::Territories { .. } => refused(alloc, refusal.number(), refusal.name()),
+        Topic::Territories { .. } => refusal_number_line(alloc, refusal.number(), refusal.name()),
     }
 }

@@ -1,5 +1,5 @@
 //! Reports on standard error why a table of letters ended early.
-ghost use Rattle.std.specs.Prelude.{◌≡◌, IfOk, string_bytes};
+ghost use Rattle.std.specs.Prelude.{◌≡◌, ◌++◌, IfOk, OnOk, string_bytes};
 ghost use Rattle.osn_letters.specs.Columns.{dates_of, names_of};
 ghost use Rattle.osn_lines.specs.Streams.{output_of};
 ghost use Rattle.osn_page_commands.specs.Letters as spec;
@@ -9,12 +9,12 @@ ghost use Rattle.osn_report.specs.declared.status.Status.{Status};
 use osn_files::FileFault;
 use osn_letters::{AddedColumn, Column, ColumnNames, DateNames, LettersFault, WeekdayName};
 use osn_lines::{Escaped, Sink};
+use osn_register::Text;
 use osn_report::{CommandFault, Status, report, report_line, report_no_memory};
 use std::alloc::{AllocError, Global};
+use std::fmt::Write;
 
 const NO_HEADER: &str = "no header: the first line has the names of the columns";
-
-const BAD_RECORD: &str = "a different number of fields than the header";
 
 const TOO_LONG: &str = "a record of more than 65536 bytes";
 
@@ -24,6 +24,12 @@ const AFTER_QUOTE: &str = "text follows a closing quote";
 
 /// The text on a table in UTF-16.
 pub(crate) const WIDE: &str = "the table is in UTF-16: save it as CSV in UTF-8";
+
+/// The text on a table in a workbook.
+pub(crate) const WORKBOOK: &str = "the table is a workbook (.xlsx, .ods): save it as CSV in UTF-8";
+
+/// The bytes with which a zip archive begins.
+const ZIP_MARK: [u8; 4] = [0x50, 0x4b, 3, 4];
 
 /// Returns the name by which a column of the date was looked for, or an empty text if it was not.
 fn date_name_of<'a>(names: DateNames<'a>, column: Column) -> &'a str
@@ -83,6 +89,13 @@ fn record_line(alloc: Global, line: u64, text: &str) -> Result<String, AllocErro
     format!(in alloc; "oldstyle: letters line {line}: {text}\n")
 }
 
+/// Returns whether a header is the beginning of a workbook, which is a zip archive.
+pub(crate) fn is_workbook(header: &str) -> bool
+    ensures { result ≡ spec.is_workbook header.now }
+{
+    header.as_bytes().starts_with(&ZIP_MARK)
+}
+
 /// Returns whether a header has a zero byte, as in UTF-16.
 pub(crate) fn is_wide(header: &str) -> bool
     ensures { result ≡ spec.is_wide header.now }
@@ -111,21 +124,38 @@ name yours with {option}\n",
     )
 }
 
-/// Returns the line on a header that lacks a column.
-fn lacks_line(
+/// Appends the line on the column that may be meant, if one is near.
+fn push_nearest(lines: &mut String, nearest: &Option<Text>) -> Result<(), AllocError>
+    ensures { OnOk result (string_bytes lines.new
+        ≡ string_bytes lines.old ++ spec.nearest_line nearest.now) }
+{
+    match nearest {
+        Some(name) => writeln!(lines, "help: did you mean {}?", Escaped(name.as_str())),
+        None => Ok(()),
+    }
+}
+
+/// Returns the lines on a header that lacks a column, and has one that may be meant or not.
+fn lacks_lines(
     alloc: Global,
     names: ColumnNames<'_>,
     column: Column,
     line: u64,
     header: &str,
+    nearest: &Option<Text>,
 ) -> Result<String, AllocError>
     ensures { IfOk result (λ text. string_bytes text
-        ≡ spec.lacks_line (names_of names.entry) column line header.now) }
+        ≡ spec.lacks_lines (names_of names.entry) column line header.now nearest.now) }
 {
+    if is_workbook(header) {
+        return record_line(alloc, line, WORKBOOK);
+    }
     if is_wide(header) {
         return record_line(alloc, line, WIDE);
     }
-    columns_line(alloc, names, column, line, header)
+    let mut lines = columns_line(alloc, names, column, line, header)?;
+    push_nearest(&mut lines, nearest)?;
+    Ok(lines)
 }
 
 /// Returns the line on a column of a header.
@@ -146,6 +176,18 @@ fn has_line(alloc: Global, line: u64, column: AddedColumn) -> Result<String, All
         line,
         name,
         "is already there: remove it, rename it, or replace all twelve with --replace",
+    )
+}
+
+/// Returns the line on a record whose number of fields is not that of the header, with both
+/// numbers.
+fn fields_line(alloc: Global, line: u64, fields: usize, width: usize) -> Result<String, AllocError>
+    ensures { IfOk result
+        (λ message. string_bytes message ≡ spec.fields_line line fields width) }
+{
+    format!(in alloc;
+        "oldstyle: letters line {line}: a different number of fields than the header: {fields} \
+instead of {width}\n"
     )
 }
 
@@ -175,14 +217,22 @@ pub(crate) fn report_table<E: Sink>(
             column,
             line,
             header,
+            nearest,
         } => {
-            let message = lacks_line(alloc, names, *column, *line, header.as_str());
+            let message = lacks_lines(alloc, names, *column, *line, header.as_str(), nearest);
             report_line(errors, Status::Refused, message)
         }
         LettersFault::HasColumn { line, column } => {
             report_line(errors, Status::Refused, has_line(alloc, *line, *column))
         }
-        LettersFault::BadRecord { line } => report_record(alloc, errors, *line, BAD_RECORD),
+        LettersFault::BadRecord {
+            line,
+            fields,
+            width,
+        } => {
+            let message = fields_line(alloc, *line, *fields, *width);
+            report_line(errors, Status::Refused, message)
+        }
         LettersFault::TooLong { line } => report_record(alloc, errors, *line, TOO_LONG),
         LettersFault::OpenQuote { line } => report_record(alloc, errors, *line, OPEN_QUOTE),
         LettersFault::TextAfterQuote { line } => report_record(alloc, errors, *line, AFTER_QUOTE),

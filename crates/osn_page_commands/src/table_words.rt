@@ -42,7 +42,7 @@ fn weekday_column<'a>(name: Option<&'a str>) -> WeekdayName<'a>
 pub(crate) struct WrongWord<'a> {
     pub(crate) misuse: Misuse,
     /// The word as it was typed.
-    pub(crate) typed: &'a str,
+    pub(crate) argument: &'a str,
 }
 
 /// Returns a word, or an empty text if there is none.
@@ -58,12 +58,12 @@ fn or_empty<'a>(word: Option<&'a str>) -> &'a str
 /// Returns a word that is wrong, as it was typed.
 fn wrong_word<'a>(misuse: Misuse, word: Option<&'a str>) -> WrongWord<'a>
     ensures misuse { result.misuse ≡ misuse }
-    ensures typed { result.typed.now
+    ensures argument { result.argument.now
         ≡ unwrap_or (option_map (λ word. word.now) word.entry) [] }
 {
     WrongWord {
         misuse,
-        typed: or_empty(word),
+        argument: or_empty(word),
     }
 }
 
@@ -76,9 +76,9 @@ fn dates_of_options<'a>(options: DateOptions<'a>) -> Result<DateNames<'a>, Wrong
     ensures ok { IfOk result
         (λ names. spec.dates_of_options (date_model options.entry) ≡ Ok (dates_of names)) }
     ensures err { IfErr result (λ wrong. spec.dates_of_options (date_model options.entry)
-        ≡ Err (wrong.misuse, wrong.typed.now)) }
+        ≡ Err (wrong.misuse, wrong.argument.now)) }
 {
-    let (misuse, typed) = match (options.date, options.year, options.month, options.day) {
+    let (misuse, argument) = match (options.date, options.year, options.month, options.day) {
         (None, None, None, None) => return Ok(DateNames::Whole("date")),
         (Some(date), None, None, None) => return Ok(DateNames::Whole(date)),
         (Some(_), _, _, _) => (Misuse::DateAndParts, "--date"),
@@ -87,7 +87,7 @@ fn dates_of_options<'a>(options: DateOptions<'a>) -> Result<DateNames<'a>, Wrong
         (None, Some(_), None, Some(_)) => (Misuse::DayWithoutMonth, "--day"),
         (None, Some(year), month, day) => return Ok(DateNames::Apart { year, month, day }),
     };
-    Err(WrongWord { misuse, typed })
+    Err(WrongWord { misuse, argument })
 }
 
 /// Returns the name of the column of places, unless one place of all rows is named.
@@ -105,7 +105,7 @@ fn place_named<'a>(
         ≡ Ok (option_map (λ place. place.now) place)) }
     ensures err { IfErr result (λ wrong.
         spec.place_named (option_map (λ place. place.now) place_of_all.entry)
-        (option_map (λ name. name.now) name.entry) ≡ Err (wrong.misuse, wrong.typed.now)) }
+        (option_map (λ name. name.now) name.entry) ≡ Err (wrong.misuse, wrong.argument.now)) }
 {
     match (place_of_all, name) {
         (None, None) => Ok(Some("place")),
@@ -113,7 +113,7 @@ fn place_named<'a>(
         (Some(_), None) => Ok(None),
         (Some(_), Some(_)) => Err(WrongWord {
             misuse: Misuse::PlaceAndColumn,
-            typed: "--in",
+            argument: "--in",
         }),
     }
 }
@@ -130,7 +130,7 @@ fn settings_at<'a>(
     ensures ok { IfOk result (λ settings. spec.settings_at (letters_model options.entry)
         (option_map (λ place. place.now) place.entry) ≡ Ok (settings_model settings)) }
     ensures err { IfErr result (λ wrong. spec.settings_at (letters_model options.entry)
-        (option_map (λ place. place.now) place.entry) ≡ Err (wrong.misuse, wrong.typed.now)) }
+        (option_map (λ place. place.now) place.entry) ≡ Err (wrong.misuse, wrong.argument.now)) }
 {
     let separator = separator_of_word(options.separator);
     let order = order_of_word(options.order);
@@ -165,7 +165,7 @@ pub(crate) fn settings_of_options<'a>(
     ensures ok { IfOk result (λ settings.
         spec.settings_of_options (letters_model options.entry) ≡ Ok (settings_model settings)) }
     ensures err { IfErr result (λ wrong. spec.settings_of_options (letters_model options.entry)
-        ≡ Err (wrong.misuse, wrong.typed.now)) }
+        ≡ Err (wrong.misuse, wrong.argument.now)) }
 {
     let place = place_named(options.place_of_all, options.place)?;
     settings_at(options, place)

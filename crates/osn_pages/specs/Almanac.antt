@@ -24,15 +24,16 @@ use Rattle.osn_territory.specs.Exceptions.{exception_of}
 use Rattle.osn_territory.specs.StyleWords.{style_word}
 use Rattle.osn_territory.specs.Territory.{TerritoryModel, periods_of, reading}
 use Rattle.osn_register.specs.declared.refusal.Refusal.{Refusal}
-use Rattle.osn_register.specs.Answer.{period_source, easter_source, easter_refusal}
+use Rattle.osn_register.specs.Answer.{period_source, easter_source}
+use Rattle.osn_register.specs.QueryRefusal.{easter_refusal}
 use Rattle.osn_register.specs.Named.{named_of}
 use Rattle.osn_register.specs.Plain.{EntryModel, sources_of}
 use Rattle.osn_register.specs.Sources.{SourcesModel}
 use Rattle.osn_pages.specs.SourceLine.{source_text}
 use Rattle.osn_written.specs.declared.feast.Feast.{Feast}
 use Rattle.osn_pages.specs.Columns.{day_columns, absent_line}
-use Rattle.osn_pages.specs.Feasts.{feasts}
 use Rattle.osn_written.specs.Feast.{feast_name, feast_day}
+use Rattle.osn_written.specs.YearFeasts.{principal_feasts}
 
 -- ---- the heading
 
@@ -124,7 +125,7 @@ abbrev pub feast_line : Rules → TerritoryModel → ℕ → Feast → List ℕ
 feast_line p t easter feast = feast_line_on p t (feast_name feast) (feast_day p easter feast)
 
 abbrev pub feast_lines : Rules → TerritoryModel → ℕ → List ℕ
-feast_lines p t easter = flat_map (feast_line p t easter) feasts
+feast_lines p t easter = flat_map (feast_line p t easter) principal_feasts
 
 abbrev pub easters_text : Rules → TerritoryModel → Option SourcesModel → ℕ → List ℕ
 easters_text p t sources year =

@@ -15,6 +15,5 @@ pub mod Law
 pub mod Page
 pub mod SetPage
 pub mod Columns
-pub mod Feasts
 pub mod Almanac
 pub mod YearPage

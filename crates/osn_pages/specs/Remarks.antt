@@ -1,5 +1,6 @@
--- What is remarked after the days of a date: how sure it is, by which calendar it was read, and
--- that its weekday is not compared. And how its page names it. This project's profile.
+-- What is remarked after the days of a date: that it ends in the next year, how sure it is, by which
+-- calendar it was read, and that its weekday is not compared. And how its page names it. This
+-- project's profile.
 use Rattle.std.specs.Prelude.{ℕ, ◌==◌, Bool, if◌then◌else◌, List, [], ◌∷◌, ◌++◌, Option, Some, None}
 use Rattle.std.specs.Prelude.{Result, Ok, Err, codes}
 use Rattle.std.specs.Option.{option_or}
@@ -9,6 +10,7 @@ use Rattle.osn_days.specs.Weekday.{weekday_name}
 use Rattle.osn_written.specs.declared.any_date.Reckoning.{Reckoning}
 use Rattle.osn_written.specs.declared.any_date.Reckoning.TheVariants.{OldStyle, NewStyle}
 use Rattle.osn_written.specs.declared.any_date.AnyDate.{AnyDate}
+use Rattle.osn_written.specs.declared.any_date.Extent.{Extent}
 use Rattle.osn_written.specs.AnyDate.{has_three_digits}
 use Rattle.osn_territory.specs.declared.dated.DatedDay.{DatedDay}
 use Rattle.osn_territory.specs.declared.runs.Run.{Run}
@@ -19,6 +21,8 @@ use Rattle.osn_written.specs.declared.written_date.DateFault.{DateFault}
 use Rattle.osn_written.specs.declared.written_date.WrittenDate.{WrittenDate}
 use Rattle.osn_written.specs.DateInWords.{words_of}
 use Rattle.osn_written.specs.Finding.{by_reckoning, extent_meant, is_by_other_calendar}
+use Rattle.osn_written.specs.Finding.{reckoned}
+use Rattle.osn_written.specs.Spans.{ends_in_next_year}
 use Rattle.osn_written.specs.PlainDay.{plain_day}
 use Rattle.osn_written.specs.PlainDay.{one_day}
 
@@ -60,6 +64,12 @@ sureness approximate uncertain supplied = line_of_words
 
 abbrev pub sureness_line : AnyDate → List ℕ
 sureness_line w = sureness w.is_approximate w.is_uncertain w.is_supplied
+
+-- ---- its year
+
+-- by the reckoning of a territory the last day of a range with one year is of the next one
+abbrev pub next_year_line : Rules → TerritoryModel → Extent → List ℕ
+next_year_line p t e = if ends_in_next_year p t e then codes "ends in the next year\n" else []
 
 -- a year of three digits may lack its last one
 abbrev pub three_digits_line : AnyDate → List ℕ
@@ -121,7 +131,8 @@ weekday_line weekday None = not_sought_line weekday
 
 unfoldable pub remark_lines : Rules → List ℕ → TerritoryModel → AnyDate → Option Weekday → List ℕ
 remark_lines p name t w given =
-    sureness_line w
+    next_year_line p (reckoned t w.reckoning) w.extent
+    ++ (sureness_line w
     ++ (three_digits_line w
     ++ (calendar_line p name t w w.reckoning
-    ++ weekday_line (option_or w.weekday given) (one_day w)))
+    ++ weekday_line (option_or w.weekday given) (one_day w))))

@@ -1,12 +1,11 @@
 -- The page of a year as a territory counted it: its days and months in the order in which they were
 -- lived, the changes that it has or that shorten it, the feasts that fell in it, and the figures of
 -- the year from 1 January. This project's profile.
-use Rattle.std.specs.Prelude.{ℕ, Bool, ◌&&◌, ◌||◌, ◌==◌, nat_lt, if◌then◌else◌, ◌+◌, ◌-◌}
+use Rattle.std.specs.Prelude.{ℕ, Bool, true, false, ◌&&◌, ◌||◌, ◌==◌, nat_lt, if◌then◌else◌, ◌-◌}
 use Rattle.std.specs.Prelude.{ℤ, pos, int_le, List, [], ◌∷◌, ◌++◌, map, length}
 use Rattle.std.specs.Prelude.{Option, Some, None, codes}
 use Rattle.std.specs.Fmt.{decimal}
 use Rattle.std.specs.List.{flat_map, list_any}
-use Rattle.std.specs.Ordering.{int_eq}
 use Rattle.std.specs.Str.{bytes_eq}
 use Rattle.osn_computus.specs.RuleWords.{rule_word}
 use Rattle.osn_days.specs.declared.calendar.Calendar.TheVariants.{Gregorian}
@@ -17,13 +16,12 @@ use Rattle.osn_territory.specs.declared.dated.DatedDay.{DatedDay}
 use Rattle.osn_territory.specs.declared.period.Period.{Period}
 use Rattle.osn_territory.specs.declared.regime.Regime.{Regime}
 use Rattle.osn_territory.specs.Dated.{dated_on}
-use Rattle.osn_territory.specs.Easters.{easters}
 use Rattle.osn_territory.specs.Runs.{days_of_year}
 use Rattle.osn_territory.specs.StyleWords.{beginning_of_year}
 use Rattle.osn_territory.specs.Territory.{TerritoryModel, periods_of, regime_at}
 use Rattle.osn_register.specs.Answer.{period_source, easter_source}
 use Rattle.osn_register.specs.Named.{named_of}
-use Rattle.osn_register.specs.Plain.{EntryModel, sources_of, is_off_years}
+use Rattle.osn_register.specs.Plain.{EntryModel, sources_of}
 use Rattle.osn_register.specs.Sources.{SourcesModel}
 use Rattle.osn_pages.specs.declared.page.Published.{Published}
 use Rattle.osn_pages.specs.Grid.{pieces_of, is_next}
@@ -37,10 +35,10 @@ use Rattle.osn_written.specs.declared.feast.Feast.{Feast}
 use Rattle.osn_written.specs.declared.feast.Feast.TheVariants as feast
 use Rattle.osn_pages.specs.declared.year_days.Part.{Part}
 use Rattle.osn_pages.specs.declared.year_days.Part.TheVariants.{Run, Month}
-use Rattle.osn_pages.specs.declared.year_feasts.YearEaster.{YearEaster}
 use Rattle.osn_pages.specs.Almanac.{figures_lines}
-use Rattle.osn_pages.specs.Feasts.{feasts}
-use Rattle.osn_written.specs.Feast.{feast_name, feast_day}
+use Rattle.osn_written.specs.declared.year_feasts.FeastDay.{FeastDay}
+use Rattle.osn_written.specs.Feast.{feast_name}
+use Rattle.osn_written.specs.YearFeasts.{feasts_of_year}
 
 -- ---- days and months
 
@@ -166,60 +164,38 @@ changes_text p t sources year =
 
 -- ---- feasts
 
--- the territory dates the day in the year
-abbrev pub is_in_year : Rules → TerritoryModel → ℕ → ℕ → Bool
-is_in_year p t year d = int_eq (year_on p t d) (pos year)
-
--- the Easters of a year from 1 January, of which only the years of figures have any
-abbrev pub easters_of : Rules → TerritoryModel → ℕ → List YearEaster
-easters_of p t n =
-    if is_off_years p (pos n) then []
-    else map (λ d. record { january_year = n; day = d }) (easters p t n)
-
--- those of the years from 1 January whose feasts the year can have
-abbrev pub easters_about : Rules → TerritoryModel → ℕ → List YearEaster
-easters_about p t year =
-    easters_of p t (year - 1) ++ (easters_of p t year ++ easters_of p t (year + 1))
-
 -- the source of a listed Easter, after the line of Easter
 abbrev pub feast_source : Option SourcesModel → ℕ → Feast → List ℕ
-feast_source sources n feast.Easter = source_text (easter_source sources n)
-feast_source sources n other = []
+feast_source sources january_year feast.Easter = source_text (easter_source sources january_year)
+feast_source sources january_year other = []
 
--- a feast of a year from 1 January, and its source: Easter: Sunday 18 April 1731 ..
-unfoldable pub feast_lines : Option SourcesModel → ℕ → Feast → DatedDay → List ℕ
-feast_lines sources n f x =
-    feast_name f ++ (codes ": " ++ (plain_day_line x ++ feast_source sources n f))
+-- a feast on a day, and its source: Easter: Sunday 18 April 1731 ..
+unfoldable pub feast_lines : Option SourcesModel → FeastDay → DatedDay → List ℕ
+feast_lines sources f x =
+    feast_name f.feast
+    ++ (codes ": " ++ (plain_day_line x ++ feast_source sources f.january_year f.feast))
 
--- the same if the territory dated the feast's day in the year
-abbrev pub feast_on : Rules → TerritoryModel → Option SourcesModel → ℕ → ℕ → Feast → Option ℕ
-    → List ℕ
-feast_on p t sources year n f None = []
-feast_on p t sources year n f (Some d) =
-    if is_in_year p t year d then feast_lines sources n f (dated_on p t d) else []
+-- with the day as the territory dates it
+abbrev pub feast_text : Rules → TerritoryModel → Option SourcesModel → FeastDay → List ℕ
+feast_text p t sources f = feast_lines sources f (dated_on p t f.day)
 
-abbrev pub feast_text : Rules → TerritoryModel → Option SourcesModel → ℕ → YearEaster → Feast
-    → List ℕ
-feast_text p t sources year easter f =
-    feast_on p t sources year easter.january_year f (feast_day p easter.day f)
+abbrev pub is_easter : Feast → Bool
+is_easter feast.Easter = true
+is_easter other = false
 
-abbrev pub feasts_of : Rules → TerritoryModel → Option SourcesModel → ℕ → YearEaster → List ℕ
-feasts_of p t sources year easter = flat_map (feast_text p t sources year easter) feasts
+-- one of these feasts is Easter
+abbrev pub has_easter : List FeastDay → Bool
+has_easter fs = list_any (λ f. is_easter f.feast) fs
 
--- one of these Easters fell in the year
-abbrev pub has_easter : Rules → TerritoryModel → ℕ → List YearEaster → Bool
-has_easter p t year easters = list_any (λ easter. is_in_year p t year easter.day) easters
+abbrev pub no_easter_line : List FeastDay → List ℕ
+no_easter_line fs = if has_easter fs then [] else codes "no Easter fell in that year\n"
 
-abbrev pub no_easter_line : Rules → TerritoryModel → ℕ → List YearEaster → List ℕ
-no_easter_line p t year easters =
-    if has_easter p t year easters then []
-    else codes "no Easter fell in that year\n"
+abbrev pub feast_lines_of : Rules → TerritoryModel → Option SourcesModel → List FeastDay → List ℕ
+feast_lines_of p t sources fs = flat_map (feast_text p t sources) fs ++ no_easter_line fs
 
 -- the feasts that the territory dated in the year, and that no Easter was among them
 abbrev pub feasts_text : Rules → TerritoryModel → Option SourcesModel → ℕ → List ℕ
-feasts_text p t sources year =
-    flat_map (feasts_of p t sources year) (easters_about p t year)
-    ++ no_easter_line p t year (easters_about p t year)
+feasts_text p t sources year = feast_lines_of p t sources (feasts_of_year p t year)
 
 -- ---- figures
 

@@ -6,12 +6,11 @@ ghost use Rattle.osn_register.specs.Plain.{sources_of};
 ghost use Rattle.osn_pages.specs.Almanac as spec;
 
 use crate::columns::{push_absent, push_day};
-use crate::feasts::FEASTS;
 use crate::source_line::push_source;
 use osn_days::{Day, Year};
 use osn_register::Register;
 use osn_territory::Territory;
-use osn_written::Feast;
+use osn_written::{Feast, PRINCIPAL_FEASTS};
 use std::alloc::AllocError;
 use std::fmt::Write;
 
@@ -85,7 +84,7 @@ fn push_feasts_of(
         ++ flat_map (spec.feast_lines newest_rules territory.now) easters.now) }
 {
     for easter in easters {
-        push_feasts(out, territory, *easter, &FEASTS)?;
+        push_feasts(out, territory, *easter, &PRINCIPAL_FEASTS)?;
     }
     Ok(())
 }

@@ -10,7 +10,6 @@ mod columns;
 mod conversion;
 mod date_lines;
 mod easters;
-mod feasts;
 mod figures;
 mod grid;
 mod heading;

@@ -1,14 +1,14 @@
 //! How a page names a date, and what is remarked after its days.
 ghost use Rattle.std.specs.Prelude.{◌≡◌, ◌++◌, OnOk, string_bytes};
 ghost use Rattle.osn_days.specs.Rules.{newest_rules};
-ghost use Rattle.osn_written.specs.Finding.{list_of};
+ghost use Rattle.osn_written.specs.Finding.{list_of, reckoned};
 ghost use Rattle.osn_pages.specs.Remarks as spec;
 
 use osn_days::{Day, Weekday};
 use osn_territory::{DatedDay, Run, Territory};
 use osn_written::{
-    AnyDate, DateInWords, NoDay, Reckoning, WrittenDate, by_reckoning, find_runs,
-    is_by_other_calendar, plain_day,
+    AnyDate, DateInWords, Extent, NoDay, Reckoning, WrittenDate, by_reckoning, ends_in_next_year,
+    find_runs, is_by_other_calendar, plain_day,
 };
 use std::alloc::{AllocError, Global};
 use std::fmt;
@@ -68,6 +68,43 @@ fn three_digits_line(date: AnyDate) -> &'static str
         "year of three digits\n"
     } else {
         ""
+    }
+}
+
+/// Appends the line of a range with one year that ends in the next one by the reckoning of a
+/// territory.
+fn push_next_year_by(
+    alloc: Global,
+    out: &mut String,
+    territory: &Territory,
+    extent: Extent,
+) -> Result<(), AllocError>
+    ensures { OnOk result (string_bytes out.new ≡ string_bytes out.old
+        ++ spec.next_year_line newest_rules territory.now extent) }
+{
+    if ends_in_next_year(alloc, territory, extent)? {
+        out.push_str("ends in the next year\n")
+    } else {
+        Ok(())
+    }
+}
+
+/// Appends the same by the calendar that a date names.
+fn push_next_year(
+    alloc: Global,
+    out: &mut String,
+    territory: &Territory,
+    date: AnyDate,
+) -> Result<(), AllocError>
+    ensures { OnOk result (string_bytes out.new ≡ string_bytes out.old
+        ++ spec.next_year_line newest_rules (reckoned territory.now date.reckoning) date.extent) }
+{
+    match date.reckoning {
+        None => push_next_year_by(alloc, out, territory, date.extent),
+        Some(reckoning) => {
+            let reckoned = by_reckoning(alloc, territory, reckoning)?;
+            push_next_year_by(alloc, out, &reckoned, date.extent)
+        }
     }
 }
 
@@ -207,6 +244,7 @@ pub(crate) fn push_remarks(
     ensures { OnOk result (string_bytes out.new ≡ string_bytes out.old
         ++ spec.remark_lines newest_rules name.now territory.now date given) }
 {
+    push_next_year(alloc, out, territory, date)?;
     out.push_str(sureness(date))?;
     out.push_str(three_digits_line(date))?;
     push_calendar(alloc, out, name, territory, date)?;

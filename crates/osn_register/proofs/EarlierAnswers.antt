@@ -12,7 +12,6 @@ use Rattle.osn_computus.proofs.EarlierLetters.{same_letters}
 use Rattle.osn_days.specs.declared.calendar.Calendar.TheVariants as calendar
 use Rattle.osn_days.specs.Rules.{Rules, first_rules, newest_rules}
 use Rattle.osn_days.specs.Line.{line, IsOnLine, IsYear, IsYearNumber}
-use Rattle.osn_days.specs.declared.weekday.Weekday.{Weekday}
 use Rattle.osn_territory.specs.declared.regime.Regime.{Regime}
 use Rattle.osn_territory.specs.declared.label.Label.{Label}
 use Rattle.osn_territory.specs.declared.period.Period.{Period}
@@ -41,10 +40,13 @@ use Rattle.osn_register.specs.Answer.{and_source, period_source, easter_source}
 use Rattle.osn_register.specs.Answer.{answer, unless, found_under, found_on, period_on}
 use Rattle.osn_register.specs.Answer.{on_day, day_answer, reading_answer, easters_answer}
 use Rattle.osn_register.specs.Answer.{figures_of, periods_answer, exceptions_answer, label_from}
-use Rattle.osn_register.specs.Answer.{changes_answer}
-use Rattle.osn_register.specs.Answer.{read_refusal, day_refusal, year_refusal, easter_refusal}
-use Rattle.osn_written.specs.declared.date_reading.DateReading.{DateReading}
-use Rattle.osn_register.specs.Answer.{date_refusal, written_answer, refusal_in}
+use Rattle.osn_register.specs.Answer.{changes_answer, feasts_answer, converted_answer}
+use Rattle.osn_register.specs.QueryRefusal.{date_refusal, read_refusal, day_refusal, year_refusal}
+use Rattle.osn_register.specs.QueryRefusal.{easter_refusal}
+use Rattle.osn_register.specs.Answer.{written_answer, refusal_in}
+use Rattle.osn_register.proofs.RefusedAlike.{keeps_exceptions, keeps_changes, keeps_feasts}
+use Rattle.osn_register.proofs.RefusedAlike.{keeps_converted, keeps_written, refused_unless}
+use Rattle.osn_register.proofs.RefusedAlike.{refused_alike}
 use Rattle.osn_register.specs.EarlierRules.{start_of, found_until, IsLabelYear, IsListedUntil}
 use Rattle.osn_register.specs.EarlierRules.{KeepsReading, KeepsDay, KeepsAnswer}
 
@@ -298,36 +300,6 @@ same_unless : (now_refused refused : Option Refusal) (now before : Answer) → n
 same_unless now_refused refused now before same kept = ap (λ r. unless r now) same
     ∙ ap (unless refused) kept
 
--- listed Easters
-
-keeps_exceptions : (t : Option TerritoryModel) (sources : Option SourcesModel)
-    → refusal_in (exceptions_answer newest_rules t sources)
-    ≡ refusal_in (exceptions_answer first_rules t sources)
-keeps_exceptions None sources = refl
-keeps_exceptions (Some t) sources = refl
-
--- changes
-
-keeps_changes : (t : Option TerritoryModel) (sources : Option SourcesModel)
-    → refusal_in (changes_answer newest_rules t sources)
-    ≡ refusal_in (changes_answer first_rules t sources)
-keeps_changes None sources = refl
-keeps_changes (Some t) sources = refl
-
--- a date as it is written
-
-keeps_written : (t : Option TerritoryModel) (date : DateReading) (given : Option Weekday)
-    → refusal_in (written_answer newest_rules t date given)
-    ≡ refusal_in (written_answer first_rules t date given)
-keeps_written None date given = refl
-keeps_written (Some t) date given = refl
-
-refused_unless : (refused : Option Refusal) (now before : Answer)
-    → refusal_in now ≡ refusal_in before
-    → refusal_in (unless refused now) ≡ refusal_in (unless refused before)
-refused_unless None now before same = same
-refused_unless (Some f) now before same = refl
-
 -- the answer to a query keeps the first rules' answer
 pub keeps_answer : (territories : List EntryModel) (q : Query)
     → KeepsAnswer first_rules territories q (answer newest_rules territories q)
@@ -377,6 +349,22 @@ keeps_answer territories (queries.Changes code) =
     (changes_answer newest_rules (territory_of code territories) (sources_of code territories))
     (changes_answer first_rules (territory_of code territories) (sources_of code territories))
     (keeps_changes (territory_of code territories) (sources_of code territories))
+keeps_answer territories (queries.Feasts code year) =
+    λ within. refused_alike (easter_refusal newest_rules territories code year)
+    (easter_refusal first_rules territories code year)
+    (feasts_answer newest_rules (territory_of code territories) (unsigned_abs year))
+    (feasts_answer first_rules (territory_of code territories) (unsigned_abs year))
+    (ap (or_else (code_refusal territories code)) (same_years year within))
+    (keeps_feasts (territory_of code territories) (unsigned_abs year))
+keeps_answer territories (queries.Convert code calendar year month day) =
+    λ within. refused_alike (read_refusal newest_rules territories code year month day)
+    (read_refusal first_rules territories code year month day)
+    (converted_answer newest_rules (territory_of code territories) calendar
+    (label_from year month day))
+    (converted_answer first_rules (territory_of code territories) calendar
+    (label_from year month day))
+    (ap (or_else (code_refusal territories code)) (same_dates year month day within))
+    (keeps_converted (territory_of code territories) calendar (label_from year month day))
 keeps_answer territories (queries.Written code text date weekday) =
     refused_unless (code_refusal territories code)
     (written_answer newest_rules (territory_of code territories) date weekday)

@@ -2,6 +2,7 @@ pub mod CoverFacts
 pub mod FoundFacts
 pub mod EntryFacts
 pub mod PeriodCount
+pub mod RefusedAlike
 pub mod EarlierAnswers
 pub mod TerritoryFacts
 pub mod NamedFacts

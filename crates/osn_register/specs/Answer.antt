@@ -1,11 +1,13 @@
 -- What the register answers to a query: this project's profile.
-use Rattle.std.specs.Prelude.{ℕ, Bool, true, false, not, ◌&&◌, if◌then◌else◌, nat_le, ℤ, pos}
+use Rattle.std.specs.Prelude.{ℕ, Bool, true, false, ◌&&◌, if◌then◌else◌, nat_le, ℤ}
 use Rattle.std.specs.Prelude.{nat_lt, ◌-◌}
 use Rattle.std.specs.Prelude.{unsigned_abs, List, [], ◌∷◌, map, find, Option, Some, None, is_some}
 use Rattle.std.specs.Prelude.{option_and_then}
 use Rattle.std.specs.List.{flat_map}
 use Rattle.osn_days.specs.Rules.{Rules}
+use Rattle.osn_days.specs.declared.calendar.Calendar.{Calendar}
 use Rattle.osn_days.specs.declared.calendar.Calendar.TheVariants as calendar
+use Rattle.osn_days.specs.declared.date.Date.{Date}
 use Rattle.osn_days.specs.declared.weekday.Weekday.{Weekday}
 use Rattle.osn_days.specs.Chain.{date_of, days_with_date}
 use Rattle.osn_computus.specs.declared.rule.Rule.TheVariants as rule
@@ -28,21 +30,24 @@ use Rattle.osn_written.specs.declared.date_reading.DateReading.TheVariants as re
 use Rattle.osn_written.specs.declared.kind.Kind.TheVariants as kinds
 use Rattle.osn_written.specs.declared.missing.Missing.{Missing}
 use Rattle.osn_written.specs.declared.written_date.DateFault.{DateFault}
+use Rattle.osn_written.specs.declared.year_feasts.FeastDay.{FeastDay}
 use Rattle.osn_written.specs.DateInWords.{words_of}
 use Rattle.osn_written.specs.Finding.{extent_meant, reckoned, is_by_other_calendar}
 use Rattle.osn_written.specs.Kind.{kind_of}
 use Rattle.osn_written.specs.Missing.{days_like, changes_over, year_without}
+use Rattle.osn_written.specs.YearFeasts.{feasts_of_year}
 use Rattle.osn_written.specs.SetsMeant.{set_meant, is_set_approximate, is_set_uncertain}
 use Rattle.osn_register.specs.declared.query.Query.{Query}
 use Rattle.osn_register.specs.declared.query.Query.TheVariants as queries
 use Rattle.osn_register.specs.declared.answer.Answer.{Answer}
 use Rattle.osn_register.specs.declared.answer.Answer.TheVariants.{Reading, OnDay, Easters, Figures}
 use Rattle.osn_register.specs.declared.answer.Answer.TheVariants.{Lands, Periods, Exceptions}
-use Rattle.osn_register.specs.declared.answer.Answer.TheVariants.{Changes}
+use Rattle.osn_register.specs.declared.answer.Answer.TheVariants.{Changes, Feasts, Converted}
 use Rattle.osn_register.specs.declared.answer.Answer.TheVariants.{Written, Refused}
 use Rattle.osn_register.specs.declared.answer.Exception.{Exception}
 use Rattle.osn_register.specs.declared.answer.Found.{Found}
 use Rattle.osn_register.specs.declared.answer.FoundChange.{FoundChange}
+use Rattle.osn_register.specs.declared.answer.FoundFeast.{FoundFeast}
 use Rattle.osn_register.specs.declared.answer.FoundRun.{FoundRun}
 use Rattle.osn_register.specs.declared.answer.Land.{Land}
 use Rattle.osn_register.specs.declared.answer.PeriodAndSource.{PeriodAndSource}
@@ -51,52 +56,12 @@ use Rattle.osn_register.specs.declared.answer.WrittenAnswer.{WrittenAnswer}
 use Rattle.osn_register.specs.declared.remarks.NearDays.{NearDays}
 use Rattle.osn_register.specs.declared.refusal.Refusal.{Refusal}
 use Rattle.osn_register.specs.declared.refusal.Refusal.TheVariants.{UnknownLand, DayOffLine}
-use Rattle.osn_register.specs.declared.refusal.Refusal.TheVariants.{YearOffRange, BadDate}
-use Rattle.osn_register.specs.Refusal.{first_refusal, or_else}
+use Rattle.osn_register.specs.declared.refusal.Refusal.TheVariants.{YearOffRange}
+use Rattle.osn_register.specs.QueryRefusal.{read_refusal, day_refusal, year_refusal, easter_refusal}
 use Rattle.osn_register.specs.Remarks.{runs_in, reason_in, set_runs_in, set_reason_in, if_weekday}
 use Rattle.osn_register.specs.Remarks.{remarks_of, remarks_if_read_as, missing_in, missing_in_set}
 use Rattle.osn_register.specs.Plain.{EntryModel, territory_of, sources_of, code_refusal}
-use Rattle.osn_register.specs.Plain.{is_between, is_off_line, is_off_years}
 use Rattle.osn_register.specs.Sources.{SourcesModel, source_of}
-
--- why a reading is refused for its date
-abbrev pub date_refusal : Rules → ℤ → ℤ → ℤ → Option Refusal
-date_refusal p year month day = first_refusal (
-    (not (is_between (pos 0) (pos p.last_label_year) year), YearOffRange)
-    ∷ (not (is_between (pos 1) (pos 12) month && is_between (pos 1) (pos 31) day), BadDate)
-    ∷ [])
-
--- why a reading is refused, if it is
-abbrev pub read_refusal : Rules → List EntryModel → List ℕ → ℤ → ℤ → ℤ → Option Refusal
-read_refusal p territories code year month day =
-    or_else (code_refusal territories code) (date_refusal p year month day)
-
--- why a query of a day is refused
-abbrev pub day_refusal : Rules → List EntryModel → List ℕ → ℤ → Option Refusal
-day_refusal p territories code day =
-    or_else (code_refusal territories code) (first_refusal ((is_off_line p day, DayOffLine) ∷ []))
-
--- why the figures of a year are refused
-abbrev pub year_refusal : Rules → ℤ → Option Refusal
-year_refusal p year = first_refusal ((is_off_years p year, YearOffRange) ∷ [])
-
--- why a query of a territory's Easters is refused
-abbrev pub easter_refusal : Rules → List EntryModel → List ℕ → ℤ → Option Refusal
-easter_refusal p territories code year =
-    or_else (code_refusal territories code) (year_refusal p year)
-
--- why a query is refused, if it is
-abbrev pub query_refusal : Rules → List EntryModel → Query → Option Refusal
-query_refusal p territories (queries.Read code year month day) =
-    read_refusal p territories code year month day
-query_refusal p territories (queries.DayIn code day) = day_refusal p territories code day
-query_refusal p territories (queries.Easter code year) = easter_refusal p territories code year
-query_refusal p territories (queries.YearFigures year) = year_refusal p year
-query_refusal p territories queries.Lands = None
-query_refusal p territories (queries.Periods code) = code_refusal territories code
-query_refusal p territories (queries.Exceptions code) = code_refusal territories code
-query_refusal p territories (queries.Changes code) = code_refusal territories code
-query_refusal p territories (queries.Written code text date weekday) = code_refusal territories code
 
 -- a day as a regime names it
 abbrev pub found_under : Rules → Regime → ℕ → Found
@@ -219,6 +184,26 @@ abbrev pub changes_answer : Rules → Option TerritoryModel → Option SourcesMo
 changes_answer p None sources = Refused UnknownLand
 changes_answer p (Some t) sources = Changes (flat_map (change_if p t sources) (periods_of p t))
 
+-- a feast with its day as the territory names it
+abbrev pub found_feast : Rules → TerritoryModel → FeastDay → FoundFeast
+found_feast p t f =
+    record { feast = f.feast; year = f.january_year; found = found_on p t f.day }
+
+-- the principal feasts that the territory dated in a year
+abbrev pub feasts_answer : Rules → Option TerritoryModel → ℕ → Answer
+feasts_answer p None y = Refused UnknownLand
+feasts_answer p (Some t) y = Feasts (map (found_feast p t) (feasts_of_year p t y))
+
+-- the date of a label whose year is counted from 1 January
+abbrev pub date_of_label : Label → Date
+date_of_label label = record { year = label.year; month = label.month; day = label.day }
+
+-- the day that has a date by a calendar, as the territory names it, if the line has one
+abbrev pub converted_answer : Rules → Option TerritoryModel → Calendar → Label → Answer
+converted_answer p None calendar label = Refused UnknownLand
+converted_answer p (Some t) calendar label =
+    Converted (map (found_on p t) (days_with_date p calendar (date_of_label label)))
+
 -- ---- a date as it is written
 
 -- days that follow one another, by the first and the last of them
@@ -338,6 +323,16 @@ changes_in_answer p territories code =
     unless (code_refusal territories code)
     (changes_answer p (territory_of code territories) (sources_of code territories))
 
+abbrev pub feasts_in_answer : Rules → List EntryModel → List ℕ → ℤ → Answer
+feasts_in_answer p territories code year =
+    unless (easter_refusal p territories code year)
+    (feasts_answer p (territory_of code territories) (unsigned_abs year))
+
+abbrev pub convert_in_answer : Rules → List EntryModel → List ℕ → Calendar → ℤ → ℤ → ℤ → Answer
+convert_in_answer p territories code calendar year month day =
+    unless (read_refusal p territories code year month day)
+    (converted_answer p (territory_of code territories) calendar (label_from year month day))
+
 abbrev pub written_in_answer : Rules → List EntryModel → List ℕ → DateReading → Option Weekday
     → Answer
 written_in_answer p territories code date given =
@@ -355,6 +350,9 @@ answer p territories queries.Lands = Lands (map listed territories)
 answer p territories (queries.Periods code) = periods_in_answer p territories code
 answer p territories (queries.Exceptions code) = exceptions_in_answer p territories code
 answer p territories (queries.Changes code) = changes_in_answer p territories code
+answer p territories (queries.Feasts code year) = feasts_in_answer p territories code year
+answer p territories (queries.Convert code calendar year month day) =
+    convert_in_answer p territories code calendar year month day
 answer p territories (queries.Written code text date weekday) =
     written_in_answer p territories code date weekday
 

@@ -13,5 +13,8 @@ as_query borrowed.Lands = queries.Lands
 as_query (borrowed.Periods code) = queries.Periods code.now
 as_query (borrowed.Exceptions code) = queries.Exceptions code.now
 as_query (borrowed.Changes code) = queries.Changes code.now
+as_query (borrowed.Feasts code year) = queries.Feasts code.now year
+as_query (borrowed.Convert code calendar year month day) =
+    queries.Convert code.now calendar year month day
 as_query (borrowed.Written code text date weekday) =
     queries.Written code.now text.now date.now weekday

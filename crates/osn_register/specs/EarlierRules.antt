@@ -60,8 +60,8 @@ KeepsDay before now =
 -- what an answer keeps of the answer of these rules to the same query, if they have its year or its
 -- day. The Easters and the figures of a year and the territories are the same. A reading and a day
 -- keep what the rules' own line has, and periods keep their starts. The listed Easters and
--- the changes of a territory and a date as it is written are refused alike, and nothing more is
--- said of them
+-- the changes of a territory, its feasts of a year, a conversion and a date as it is written are
+-- refused alike, and nothing more is said of them
 abbrev pub KeepsAnswer : Rules → List EntryModel → Query → Answer → Type 0
 KeepsAnswer p territories (queries.Read code year month day) now =
     IsLabelYear p year
@@ -80,5 +80,10 @@ KeepsAnswer p territories (queries.Exceptions code) now =
     refusal_in now ≡ refusal_in (answer p territories (queries.Exceptions code))
 KeepsAnswer p territories (queries.Changes code) now =
     refusal_in now ≡ refusal_in (answer p territories (queries.Changes code))
+KeepsAnswer p territories (queries.Feasts code year) now =
+    IsYearNumber p year → refusal_in now ≡ refusal_in (answer p territories (queries.Feasts code year))
+KeepsAnswer p territories (queries.Convert code calendar year month day) now =
+    IsLabelYear p year
+    → refusal_in now ≡ refusal_in (answer p territories (queries.Convert code calendar year month day))
 KeepsAnswer p territories (queries.Written code text date weekday) now =
     refusal_in now ≡ refusal_in (answer p territories (queries.Written code text date weekday))

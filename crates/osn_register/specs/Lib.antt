@@ -2,6 +2,7 @@ pub mod Limits
 pub mod Refusal
 pub mod Code
 pub mod Query
+pub mod QueryRefusal
 pub mod BorrowedQuery
 pub mod Sources
 pub mod Plain

@@ -19,6 +19,7 @@ use Rattle.osn_written.specs.Double.{is_extent_not_counted_double}
 use Rattle.osn_written.specs.Meaning.{meaning, has_weekday}
 use Rattle.osn_written.specs.Missing.{missing_day}
 use Rattle.osn_written.specs.PlainDay.{one_day}
+use Rattle.osn_written.specs.Spans.{ends_in_next_year}
 use Rattle.osn_register.specs.declared.answer.Reason.{Reason}
 use Rattle.osn_register.specs.declared.answer.Reason.TheVariants as reasons
 use Rattle.osn_register.specs.declared.remarks.DateRemarks.{DateRemarks}
@@ -68,6 +69,7 @@ remarks_of p t by w = record {
   weekday = w.weekday;
   has_year_of_three_digits = has_three_digits w.extent;
   is_not_counted_double = is_extent_not_counted_double p t by w.extent;
+  ends_in_next_year = ends_in_next_year p by w.extent;
 }
 
 -- what is remarked of the dates of a set: how each was read
@@ -78,4 +80,5 @@ remarks_if_read_as words = record {
   weekday = None;
   has_year_of_three_digits = false;
   is_not_counted_double = false;
+  ends_in_next_year = false;
 }

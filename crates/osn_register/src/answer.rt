@@ -6,7 +6,7 @@ use crate::text::Text;
 use osn_computus::{Epact, Letters};
 use osn_days::{Day, Year};
 use osn_territory::{Label, Period, Regime};
-use osn_written::{DateFault, Kind, Listing, NoDay};
+use osn_written::{DateFault, Feast, Kind, Listing, NoDay};
 
 /// A day as a territory names it: its label and its dual text, under the regime in force on it.
 #[derive(Debug, Drop)]
@@ -74,6 +74,18 @@ pub struct FoundChange {
 
 /// The changes of a territory, in ascending order.
 pub type ChangeList = Listing<FoundChange>;
+
+/// A principal feast of a territory, and the day that it fell on.
+#[derive(Debug, Drop)]
+pub struct FoundFeast {
+    pub feast: Feast,
+    /// The year counted from 1 January with the Easter that the feast is counted from.
+    pub year: Year,
+    pub found: Found,
+}
+
+/// The principal feasts that a territory dated in a year, in the order of their Easters.
+pub type FeastList = Listing<FoundFeast>;
 
 /// Days that follow one another, by the first and the last of them.
 #[derive(Debug, Drop)]
@@ -161,6 +173,10 @@ pub enum Answer {
     Exceptions(ExceptionList),
     /// The changes of a territory.
     Changes(ChangeList),
+    /// The principal feasts that a territory dated in a year.
+    Feasts(FeastList),
+    /// The day that has a date by a calendar, if the line has one.
+    Converted(FoundList),
     /// What a date means as it is written.
     Written(WrittenAnswer),
     /// The query is refused.

@@ -5,7 +5,7 @@ ghost use Rattle.osn_register.specs.BorrowedQuery.{as_query};
 
 use crate::query::Query;
 use crate::text::Text;
-use osn_days::Weekday;
+use osn_days::{Calendar, Weekday};
 use osn_written::DateReading;
 use std::alloc::{AllocError, Global};
 
@@ -21,6 +21,8 @@ pub enum BorrowedQuery<'a> {
     Periods(&'a str),
     Exceptions(&'a str),
     Changes(&'a str),
+    Feasts(&'a str, i64),
+    Convert(&'a str, Calendar, i64, i64, i64),
     Written(&'a str, &'a str, &'a DateReading, Option<Weekday>),
 }
 
@@ -59,6 +61,17 @@ impl<'a> BorrowedQuery<'a> {
             },
             BorrowedQuery::Changes(code) => Query::Changes {
                 code: Text::from_str(alloc, code)?,
+            },
+            BorrowedQuery::Feasts(code, year) => Query::Feasts {
+                code: Text::from_str(alloc, code)?,
+                year,
+            },
+            BorrowedQuery::Convert(code, calendar, year, month, day) => Query::Convert {
+                code: Text::from_str(alloc, code)?,
+                calendar,
+                year,
+                month,
+                day,
             },
             BorrowedQuery::Written(code, text, date, weekday) => Query::Written {
                 code: Text::from_str(alloc, code)?,

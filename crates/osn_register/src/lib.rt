@@ -26,8 +26,9 @@ mod unanswered;
 mod written_answer;
 
 pub use answer::{
-    Answer, ChangeList, DayList, Exception, ExceptionList, Found, FoundChange, FoundList, FoundRun,
-    Land, LandList, PeriodAndSource, PeriodList, Reason, RunList, WrittenAnswer,
+    Answer, ChangeList, DayList, Exception, ExceptionList, FeastList, Found, FoundChange,
+    FoundFeast, FoundList, FoundRun, Land, LandList, PeriodAndSource, PeriodList, Reason, RunList,
+    WrittenAnswer,
 };
 pub use borrowed_query::BorrowedQuery;
 pub use edit::Edit;

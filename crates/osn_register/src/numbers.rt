@@ -4,7 +4,8 @@ ghost use Rattle.osn_days.specs.Rules.{newest_rules};
 ghost use Rattle.osn_register.specs.Refusal.{IsCheckOf};
 ghost use Rattle.osn_register.specs.declared.refusal.Refusal.TheVariants.{DayOffLine, YearOffRange};
 ghost use Rattle.osn_register.specs.Plain.{is_off_line, is_off_years};
-ghost use Rattle.osn_register.specs.Answer.{date_refusal, label_from};
+ghost use Rattle.osn_register.specs.Answer.{label_from};
+ghost use Rattle.osn_register.specs.QueryRefusal.{date_refusal};
 
 use crate::refusal::Refusal;
 use osn_days::{Day, Year};

@@ -5,7 +5,7 @@ ghost use Rattle.osn_register.specs.BorrowedQuery.{as_query};
 
 use crate::borrowed_query::BorrowedQuery;
 use crate::text::Text;
-use osn_days::Weekday;
+use osn_days::{Calendar, Weekday};
 use osn_written::DateReading;
 use std::alloc::AllocError;
 
@@ -48,6 +48,20 @@ pub enum Query {
     Changes {
         code: Text,
     },
+    /// Which principal feasts a territory dated in a year from 1 to 9999, as it counted the year.
+    Feasts {
+        code: Text,
+        year: i64,
+    },
+    /// How a territory names the day that has a date by a calendar. The year is counted from
+    /// 1 January, 0 to 10000, the month from 1 to 12 and the day from 1 to 31.
+    Convert {
+        code: Text,
+        calendar: Calendar,
+        year: i64,
+        month: i64,
+        day: i64,
+    },
     /// Which days a date means in a territory, as the date is written, and whether they are on a
     /// weekday, if one is given. The answer depends on what was read of the text, and not on the
     /// text.
@@ -78,6 +92,8 @@ impl Query {
             | Query::Periods { code }
             | Query::Exceptions { code }
             | Query::Changes { code }
+            | Query::Feasts { code, .. }
+            | Query::Convert { code, .. }
             | Query::Written { code, .. } => self.borrowed().to_query(code.allocator()),
         }
     }
@@ -100,6 +116,14 @@ impl Query {
             Query::Periods { code } => BorrowedQuery::Periods(code.as_str()),
             Query::Exceptions { code } => BorrowedQuery::Exceptions(code.as_str()),
             Query::Changes { code } => BorrowedQuery::Changes(code.as_str()),
+            Query::Feasts { code, year } => BorrowedQuery::Feasts(code.as_str(), *year),
+            Query::Convert {
+                code,
+                calendar,
+                year,
+                month,
+                day,
+            } => BorrowedQuery::Convert(code.as_str(), *calendar, *year, *month, *day),
             Query::Written {
                 code,
                 text,

@@ -13,7 +13,7 @@ use crate::written_answer::found_runs;
 use osn_days::Weekday;
 use osn_territory::Territory;
 use osn_written::{
-    AnyDate, DateInWords, Listing, Missing, Reckoning, changes_over, days_like,
+    AnyDate, DateInWords, Listing, Missing, Reckoning, changes_over, days_like, ends_in_next_year,
     is_extent_not_counted_double, year_without,
 };
 use std::alloc::{AllocError, Global};
@@ -37,6 +37,9 @@ pub struct DateRemarks {
     /// Whether the date has both years, and the place dated a day of it by the later one alone. A
     /// set has no such remark.
     pub is_not_counted_double: bool,
+    /// Whether the date is a range of days with one year written, and ends in the next year. A set
+    /// has no such remark.
+    pub ends_in_next_year: bool,
 }
 
 /// What is near a date that no day has.
@@ -94,6 +97,7 @@ pub(crate) fn remarks_of(
         weekday: date.weekday,
         has_year_of_three_digits: date.extent.has_year_of_three_digits(),
         is_not_counted_double,
+        ends_in_next_year: ends_in_next_year(alloc, reckoned, date.extent)?,
     })
 }
 
@@ -107,6 +111,7 @@ fn remarks_if_read_as(texts: Vec<Text>) -> DateRemarks
         weekday: None,
         has_year_of_three_digits: false,
         is_not_counted_double: false,
+        ends_in_next_year: false,
     }
 }
 

@@ -6,13 +6,13 @@ ghost use Rattle.osn_territory.specs.Label.{local_label};
 ghost use Rattle.osn_register.specs.Answer as spec;
 ghost use Rattle.osn_register.specs.Inside.{sources_in};
 
-use crate::answer::{Answer, Exception, Found, PeriodAndSource};
+use crate::answer::{Answer, Exception, Found, FoundFeast, PeriodAndSource};
 use crate::source::Source;
 use crate::sources::{Sources, source_of};
 use crate::text::Text;
-use osn_days::{Day, Year};
+use osn_days::{Calendar, Date, Day, Year, day_of};
 use osn_territory::{Label, Period, Regime, Territory, dual_text, label_of};
-use osn_written::Listing;
+use osn_written::{FeastDay, Listing, feasts_of_year};
 use std::alloc::{AllocError, Global};
 
 /// Returns the period that holds a day.
@@ -197,6 +197,70 @@ pub(crate) fn easters(
         listed: territory.exception(year).is_some(),
         source: owned(source_of(&sources.easters, year.number()))?,
     })
+}
+
+/// Returns a feast with its day as the territory names it.
+fn found_feast(
+    alloc: Global,
+    territory: &Territory,
+    feast: FeastDay,
+) -> Result<FoundFeast, AllocError>
+    ensures { IfOk result (λ f. f ≡ spec.found_feast newest_rules territory.now feast) }
+{
+    Ok(FoundFeast {
+        feast: feast.feast,
+        year: feast.january_year,
+        found: found_on(alloc, territory, feast.day)?,
+    })
+}
+
+/// Returns feasts with their days as the territory names them.
+fn found_feasts(
+    alloc: Global,
+    territory: &Territory,
+    feasts: &[FeastDay],
+) -> Result<Vec<FoundFeast>, AllocError>
+    ensures { IfOk result (λ v.
+        v.items ≡ map (spec.found_feast newest_rules territory.now) feasts.now) }
+{
+    let mut found = Vec::with_capacity(alloc, feasts.len())?;
+    for feast in feasts {
+        found.push(found_feast(alloc, territory, *feast)?)?;
+    }
+    Ok(found)
+}
+
+/// Returns the principal feasts that a territory dated in a year.
+pub(crate) fn feasts(alloc: Global, territory: &Territory, year: Year) -> Result<Answer, AllocError>
+    ensures { IfOk result (λ a. a ≡ spec.feasts_answer newest_rules (Some territory.now) year) }
+{
+    let feasts = feasts_of_year(alloc, territory, year)?;
+    let found = found_feasts(alloc, territory, feasts.as_slice())?;
+    Ok(Answer::Feasts(Listing::new(found)))
+}
+
+/// Returns the day that has a date by a calendar, as the territory names it, if the line has one.
+pub(crate) fn converted(
+    alloc: Global,
+    territory: &Territory,
+    calendar: Calendar,
+    date: Label,
+) -> Result<Answer, AllocError>
+    ensures { IfOk result (λ a.
+        a ≡ spec.converted_answer newest_rules (Some territory.now) calendar date) }
+{
+    let mut found = Vec::new(alloc);
+    if let Some(day) = day_of(
+        calendar,
+        Date {
+            year: date.year,
+            month: date.month,
+            day: date.day,
+        },
+    ) {
+        found.push(found_on(alloc, territory, day)?)?;
+    }
+    Ok(Answer::Converted(Listing::new(found)))
 }
 
 /// Returns the reading of a label in a territory.

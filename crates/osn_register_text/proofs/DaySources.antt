@@ -8,7 +8,7 @@ use Rattle.osn_territory.specs.Exceptions.{exception_of}
 use Rattle.osn_register.specs.Sources.{SourcesModel, source_of, with_easter_source}
 use Rattle.osn_register_text.specs.Change.{Change}
 use Rattle.osn_register_text.specs.Change.Change.{DropDay}
-use Rattle.osn_register_text.specs.Cited.{same_easter}
+use Rattle.osn_register_text.specs.CitedSources.{same_easter}
 use Rattle.osn_register_text.specs.Differences.{is_day, lists, day_agrees, dropped_exception}
 use Rattle.osn_register_text.specs.Differences.{added_exception, target_exception}
 use Rattle.osn_register_text.proofs.Rows.{look, IsFrom, look_here, look_there, look_below, parts}
@@ -105,18 +105,18 @@ abbrev cited_for : ℕ → SourcesModel → SourcesModel → SourcesModel
 cited_for y new s = with_easter_source y (source_of y new.easters) s
 
 -- the days that stay have the present sources, from a year on
-abbrev Stand : SourcesModel → SourcesModel → TerritoryModel → ℕ → List (ℕ × ℕ) → SourcesModel
+abbrev KeepsSources : SourcesModel → SourcesModel → TerritoryModel → ℕ → List (ℕ × ℕ) → SourcesModel
     → Type 0
-Stand old new t n ys s = (k d : ℕ) → n ≤ k → look k ys ≡ Some d →
+KeepsSources old new t n ys s = (k d : ℕ) → n ≤ k → look k ys ≡ Some d →
     day_agrees (pair_of old new) t (k, d) ≡ true →
     source_of k s.easters ≡ source_of k old.easters
 
 abbrev LaterDays : SourcesModel → SourcesModel → TerritoryModel → ℕ → List (ℕ × ℕ) → Type 0
-LaterDays old new t n ys = (u : SourcesModel) → Stand old new t n ys u →
+LaterDays old new t n ys = (u : SourcesModel) → KeepsSources old new t n ys u →
     DaysCited old new u ys (flat_map (target_exception (pair_of old new) t) ys)
 
 pub days_cited : (old new s : SourcesModel) (t : TerritoryModel) (n : ℕ) (ys : List (ℕ × ℕ)) →
-    IsFrom n ys → Stand old new t n ys s →
+    IsFrom n ys → KeepsSources old new t n ys s →
     DaysCited old new s ys (flat_map (target_exception (pair_of old new) t) ys)
 days_cited old new s t n [] from same = record {
   fresh = tt;
@@ -131,7 +131,7 @@ days_cited old new s t n (y ∷ ys) from same =
     later : (k : ℕ) → y.0 + 1 ≤ k → look k (y ∷ ys) ≡ look k ys
     later k high = look_there k y ys (λ e. omega (arith, e, high))
 
-    still : Stand old new t (y.0 + 1) ys s
+    still : KeepsSources old new t (y.0 + 1) ys s
     still = λ k d high found agrees.
         same k d (omega (arith, from.0, high)) (later k high ∙ found) agrees
 

@@ -4,7 +4,7 @@ use Rattle.std.proofs.Common.{◌≡◌, List, [], ◌∷◌, ◌++◌, Some, re
 use Rattle.osn_register.specs.Sources.{SourcesModel, source_of}
 use Rattle.osn_register_text.specs.Change.{Change, sources_after}
 use Rattle.osn_register_text.specs.Change.Change.{Add, Alter, Drop, ListDay, DropDay}
-use Rattle.osn_register_text.specs.Cited.{BothSources}
+use Rattle.osn_register_text.specs.CitedSources.{BothSources}
 
 -- the present sources, and the target ones
 abbrev pub pair_of : SourcesModel → SourcesModel → BothSources

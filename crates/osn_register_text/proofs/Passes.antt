@@ -12,19 +12,19 @@ use Rattle.osn_territory.specs.Changes.{starts_on, with_change, with_altered, wi
 use Rattle.osn_register_text.specs.Change.{Change}
 use Rattle.osn_register_text.specs.Change.Change.{Alter, Drop}
 use Rattle.osn_register.specs.Answer.{period_source}
-use Rattle.osn_register_text.specs.Cited.{BothSources, same_period}
+use Rattle.osn_register_text.specs.CitedSources.{BothSources, same_period}
 use Rattle.osn_register_text.specs.Differences.{is_same, start_agrees, dropped_change}
 use Rattle.osn_register_text.specs.Differences.{altered_change}
 use Rattle.osn_register_text.specs.Differences.{added_change, target_change}
 use Rattle.osn_register_text.proofs.Rows.{look, IsFrom, look_here, look_there, look_below, some_is}
-use Rattle.osn_register_text.proofs.Changed.{started, started_apart, altered, altered_apart}
-use Rattle.osn_register_text.proofs.Changed.{dropped}
-use Rattle.osn_register_text.proofs.Changed.{dropped_apart, starts_found, found_in_force}
-use Rattle.osn_register_text.proofs.Changed.{started_from, altered_from, dropped_from}
-use Rattle.osn_register_text.proofs.Changed.{length-started}
+use Rattle.osn_register_text.proofs.ChangeFacts.{started, started_apart, altered, altered_apart}
+use Rattle.osn_register_text.proofs.ChangeFacts.{dropped}
+use Rattle.osn_register_text.proofs.ChangeFacts.{dropped_apart, starts_found, found_in_force}
+use Rattle.osn_register_text.proofs.ChangeFacts.{started_from, altered_from, dropped_from}
+use Rattle.osn_register_text.proofs.ChangeFacts.{length-started}
 use Rattle.osn_register_text.proofs.Rows.{IsWithin, within_one, has_room}
 use Rattle.osn_register_text.proofs.Regimes.{same_regime, regime_itself}
-use Rattle.osn_register_text.proofs.Due.{after, AreDue}
+use Rattle.osn_register_text.proofs.NeededChanges.{after, AreDue}
 
 none_is : {X : Type 0} (o : Option X) → is_some o ≡ false → o ≡ None
 none_is None h = refl

@@ -4,7 +4,7 @@ use Rattle.std.proofs.Common.{◌++◌, find, Option, Some, None, option_map, re
 use Rattle.std.proofs.lemmas.Bool.{eq-eqb, ne_eqb, cases_eq, false≢true}
 use Rattle.std.proofs.lemmas.Slice.Eq.{bytes_eq-Decides}
 use Rattle.osn_register.specs.Sources.{source_of, without_source, with_source}
-use Rattle.osn_register_text.specs.Cited.{same_source}
+use Rattle.osn_register_text.specs.CitedSources.{same_source}
 use Rattle.osn_register_text.proofs.Rows.{not_none}
 
 abbrev Cites : Type 0

@@ -9,7 +9,7 @@ use Rattle.osn_territory.specs.Changes.{starts_on}
 use Rattle.osn_register.specs.Sources.{SourcesModel, source_of, with_period_source}
 use Rattle.osn_register_text.specs.Change.{Change}
 use Rattle.osn_register_text.specs.Change.Change.{Alter, Drop}
-use Rattle.osn_register_text.specs.Cited.{same_period}
+use Rattle.osn_register_text.specs.CitedSources.{same_period}
 use Rattle.osn_register_text.specs.Differences.{is_same, start_agrees, dropped_change, added_change}
 use Rattle.osn_register_text.specs.Differences.{target_change}
 use Rattle.osn_register_text.proofs.Rows.{look, IsFrom, look_here, look_there, look_below, parts}

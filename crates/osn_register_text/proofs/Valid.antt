@@ -27,16 +27,16 @@ use Rattle.osn_register.specs.Refusal.{first_refusal, or_else}
 use Rattle.osn_register_text.specs.Change.{change_refusal, territory_after, sources_after}
 use Rattle.osn_register.specs.Lawful.{code_of}
 use Rattle.osn_register_text.specs.Fault.{IsOver}
-use Rattle.osn_register_text.specs.Cited.{BothSources}
+use Rattle.osn_register_text.specs.CitedSources.{BothSources}
 use Rattle.osn_register.specs.Answer.{period_source}
 use Rattle.osn_register_text.specs.Change.{edit_of}
 use Rattle.osn_register_text.specs.Differences.{start_agrees, day_agrees, dropped_change}
 use Rattle.osn_register_text.specs.Differences.{added_change, target_change, dropped_exception}
 use Rattle.osn_register_text.specs.Differences.{added_exception, target_exception, differences}
 use Rattle.osn_register_text.proofs.Rows.{look, not_none, some_is}
-use Rattle.osn_register_text.proofs.Changed.{starts_found}
-use Rattle.osn_register_text.proofs.Due.{IsDue, AreDue}
-use Rattle.osn_register_text.proofs.Found.{changed, step_here}
+use Rattle.osn_register_text.proofs.ChangeFacts.{starts_found}
+use Rattle.osn_register_text.proofs.NeededChanges.{IsDue, AreDue}
+use Rattle.osn_register_text.proofs.CodeLookups.{changed, step_here}
 
 -- what is said of days, years and regimes may be said
 abbrev pub IsValid : Rules → Change → Type 0

@@ -8,9 +8,9 @@ use Rattle.osn_register_text.specs.declared.plan_fault.PlanFault.{PlanFault}
 use Rattle.osn_register_text.specs.Fault.{first_renamed, IsTrialFault, IsFault}
 use Rattle.osn_register_text.specs.Plan.{IsPlan}
 use Rattle.osn_register_text.specs.Differences.{all_edits}
-use Rattle.osn_register_text.proofs.Placed.{AllPlaced}
-use Rattle.osn_register_text.proofs.Planned.{placed_all, ordered_all, is_plan}
-use Rattle.osn_register_text.proofs.Tried.{trial_fault}
+use Rattle.osn_register_text.proofs.TargetTerritories.{AllPlaced}
+use Rattle.osn_register_text.proofs.PlanFacts.{placed_all, ordered_all, is_plan}
+use Rattle.osn_register_text.proofs.EditTrials.{trial_fault}
 
 module _ (w r : RegisterModel) (sound : IsWellFormed newest_rules w)
     (current : IsWellFormed newest_rules r)

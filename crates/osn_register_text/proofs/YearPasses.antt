@@ -10,16 +10,16 @@ use Rattle.osn_territory.specs.Territory.{TerritoryModel}
 use Rattle.osn_territory.specs.Exceptions.{with_exception, without_exception}
 use Rattle.osn_register_text.specs.Change.{Change}
 use Rattle.osn_register_text.specs.Change.Change.{DropDay}
-use Rattle.osn_register_text.specs.Cited.{BothSources, same_easter}
+use Rattle.osn_register_text.specs.CitedSources.{BothSources, same_easter}
 use Rattle.osn_register_text.specs.Differences.{is_day, lists, day_agrees, dropped_exception}
 use Rattle.osn_register_text.specs.Differences.{added_exception, target_exception}
 use Rattle.osn_register_text.proofs.Rows.{look, IsFrom, look_here, look_there, look_below}
-use Rattle.osn_register_text.proofs.Changed.{listed}
-use Rattle.osn_register_text.proofs.Changed.{listed_apart, removed, removed_apart, removed_from}
-use Rattle.osn_register_text.proofs.Changed.{listed_from}
-use Rattle.osn_register_text.proofs.Changed.{length-listed}
+use Rattle.osn_register_text.proofs.ChangeFacts.{listed}
+use Rattle.osn_register_text.proofs.ChangeFacts.{listed_apart, removed, removed_apart, removed_from}
+use Rattle.osn_register_text.proofs.ChangeFacts.{listed_from}
+use Rattle.osn_register_text.proofs.ChangeFacts.{length-listed}
 use Rattle.osn_register_text.proofs.Rows.{IsWithin, within_one, has_room}
-use Rattle.osn_register_text.proofs.Due.{after, AreDue}
+use Rattle.osn_register_text.proofs.NeededChanges.{after, AreDue}
 use Rattle.osn_register_text.proofs.Passes.{and_second}
 
 -- the drops of listed days

@@ -17,7 +17,7 @@ use Rattle.osn_register_text.specs.declared.fault.KeyFault.{KeyFault}
 use Rattle.osn_register_text.specs.declared.fault.ValueFault.{ValueFault}
 use Rattle.osn_register_text.specs.declared.fault.ValueFault.TheVariants.{Form, Unquoted}
 use Rattle.osn_register_text.specs.declared.fault.ValueFault.TheVariants.{NoSuchDate}
-use Rattle.osn_register_text.specs.Field.{Place, ◌>>=◌, fault_at, needed, or_fault}
+use Rattle.osn_register_text.specs.Field.{Place, ◌>>=◌, fault_at, required_value, or_fault}
 
 -- ---- dates
 
@@ -85,4 +85,4 @@ with_place at key (Err fault) = Err (fault_at at key fault)
 
 -- the day at a key
 abbrev pub day_at : Place → Key → Members → Result ℤ KeyFault
-day_at at key ms = needed at key ms >>= λ d. with_place at key (day_in d)
+day_at at key ms = required_value at key ms >>= λ d. with_place at key (day_in d)

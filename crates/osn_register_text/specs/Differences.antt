@@ -17,7 +17,7 @@ use Rattle.osn_register.specs.Plain.{EntryModel, entry_of, sources_of}
 use Rattle.osn_register.specs.Sources.{SourcesModel}
 use Rattle.osn_register_text.specs.Change.{Change, edit_of}
 use Rattle.osn_register_text.specs.Change.Change.{Add, Alter, Drop, ListDay, DropDay}
-use Rattle.osn_register_text.specs.Cited.{BothSources, same_period, same_easter}
+use Rattle.osn_register_text.specs.CitedSources.{BothSources, same_period, same_easter}
 
 abbrev pub is_same : Regime → Regime → Bool
 is_same a b =

@@ -13,7 +13,7 @@ use Rattle.osn_register.specs.Plain.{EntryModel, territory_of}
 use Rattle.osn_register_text.specs.Line.{change_words, drop_words, easter_words, territory_words}
 use Rattle.osn_register_text.specs.Line.{no_easter_words, opening_words}
 use Rattle.osn_register_text.specs.EditDay.{day_words, dated_in, opening_regime, regime_before}
-use Rattle.osn_register_text.specs.Followed.{followed_lines}
+use Rattle.osn_register_text.specs.ChangeDays.{followed_lines}
 use Rattle.osn_register_text.specs.Part.{regime_words}
 use Rattle.osn_register_text.specs.Remark.{easter_notes, same_regime_note}
 use Rattle.osn_register_text.specs.SourceWords.{source_before, source_words}

@@ -13,7 +13,7 @@ use Rattle.osn_register.specs.Plain.{EntryModel, entry_of, refusal, applied_all}
 use Rattle.osn_register_text.specs.declared.plan_fault.PlanFault.{PlanFault}
 use Rattle.osn_register_text.specs.declared.plan_fault.PlanFault.TheVariants.{Renamed, Refused}
 use Rattle.osn_register_text.specs.declared.plan_fault.PlanFault.TheVariants.{NoMemory}
-use Rattle.osn_register_text.specs.Needed.{name_in, AreNeeded}
+use Rattle.osn_register_text.specs.NeededEdits.{name_in, AreNeeded}
 
 abbrev pub has_other_name : List ℕ → Option (List ℕ) → Bool
 has_other_name name None = false

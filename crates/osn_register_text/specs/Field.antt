@@ -67,8 +67,8 @@ abbrev pub value_at : Key → Members → Option Data
 value_at key ms = get_member (key_name key) ms
 
 -- the value at a required key
-abbrev pub needed : Place → Key → Members → Result Data KeyFault
-needed at key ms = or_fault (fault_at at key Missing) (value_at key ms)
+abbrev pub required_value : Place → Key → Members → Result Data KeyFault
+required_value at key ms = or_fault (fault_at at key Missing) (value_at key ms)
 
 -- ---- texts, whole numbers and lists
 
@@ -77,11 +77,12 @@ text_in at key d = or_fault (fault_at at key Form) (as_str d)
 
 -- the text at a key
 abbrev pub text_at : Place → Key → Members → Result (List ℕ) KeyFault
-text_at at key ms = needed at key ms >>= text_in at key
+text_at at key ms = required_value at key ms >>= text_in at key
 
 -- the whole number at a key
 abbrev pub whole_at : Place → Key → Members → Result ℤ KeyFault
-whole_at at key ms = needed at key ms >>= λ d. or_fault (fault_at at key Form) (as_integer d)
+whole_at at key ms = required_value at key ms >>= λ d. or_fault (fault_at at key Form)
+    (as_integer d)
 
 abbrev pub note_in : Place → Option Data → Result (Option (List ℕ)) KeyFault
 note_in at None = Ok None

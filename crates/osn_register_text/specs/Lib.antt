@@ -9,8 +9,8 @@ pub mod Lines
 pub mod Inside
 pub mod WrittenText
 pub mod Says
-pub mod Cited
-pub mod Needed
+pub mod CitedSources
+pub mod NeededEdits
 pub mod Fault
 pub mod PlanOrder
 pub mod Plan
@@ -21,7 +21,7 @@ pub mod Part
 pub mod EditDay
 pub mod Line
 pub mod SourceWords
-pub mod Followed
+pub mod ChangeDays
 pub mod Remark
 pub mod EditLine
 pub mod PlanPage

@@ -6,7 +6,7 @@ use Rattle.osn_register.specs.declared.edit.Edit.{Edit}
 use Rattle.osn_register.specs.Lawful.{AreLawful}
 use Rattle.osn_register.specs.Plain.{EntryModel, entry_of, applied_all}
 use Rattle.osn_register.specs.SameEntry.{AreSameEntry}
-use Rattle.osn_register_text.specs.Needed.{AreNeeded}
+use Rattle.osn_register_text.specs.NeededEdits.{AreNeeded}
 use Rattle.osn_register_text.specs.PlanOrder.{AreInOrder}
 
 -- every target territory is as in the target: its name, itself, and the source of each of its

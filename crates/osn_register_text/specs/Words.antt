@@ -15,7 +15,7 @@ use Rattle.osn_register_text.specs.declared.fault.TextFault.{TextFault}
 use Rattle.osn_register_text.specs.declared.fault.TextFault.TheVariants as faults
 use Rattle.osn_register_text.specs.Key.{allowed_at, key_name, keys_text, part_text}
 use Rattle.osn_register_text.specs.RefusalWords.{refusal_words}
-use Rattle.osn_lines.specs.Escaped.{escaped}
+use Rattle.osn_lines.specs.Escape.{escaped}
 
 -- what is wrong with the value at a key
 abbrev pub value_text : Key → ValueFault → List ℕ

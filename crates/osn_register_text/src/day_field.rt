@@ -5,7 +5,7 @@ ghost use Rattle.osn_register_text.specs.DayField as spec;
 ghost use Rattle.osn_register_text.specs.Inside.{Gives, place_of};
 
 use crate::fault::{TextFault, ValueFault};
-use crate::field::needed;
+use crate::field::required_value;
 use crate::key::Key;
 use crate::place::Place;
 use osn_days::{Calendar, Date, Keyword, day_of};
@@ -117,7 +117,7 @@ fn day_in(value: &Value) -> Result<i64, ValueFault>
 pub(crate) fn day_at(at: Place<'_>, table: &Table, key: Key) -> Result<i64, TextFault>
     ensures { Gives result (spec.day_at (place_of at.entry) key (table_view table.now)) }
 {
-    match day_in(needed(at, table, key)?) {
+    match day_in(required_value(at, table, key)?) {
         Ok(day) => Ok(day),
         Err(fault) => Err(at.fault_at(key, fault)),
     }

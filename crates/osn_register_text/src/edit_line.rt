@@ -4,8 +4,8 @@ ghost use Rattle.osn_days.specs.Rules.{newest_rules};
 ghost use Rattle.osn_register_text.specs.EditLine as spec;
 ghost use Rattle.osn_register_text.specs.EditDay.{day_words};
 
+use crate::change_days::push_followed;
 use crate::edit_day::{EditDay, dated_in, opening_regime, regime_before, territory_of};
-use crate::followed::push_followed;
 use crate::line::{
     push_change, push_drop, push_easter, push_no_easter, push_opening, push_territory,
 };

@@ -95,14 +95,14 @@ impl<'a> fmt::Display for ValueText<'a> {
     ghost output = { λ x. Some (value_text x.key x.fault.now) };
 
     fn fmt<W: fmt::Write>(&self, f: &mut fmt::Formatter<W>) -> fmt::Result {
-        let allowed = self.key.allowed();
+        let allowed_text = self.key.allowed_text();
         match self.fault {
-            ValueFault::Missing => write!(f, "missing: {allowed}"),
-            ValueFault::Form => f.write_str(allowed),
+            ValueFault::Missing => write!(f, "missing: {allowed_text}"),
+            ValueFault::Form => f.write_str(allowed_text),
             ValueFault::UnknownWord(word) => {
                 write!(
                     f,
-                    "\"{}\" is not a {}: {allowed}",
+                    "\"{}\" is not a {}: {allowed_text}",
                     Escaped(word.as_str()),
                     self.key.name()
                 )
@@ -149,8 +149,8 @@ impl<'a> fmt::Display for ReasonText<'a> {
             ),
             Reason::NotLater => f.write_str(": not later than the change before it"),
             Reason::Refused(refusal) => {
-                let allowed = refusal_words(*refusal);
-                write!(f, ": {} {}: {allowed}", refusal.number(), refusal.name())
+                let words = refusal_words(*refusal);
+                write!(f, ": {} {}: {words}", refusal.number(), refusal.name())
             }
         }
     }

@@ -48,10 +48,14 @@ fn value_at<'a>(table: &'a Table, key: Key) -> Option<&'a Value>
 }
 
 /// Returns the value at a required key.
-pub(crate) fn needed<'a>(at: Place<'_>, table: &'a Table, key: Key) -> Result<&'a Value, TextFault>
+pub(crate) fn required_value<'a>(
+    at: Place<'_>,
+    table: &'a Table,
+    key: Key,
+) -> Result<&'a Value, TextFault>
     ensures { MatchResult result
-        (λ v. spec.needed (place_of at.entry) key (table_view table.now) ≡ Ok (view v.now))
-        (λ e. Fails e (spec.needed (place_of at.entry) key (table_view table.now))) }
+        (λ v. spec.required_value (place_of at.entry) key (table_view table.now) ≡ Ok (view v.now))
+        (λ e. Fails e (spec.required_value (place_of at.entry) key (table_view table.now))) }
 {
     match value_at(table, key) {
         Some(value) => Ok(value),
@@ -76,14 +80,14 @@ pub(crate) fn text_at<'a>(at: Place<'_>, table: &'a Table, key: Key) -> Result<&
         (λ s. spec.text_at (place_of at.entry) key (table_view table.now) ≡ Ok s.now)
         (λ e. Fails e (spec.text_at (place_of at.entry) key (table_view table.now))) }
 {
-    text_in(at, key, needed(at, table, key)?)
+    text_in(at, key, required_value(at, table, key)?)
 }
 
 /// Returns the whole number at a key.
 pub(crate) fn whole_at(at: Place<'_>, table: &Table, key: Key) -> Result<i64, TextFault>
     ensures { Gives result (spec.whole_at (place_of at.entry) key (table_view table.now)) }
 {
-    match needed(at, table, key)?.as_integer() {
+    match required_value(at, table, key)?.as_integer() {
         Some(number) => Ok(number),
         None => Err(at.fault_at(key, ValueFault::Form)),
     }

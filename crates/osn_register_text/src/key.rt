@@ -52,7 +52,7 @@ impl Key {
     }
 
     /// Returns what is written at the key.
-    pub(crate) fn allowed(self) -> &'static str
+    pub(crate) fn allowed_text(self) -> &'static str
         ensures { result.now ≡ spec.allowed_at self }
     {
         match self {

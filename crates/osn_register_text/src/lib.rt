@@ -6,6 +6,7 @@
 //! its sources, and every other one as before. `plan_page` prints them, each in words and dates.
 #![tactic(auto)]
 
+mod change_days;
 mod changes;
 mod date_table;
 mod day_field;
@@ -14,7 +15,6 @@ mod edit_line;
 mod exceptions;
 mod fault;
 mod field;
-mod followed;
 mod key;
 mod line;
 mod names;

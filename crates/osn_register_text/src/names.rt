@@ -3,14 +3,19 @@ ghost use Rattle.std.specs.Prelude.{◌≡◌, false, None, IfOk, OnOk, IfErr};
 ghost use Rattle.osn_register_text.specs.declared.plan_fault.PlanFault.TheVariants.{Renamed};
 ghost use Rattle.osn_register_text.specs.Fault.{has_other_name, first_renamed, IsNameFault};
 ghost use Rattle.osn_register_text.specs.Fault.{IsFault};
-ghost use Rattle.osn_register_text.specs.Needed.{name_in};
+ghost use Rattle.osn_register_text.specs.NeededEdits.{name_in};
 
 use crate::plan_fault::PlanFault;
 use osn_register::{Register, Text};
 use std::alloc::{AllocError, Global};
 
 /// Returns the fault of a code that has another name.
-fn renamed(alloc: Global, code: &str, name: &str, new_name: &str) -> Result<PlanFault, AllocError>
+fn renamed_fault(
+    alloc: Global,
+    code: &str,
+    name: &str,
+    new_name: &str,
+) -> Result<PlanFault, AllocError>
     ensures { IfOk result (λ fault. fault ≡ Renamed code.now name.now new_name.now) }
 {
     Ok(PlanFault::Renamed {
@@ -27,7 +32,7 @@ fn check_name(alloc: Global, register: &Register, code: &str, name: &str) -> Res
     ensures err { IfErr result (IsNameFault register.now.territories code.now name.now) }
 {
     match register.find_territory(code) {
-        Some((current, _)) if current != name => Err(renamed(alloc, code, current, name)?),
+        Some((current, _)) if current != name => Err(renamed_fault(alloc, code, current, name)?),
         _ => Ok(()),
     }
 }
@@ -45,10 +50,10 @@ pub(crate) fn check_names(
 {
     // There are no more territories than the limit, so that each place fits.
     let _most = target.limits().lands;
-    let mut place = 0;
-    while let Some((code, name, _)) = target.territory_at(place) {
+    let mut index = 0;
+    while let Some((code, name, _)) = target.territory_at(index) {
         check_name(alloc, register, code, name)?;
-        place += 1;
+        index += 1;
     }
     Ok(())
 }

@@ -49,8 +49,8 @@ fn push_absent_codes(
     ensures { OnOk result (string_bytes out.new ≡ string_bytes out.old
         ++ spec.absent_codes target.now.territories register.now.territories) }
 {
-    for place in 0..register.limits().lands as usize {
-        let Some((code, _, _)) = register.territory_at(place) else {
+    for index in 0..register.limits().lands as usize {
+        let Some((code, _, _)) = register.territory_at(index) else {
             return Ok(());
         };
         push_absent_code(out, target, code)?;

@@ -1,6 +1,6 @@
 //! A territory in the present register and in the target one, and its sources in both.
 ghost use Rattle.std.specs.Prelude.{◌≡◌, IfOk, option_map};
-ghost use Rattle.osn_register_text.specs.Cited.{same_source};
+ghost use Rattle.osn_register_text.specs.CitedSources.{same_source};
 
 use osn_days::{Day, Year};
 use osn_register::{Register, Source, Text};
@@ -39,7 +39,7 @@ fn copy_of(source: Option<&Source>) -> Result<Option<Source>, AllocError>
 
 impl TerritoryPair<'_> {
     ghost use Rattle.osn_register.specs.Answer as spec;
-    ghost use Rattle.osn_register_text.specs.Cited.{same_period, same_easter};
+    ghost use Rattle.osn_register_text.specs.CitedSources.{same_period, same_easter};
     ghost use Rattle.osn_register_text.specs.PlanInside.{sources_at};
 
     /// Returns a copy of the code.

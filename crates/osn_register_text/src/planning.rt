@@ -20,8 +20,8 @@ fn all_edits(alloc: Global, register: &Register, target: &Register) -> Result<Ve
     // There are no more territories than the limit, so that each place fits.
     let _most = target.limits().lands;
     let mut edits = Vec::new(alloc);
-    let mut place = 0;
-    while let Some((code, name, territory)) = target.territory_at(place) {
+    let mut index = 0;
+    while let Some((code, name, territory)) = target.territory_at(index) {
         let pair = TerritoryPair {
             alloc,
             code,
@@ -29,7 +29,7 @@ fn all_edits(alloc: Global, register: &Register, target: &Register) -> Result<Ve
             target,
         };
         push_edits(pair, name, territory, &mut edits)?;
-        place += 1;
+        index += 1;
     }
     Ok(edits)
 }

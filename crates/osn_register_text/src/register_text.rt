@@ -56,8 +56,8 @@ pub fn write_text(alloc: Global, edition: usize, register: &Register) -> Result<
 {
     let mut text = String::with_capacity(alloc, ROOM)?;
     push_edition(&mut text, edition)?;
-    'each: for place in 0..register.limits().lands as usize {
-        let Some((code, name, territory)) = register.territory_at(place) else {
+    'each: for index in 0..register.limits().lands as usize {
+        let Some((code, name, territory)) = register.territory_at(index) else {
             break;
         };
         push_next_territory(&mut text, register, code, name, territory)?;

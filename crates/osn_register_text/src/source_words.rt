@@ -43,13 +43,13 @@ fn push_source_part(out: &mut String, source: &Source) -> Result<(), AllocError>
 /// Appends the source that is given, or that there is no source any more.
 pub(crate) fn push_source_words(
     out: &mut String,
-    given: Option<&Source>,
+    source: Option<&Source>,
     before: Option<&Source>,
 ) -> Result<(), AllocError>
     ensures { OnOk result (string_bytes out.new ≡ string_bytes out.old ++ spec.source_words
-        (option_map (λ s. s.now) given.entry) (option_map (λ s. s.now) before.entry)) }
+        (option_map (λ s. s.now) source.entry) (option_map (λ s. s.now) before.entry)) }
 {
-    match (given, before) {
+    match (source, before) {
         (Some(source), _) => push_source_part(out, source),
         (None, Some(_)) => out.push_str("; source removed"),
         (None, None) => Ok(()),

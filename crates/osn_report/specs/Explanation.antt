@@ -1,13 +1,15 @@
 -- What explains a fault by the path of its file, in a line after that of the fault. This project's
 -- profile.
-use Rattle.std.specs.Prelude.{ℕ, ◌==◌, List, ◌++◌, codes, Option, Some, None, if◌then◌else◌}
+use Rattle.std.specs.Prelude.{ℕ, ◌==◌, Bool, true, false, ◌&&◌, List, [], ◌++◌, codes, Option, Some}
+use Rattle.std.specs.Prelude.{None, if◌then◌else◌}
 use Rattle.std.specs.Fmt.{decimal}
 use Rattle.osn_files.specs.declared.fault.FileFault.{FileFault}
 use Rattle.osn_files.specs.declared.fault.FileFault.TheVariants as file_faults
 use Rattle.osn_files.specs.declared.fault.LineFault.{LineFault}
 use Rattle.osn_files.specs.declared.fault.LineFault.TheVariants as line_faults
 use Rattle.osn_files.specs.declared.fault.Role.{Role}
-use Rattle.osn_files.specs.declared.fault.Role.TheVariants.{Journal}
+use Rattle.osn_files.specs.declared.fault.Role.TheVariants.{Journal, Script}
+use Rattle.osn_files.specs.declared.fault.Role.TheVariants.{Questions, Schedule, Transcript}
 use Rattle.osn_folder.specs.declared.fault.ChangeCause.{ChangeCause}
 use Rattle.osn_folder.specs.declared.fault.ChangeCause.TheVariants as changes
 use Rattle.osn_folder.specs.declared.fault.FollowFault.{FollowFault}
@@ -19,7 +21,9 @@ use Rattle.osn_folder.specs.declared.fault.KeptFileFault.TheVariants.{ChangeFail
 use Rattle.osn_request.specs.declared.wire_fault.WireFault.{WireFault}
 use Rattle.osn_request.specs.declared.wire_fault.WireFault.TheVariants.{LineTooLong, NotJson}
 use Rattle.osn_request.specs.declared.wire_fault.WireFault.TheVariants.{NotObject, BadHead}
-use Rattle.osn_lines.specs.Escaped.{escaped}
+use Rattle.osn_request.specs.declared.wire_fault.WireFault.TheVariants.{BadField}
+use Rattle.osn_request.specs.declared.member.Member.TheVariants as members
+use Rattle.osn_lines.specs.Escape.{escaped}
 use Rattle.osn_report.specs.OpenFailure.{cause_text}
 use Rattle.osn_report.specs.declared.fault.CommandFault.{CommandFault}
 use Rattle.osn_report.specs.declared.fault.CommandFault.TheVariants as faults
@@ -69,9 +73,41 @@ line_help path line (line_faults.Wire fault) =
     if line == 1 then head_help path fault else torn_help path line fault
 line_help path line (line_faults.Register refusal) = None
 
+-- ---- a bad line of another file
+
+-- what its lines are
+abbrev pub form_text : Role → List ℕ
+form_text Journal = []
+form_text Script = codes "the first line of a script is {\"journal\":2}"
+form_text Questions = codes
+    "each line of the questions is a query, such as {\"op\":\"lands\",\"reader\":1}"
+form_text Schedule = codes "each line of a schedule is a step, such as {\"step\":\"publish\"}"
+form_text Transcript = codes
+    "each line of a transcript is a query with its reply, as oldstyle desk prints them"
+
+abbrev pub form_line : List ℕ → Role → List ℕ
+form_line path role =
+    codes "help: " ++ (escaped path ++ (codes ": " ++ (form_text role ++ codes "\n")))
+
+-- a line is of another kind: it is not an object, or lacks the member that all of them have
+abbrev pub is_other_kind : Role → WireFault → Bool
+is_other_kind role NotJson = true
+is_other_kind role NotObject = true
+is_other_kind Script BadHead = true
+is_other_kind Questions (BadField members.Op) = true
+is_other_kind Schedule (BadField members.Step) = true
+is_other_kind Transcript (BadField members.Ask) = true
+is_other_kind role fault = false
+
+-- the help with the first line, if it is of another kind
+abbrev pub form_help : List ℕ → Role → ℕ → LineFault → Option (List ℕ)
+form_help path role line (line_faults.Wire fault) =
+    if line == 1 && is_other_kind role fault then Some (form_line path role) else None
+form_help path role line (line_faults.Register refusal) = None
+
 abbrev pub role_help : List ℕ → Role → ℕ → LineFault → Option (List ℕ)
 role_help path Journal line fault = line_help path line fault
-role_help path role line fault = None
+role_help path role line fault = form_help path role line fault
 
 -- ---- each fault
 

@@ -92,7 +92,8 @@ Ends e (Some fault) status = Reports e fault status
 
 -- it was reported what the place of an argument asks for, with the argument as it was typed
 abbrev pub ReportsMisuse : Output → Misuse → List ℕ → Status → Type 0
-ReportsMisuse e misuse typed status = ReportsIfMade e Misused (misuse_line misuse typed) status
+ReportsMisuse e misuse argument status = ReportsIfMade e Misused (misuse_line misuse argument)
+    status
 
 -- it was reported why the arguments could not be read, by the kind of error
 abbrev pub ReportsNoWords : Output → ErrorKind → Status → Type 0

@@ -3,7 +3,7 @@ use Rattle.std.specs.Prelude.{ℕ, List, ◌++◌, codes}
 use Rattle.std.specs.Fmt.{decimal}
 use Rattle.osn_days.specs.CalendarWords.{calendar_word}
 use Rattle.osn_days.specs.Weekday.{weekday_name}
-use Rattle.osn_lines.specs.Escaped.{escaped}
+use Rattle.osn_lines.specs.Escape.{escaped}
 use Rattle.osn_written.specs.declared.written_date.DateFault.{DateFault}
 use Rattle.osn_written.specs.declared.written_date.DateFault.TheVariants as faults
 use Rattle.osn_written.specs.WrittenDate.{month_day_words}
@@ -32,9 +32,7 @@ usual_text faults.LaterYear =
     codes "after the / comes the year that follows, in full or by its last digits, "
     ++ codes "such as 1731/2, 1731/32 or 1731/1732"
 usual_text faults.Year = codes "a year is 0 to 10000"
-usual_text faults.Month =
-    codes "a month is 1 to 12: in a range of years write the later year in full, "
-    ++ codes "such as 1640-1645"
+usual_text faults.Month = codes "a month is 1 to 12"
 usual_text faults.Day = codes "a day of a month is 1 to 31"
 usual_text faults.NoDate = codes
     "it says that there is no date: write a day, such as \"11 February 1731\""
@@ -112,5 +110,5 @@ misuse_text Shell = codes "a shell is bash, zsh or fish"
 
 -- the line on standard error, which begins with the word as it was typed
 abbrev pub misuse_line : Misuse → List ℕ → List ℕ
-misuse_line misuse typed =
-    codes "oldstyle: " ++ (escaped typed ++ (codes ": " ++ (misuse_text misuse ++ codes "\n")))
+misuse_line misuse argument =
+    codes "oldstyle: " ++ (escaped argument ++ (codes ": " ++ (misuse_text misuse ++ codes "\n")))

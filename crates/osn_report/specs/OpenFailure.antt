@@ -3,7 +3,7 @@ use Rattle.std.specs.Prelude.{ℕ, List, ◌++◌, codes}
 use Rattle.osn_folder.specs.declared.fault.OpenFailed.{OpenFailed}
 use Rattle.osn_folder.specs.declared.fault.OpenFailed.TheVariants.{NotFound, PermissionDenied}
 use Rattle.osn_folder.specs.declared.fault.OpenFailed.TheVariants.{NoFolder, IsDirectory, Other}
-use Rattle.osn_lines.specs.Escaped.{escaped}
+use Rattle.osn_lines.specs.Escape.{escaped}
 
 abbrev pub cause_text : OpenFailed → List ℕ
 cause_text NotFound = codes "no such file"

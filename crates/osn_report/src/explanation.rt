@@ -12,7 +12,7 @@ use crate::status::Status;
 use osn_files::{FileFault, LineFault, Role};
 use osn_folder::{ChangeCause, FollowFault, KeepFault, KeptFileFault};
 use osn_lines::{Escaped, Sink};
-use osn_request::WireFault;
+use osn_request::{Member, WireFault};
 use std::alloc::{AllocError, Global};
 
 /// Returns the text on why a file could not be made or changed.
@@ -108,7 +108,65 @@ fn line_help(
     }
 }
 
-/// Returns the help on a bad line of a file, if it is a journal.
+/// Returns the text of what the lines of a file are that is not a journal.
+fn form_text(role: Role) -> &'static str
+    ensures { result.now ≡ spec.form_text role }
+{
+    match role {
+        Role::Journal => "",
+        Role::Script => "the first line of a script is {\"journal\":2}",
+        Role::Questions => {
+            "each line of the questions is a query, such as {\"op\":\"lands\",\"reader\":1}"
+        }
+        Role::Schedule => "each line of a schedule is a step, such as {\"step\":\"publish\"}",
+        Role::Transcript => {
+            "each line of a transcript is a query with its reply, as oldstyle desk prints them"
+        }
+    }
+}
+
+/// Returns the line of what the lines of a file are that is not a journal.
+fn form_line(alloc: Global, path: &str, role: Role) -> Result<String, AllocError>
+    ensures { IfOk result (λ text. string_bytes text ≡ spec.form_line path.now role) }
+{
+    format!(in alloc; "help: {}: {}\n", Escaped(path), form_text(role))
+}
+
+/// Returns whether a line is of another kind than those of a file: it is not an object, or lacks the
+/// member that all of them have.
+fn is_other_kind(role: Role, fault: WireFault) -> bool
+    ensures { result ≡ spec.is_other_kind role fault }
+{
+    match (role, fault) {
+        (_, WireFault::NotJson | WireFault::NotObject)
+        | (Role::Script, WireFault::BadHead)
+        | (Role::Questions, WireFault::BadField(Member::Op))
+        | (Role::Schedule, WireFault::BadField(Member::Step))
+        | (Role::Transcript, WireFault::BadField(Member::Ask)) => true,
+        _ => false,
+    }
+}
+
+/// Returns the help on the first line of a file that is not a journal, if it is of another kind.
+fn form_help(
+    alloc: Global,
+    path: &str,
+    role: Role,
+    line: u64,
+    fault: LineFault,
+) -> Result<Option<String>, AllocError>
+    ensures { IfOk result (λ text.
+        option_map string_bytes text ≡ spec.form_help path.now role line fault) }
+{
+    match fault {
+        LineFault::Wire(fault) if line == 1 && is_other_kind(role, fault) => {
+            Ok(Some(form_line(alloc, path, role)?))
+        }
+        _ => Ok(None),
+    }
+}
+
+/// Returns the help on a bad line of a file.
 fn role_help(
     alloc: Global,
     path: &str,
@@ -121,7 +179,7 @@ fn role_help(
 {
     match role {
         Role::Journal => line_help(alloc, path, line, fault),
-        _ => Ok(None),
+        _ => form_help(alloc, path, role, line, fault),
     }
 }
 

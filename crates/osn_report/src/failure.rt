@@ -18,8 +18,8 @@ pub struct Failure<'a> {
 }
 
 impl<'a> From<OpenFailure<'a>> for Failure<'a> {
-    ghost from_gives = { λ why given. (given.path.now ≡ why.path.now)
-        × (given.fault ≡ CommandFault.ReadFault why.cause) };
+    ghost from_gives = { λ why value. (value.path.now ≡ why.path.now)
+        × (value.fault ≡ CommandFault.ReadFault why.cause) };
 
     fn from(why: OpenFailure<'a>) -> Failure<'a> {
         Failure {

@@ -52,7 +52,7 @@ pub enum CommandFault {
 }
 
 impl From<FileFault> for CommandFault {
-    ghost from_gives = { λ fault given. given ≡ CommandFault.File fault };
+    ghost from_gives = { λ fault value. value ≡ CommandFault.File fault };
 
     fn from(fault: FileFault) -> CommandFault {
         CommandFault::File(fault)
@@ -60,7 +60,7 @@ impl From<FileFault> for CommandFault {
 }
 
 impl From<ReadAllFault> for CommandFault {
-    ghost from_gives = { λ fault given. given ≡ by_read fault };
+    ghost from_gives = { λ fault value. value ≡ by_read fault };
 
     fn from(fault: ReadAllFault) -> CommandFault {
         match fault {
@@ -71,7 +71,7 @@ impl From<ReadAllFault> for CommandFault {
 }
 
 impl From<KeptFileFault> for CommandFault {
-    ghost from_gives = { λ fault given. given ≡ CommandFault.KeptFile fault };
+    ghost from_gives = { λ fault value. value ≡ CommandFault.KeptFile fault };
 
     fn from(fault: KeptFileFault) -> CommandFault {
         CommandFault::KeptFile(fault)
@@ -79,7 +79,7 @@ impl From<KeptFileFault> for CommandFault {
 }
 
 impl From<AllocError> for CommandFault {
-    ghost from_gives = { λ _ given. given ≡ CommandFault.NoMemory };
+    ghost from_gives = { λ _ value. value ≡ CommandFault.NoMemory };
 
     fn from(_error: AllocError) -> CommandFault {
         CommandFault::NoMemory

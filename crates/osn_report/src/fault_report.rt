@@ -140,7 +140,11 @@ fn refused_at(alloc: Global, line: u64) -> Result<String, AllocError>
 /// # Errors
 ///
 /// Only that there was no memory for the line.
-pub fn refused(alloc: Global, number: u8, name: &'static str) -> Result<String, AllocError>
+pub fn refusal_number_line(
+    alloc: Global,
+    number: u8,
+    name: &'static str,
+) -> Result<String, AllocError>
     ensures { IfOk result (λ text. string_bytes text
         ≡ codes "oldstyle: " ++ refusal_end number name.now) }
 {
@@ -201,7 +205,7 @@ fn report_desk<E: Sink>(alloc: Global, errors: &mut E, fault: DeskFault) -> Stat
     match fault {
         DeskFault::NoMemory => report_no_memory(errors),
         _ => {
-            let line = refused(alloc, fault.number(), fault.name());
+            let line = refusal_number_line(alloc, fault.number(), fault.name());
             report_line(errors, Status::Refused, line)
         }
     }

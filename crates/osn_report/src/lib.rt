@@ -18,7 +18,7 @@ mod status;
 pub use explanation::report_at;
 pub use failure::{Failure, failure_of_two};
 pub use fault::CommandFault;
-pub use fault_report::{refused, report, report_line, report_no_memory, write_line};
+pub use fault_report::{refusal_number_line, report, report_line, report_no_memory, write_line};
 pub use hint::limit_hint;
 pub use misuse::{Misuse, misuse_line, report_misuse};
 pub use open_failure::report_open_failure;

@@ -73,10 +73,7 @@ with or without a weekday before it"
 such as 1731/2, 1731/32 or 1731/1732"
         }
         DateFault::Year => "a year is 0 to 10000",
-        DateFault::Month => {
-            "a month is 1 to 12: in a range of years write the later year in full, \
-such as 1640-1645"
-        }
+        DateFault::Month => "a month is 1 to 12",
         DateFault::Day => "a day of a month is 1 to 31",
         DateFault::NoDate => {
             "it says that there is no date: write a day, such as \"11 February 1731\""
@@ -214,18 +211,27 @@ write the month by its name, or use --order dmy or mdy",
 /// # Errors
 ///
 /// If memory runs out.
-pub fn misuse_line(alloc: Global, misuse: Misuse, typed: &str) -> Result<String, AllocError>
-    ensures { IfOk result (λ line. string_bytes line ≡ spec.misuse_line misuse typed.now) }
+pub fn misuse_line(alloc: Global, misuse: Misuse, argument: &str) -> Result<String, AllocError>
+    ensures { IfOk result (λ line. string_bytes line ≡ spec.misuse_line misuse argument.now) }
 {
-    format!(in alloc; "oldstyle: {}: {misuse}\n", Escaped(typed))
+    format!(in alloc; "oldstyle: {}: {misuse}\n", Escaped(argument))
 }
 
 /// Reports on standard error what an argument must be, with the argument as it was typed. Returns
 /// the status.
-pub fn report_misuse<E: Sink>(alloc: Global, errors: &mut E, misuse: Misuse, typed: &str) -> Status
+pub fn report_misuse<E: Sink>(
+    alloc: Global,
+    errors: &mut E,
+    misuse: Misuse,
+    argument: &str,
+) -> Status
     ensures { ReportsMisuse
-        (output_of E.contents E.has_failed E.holds_back errors.old errors.new) misuse typed.now
+        (output_of E.contents E.has_failed E.holds_back errors.old errors.new) misuse argument.now
         result }
 {
-    report_line(errors, Status::Misused, misuse_line(alloc, misuse, typed))
+    report_line(
+        errors,
+        Status::Misused,
+        misuse_line(alloc, misuse, argument),
+    )
 }

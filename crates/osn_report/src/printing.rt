@@ -24,17 +24,17 @@ pub fn print_text<W: Sink, E: Sink>(text: &str, output: &mut W, errors: &mut E) 
 /// Writes a text whole as `print_text` does, or reports on standard error that there was no memory
 /// for it.
 pub fn print<W: Sink, E: Sink>(
-    made: Result<String, AllocError>,
+    text: Result<String, AllocError>,
     output: &mut W,
     errors: &mut E,
 ) -> Status
     // For any text that was made.
-    ensures { (expected : List ℕ) → IfOk made (λ text. string_bytes text ≡ expected)
+    ensures { (expected : List ℕ) → IfOk text (λ text. string_bytes text ≡ expected)
         → PrintsIfMade expected
         (output_of W.contents W.has_failed W.holds_back output.old output.new)
         (output_of E.contents E.has_failed E.holds_back errors.old errors.new) result }
 {
-    match made {
+    match text {
         Ok(text) => print_text(text.as_str(), output, errors),
         Err(_) => report_no_memory(errors),
     }
@@ -42,17 +42,17 @@ pub fn print<W: Sink, E: Sink>(
 
 /// Does the same, but reports on standard error as soon as the output failed.
 pub fn print_or_report<W: Sink, E: Sink>(
-    made: Result<String, AllocError>,
+    text: Result<String, AllocError>,
     output: &mut W,
     errors: &mut E,
 ) -> Status
     // For any text that was made.
-    ensures { (expected : List ℕ) → IfOk made (λ text. string_bytes text ≡ expected)
+    ensures { (expected : List ℕ) → IfOk text (λ text. string_bytes text ≡ expected)
         → PrintsOrReports expected
         (output_of W.contents W.has_failed W.holds_back output.old output.new)
         (output_of E.contents E.has_failed E.holds_back errors.old errors.new) result }
 {
-    let Ok(text) = made else {
+    let Ok(text) = text else {
         return report_no_memory(errors);
     };
     match write_all(output, text.as_bytes()) {

@@ -16,7 +16,7 @@ pub struct ReadProgress<P> {
     /// What is read, as the terminal shows it.
     what: &'static str,
     /// The bytes that were read.
-    read: u64,
+    bytes_read: u64,
     terminal: Option<P>,
 }
 
@@ -26,7 +26,7 @@ impl<P: Sink> ReadProgress<P> {
         ReadProgress {
             alloc,
             what,
-            read: 0,
+            bytes_read: 0,
             terminal,
         }
     }
@@ -34,14 +34,14 @@ impl<P: Sink> ReadProgress<P> {
 
 impl<P: Sink> Progress for ReadProgress<P> {
     fn count(&mut self, bytes: usize) {
-        let before = self.read / MEBIBYTE / STEP;
-        self.read = self.read.saturating_add(bytes as u64);
-        let read = self.read / MEBIBYTE;
-        if read / STEP == before {
+        let before = self.bytes_read / MEBIBYTE / STEP;
+        self.bytes_read = self.bytes_read.saturating_add(bytes as u64);
+        let mebibytes = self.bytes_read / MEBIBYTE;
+        if mebibytes / STEP == before {
             return;
         }
         let what = self.what;
-        let line = format!(in self.alloc; "oldstyle: {read} MiB of the {what} read\n");
+        let line = format!(in self.alloc; "oldstyle: {mebibytes} MiB of the {what} read\n");
         if let (Some(terminal), Ok(line)) = (&mut self.terminal, line) {
             let _ = write_all(terminal, line.as_bytes());
         }

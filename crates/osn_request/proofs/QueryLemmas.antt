@@ -52,6 +52,8 @@ query_by_code readers ops.Easter d asked is names = refl
 query_by_code readers ops.Periods d asked is names = refl
 query_by_code readers ops.Exceptions d asked is names = refl
 query_by_code readers ops.Changes d asked is names = refl
+query_by_code readers ops.Feasts d asked is names = refl
+query_by_code readers ops.Convert d asked is names = refl
 query_by_code readers ops.Written d asked is names = refl
 query_by_code readers ops.YearFigures d asked is names =
     sym (subst NamesNone is (figures_asked readers d)) ∙ names

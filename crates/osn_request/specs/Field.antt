@@ -6,6 +6,7 @@ use Rattle.serde_json.specs.Data.{Data}
 use Rattle.serde_json.specs.Find.{get, as_str, as_number, as_i64}
 use Rattle.osn_days.specs.Rules.{Rules}
 use Rattle.osn_days.specs.CalendarWords.{calendar_named}
+use Rattle.osn_days.specs.declared.calendar.Calendar.{Calendar}
 use Rattle.osn_days.specs.declared.weekday.Weekday.{Weekday}
 use Rattle.osn_computus.specs.RuleWords.{rule_named}
 use Rattle.osn_territory.specs.declared.regime.Regime.{Regime}
@@ -54,6 +55,10 @@ weekday_if true d = word_at members.Weekday weekday_named d >>= λ weekday. Ok (
 -- the weekday of a member that may be left out, by its English name in letters of any case
 abbrev pub weekday_at : Data → Result (Option Weekday) WireFault
 weekday_at d = weekday_if (is_some (get (member_name members.Weekday) d)) d
+
+-- the member that is a calendar's word
+abbrev pub calendar_at : Data → Result Calendar WireFault
+calendar_at d = word_at members.Calendar calendar_named d
 
 -- the member that is a style's word, if the rules have it
 abbrev pub style_at : Rules → Data → Result Style WireFault

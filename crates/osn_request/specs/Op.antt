@@ -28,6 +28,8 @@ op_named = meaning (
     ∷ (codes "periods", Query queries.Periods)
     ∷ (codes "exceptions", Query queries.Exceptions)
     ∷ (codes "changes", Query queries.Changes)
+    ∷ (codes "feasts", Query queries.Feasts)
+    ∷ (codes "convert", Query queries.Convert)
     ∷ (codes "written", Query queries.Written)
     ∷ [])
 

@@ -10,7 +10,7 @@ use Rattle.osn_request.specs.declared.request.op.QueryOp.{QueryOp}
 use Rattle.osn_request.specs.declared.request.op.QueryOp.TheVariants as ops
 use Rattle.osn_request.specs.declared.wire_fault.WireFault.{WireFault}
 use Rattle.osn_request.specs.declared.wire_fault.WireFault.TheVariants.{UnknownReader}
-use Rattle.osn_request.specs.Field.{◌>>=◌, text_at, weekday_at, whole_at}
+use Rattle.osn_request.specs.Field.{◌>>=◌, calendar_at, text_at, weekday_at, whole_at}
 use Rattle.osn_request.specs.LineQuery.{written_query}
 
 -- the readers are counted from 1
@@ -58,6 +58,21 @@ changes_of d = do
   code ← text_at members.Code d
   Ok (queries.Changes code)
 
+unfoldable pub feasts_of : Data → Result Query WireFault
+feasts_of d = do
+  code ← text_at members.Code d
+  year ← whole_at members.Year d
+  Ok (queries.Feasts code year)
+
+unfoldable pub convert_of : Data → Result Query WireFault
+convert_of d = do
+  code ← text_at members.Code d
+  calendar ← calendar_at d
+  year ← whole_at members.Year d
+  month ← whole_at members.Month d
+  day ← whole_at members.Day d
+  Ok (queries.Convert code calendar year month day)
+
 unfoldable pub written_of : Data → Result Query WireFault
 written_of d = do
   code ← text_at members.Code d
@@ -75,6 +90,8 @@ query_by ops.Lands d = Ok queries.Lands
 query_by ops.Periods d = periods_of d
 query_by ops.Exceptions d = exceptions_of d
 query_by ops.Changes d = changes_of d
+query_by ops.Feasts d = feasts_of d
+query_by ops.Convert d = convert_of d
 query_by ops.Written d = written_of d
 
 -- a query that has a territory's code
@@ -87,6 +104,8 @@ has_code ops.Lands = false
 has_code ops.Periods = true
 has_code ops.Exceptions = true
 has_code ops.Changes = true
+has_code ops.Feasts = true
+has_code ops.Convert = true
 has_code ops.Written = true
 
 -- the number of the reader who asks, and the query

@@ -45,7 +45,7 @@ impl Version {
     }
 
     /// Returns the version of a number, if any has it.
-    pub fn numbered(number: i64) -> Option<Version>
+    pub fn from_number(number: i64) -> Option<Version>
         ensures { result ≡ spec.version_numbered number }
     {
         match number {

@@ -16,8 +16,8 @@ use Rattle.osn_files.specs.Files.{ReadsFile}
 use Rattle.osn_folder.specs.declared.fault.KeptFileFault.{KeptFileFault}
 use Rattle.osn_request.specs.declared.version.Version.{Version}
 use Rattle.osn_files.specs.Journal.{load}
-use Rattle.osn_files.specs.Loaded.{IsOfVersion}
-use Rattle.osn_lines.specs.Ended.{ended_length}
+use Rattle.osn_files.specs.LoadedText.{IsOfVersion}
+use Rattle.osn_lines.specs.LastLineFeed.{ended_length}
 use Rattle.osn_lines.proofs.EndedLemmas.{ended-le}
 use Rattle.osn_files.specs.CountedPrefix.{IsCountedPrefix, by_last, last_line_of}
 use Rattle.osn_files.specs.CountedPrefix.{whole_bytes, whole_length}
@@ -64,56 +64,65 @@ source_of read rest = record {
 }
 
 -- no object was loaded from the lines that count
-pub not_loaded : (limits : Limits) (read bytes held rest : List ℕ) (why : FileFault)
-    → read ≡ bytes → (length bytes == 0) ≡ false → bytes ≡ whole_bytes held
+pub not_loaded : (limits : Limits) (read bytes content rest : List ℕ) (why : FileFault)
+    → read ≡ bytes → (length bytes == 0) ≡ false → bytes ≡ whole_bytes content
     → MakesNoObject limits (source_of read rest) why
-    → IsUnread limits held false why
-not_loaded limits read bytes held rest (file_faults.BadLine role line why) is some whole h = (
+    → IsUnread limits content false why
+not_loaded limits read bytes content rest (file_faults.BadLine role line why) is some whole h = (
   h.0,
   subst (λ l. object_of limits l ≡ Err (line, why)) whole
       (some_loaded limits read bytes (Err (line, why)) is some h.1),
 )
-not_loaded limits read bytes held rest file_faults.ReadFault is some whole (spared, inl h) = inl h
-not_loaded limits read bytes held rest file_faults.ReadFault is some whole (spared, inr h) =
-    inr (omega (arith, h, ap length is, ap length whole, length-take (whole_length held) held))
-not_loaded limits read bytes held rest file_faults.NoMemory is some whole h = tt
+not_loaded limits read bytes content rest file_faults.ReadFault is some whole (spared, inl h) =
+    inl h
+not_loaded limits read bytes content rest file_faults.ReadFault is some whole (spared, inr h) =
+    inr (omega (
+      arith,
+      h,
+      ap length is,
+      ap length whole,
+      length-take (whole_length content)
+          content,
+    ))
+not_loaded limits read bytes content rest file_faults.NoMemory is some whole h = tt
 
 -- the same of what read the bytes
 pub object_refused : {T : Type 0} (limits : Limits) (lines : List ℕ) (view : T → ObjectState)
     (r : Result T FileFault) (old new : Bytes) → rest_of old ≡ lines → (length lines == 0) ≡ false
     → ReadsFile Journal (load newest_rules limits) view r (λ b. Some (rest_of b)) (λ _. false) old
     new
-    → IfErr r (λ why. (held : List ℕ) → lines ≡ whole_bytes held → IsUnread limits held false why)
+    → IfErr r (λ why. (content : List ℕ) → lines ≡ whole_bytes content
+    → IsUnread limits content false why)
 object_refused limits lines view (Ok x) old new is some h = tt
-object_refused limits lines view (Err why) old new is some h = λ held whole.
-    not_loaded limits (rest_of old) lines held (rest_of new) why is some whole (file_fault why h)
+object_refused limits lines view (Err why) old new is some h = λ content whole.
+    not_loaded limits (rest_of old) lines content (rest_of new) why is some whole (file_fault why h)
 
 -- a file makes no object, whether a read of it failed or not
-pub none_held : (limits : Limits) (held : List ℕ) (failed : Bool) (why : FileFault)
-    → IsUnread limits held false why → IsUnread limits held failed why
-none_held limits held failed (file_faults.BadLine role line why) h = h
-none_held limits held failed file_faults.ReadFault (inl h) = absurd (cc)
-none_held limits held failed file_faults.ReadFault (inr h) = inr h
-none_held limits held failed file_faults.NoMemory h = h
+pub none_held : (limits : Limits) (content : List ℕ) (failed : Bool) (why : FileFault)
+    → IsUnread limits content false why → IsUnread limits content failed why
+none_held limits content failed (file_faults.BadLine role line why) h = h
+none_held limits content failed file_faults.ReadFault (inl h) = absurd (cc)
+none_held limits content failed file_faults.ReadFault (inr h) = inr h
+none_held limits content failed file_faults.NoMemory h = h
 
 -- the fault itself says so
-pub reports_unread : (limits : Limits) (held : List ℕ) (failed : Bool) (why : FileFault)
-    (fault : CommandFault) → fault ≡ File why → IsUnread limits held failed why
-    → HoldsNoObject limits held failed fault
-reports_unread limits held failed why fault is h = inl (why, is, h)
+pub reports_unread : (limits : Limits) (content : List ℕ) (failed : Bool) (why : FileFault)
+    (fault : CommandFault) → fault ≡ File why → IsUnread limits content failed why
+    → HoldsNoObject limits content failed fault
+reports_unread limits content failed why fault is h = inl (why, is, h)
 
 -- the file was not read
-pub not_read : (limits : Limits) (held : List ℕ) (before failed : Bool)
+pub not_read : (limits : Limits) (content : List ℕ) (before failed : Bool)
     (why : ReadAllFault) (fault : CommandFault) → fault ≡ by_read why
-    → WhyNotRead why before failed (Some held) → HoldsNoObject limits held failed fault
-not_read limits held before failed read_faults.NoMemory fault is h = inr is
-not_read limits held before failed read_faults.ReadFault fault is h =
+    → WhyNotRead why before failed (Some content) → HoldsNoObject limits content failed fault
+not_read limits content before failed read_faults.NoMemory fault is h = inr is
+not_read limits content before failed read_faults.ReadFault fault is h =
     inl (file_faults.ReadFault, is, h)
 
 -- the bytes of the lines that count, of the bytes that were read
-pub whole_read : (part : CountedPrefix) (read held : List ℕ) → read ≡ held
-    → IsCountedPrefix part read → take part.bytes read ≡ whole_bytes held
-whole_read part read held is whole =
+pub whole_read : (part : CountedPrefix) (read content : List ℕ) → read ≡ content
+    → IsCountedPrefix part read → take part.bytes read ≡ whole_bytes content
+whole_read part read content is whole =
     subst (λ l. take part.bytes read ≡ whole_bytes l) is
     (ap (λ (n : ℕ). take n read) whole.bytes)
 
@@ -130,13 +139,13 @@ whole_within part read whole =
     (by_last_within (last_line_of read) (ended_length read) (length read) (ended-le read))
 
 -- a file contains what the bytes do that were read of it
-pub held_as_read : (limits : Limits) (given : Option (List ℕ)) (held bytes : List ℕ)
-    (part : CountedPrefix) (version : Version) (s : ObjectState) → given ≡ Some held
-    → AreReadOf given bytes → IsHeldIn limits bytes part version s
-    → IsHeldIn limits held part version s
-held_as_read limits given held bytes part version s known read h =
+pub held_as_read : (limits : Limits) (input : Option (List ℕ)) (content bytes : List ℕ)
+    (part : CountedPrefix) (version : Version) (s : ObjectState) → input ≡ Some content
+    → AreReadOf input bytes → IsHeldIn limits bytes part version s
+    → IsHeldIn limits content part version s
+held_as_read limits input content bytes part version s known read h =
     subst (λ l. IsHeldIn limits l part version s)
-    (known_bytes given held (λ l. bytes ≡ l) known read) h
+    (known_bytes input content (λ l. bytes ≡ l) known read) h
 
 -- a file that was made ready is so
 abbrev file_state : Option (List ℕ) → Option (List ℕ) → Option KeptFileFault → FileState

@@ -12,12 +12,12 @@ if_err_made {P = P} r made goes =
     subst (λ s. IfErr s P) (sym err.1) (goes err.0 err.2)
 
 -- a fact of bytes that are known
-pub known_bytes : (bytes : Option (List ℕ)) (held : List ℕ) (P : List ℕ → Type 0)
-    → bytes ≡ Some held → IfSome bytes P → P held
-known_bytes bytes held P known h = subst (λ (x : Option (List ℕ)). IfSome x P) known h
+pub known_bytes : (bytes : Option (List ℕ)) (content : List ℕ) (P : List ℕ → Type 0)
+    → bytes ≡ Some content → IfSome bytes P → P content
+known_bytes bytes content P known h = subst (λ (x : Option (List ℕ)). IfSome x P) known h
 
 -- a fact of bytes that may be known, of any
 pub any_bytes : (bytes : Option (List ℕ)) (P : List ℕ → Type 0)
-    → ((held : List ℕ) → bytes ≡ Some held → P held) → IfSome bytes P
+    → ((content : List ℕ) → bytes ≡ Some content → P content) → IfSome bytes P
 any_bytes None P h = tt
-any_bytes (Some held) P h = h held refl
+any_bytes (Some content) P h = h content refl

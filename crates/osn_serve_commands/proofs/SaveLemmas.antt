@@ -32,8 +32,8 @@ use Rattle.osn_report.specs.declared.fault.CommandFault.TheVariants.{ReadFault, 
 use Rattle.osn_report.specs.declared.status.Status.{Status}
 use Rattle.osn_serve_commands.specs.InFolder.{CanFailIf, EndsSaving, EndsServing, IsNotReadWhole}
 use Rattle.osn_serve_commands.specs.InFolder.{RunsService, SavesOverFound, replaced_path}
-use Rattle.osn_serve_commands.specs.Saving.{FinishesSave, LocksIf}
-use Rattle.osn_serve_commands.specs.SavingInside.{ReplacesRead}
+use Rattle.osn_serve_commands.specs.Save.{FinishesSave, LocksIf}
+use Rattle.osn_serve_commands.specs.SaveInside.{ReplacesRead}
 use Rattle.osn_serve_commands.specs.Serve.{EndsServed, LeavesJournal, Serves, input_if}
 
 -- how the service ended, in other words of what came of that
@@ -76,7 +76,7 @@ none_left f (Some x) h = absurd (cc)
 
 module _ {E D J P : Type 0} (contents : E → Option (List ℕ)) (has_failed holds_back : E → Bool)
     (known : D → Option Known) (bytes : J → List ℕ) (now : P → List ℕ)
-    (loaded : Option (List ℕ)) (beside : Bool) (old mid new : E) (opened after : D)
+    (loaded_bytes : Option (List ℕ)) (beside : Bool) (old mid new : E) (opened after : D)
     (was is : Status) where
   -- the messages before anything was saved, and all messages
   abbrev before : Output
@@ -92,7 +92,7 @@ module _ {E D J P : Type 0} (contents : E → Option (List ℕ)) (has_failed hol
   -- what is done with a journal that is left, and a path
   abbrev SavesOne : P → J → Type 0
   SavesOne path text =
-      FinishesSave beside loaded (now path) (bytes text) (known opened) (known after)
+      FinishesSave beside loaded_bytes (now path) (bytes text) (known opened) (known after)
       (output_of contents has_failed holds_back mid new) is
 
   abbrev SavesBoth : Option P → Option J → Type 0
@@ -120,18 +120,19 @@ module _ {E D J P : Type 0} (contents : E → Option (List ℕ)) (has_failed hol
   -- a journal that is left was saved
   one_saved : (t : ObjectState) (path : P) (text : J)
       → bytes text ≡ journal_text t → Ends before None was → SavesOne path text
-      → EndsSaving (Some (now path)) loaded beside t (known opened) (known after) in_all is
+      → EndsSaving (Some (now path)) loaded_bytes beside t (known opened) (known after) in_all is
   one_saved t path text same h saved =
-      inr (reports_in_all (λ e. FinishesSave beside loaded (now path) (journal_text t)
+      inr (reports_in_all (λ e. FinishesSave beside loaded_bytes (now path) (journal_text t)
       (known opened) (known after) e is) h.1
-      (subst (λ l. FinishesSave beside loaded (now path) l (known opened) (known after)
+      (subst (λ l. FinishesSave beside loaded_bytes (now path) l (known opened) (known after)
       (output_of contents has_failed holds_back mid new) is) same saved))
 
   -- of an object all of whose lines were answered
   left_saved : (t : ObjectState) (save : Option P) (journal : Option J)
       → LeavesJournal (is_some save) t (option_map bytes journal) before was
       → Unsaved journal → SavesBoth save journal
-      → EndsSaving (option_map now save) loaded beside t (known opened) (known after) in_all is
+      → EndsSaving (option_map now save) loaded_bytes beside t (known opened) (known after) in_all
+      is
   left_saved t None journal (inl left) unsaved saved =
       let same = unsaved (none_left bytes journal left.0) in (
         ap known same.2,
@@ -152,15 +153,16 @@ module _ {E D J P : Type 0} (contents : E → Option (List ℕ)) (has_failed hol
 
   -- the service ended so, and what it left was saved
   pub served_and_saved : (limits : Limits) (path : List ℕ) (rules : ServeRules)
-      (begun : Option Input)
+      (initial : Option Input)
       (saves : Bool) (i : Input) (o : Output) (save : Option P) (journal : Option J)
       (editions : ℕ)
       → saves ≡ is_some save
-      → Serves limits path rules begun saves i o before (option_map bytes journal) editions was
+      → Serves limits path rules initial saves i o before (option_map bytes journal) editions was
       → Unsaved journal → SavesBoth save journal
-      → EndsServing limits path (option_map now save) rules begun loaded beside (known opened)
+      → EndsServing limits path (option_map now save) rules initial loaded_bytes beside
+      (known opened)
       (known after) i o in_all is
-  served_and_saved limits path rules begun saves i o save journal editions by (inl none) unsaved
+  served_and_saved limits path rules initial saves i o save journal editions by (inl none) unsaved
       saved =
       let same = unsaved (none_left bytes journal none.2) in
       inl (
@@ -170,7 +172,7 @@ module _ {E D J P : Type 0} (contents : E → Option (List ℕ)) (has_failed hol
         as_before contents has_failed holds_back old mid new was is (λ e status. PrintsNoneAt
             path (File none.0) o e status) same.0 same.1 none.4,
       )
-  served_and_saved limits path rules begun saves i o save journal editions by
+  served_and_saved limits path rules initial saves i o save journal editions by
       (inr (s, begins, lines)) unsaved saved =
       inr (record {
         first = s;
@@ -266,24 +268,24 @@ pub replaced_open_failure : (journal save lock : Option (List ℕ)) (replaced pa
     → (path ≡ named) × (fault ≡ ReadFault cause)
     → IsOpenFailure (replaced ∷ []) named cause locked new
     → IsNotRead (path_if journal) (record { before = old; after = new }) path fault
-replaced_open_failure journal save lock replaced path named fault cause old locked new by held is
+replaced_open_failure journal save lock replaced path named fault cause old locked new by content is
     h = subst (λ j. IsNotRead (path_if j) (record { before = old; after = new }) path fault)
     (sym (replaces_journal journal save replaced by))
-    (not_opened lock (replaced ∷ []) path named fault cause old locked new held is h)
+    (not_opened lock (replaced ∷ []) path named fault cause old locked new content is h)
 
 -- bytes that are known must be unchanged
-stands_as : (bytes : Option (List ℕ)) (held : List ℕ) → bytes ≡ Some held
-    → IfSome bytes (λ given. Some held ≡ Some given)
-stands_as None held is = tt
-stands_as (Some given) held is = sym is
+same_content : (bytes : Option (List ℕ)) (content : List ℕ) → bytes ≡ Some content
+    → IfSome bytes (λ input. Some content ≡ Some input)
+same_content None content is = tt
+same_content (Some input) content is = sym is
 
 -- the bytes that were read whole are those of the file
-pub read_whole : (known : Option Known) (path held : List ℕ) (bytes begun : Option (List ℕ))
-    → IsFileOf known path bytes → IfSome bytes (λ given. held ≡ given) → begun ≡ Some held
-    → IsFileOf known path begun
-read_whole None path held bytes begun is read same = tt
-read_whole (Some k) path held None begun is read same = absurd (cc)
-read_whole (Some k) path held (Some given) begun is read same = (
+pub read_whole : (known : Option Known) (path content : List ℕ) (bytes initial : Option (List ℕ))
+    → IsFileOf known path bytes → IfSome bytes (λ input. content ≡ input) → initial ≡ Some content
+    → IsFileOf known path initial
+read_whole None path content bytes initial is read same = tt
+read_whole (Some k) path content None initial is read same = absurd (cc)
+read_whole (Some k) path content (Some input) initial is read same = (
   same ∙ ap Some read ∙ is.0,
   ap is_some same,
 )
@@ -292,14 +294,14 @@ module _ (limits : Limits) (journal save : Option (List ℕ)) (rules : ServeRule
     (CanFail : Bool → Type 0) (d : Folders) (i : Input) (o e : Output) (status : Status)
     (opened : Option Known) where
   -- the service was run, and no file is replaced
-  pub service_ran : (begun : Option Input) → replaced_path journal save ≡ None
-      → IsFileIf d.before journal (option_map (λ journal. journal.bytes) begun)
-      → CanFailIf CanFail begun → Changes (Opens (path_if journal)) d.before opened
+  pub service_ran : (initial : Option Input) → replaced_path journal save ≡ None
+      → IsFileIf d.before journal (option_map (λ journal. journal.bytes) initial)
+      → CanFailIf CanFail initial → Changes (Opens (path_if journal)) d.before opened
       → Changes LeavesAllSafe d.before opened
-      → SavesOverFound limits (unwrap_or journal []) save rules begun opened d.after i o e status
+      → SavesOverFound limits (unwrap_or journal []) save rules initial opened d.after i o e status
       → RunsService limits journal save rules CanFail d i o e status
-  service_ran begun none file fails opens crash h = record {
-    begun = begun;
+  service_ran initial none file fails opens crash h = record {
+    initial = initial;
     opened = opened;
     file = file;
     fails = fails;
@@ -315,15 +317,19 @@ module _ (limits : Limits) (journal save : Option (List ℕ)) (rules : ServeRule
         → ReportsAt (unwrap_or journal []) e fault status
     reports_at fault h = subst (λ p. ReportsAt p e fault status) at h
 
-    served_at : (begun : Input) (held : List ℕ)
-        → EndsServing limits path locked rules (Some begun) (Some held) false opened d.after i o e
+    served_at : (initial : Input) (content : List ℕ)
+        → EndsServing limits path locked rules (Some initial) (Some content) false opened d.after i
+        o e
         status
-        → EndsServing limits (unwrap_or journal []) save rules (Some begun) (Some held) false opened
+        → EndsServing limits (unwrap_or journal []) save rules (Some initial) (Some content) false
+        opened
         d.after i o e status
-    served_at begun held h =
-        subst (λ p. EndsServing limits p save rules (Some begun) (Some held) false opened d.after i
+    served_at initial content h =
+        subst (λ p. EndsServing limits p save rules (Some initial) (Some content) false opened
+        d.after i
         o e status) at
-        (subst (λ s. EndsServing limits path s rules (Some begun) (Some held) false opened d.after i
+        (subst (λ s. EndsServing limits path s rules (Some initial) (Some content) false opened
+        d.after i
         o e status) named h)
 
     pub replacing_ran : (replaced : List ℕ) (file : Input)
@@ -334,7 +340,7 @@ module _ (limits : Limits) (journal save : Option (List ℕ)) (rules : ServeRule
         → RunsService limits journal save rules CanFail d i o e status
     replacing_ran replaced file is given_file fails sound opens crash (inl none) =
         let journal_is = replaces_journal journal save replaced is in record {
-          begun = Some file;
+          initial = Some file;
           opened = opened;
           file = rw journal_is (file.bytes, refl, given_file);
           fails = fails;
@@ -343,23 +349,23 @@ module _ (limits : Limits) (journal save : Option (List ℕ)) (rules : ServeRule
           ended = rw is (inl (none.0, none.1, none.2, (none.3.0, reports_at none.0 none.3.1)));
         }
     replacing_ran replaced file is given_file fails sound opens crash
-        (inr (held, begun, whole, h)) =
+        (inr (content, initial, whole, h)) =
         let journal_is = replaces_journal journal save replaced is in record {
-          begun = Some begun;
+          initial = Some initial;
           opened = opened;
           file = rw journal_is (
-            begun.bytes,
+            initial.bytes,
             refl,
-            read_whole d.before replaced held file.bytes begun.bytes given_file whole.read
+            read_whole d.before replaced content file.bytes initial.bytes given_file whole.read
                 whole.bytes,
           );
           fails = subst CanFail (sym whole.sound) sound;
           opens = rw journal_is opens;
           crash = crash;
           ended = rw is (inr (
-            Some held,
-            stands_as begun.bytes held whole.bytes,
-            served_at begun held h,
+            Some content,
+            same_content initial.bytes content whole.bytes,
+            served_at initial content h,
           ));
         }
 

@@ -29,27 +29,30 @@ same_safe None = tt
 same_safe (Some k) = (refl, refl, refl)
 
 -- what a file contains makes no object
-pub not_loaded : (limits : Limits) (held given : List ℕ) (Spared Failed : Type 0)
-    (fault : FileFault) (why : TargetFault) → why ≡ by_load fault → given ≡ held
+pub not_loaded : (limits : Limits) (content input : List ℕ) (Spared Failed : Type 0)
+    (fault : FileFault) (why : TargetFault) → why ≡ by_load fault → input ≡ content
     → MatchFileFault fault Spared Failed (λ named line why. (named ≡ roles.Journal)
-    × (load newest_rules limits (lines given) ≡ Err (line, why)))
-    → HoldsNoTarget limits held why
-not_loaded limits held given Spared Failed (file_faults.BadLine role line cause) (NotOpened why) is
+    × (load newest_rules limits (lines input) ≡ Err (line, why)))
+    → HoldsNoTarget limits content why
+not_loaded limits content input Spared Failed (file_faults.BadLine role line cause) (NotOpened why)
+    is
     same h = absurd (cc)
-not_loaded limits held given Spared Failed file_faults.ReadFault (NotOpened why) is same h =
+not_loaded limits content input Spared Failed file_faults.ReadFault (NotOpened why) is same h =
     absurd (cc)
-not_loaded limits held given Spared Failed file_faults.NoMemory (NotOpened why) is same h =
+not_loaded limits content input Spared Failed file_faults.NoMemory (NotOpened why) is same h =
     absurd (cc)
-not_loaded limits held given Spared Failed fault NotRead is same h = tt
-not_loaded limits held given Spared Failed fault NoMemory is same h = tt
-not_loaded limits held given Spared Failed (file_faults.BadLine role line cause) NoJournal is same
+not_loaded limits content input Spared Failed fault NotRead is same h = tt
+not_loaded limits content input Spared Failed fault NoMemory is same h = tt
+not_loaded limits content input Spared Failed (file_faults.BadLine role line cause) NoJournal is
+    same
     h = (
       (line, cause),
       subst (λ (b : List ℕ). load newest_rules limits (lines b)
           ≡ Err (line, cause)) same h.1,
     )
-not_loaded limits held given Spared Failed file_faults.ReadFault NoJournal is same h = absurd (cc)
-not_loaded limits held given Spared Failed file_faults.NoMemory NoJournal is same h = absurd (cc)
+not_loaded limits content input Spared Failed file_faults.ReadFault NoJournal is same h =
+    absurd (cc)
+not_loaded limits content input Spared Failed file_faults.NoMemory NoJournal is same h = absurd (cc)
 
 -- a journal is not saved over what was found
 pub target_refused : (limits : Limits) (save : Option (List ℕ)) (opened after : Option Known)
@@ -60,27 +63,27 @@ target_refused limits save opened after o e status path fault at found same mess
     (fault, found, same, subst (λ p. ReportsTarget p e fault status) at message)
 
 -- the service was run, and its journal saved over what was found
-pub saved_over : (limits : Limits) (named given : List ℕ) (save locked : Option (List ℕ))
-    (rules : ServeRules) (begun : Option Input) (opened looked after : Option Known) (i : Input)
+pub saved_over : (limits : Limits) (named input : List ℕ) (save locked : Option (List ℕ))
+    (rules : ServeRules) (initial : Option Input) (opened looked after : Option Known) (i : Input)
     (o e : Output) (status : Status) (found : SaveTarget) (bytes : Option (List ℕ)) (beside : Bool)
-    → given ≡ named → locked ≡ save → FindsTarget limits save opened looked found
+    → input ≡ named → locked ≡ save → FindsTarget limits save opened looked found
     → Changes LeavesAllSafe opened looked
     → bytes ≡ bytes_of found → beside ≡ is_left_beside found
-    → EndsServing limits given locked rules begun bytes beside looked after i o e status
-    → SavesOverFound limits named save rules begun opened after i o e status
-saved_over limits named given save locked rules begun opened looked after i o e status found bytes
+    → EndsServing limits input locked rules initial bytes beside looked after i o e status
+    → SavesOverFound limits named save rules initial opened after i o e status
+saved_over limits named input save locked rules initial opened looked after i o e status found bytes
     beside at by target safe is so h =
     inr (
       found,
       looked,
       target,
       safe,
-      subst (λ p. EndsServing limits p save rules begun (bytes_of found) (is_left_beside found)
+      subst (λ p. EndsServing limits p save rules initial (bytes_of found) (is_left_beside found)
           looked after i o e status) at
-          (subst (λ s. EndsServing limits given s rules begun (bytes_of found)
+          (subst (λ s. EndsServing limits input s rules initial (bytes_of found)
           (is_left_beside found) looked after i o e status) by
-          (subst (λ (b : Option (List ℕ)). EndsServing limits given locked rules begun b
+          (subst (λ (b : Option (List ℕ)). EndsServing limits input locked rules initial b
           (is_left_beside found) looked after i o e status) is
-          (subst (λ (b : Bool). EndsServing limits given locked rules begun bytes b looked after i
+          (subst (λ (b : Bool). EndsServing limits input locked rules initial bytes b looked after i
           o e status) so h))),
     )

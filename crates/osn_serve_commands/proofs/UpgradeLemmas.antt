@@ -38,27 +38,27 @@ both_ok (Err x) P Q R p q f = tt
 -- ---- what was done in the folder
 
 -- a file was looked at
-pub looked_at : (path : List ℕ) (CanFail : Bool → Type 0) (before held after : Option Known)
-    (contents : Option (List ℕ)) (given : Input) → Changes (Keeps path) before held
-    → IsKeptAt before path contents → given.bytes ≡ contents → CanFail given.unread
-    → Changes (Leaves path contents) held after → IsLookedAt path CanFail before after given
-looked_at path CanFail before held after contents given keeps kept same fails leaves = record {
-  held = held;
+pub looked_at : (path : List ℕ) (CanFail : Bool → Type 0) (before between after : Option Known)
+    (contents : Option (List ℕ)) (input : Input) → Changes (Keeps path) before between
+    → IsKeptAt before path contents → input.bytes ≡ contents → CanFail input.unread
+    → Changes (Leaves path contents) between after → IsLookedAt path CanFail before after input
+looked_at path CanFail before between after contents input keeps kept same fails leaves = record {
+  between = between;
   keeps = keeps;
   contents = subst (IsKeptAt before path) (sym same) kept;
   fails = fails;
-  leaves = subst (λ b. Changes (Leaves path b) held after) (sym same) leaves;
+  leaves = subst (λ b. Changes (Leaves path b) between after) (sym same) leaves;
 }
 
 module _ (limits : Limits) (path : List ℕ) (CanFail : Bool → Type 0) (d : Folders) (e : Output)
-    (looked : Option Known) (given : Input)
-    (looks : IsLookedAt path CanFail d.before looked given) where
+    (looked : Option Known) (input : Input)
+    (looks : IsLookedAt path CanFail d.before looked input) where
   -- its version has sources, and it was left
-  pub upgrade_left : IsNewest limits given.bytes → d.after ≡ looked → e.new ≡ e.old
+  pub upgrade_left : IsNewest limits input.bytes → d.after ≡ looked → e.new ≡ e.old
       → Upgrades limits path CanFail d e
   upgrade_left is same quiet = record {
     looked = looked;
-    given = given;
+    input = input;
     looks = looks;
     bytes = is.bytes;
     version = is.version;
@@ -70,13 +70,13 @@ module _ (limits : Limits) (path : List ℕ) (CanFail : Bool → Type 0) (d : Fo
   }
 
   module _ (bytes text : List ℕ) (cut : Option (List ℕ))
-      (is : IsOlder limits given.bytes bytes text cut) where
+      (is : IsOlder limits input.bytes bytes text cut) where
     -- it was rewritten
     pub upgrade_saved : SavesAnew path bytes text looked d.after → ReportsText e cut
         → Upgrades limits path CanFail d e
     upgrade_saved saved message = record {
       looked = looked;
-      given = given;
+      input = input;
       looks = looks;
       bytes = bytes;
       version = is.version;
@@ -96,7 +96,7 @@ module _ (limits : Limits) (path : List ℕ) (CanFail : Bool → Type 0) (d : Fo
     upgrade_unsaved status h =
         inr (
           looked,
-          given,
+          input,
           looks,
           inr (
             bytes,
@@ -110,7 +110,7 @@ module _ (limits : Limits) (path : List ℕ) (CanFail : Bool → Type 0) (d : Fo
 
   -- it makes no object, or memory ran out
   pub upgrade_unread : (fault : CommandFault) (status : Status)
-      → IsUnreadKept limits given.bytes given.unread fault → d.after ≡ looked
+      → IsUnreadKept limits input.bytes input.unread fault → d.after ≡ looked
       → ReportsAt path e fault status → CannotUpgrade limits path CanFail d e status
   upgrade_unread fault status unread same h =
-      inr (looked, given, looks, inl (fault, same, unread, h))
+      inr (looked, input, looks, inl (fault, same, unread, h))

@@ -35,7 +35,7 @@ use Rattle.osn_serve_commands.specs.Keep.{EndsKept, first_output, later_output}
 use Rattle.osn_serve_commands.specs.Mode.{ModeModel, loading, keeping, upgrading, following}
 use Rattle.osn_serve_commands.specs.Mode.{mode_by}
 use Rattle.osn_serve_commands.specs.SaveTarget.{IsTarget, IsNoTarget, ReportsTarget}
-use Rattle.osn_serve_commands.specs.Saving.{LocksIf, CannotLockIf, FinishesSave}
+use Rattle.osn_serve_commands.specs.Save.{LocksIf, CannotLockIf, FinishesSave}
 use Rattle.osn_serve_commands.specs.declared.target.SaveTarget.{SaveTarget}
 use Rattle.osn_serve_commands.specs.declared.target.SaveTarget.TheVariants.{NoFile, Empty}
 use Rattle.osn_serve_commands.specs.declared.target.SaveTarget.TheVariants.{Journal}
@@ -61,45 +61,46 @@ replaced_path journal save = None
 
 -- the bytes that the file which the journal was loaded from and is saved to must still contain:
 -- those that were loaded, if they are known
-abbrev pub IsToStand : Option Input → Option (List ℕ) → Type 0
-IsToStand begun loaded =
-    IfSome begun (λ journal. IfSome journal.bytes (λ bytes. loaded ≡ Some bytes))
+abbrev pub IsLoadedContent : Option Input → Option (List ℕ) → Type 0
+IsLoadedContent initial loaded_bytes =
+    IfSome initial (λ journal. IfSome journal.bytes (λ bytes. loaded_bytes ≡ Some bytes))
 
 -- the journal of an object was saved to a path, if one is given, or it was reported why that isn't
 -- sure. Otherwise nothing was written in the folder
 abbrev pub EndsSaving : Option (List ℕ) → Option (List ℕ) → Bool → ObjectState → Option Known
     → Option Known → Output → Status → Type 0
-EndsSaving None loaded beside t opened after e status = (after ≡ opened) × Ends e None status
-EndsSaving (Some path) loaded beside t opened after e status =
+EndsSaving None loaded_bytes beside t opened after e status = (after ≡ opened) × Ends e None status
+EndsSaving (Some path) loaded_bytes beside t opened after e status =
     ((after ≡ opened) × EndsBy e NoMemory status)
-    ⊎ FinishesSave beside loaded path (journal_text t) opened after e status
+    ⊎ FinishesSave beside loaded_bytes path (journal_text t) opened after e status
 
 -- The journal, if any, makes an object, and the lines were answered from it. If all were, its
 -- journal was saved.
 pub record ServesAndSaves (limits : Limits) (save : Option (List ℕ)) (rules : ServeRules)
-    (begun : Option Input) (loaded : Option (List ℕ)) (beside : Bool)
+    (initial : Option Input) (loaded_bytes : Option (List ℕ)) (beside : Bool)
     (opened after : Option Known) (i : Input) (o e : Output) (status : Status) : Type 0 where
   pub first : ObjectState
   pub last : ObjectState
   pub result : Result Served (EndedEarly (ServiceFault Infallible))
-  pub begins : Begins limits begun first
+  pub begins : Begins limits initial first
   pub serves : ServesStore rules first last i o result
-  pub ended : EndsServed result e status (EndsSaving save loaded beside last opened after e status)
+  pub ended : EndsServed result e status
+      (EndsSaving save loaded_bytes beside last opened after e status)
       (after ≡ opened) (λ never. ⊥)
 
 -- a read of the journal, if there is one, failed only if one of its kind can
 abbrev pub CanFailIf : (Bool → Type 0) → Option Input → Type 0
-CanFailIf CanFail begun = IfSome begun (λ journal. CanFail journal.unread)
+CanFailIf CanFail initial = IfSome initial (λ journal. CanFail journal.unread)
 
 -- how a run of the service ended, whose journal has this path. It had no object to begin with, and
 -- wrote nothing; or it answered the lines, and its journal was saved
 abbrev pub EndsServing : Limits → List ℕ → Option (List ℕ) → ServeRules → Option Input
     → Option (List ℕ) → Bool → Option Known → Option Known → Input → Output → Output → Status
     → Type 0
-EndsServing limits path save rules begun loaded beside opened after i o e status =
-    ((fault : FileFault) × BeginsNot limits begun fault × (after ≡ opened)
+EndsServing limits path save rules initial loaded_bytes beside opened after i o e status =
+    ((fault : FileFault) × BeginsNot limits initial fault × (after ≡ opened)
     × PrintsNoneAt path (File fault) o e status)
-    ⊎ ServesAndSaves limits save rules begun loaded beside opened after i o e status
+    ⊎ ServesAndSaves limits save rules initial loaded_bytes beside opened after i o e status
 
 -- the bytes that a file which a journal is saved over must still contain, by what was found there
 abbrev pub bytes_of : SaveTarget → Option (List ℕ)
@@ -135,11 +136,12 @@ RefusesTarget limits save before after o e status =
 -- the service was run, and its journal saved over what was found at its path; or that was refused
 abbrev pub SavesOverFound : Limits → List ℕ → Option (List ℕ) → ServeRules → Option Input
     → Option Known → Option Known → Input → Output → Output → Status → Type 0
-SavesOverFound limits path save rules begun opened after i o e status =
+SavesOverFound limits path save rules initial opened after i o e status =
     RefusesTarget limits save opened after o e status
     ⊎ ((found : SaveTarget) × (looked : Option Known)
     × FindsTarget limits save opened looked found × Changes LeavesAllSafe opened looked
-    × EndsServing limits path save rules begun (bytes_of found) (is_left_beside found) looked after
+    × EndsServing limits path save rules initial (bytes_of found) (is_left_beside found) looked
+    after
     i o e status)
 
 -- a journal could not be read whole: a read of it failed, or there was no memory for it
@@ -152,33 +154,33 @@ IsNotReadWhole journal fault =
 -- service was run, and its journal saved if that file was unchanged
 abbrev pub SavesOverLoaded : Limits → List ℕ → Option (List ℕ) → ServeRules → Option Input
     → Option Known → Option Known → Input → Output → Output → Status → Type 0
-SavesOverLoaded limits path save rules begun opened after i o e status =
-    ((fault : CommandFault) × IfSome begun (λ journal. IsNotReadWhole journal fault)
+SavesOverLoaded limits path save rules initial opened after i o e status =
+    ((fault : CommandFault) × IfSome initial (λ journal. IsNotReadWhole journal fault)
     × (after ≡ opened) × PrintsNoneAt path fault o e status)
-    ⊎ ((loaded : Option (List ℕ)) × IsToStand begun loaded
-    × EndsServing limits path save rules begun loaded false opened after i o e status)
+    ⊎ ((loaded_bytes : Option (List ℕ)) × IsLoadedContent initial loaded_bytes
+    × EndsServing limits path save rules initial loaded_bytes false opened after i o e status)
 
 -- the service was run, and its journal saved: over the file that it was loaded from, or over what
 -- was found at another path
 abbrev pub ServesOver : Option (List ℕ) → Limits → List ℕ → Option (List ℕ) → ServeRules
     → Option Input → Option Known → Option Known → Input → Output → Output → Status → Type 0
-ServesOver (Some replaced) limits path save rules begun opened after i o e status =
-    SavesOverLoaded limits path save rules begun opened after i o e status
-ServesOver None limits path save rules begun opened after i o e status =
-    SavesOverFound limits path save rules begun opened after i o e status
+ServesOver (Some replaced) limits path save rules initial opened after i o e status =
+    SavesOverLoaded limits path save rules initial opened after i o e status
+ServesOver None limits path save rules initial opened after i o e status =
+    SavesOverFound limits path save rules initial opened after i o e status
 
 -- The service was run, from what the journal contains, and the journal that it left was saved.
 pub record RunsService (limits : Limits) (journal save : Option (List ℕ)) (rules : ServeRules)
     (CanFail : Bool → Type 0) (d : Folders) (i : Input) (o e : Output) (status : Status) : Type 0
   where
-    pub begun : Option Input
+    pub initial : Option Input
     pub opened : Option Known
-    pub file : IsFileIf d.before journal (option_map (λ journal. journal.bytes) begun)
-    pub fails : CanFailIf CanFail begun
+    pub file : IsFileIf d.before journal (option_map (λ journal. journal.bytes) initial)
+    pub fails : CanFailIf CanFail initial
     pub opens : Changes (Opens (path_if journal)) d.before opened
     pub crash : Changes LeavesAllSafe d.before opened
     pub ended : ServesOver (replaced_path journal save) limits (unwrap_or journal []) save rules
-        begun opened d.after i o e status
+        initial opened d.after i o e status
 
 -- the file that the journal is saved to could not be locked; or it was, and the service was run
 abbrev pub EndsService : Limits → Option (List ℕ) → Option (List ℕ) → ServeRules → (Bool → Type 0)
@@ -186,9 +188,9 @@ abbrev pub EndsService : Limits → Option (List ℕ) → Option (List ℕ) → 
 EndsService limits journal save rules CanFail d i o e status =
     ((fault : KeepFault) × CannotLockIf save fault d.before d.after
     × PrintsNoneAt (unwrap_or save []) (Keep fault) o e status)
-    ⊎ ((locked : Option Known) × LocksIf save d.before locked
+    ⊎ ((between : Option Known) × LocksIf save d.before between
     × RunsService limits journal save rules CanFail
-    (record { before = locked; after = d.after }) i o e status)
+    (record { before = between; after = d.after }) i o e status)
 
 -- ---- the service of a journal that is kept
 
@@ -199,11 +201,11 @@ abbrev pub EndsKeeping : Limits → List ℕ → ServeRules → (Bool → Type 0
 EndsKeeping limits path rules CanFail d i o e status =
     ((fault : KeepFault) × Changes (CannotKeep path fault) d.before d.after
     × PrintsNoneAt path (Keep fault) o e status)
-    ⊎ ((held : Option Known) × Changes (Keeps path) d.before held
-    × (begun : FileState) × IsKeptAt d.before path begun.contents × (begun.fault ≡ None)
-    × (given : Input) × (given.bytes ≡ begun.contents) × CanFail given.unread
-    × (file : FileState) × EndsKept limits path rules begun file given i o e status
-    × Changes (Leaves path file.contents) held d.after)
+    ⊎ ((between : Option Known) × Changes (Keeps path) d.before between
+    × (initial : FileState) × IsKeptAt d.before path initial.contents × (initial.fault ≡ None)
+    × (input : Input) × (input.bytes ≡ initial.contents) × CanFail input.unread
+    × (file : FileState) × EndsKept limits path rules initial file input i o e status
+    × Changes (Leaves path file.contents) between d.after)
 
 -- The file of this path was rewritten first, if its version has no sources, and then it was kept.
 pub record UpgradesAndKeeps (limits : Limits) (path : List ℕ) (rules : ServeRules)

@@ -16,7 +16,7 @@ use Rattle.osn_request.specs.declared.version.Version.TheVariants.{First, Second
 use Rattle.osn_files.specs.Faults.{MatchFileFault}
 use Rattle.osn_files.specs.Journal.{load}
 use Rattle.osn_files.specs.JournalText.{line_text}
-use Rattle.osn_files.specs.Loaded.{IsOfVersion}
+use Rattle.osn_files.specs.LoadedText.{IsOfVersion}
 use Rattle.osn_files.specs.Version.{head_data}
 use Rattle.osn_files.specs.CountedPrefix.{last_line_of, whole_bytes, whole_count}
 use Rattle.osn_files.specs.declared.fault.FileFault.{FileFault}
@@ -47,7 +47,7 @@ object_of limits (b ∷ bs) = load newest_rules limits (lines (b ∷ bs))
 
 -- the object of a file, by its lines that count, or the first fault and the number of its line
 abbrev pub kept_object : Limits → List ℕ → Result ObjectState (ℕ × LineFault)
-kept_object limits held = object_of limits (whole_bytes held)
+kept_object limits content = object_of limits (whole_bytes content)
 
 -- lines say a version: the first of them does, and if there are no lines it is the plain one
 abbrev pub SaysVersion : Version → List ℕ → Type 0
@@ -55,10 +55,10 @@ SaysVersion version [] = version ≡ plain_version
 SaysVersion version (b ∷ bs) = IsOfVersion version (lines (b ∷ bs))
 
 -- a file contains this object, in a journal of this version
-pub record HoldsObject (limits : Limits) (held : List ℕ) (version : Version) (s : ObjectState)
+pub record HoldsObject (limits : Limits) (content : List ℕ) (version : Version) (s : ObjectState)
     : Type 0 where
-  pub object : kept_object limits held ≡ Ok s
-  pub says : SaysVersion version (whole_bytes held)
+  pub object : kept_object limits content ≡ Ok s
+  pub says : SaysVersion version (whole_bytes content)
 
 -- a journal of this version is kept: one of the first version lacks styles that an edit may have
 abbrev pub is_kept : Version → Bool
@@ -80,12 +80,12 @@ missing_end Unfinished bytes = missing_head bytes
 
 -- the text that is missing after the lines of a file that count
 abbrev pub missing_text : List ℕ → List ℕ
-missing_text held = missing_end (last_line_of held) (whole_bytes held)
+missing_text content = missing_end (last_line_of content) (whole_bytes content)
 
 -- what the file contains once the service begins: its lines that count, and the text that is
 -- missing there
 abbrev pub kept_text : List ℕ → List ℕ
-kept_text held = whole_bytes held ++ missing_text held
+kept_text content = whole_bytes content ++ missing_text content
 
 -- this line, if the last one was not finished
 abbrev pub if_unfinished : LastLine → ℕ → Option ℕ
@@ -95,7 +95,7 @@ if_unfinished Unfinished line = Some line
 
 -- the number of the last line if that was not finished
 abbrev pub unfinished_line : List ℕ → Option ℕ
-unfinished_line held = if_unfinished (last_line_of held) (whole_count held + 1)
+unfinished_line content = if_unfinished (last_line_of content) (whole_count content + 1)
 
 -- ---- what is written to standard error
 
@@ -123,21 +123,21 @@ ReportsText e (Some text) = WritesLine e text
 
 -- the file contains no object for it, by its first fault, or was not read
 abbrev pub IsUnread : Limits → List ℕ → Bool → FileFault → Type 0
-IsUnread limits held failed why =
-    MatchFileFault why ⊤ (IsReadFault failed (Some held))
-    (λ role line said. (role ≡ Journal) × (kept_object limits held ≡ Err (line, said)))
+IsUnread limits content failed why =
+    MatchFileFault why ⊤ (IsReadFault failed (Some content))
+    (λ role line said. (role ≡ Journal) × (kept_object limits content ≡ Err (line, said)))
 
 -- why a file makes no object, given whether a read of it has failed
 abbrev pub HoldsNoObject : Limits → List ℕ → Bool → CommandFault → Type 0
-HoldsNoObject limits held failed fault =
-    ((why : FileFault) × (fault ≡ File why) × IsUnread limits held failed why)
+HoldsNoObject limits content failed fault =
+    ((why : FileFault) × (fault ≡ File why) × IsUnread limits content failed why)
     ⊎ (fault ≡ NoMemory)
 
 -- it contains an object, in a journal of a version that is not kept
 abbrev pub HoldsOlder : Limits → List ℕ → CommandFault → Type 0
-HoldsOlder limits held fault =
+HoldsOlder limits content fault =
     (version : Version) × (fault ≡ OlderVersion version) × (is_kept version ≡ false)
-    × (s : ObjectState) × HoldsObject limits held version s
+    × (s : ObjectState) × HoldsObject limits content version s
 
 -- the file could not be changed, or is another one now, as it reports; or there was no memory
 abbrev pub IsChangeFault : CommandFault → Option KeptFileFault → Type 0
@@ -147,25 +147,26 @@ IsChangeFault fault message =
 -- the file is as it was; or its last line was cut off, if it was not finished. Then a prefix of the
 -- missing text may follow the lines that count
 abbrev pub IsLeft : List ℕ → Option ℕ → Option (List ℕ) → Type 0
-IsLeft held cut contents =
-    ((cut ≡ None) × (contents ≡ Some held))
-    ⊎ ((cut ≡ unfinished_line held)
-    × (n : ℕ) × (contents ≡ Some (whole_bytes held ++ take n (missing_text held))))
+IsLeft content cut contents =
+    ((cut ≡ None) × (contents ≡ Some content))
+    ⊎ ((cut ≡ unfinished_line content)
+    × (n : ℕ) × (contents ≡ Some (whole_bytes content ++ take n (missing_text content))))
 
 -- the service did not begin by this fault. There was no object, or one of a version that is not
 -- kept, and the file is as it was; or there was one, and the file could not be made ready
 abbrev pub DoesNotBegin : Limits → List ℕ → Bool → Option ℕ → FileState → CommandFault → Type 0
-DoesNotBegin limits held failed cut file fault =
-    ((HoldsNoObject limits held failed fault ⊎ HoldsOlder limits held fault)
-    × (cut ≡ None) × (file.contents ≡ Some held))
-    ⊎ (IsChangeFault fault file.fault × IsLeft held cut file.contents
-    × (version : Version) × (s : ObjectState) × HoldsObject limits held version s)
+DoesNotBegin limits content failed cut file fault =
+    ((HoldsNoObject limits content failed fault ⊎ HoldsOlder limits content fault)
+    × (cut ≡ None) × (file.contents ≡ Some content))
+    ⊎ (IsChangeFault fault file.fault × IsLeft content cut file.contents
+    × (version : Version) × (s : ObjectState) × HoldsObject limits content version s)
 
 -- ---- the command
 
 -- a fact about the bytes of a kept file, if they are known, and its source gave them
 abbrev pub IfHeld : FileState → Option (List ℕ) → (List ℕ → Type 0) → Type 0
-IfHeld old given P = (held : List ℕ) → old.contents ≡ Some held → given ≡ Some held → P held
+IfHeld old input P = (content : List ℕ) → old.contents ≡ Some content → input ≡ Some content
+    → P content
 
 -- a file that contains this text, all of it on the disk, and that has failed by this fault before,
 -- if at all
@@ -176,9 +177,10 @@ ready_file text before = record { contents = Some text; synced = Some text; faul
 -- was cut off, if that was not finished
 abbrev pub Begins : Limits → List ℕ → Option KeptFileFault → Option ℕ → Version → ObjectState
     → FileState → Type 0
-Begins limits held before cut version s ready =
-    HoldsObject limits held version s × (is_kept version ≡ true) × (cut ≡ unfinished_line held)
-    × (ready ≡ ready_file (kept_text held) before)
+Begins limits content before cut version s ready =
+    HoldsObject limits content version s × (is_kept version ≡ true)
+    × (cut ≡ unfinished_line content)
+    × (ready ≡ ready_file (kept_text content) before)
 
 -- what the lines may do over a file of this version: an edit may give a source if the version has
 -- sources
@@ -198,7 +200,7 @@ pub record KeepsLines (path : List ℕ) (rules : ServeRules) (s : ObjectState)
 -- How a run of the service that keeps the file of this path ended. The file was `old` and is `file`
 -- then, and a source gave it.
 pub record EndsKept (limits : Limits) (path : List ℕ) (rules : ServeRules) (old file : FileState)
-    (given i : Input) (o e : Output) (status : Status) : Type 0 where
+    (input i : Input) (o e : Output) (status : Status) : Type 0 where
   -- which line was cut off was reported first, if one was
   pub cut : Option ℕ
   pub between : Option (List ℕ)
@@ -208,9 +210,9 @@ pub record EndsKept (limits : Limits) (path : List ℕ) (rules : ServeRules) (ol
   -- the service did not begin, and nothing was written; or it began
   pub ended : ((fault : CommandFault) × (o.new ≡ o.old)
       × ReportsAt path (later_output e between failed) fault status
-      × IfHeld old given.bytes
-      (λ held. DoesNotBegin limits held given.unread cut file fault))
+      × IfHeld old input.bytes
+      (λ content. DoesNotBegin limits content input.unread cut file fault))
       ⊎ ((version : Version) × (s : ObjectState) × (ready : FileState)
-      × IfHeld old given.bytes (λ held. Begins limits held old.fault cut version s ready)
+      × IfHeld old input.bytes (λ content. Begins limits content old.fault cut version s ready)
       × KeepsLines path (for_version version rules) s ready file i o
       (later_output e between failed) status)

@@ -2,10 +2,10 @@ pub mod Serve
 pub mod Keep
 pub mod KeepInside
 pub mod SaveTarget
-pub mod Saving
+pub mod Save
 pub mod Follow
 pub mod InFolder
 pub mod Mode
-pub mod SavingInside
+pub mod SaveInside
 pub mod Upgrade
 pub mod UpgradeInside

@@ -40,7 +40,7 @@ mode_by upgrade keep (Some path) journal save = Err FollowedWithOther
 mode_by upgrade (Some path) None journal save = Err KeptWithOther
 
 abbrev pub mode_of_options : ServeOptions → Result ModeModel CommandFault
-mode_of_options given =
-    mode_by given.upgrade (option_map (λ path. path.now) given.keep)
-    (option_map (λ path. path.now) given.follow) (option_map (λ path. path.now) given.journal)
-    (option_map (λ path. path.now) given.save)
+mode_of_options input =
+    mode_by input.upgrade (option_map (λ path. path.now) input.keep)
+    (option_map (λ path. path.now) input.follow) (option_map (λ path. path.now) input.journal)
+    (option_map (λ path. path.now) input.save)

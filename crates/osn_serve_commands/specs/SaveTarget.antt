@@ -22,7 +22,7 @@ use Rattle.osn_report.specs.Messages.{EndsBy, ReportsAt, ReportsIfMade}
 use Rattle.osn_report.specs.declared.fault.CommandFault.TheVariants as command_faults
 use Rattle.osn_report.specs.declared.status.Status.{Status}
 use Rattle.osn_report.specs.declared.status.Status.TheVariants as statuses
-use Rattle.osn_lines.specs.Escaped.{escaped}
+use Rattle.osn_lines.specs.Escape.{escaped}
 use Rattle.std.specs.Prelude.{Some, Err}
 use Rattle.osn_serve_commands.specs.declared.target.SaveTarget.{SaveTarget}
 use Rattle.osn_serve_commands.specs.declared.target.SaveTarget.TheVariants.{NoFile, Empty}
@@ -45,24 +45,24 @@ by_load file_faults.NoMemory = NoMemory
 
 -- a file without a byte, or a journal that makes an object
 abbrev pub HoldsTarget : Limits → List ℕ → SaveTarget → Type 0
-HoldsTarget limits held NoFile = ⊥
-HoldsTarget limits held Empty = held ≡ []
-HoldsTarget limits held Journal = (s : ObjectState) × MakesObject limits (Some held) s
+HoldsTarget limits content NoFile = ⊥
+HoldsTarget limits content Empty = content ≡ []
+HoldsTarget limits content Journal = (s : ObjectState) × MakesObject limits (Some content) s
 
 -- something else, which makes no object
 abbrev pub HoldsNoTarget : Limits → List ℕ → TargetFault → Type 0
-HoldsNoTarget limits held NoJournal =
-    (refused : ℕ × LineFault) × (load newest_rules limits (lines held) ≡ Err refused)
-HoldsNoTarget limits held (NotOpened cause) = ⊥
-HoldsNoTarget limits held NotRead = ⊤
-HoldsNoTarget limits held NoMemory = ⊤
+HoldsNoTarget limits content NoJournal =
+    (refused : ℕ × LineFault) × (load newest_rules limits (lines content) ≡ Err refused)
+HoldsNoTarget limits content (NotOpened cause) = ⊥
+HoldsNoTarget limits content NotRead = ⊤
+HoldsNoTarget limits content NoMemory = ⊤
 
 -- ---- what is at a path
 
 -- the file of this path was opened and read whole
 abbrev pub ReadsWhole : List ℕ → List ℕ → Option Known → Option Known → Type 0
-ReadsWhole path held before after =
-    Changes (Opens (path ∷ [])) before after × IsFileOf before path (Some held)
+ReadsWhole path content before after =
+    Changes (Opens (path ∷ [])) before after × IsFileOf before path (Some content)
 
 -- no file is there: nothing, or what is not a file
 abbrev pub FindsNoFile : List ℕ → Known → Known → Type 0
@@ -74,7 +74,7 @@ abbrev pub IsTarget : Limits → List ℕ → Option Known → Option Known → 
 IsTarget limits path before after NoFile = Changes (FindsNoFile path) before after
 IsTarget limits path before after Empty = ReadsWhole path [] before after
 IsTarget limits path before after Journal =
-    (held : List ℕ) × ReadsWhole path held before after × HoldsTarget limits held Journal
+    (content : List ℕ) × ReadsWhole path content before after × HoldsTarget limits content Journal
 
 -- why no journal is saved at a path that can't be opened, by the cause of that
 abbrev pub cause_of : OpenFailed → ChangeCause
@@ -85,7 +85,8 @@ cause_of cause = changes.Other
 -- a journal can't be saved over what is there, by this fault
 abbrev pub IsNoTarget : Limits → List ℕ → Option Known → Option Known → TargetFault → Type 0
 IsNoTarget limits path before after NoJournal =
-    (held : List ℕ) × ReadsWhole path held before after × HoldsNoTarget limits held NoJournal
+    (content : List ℕ) × ReadsWhole path content before after
+    × HoldsNoTarget limits content NoJournal
 IsNoTarget limits path before after (NotOpened cause) =
     Changes (Opens (path ∷ [])) before after × HasNoFile before path
     × (why : OpenFailed) × (cause ≡ cause_of why) × IsCauseAt before path why

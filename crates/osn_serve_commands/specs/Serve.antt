@@ -73,8 +73,8 @@ pub record ServesLines (rules : ServeRules) (s : ObjectState) (saves : Bool) (i 
 -- object, and it wrote nothing; or there was one, and it answered the lines
 abbrev pub Serves : Limits → List ℕ → ServeRules → Option Input → Bool → Input → Output → Output
     → Option (List ℕ) → ℕ → Status → Type 0
-Serves limits path rules begun saves i o e journal editions status =
-    ((fault : FileFault) × BeginsNot limits begun fault × (journal ≡ None) × (editions ≡ 0)
+Serves limits path rules initial saves i o e journal editions status =
+    ((fault : FileFault) × BeginsNot limits initial fault × (journal ≡ None) × (editions ≡ 0)
     × PrintsNoneAt path (File fault) o e status)
-    ⊎ ((s : ObjectState) × Begins limits begun s
+    ⊎ ((s : ObjectState) × Begins limits initial s
     × ServesLines rules s saves i o e journal editions status)

@@ -18,42 +18,42 @@ use Rattle.osn_report.specs.declared.fault.CommandFault.{CommandFault}
 use Rattle.osn_report.specs.declared.fault.CommandFault.TheVariants.{Keep}
 use Rattle.osn_report.specs.declared.status.Status.{Status}
 use Rattle.osn_serve_commands.specs.Keep.{HoldsNoObject, HoldsObject, ReportsCut, unfinished_line}
-use Rattle.osn_serve_commands.specs.Saving.{ReportsUnsaved}
+use Rattle.osn_serve_commands.specs.Save.{ReportsUnsaved}
 
 -- ---- a text that is rewritten
 
 -- the file of this path was locked, and a text put in its place, which still contained these bytes.
 -- A crash of the machine leaves one of the two
 abbrev pub SavesAnew : List ℕ → List ℕ → List ℕ → Option Known → Option Known → Type 0
-SavesAnew path loaded text before after =
-    (locked : Option Known) × Changes (Locks path) before locked
-    × SavesSafely path (Some loaded) text locked after
+SavesAnew path loaded_bytes text before after =
+    (between : Option Known) × Changes (Locks path) before between
+    × SavesSafely path (Some loaded_bytes) text between after
 
 -- it could not be locked; or it was, and it isn't sure that the text is saved. It was reported why
 abbrev pub CannotSaveAnew : List ℕ → List ℕ → List ℕ → Option Known → Option Known
     → Output → Status → Type 0
-CannotSaveAnew path loaded text before after e status =
+CannotSaveAnew path loaded_bytes text before after e status =
     ((fault : KeepFault) × Changes (CannotLock path fault) before after
     × ReportsAt path e (Keep fault) status)
-    ⊎ ((locked : Option Known) × Changes (Locks path) before locked
-    × (fault : SaveFault) × CannotSaveSafely path (Some loaded) text fault locked after
+    ⊎ ((between : Option Known) × Changes (Locks path) before between
+    × (fault : SaveFault) × CannotSaveSafely path (Some loaded_bytes) text fault between after
     × ReportsUnsaved path e fault status)
 
 -- ---- a journal that will be kept
 
 -- The file of this path was kept, this was read of it, and it was given back as it was.
 pub record IsLookedAt (path : List ℕ) (CanFail : Bool → Type 0) (before after : Option Known)
-    (given : Input) : Type 0 where
-  pub held : Option Known
-  pub keeps : Changes (Keeps path) before held
-  pub contents : IsKeptAt before path given.bytes
-  pub fails : CanFail given.unread
-  pub leaves : Changes (Leaves path given.bytes) held after
+    (input : Input) : Type 0 where
+  pub between : Option Known
+  pub keeps : Changes (Keeps path) before between
+  pub contents : IsKeptAt before path input.bytes
+  pub fails : CanFail input.unread
+  pub leaves : Changes (Leaves path input.bytes) between after
 
 -- what was read are these bytes, and they contain this object, in a journal of this version
 abbrev pub IsReadAs : Limits → Input → List ℕ → Version → ObjectState → Type 0
-IsReadAs limits given bytes version s =
-    IfSome given.bytes (λ held. bytes ≡ held) × HoldsObject limits bytes version s
+IsReadAs limits input bytes version s =
+    IfSome input.bytes (λ content. bytes ≡ content) × HoldsObject limits bytes version s
 
 -- a journal was left if its version has sources. Otherwise it was rewritten, as one of the newest
 -- version, and it was reported which line was cut off, if the last one was not finished
@@ -68,24 +68,24 @@ SavesIfOlder false path bytes s before after e =
 pub record Upgrades (limits : Limits) (path : List ℕ) (CanFail : Bool → Type 0) (d : Folders)
     (e : Output) : Type 0 where
   pub looked : Option Known
-  pub given : Input
-  pub looks : IsLookedAt path CanFail d.before looked given
+  pub input : Input
+  pub looks : IsLookedAt path CanFail d.before looked input
   pub bytes : List ℕ
   pub version : Version
   pub object : ObjectState
-  pub reads : IsReadAs limits given bytes version object
+  pub reads : IsReadAs limits input bytes version object
   pub saves : SavesIfOlder (has_sources version) path bytes object looked d.after e
 
 -- a journal that was read was not rewritten. It makes no object, or memory ran out, and it was
 -- left; or it is of a version that has no sources, and could not be saved
 abbrev pub CannotSaveOlder : Limits → List ℕ → Input → Option Known → Option Known → Output
     → Status → Type 0
-CannotSaveOlder limits path given before after e status =
+CannotSaveOlder limits path input before after e status =
     ((fault : CommandFault) × (after ≡ before)
-    × IfSome given.bytes (λ held. HoldsNoObject limits held given.unread fault)
+    × IfSome input.bytes (λ content. HoldsNoObject limits content input.unread fault)
     × ReportsAt path e fault status)
     ⊎ ((bytes : List ℕ) × (version : Version) × (s : ObjectState)
-    × IsReadAs limits given bytes version s × (has_sources version ≡ false)
+    × IsReadAs limits input bytes version s × (has_sources version ≡ false)
     × CannotSaveAnew path bytes (journal_text_of newest_version s) before after e status)
 
 -- it is not sure that the file of this path contains a journal of a version that has sources. It
@@ -94,5 +94,5 @@ abbrev pub CannotUpgrade : Limits → List ℕ → (Bool → Type 0) → Folders
 CannotUpgrade limits path CanFail d e status =
     ((fault : KeepFault) × Changes (CannotKeep path fault) d.before d.after
     × ReportsAt path e (Keep fault) status)
-    ⊎ ((looked : Option Known) × (given : Input) × IsLookedAt path CanFail d.before looked given
-    × CannotSaveOlder limits path given looked d.after e status)
+    ⊎ ((looked : Option Known) × (input : Input) × IsLookedAt path CanFail d.before looked input
+    × CannotSaveOlder limits path input looked d.after e status)

@@ -9,20 +9,20 @@ use Rattle.osn_serve_commands.specs.Keep.{HoldsObject, cut_text, unfinished_line
 use Rattle.osn_serve_commands.specs.KeepInside.{AreReadOf}
 
 -- a journal that was read is of a version that has sources
-pub record IsNewest (limits : Limits) (given : Option (List ℕ)) : Type 0 where
+pub record IsNewest (limits : Limits) (input : Option (List ℕ)) : Type 0 where
   pub bytes : List ℕ
   pub version : Version
   pub object : ObjectState
-  pub read : AreReadOf given bytes
+  pub read : AreReadOf input bytes
   pub holds : HoldsObject limits bytes version object
   pub newest : has_sources version ≡ true
 
 -- it is of one that has none: these bytes, and the texts of the rewritten journal and of the report
-pub record IsOlder (limits : Limits) (given : Option (List ℕ)) (bytes text : List ℕ)
+pub record IsOlder (limits : Limits) (input : Option (List ℕ)) (bytes text : List ℕ)
     (cut : Option (List ℕ)) : Type 0 where
   pub version : Version
   pub object : ObjectState
-  pub read : AreReadOf given bytes
+  pub read : AreReadOf input bytes
   pub holds : HoldsObject limits bytes version object
   pub older : has_sources version ≡ false
   pub anew : text ≡ journal_text_of newest_version object

@@ -42,7 +42,7 @@ pub fn follow_command<A: Arrivals, W: Sink, E: Sink>(
         (output_of W.contents W.has_failed W.holds_back output.old output.new)
         (output_of E.contents E.has_failed E.holds_back errors.old errors.new) result }
 {
-    let followed = follow(
+    let outcome = follow(
         alloc,
         limits,
         options.readers,
@@ -50,10 +50,8 @@ pub fn follow_command<A: Arrivals, W: Sink, E: Sink>(
         arrivals,
         output,
     );
-    match followed {
-        Ok(served) if served.refused => {
-            report(alloc, errors, CommandFault::RefusedLine(served.lines))
-        }
+    match outcome {
+        Ok(end) if end.refused => { report(alloc, errors, CommandFault::RefusedLine(end.lines)) }
         Ok(_) => Status::Done,
         Err(end) => report_at(alloc, errors, path, fault_of(end.cause)),
     }

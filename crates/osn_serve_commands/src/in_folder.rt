@@ -12,7 +12,7 @@ ghost use Rattle.osn_serve_commands.specs.Mode.{mode_of_options};
 use crate::follow::follow_command;
 use crate::keep::keep_command;
 use crate::mode::{Mode, mode_of};
-use crate::saving::serve;
+use crate::save::serve;
 use crate::upgrade::upgrade_file;
 use osn_folder::Folder;
 use osn_invocation::ServeOptions;

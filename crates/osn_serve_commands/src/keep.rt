@@ -63,8 +63,8 @@ pub fn cut_unfinished<K: KeptFile, E: Sink>(
 
 /// Returns the head of a journal if no line counts, or else nothing.
 fn missing_head(alloc: Global, part: CountedPrefix) -> Result<Vec<u8>, AllocError>
-    ensures { IfOk result (λ head. (held : List ℕ) → IsCountedPrefix part held
-        → head.items ≡ missing_head (whole_bytes held)) }
+    ensures { IfOk result (λ head. (content : List ℕ) → IsCountedPrefix part content
+        → head.items ≡ missing_head (whole_bytes content)) }
 {
     if part.bytes == 0 {
         return head_line(alloc);
@@ -75,8 +75,8 @@ fn missing_head(alloc: Global, part: CountedPrefix) -> Result<Vec<u8>, AllocErro
 /// Returns what is missing after the lines of a kept file that count: the line feed of the last
 /// one, or the head if no line counts.
 pub fn missing_text(alloc: Global, part: CountedPrefix) -> Result<Vec<u8>, AllocError>
-    ensures { IfOk result (λ text. (held : List ℕ) → IsCountedPrefix part held
-        → text.items ≡ missing_text held) }
+    ensures { IfOk result (λ text. (content : List ℕ) → IsCountedPrefix part content
+        → text.items ≡ missing_text content) }
 {
     match part.last {
         LastLine::LacksFeed => vec![in alloc; b'\n'; 1],
@@ -134,21 +134,21 @@ fn begin<K: KeptFile, J: Source, E: Sink>(
     journal: &mut J,
     errors: &mut E,
 ) -> Result<(Object, Version), CommandFault>
-    ensures ok { IfOk result (λ begun. (cut : Option ℕ)
+    ensures ok { IfOk result (λ initial. (cut : Option ℕ)
         × ReportsCut (output_of E.contents E.has_failed E.holds_back errors.old errors.new) cut
         × IfHeld (file_of K.contents K.synced K.fault keeper.old) (J.remaining journal.old)
-        (λ held. Begins limits held (K.fault keeper.old) cut begun.1 begun.0
+        (λ content. Begins limits content (K.fault keeper.old) cut initial.1 initial.0
         (file_of K.contents K.synced K.fault keeper.new))) }
     ensures err { IfErr result (λ fault. (cut : Option ℕ)
         × ReportsCut (output_of E.contents E.has_failed E.holds_back errors.old errors.new) cut
         × IfHeld (file_of K.contents K.synced K.fault keeper.old) (J.remaining journal.old)
-        (λ held. DoesNotBegin limits held (J.has_failed journal.new) cut
+        (λ content. DoesNotBegin limits content (J.has_failed journal.new) cut
         (file_of K.contents K.synced K.fault keeper.new) fault)) }
 {
-    let held = read_journal_to_keep(alloc, limits, journal)?;
-    check_version_to_keep(held.version)?;
-    make_ready(alloc, held.part, keeper, errors)?;
-    Ok((held.object, held.version))
+    let loaded_journal = read_journal_to_keep(alloc, limits, journal)?;
+    check_version_to_keep(loaded_journal.version)?;
+    make_ready(alloc, loaded_journal.part, keeper, errors)?;
+    Ok((loaded_journal.object, loaded_journal.version))
 }
 
 /// Reports on standard error why a service that keeps the file of this path ended early.
@@ -192,11 +192,11 @@ fn keep_lines<K: KeptFile, R: Source, W: Sink, E: Sink>(
         (output_of E.contents E.has_failed E.holds_back errors.old errors.new) result }
 {
     match serve_kept(alloc, object, rules, input, output, keeper) {
-        Ok(served) => {
-            if !served.refused {
+        Ok(end) => {
+            if !end.refused {
                 return Status::Done;
             }
-            report(alloc, errors, CommandFault::RefusedLine(served.lines))
+            report(alloc, errors, CommandFault::RefusedLine(end.lines))
         }
         Err(end) => report_end(alloc, errors, path, end.cause),
     }

@@ -33,8 +33,8 @@ fn kept_object(alloc: Global, limits: Limits, lines: &[u8]) -> Result<(Object, V
     ensures object { IfOk result (λ read. object_of limits lines.now ≡ Ok read.0) }
     ensures version { IfOk result (λ read. SaysVersion read.1 lines.now) }
     // For whatever follows the lines that count.
-    ensures err { IfErr result (λ fault. (held : List ℕ) → lines.now ≡ whole_bytes held →
-        IsUnread limits held false fault) }
+    ensures err { IfErr result (λ fault. (content : List ℕ) → lines.now ≡ whole_bytes content →
+        IsUnread limits content false fault) }
 {
     if lines.is_empty() {
         return Ok((Object::new(alloc, limits), Version::plain()));
@@ -44,10 +44,10 @@ fn kept_object(alloc: Global, limits: Limits, lines: &[u8]) -> Result<(Object, V
 
 /// Returns what these bytes of a file contain. Their lines are counted and loaded.
 fn held_journal(alloc: Global, limits: Limits, bytes: Vec<u8>) -> Result<LoadedJournal, FileFault>
-    ensures few { IfOk result (λ held. held.part.lines < 2 ^ 63) }
-    ensures bytes { IfOk result (λ held. held.bytes.items ≡ bytes.items) }
+    ensures few { IfOk result (λ journal. journal.part.lines < 2 ^ 63) }
+    ensures bytes { IfOk result (λ journal. journal.bytes.items ≡ bytes.items) }
     ensures ok { IfOk result
-        (λ held. IsHeldIn limits bytes.items held.part held.version held.object) }
+        (λ journal. IsHeldIn limits bytes.items journal.part journal.version journal.object) }
     ensures err { IfErr result (IsUnread limits bytes.items false) }
 {
     let part = counted_prefix(alloc, &bytes)?;
@@ -71,10 +71,10 @@ pub fn read_journal_to_keep<J: Source>(
     limits: Limits,
     journal: &mut J,
 ) -> Result<LoadedJournal, CommandFault>
-    ensures few { IfOk result (λ held. held.part.lines < 2 ^ 63) }
-    ensures bytes { IfOk result (λ held. AreReadOf (J.remaining journal.old) held.bytes.items) }
+    ensures few { IfOk result (λ file. file.part.lines < 2 ^ 63) }
+    ensures bytes { IfOk result (λ file. AreReadOf (J.remaining journal.old) file.bytes.items) }
     ensures ok { IfOk result
-        (λ held. IsHeldIn limits held.bytes.items held.part held.version held.object) }
+        (λ file. IsHeldIn limits file.bytes.items file.part file.version file.object) }
     ensures err { IfErr result (λ fault. IsUnreadKept limits
         (J.remaining journal.old) (J.has_failed journal.new) fault) }
 {

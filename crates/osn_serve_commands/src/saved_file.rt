@@ -2,8 +2,8 @@
 ghost use Rattle.std.specs.Prelude.{◌≡◌, None, option_map};
 ghost use Rattle.std.specs.Prelude.{IfErr, IfOk, IfSome, string_bytes};
 ghost use Rattle.osn_lines.specs.Streams.{output_of};
-ghost use Rattle.osn_serve_commands.specs.Saving.{CannotLockIf, FinishesSave, LocksIf};
-ghost use Rattle.osn_serve_commands.specs.Saving.{ReportsUnsaved, beside_line, changed_line};
+ghost use Rattle.osn_serve_commands.specs.Save.{CannotLockIf, FinishesSave, LocksIf};
+ghost use Rattle.osn_serve_commands.specs.Save.{ReportsUnsaved, beside_line, changed_line};
 
 use crate::serve::ServeResult;
 use osn_folder::{Folder, KeepFault, SaveFault, save_beside, save_file};
@@ -23,9 +23,10 @@ pub(crate) fn lock_if<'a, D: Folder>(
     folder: &mut D,
     path: Option<&'a str>,
 ) -> Result<Option<LockedFile<'a, D::Lock>>, KeepFault>
-    ensures path { IfOk result (λ locked. option_map (λ file. file.path.now) locked
+    ensures path { IfOk result (λ locked_file. option_map (λ file. file.path.now) locked_file
         ≡ option_map (λ path. path.now) path.entry) }
-    ensures ok { IfOk result (λ locked. LocksIf (option_map (λ file. file.path.now) locked)
+    ensures ok { IfOk result
+        (λ locked_file. LocksIf (option_map (λ file. file.path.now) locked_file)
         (D.known folder.old) (D.known folder.new)) }
     ensures err { IfErr result (λ fault.
         CannotLockIf (option_map (λ path. path.now) path.entry) fault
@@ -41,12 +42,12 @@ pub(crate) fn lock_if<'a, D: Folder>(
 }
 
 /// Returns the line on a file that is not what it was, and on the one that has the journal.
-fn changed(alloc: Global, unfinished: &str) -> Result<String, AllocError>
-    ensures { IfOk result (λ text. string_bytes text ≡ changed_line unfinished.now) }
+fn changed_file_line(alloc: Global, unfinished_path: &str) -> Result<String, AllocError>
+    ensures { IfOk result (λ text. string_bytes text ≡ changed_line unfinished_path.now) }
 {
     format!(in alloc;
         "oldstyle: the file was changed meanwhile, and is left as it is: the journal is in {}\n",
-        Escaped(unfinished)
+        Escaped(unfinished_path)
     )
 }
 
@@ -84,8 +85,8 @@ pub(crate) fn report_unsaved<E: Sink>(
             );
             Status::WriteFault
         }
-        SaveFault::Changed(unfinished) => {
-            let line = changed(alloc, unfinished.as_str());
+        SaveFault::Changed(unfinished_path) => {
+            let line = changed_file_line(alloc, unfinished_path.as_str());
             report_line(errors, Status::WriteFault, line)
         }
     }
@@ -98,12 +99,12 @@ fn save_journal<D: Folder, E: Sink>(
     alloc: Global,
     folder: &mut D,
     file: LockedFile<'_, D::Lock>,
-    loaded: Option<&[u8]>,
+    loaded_bytes: Option<&[u8]>,
     beside: bool,
     text: &str,
     errors: &mut E,
 ) -> Status
-    ensures { FinishesSave beside (option_map (λ bytes. bytes.now) loaded.entry)
+    ensures { FinishesSave beside (option_map (λ bytes. bytes.now) loaded_bytes.entry)
         file.entry.path.now text.now (D.known folder.old) (D.known folder.new)
         (output_of E.contents E.has_failed E.holds_back errors.old errors.new) result }
 {
@@ -116,7 +117,7 @@ fn save_journal<D: Folder, E: Sink>(
             Err(fault) => report_unsaved(alloc, errors, file.path, fault),
         };
     }
-    match save_file(folder, alloc, file.lock, file.path, loaded, text) {
+    match save_file(folder, alloc, file.lock, file.path, loaded_bytes, text) {
         Ok(()) => Status::Done,
         Err(fault) => report_unsaved(alloc, errors, file.path, fault),
     }
@@ -128,27 +129,27 @@ fn save_journal<D: Folder, E: Sink>(
 pub(crate) fn finish<D: Folder, E: Sink>(
     alloc: Global,
     folder: &mut D,
-    served: ServeResult,
-    locked: Option<LockedFile<'_, D::Lock>>,
-    loaded: Option<&[u8]>,
+    serve_result: ServeResult,
+    locked_file: Option<LockedFile<'_, D::Lock>>,
+    loaded_bytes: Option<&[u8]>,
     beside: bool,
     errors: &mut E,
 ) -> Status
-    ensures none { served.journal ≡ None
-        → (result ≡ served.status) × (errors.new ≡ errors.old) × (folder.new ≡ folder.old) }
-    ensures saved { IfSome locked.entry (λ file. IfSome served.journal (λ text.
-        FinishesSave beside (option_map (λ bytes. bytes.now) loaded.entry) file.path.now
+    ensures none { serve_result.journal ≡ None
+        → (result ≡ serve_result.status) × (errors.new ≡ errors.old) × (folder.new ≡ folder.old) }
+    ensures saved { IfSome locked_file.entry (λ file. IfSome serve_result.journal (λ text.
+        FinishesSave beside (option_map (λ bytes. bytes.now) loaded_bytes.entry) file.path.now
         (string_bytes text) (D.known folder.old) (D.known folder.new)
         (output_of E.contents E.has_failed E.holds_back errors.old errors.new) result)) }
 {
-    let (Some(file), Some(journal)) = (locked, served.journal) else {
-        return served.status;
+    let (Some(file), Some(journal)) = (locked_file, serve_result.journal) else {
+        return serve_result.status;
     };
     save_journal(
         alloc,
         folder,
         file,
-        loaded,
+        loaded_bytes,
         beside,
         journal.as_str(),
         errors,

@@ -28,7 +28,7 @@ pub struct ServeResult {
 
 impl ServeResult {
     /// Returns the result with no journal.
-    fn ended(status: Status, editions: usize) -> ServeResult
+    fn without_journal(status: Status, editions: usize) -> ServeResult
         ensures { result ≡ record { status = status; journal = None; editions = editions } }
     {
         ServeResult {
@@ -83,7 +83,7 @@ fn leave_journal<E: Sink>(
     ensures editions { result.editions ≡ editions }
 {
     if !saves {
-        return ServeResult::ended(Status::Done, editions);
+        return ServeResult::without_journal(Status::Done, editions);
     }
     match journal_text(alloc, object) {
         Ok(text) => ServeResult {
@@ -91,7 +91,7 @@ fn leave_journal<E: Sink>(
             journal: Some(text),
             editions,
         },
-        Err(_) => ServeResult::ended(report_no_memory(errors), editions),
+        Err(_) => ServeResult::without_journal(report_no_memory(errors), editions),
     }
 }
 
@@ -112,19 +112,19 @@ fn serve_lines<R: Source, W: Sink, E: Sink>(
         (option_map string_bytes result.journal) result.editions result.status }
 {
     let before = object.batches().len();
-    let served = serve_store(alloc, object, rules, input, output);
+    let outcome = serve_store(alloc, object, rules, input, output);
     let editions = object.batches().len().saturating_sub(before);
-    match served {
-        Ok(served) => {
-            if !served.refused {
+    match outcome {
+        Ok(end) => {
+            if !end.refused {
                 return leave_journal(alloc, object, saves, editions, errors);
             }
-            let fault = CommandFault::RefusedLine(served.lines);
-            ServeResult::ended(report(alloc, errors, fault), editions)
+            let fault = CommandFault::RefusedLine(end.lines);
+            ServeResult::without_journal(report(alloc, errors, fault), editions)
         }
         Err(end) => {
             let fault = fault_of(end.cause);
-            ServeResult::ended(report(alloc, errors, fault), editions)
+            ServeResult::without_journal(report(alloc, errors, fault), editions)
         }
     }
 }
@@ -160,7 +160,7 @@ pub fn serve_command<J: Source, R: Source, W: Sink, E: Sink>(
         Ok(mut object) => serve_lines(alloc, &mut object, rules, saves, input, output, errors),
         Err(fault) => {
             let fault = CommandFault::File(fault);
-            ServeResult::ended(report_at(alloc, errors, path, fault), 0)
+            ServeResult::without_journal(report_at(alloc, errors, path, fault), 0)
         }
     }
 }

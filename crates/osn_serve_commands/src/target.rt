@@ -38,7 +38,7 @@ pub enum TargetFault {
 }
 
 impl From<ReadAllFault> for TargetFault {
-    ghost from_gives = { λ fault given. given ≡ spec.by_read fault };
+    ghost from_gives = { λ fault value. value ≡ spec.by_read fault };
 
     fn from(fault: ReadAllFault) -> TargetFault {
         match fault {
@@ -49,7 +49,7 @@ impl From<ReadAllFault> for TargetFault {
 }
 
 impl From<FileFault> for TargetFault {
-    ghost from_gives = { λ fault given. given ≡ spec.by_load fault };
+    ghost from_gives = { λ fault value. value ≡ spec.by_load fault };
 
     fn from(fault: FileFault) -> TargetFault {
         match fault {
@@ -95,8 +95,8 @@ pub fn save_target<D: Folder>(
     }
     match folder.open(path) {
         Ok(mut file) => {
-            let held = read_all(alloc, &mut file)?;
-            target_of(alloc, limits, &held)
+            let content = read_all(alloc, &mut file)?;
+            target_of(alloc, limits, &content)
         }
         Err(OpenFailed::NotFound) => Ok(SaveTarget::NoFile),
         Err(cause) => Err(TargetFault::NotOpened(cause_of(cause))),
@@ -123,14 +123,14 @@ pub(crate) fn target_if<D: Folder>(
 }
 
 /// Returns what a file with these bytes is.
-fn target_of(alloc: Global, limits: Limits, held: &[u8]) -> Result<SaveTarget, TargetFault>
-    ensures ok { IfOk result (spec.HoldsTarget limits held.now) }
-    ensures err { IfErr result (spec.HoldsNoTarget limits held.now) }
+fn target_of(alloc: Global, limits: Limits, content: &[u8]) -> Result<SaveTarget, TargetFault>
+    ensures ok { IfOk result (spec.HoldsTarget limits content.now) }
+    ensures err { IfErr result (spec.HoldsNoTarget limits content.now) }
 {
-    if held.is_empty() {
+    if content.is_empty() {
         return Ok(SaveTarget::Empty);
     }
-    let _journal = load_journal(alloc, limits, &mut Bytes::new(held))?;
+    let _journal = load_journal(alloc, limits, &mut Bytes::new(content))?;
     Ok(SaveTarget::Journal)
 }
 

@@ -24,7 +24,7 @@ use osn_request::Version;
 use std::alloc::{AllocError, Global};
 
 /// Puts a text in place of the file of a path, which is locked for that, whole or not at all. The
-/// file must contain exactly the bytes of `loaded`.
+/// file must contain exactly the bytes of `loaded_bytes`.
 ///
 /// # Errors
 ///
@@ -33,14 +33,14 @@ pub fn save_anew<D: Folder, E: Sink>(
     alloc: Global,
     folder: &mut D,
     path: &str,
-    loaded: &[u8],
+    loaded_bytes: &[u8],
     text: &str,
     errors: &mut E,
 ) -> Result<(), Status>
-    ensures ok { OnOk result (SavesAnew path.now loaded.now text.now
+    ensures ok { OnOk result (SavesAnew path.now loaded_bytes.now text.now
         (D.known folder.old) (D.known folder.new)) }
     ensures quiet { OnOk result (errors.new ≡ errors.old) }
-    ensures err { IfErr result (CannotSaveAnew path.now loaded.now text.now
+    ensures err { IfErr result (CannotSaveAnew path.now loaded_bytes.now text.now
         (D.known folder.old) (D.known folder.new)
         (output_of E.contents E.has_failed E.holds_back errors.old errors.new)) }
 {
@@ -48,7 +48,7 @@ pub fn save_anew<D: Folder, E: Sink>(
         Ok(lock) => lock,
         Err(fault) => return Err(report_at(alloc, errors, path, CommandFault::Keep(fault))),
     };
-    match save_file(folder, alloc, lock, path, Some(loaded), text) {
+    match save_file(folder, alloc, lock, path, Some(loaded_bytes), text) {
         Ok(()) => Ok(()),
         Err(fault) => Err(report_unsaved(alloc, errors, path, fault)),
     }
@@ -58,8 +58,8 @@ pub fn save_anew<D: Folder, E: Sink>(
 /// finished.
 pub fn cut_text_of(alloc: Global, part: CountedPrefix) -> Result<Option<String>, AllocError>
     requires { part.lines < 2 ^ 63 }
-    ensures { IfOk result (λ text. (held : List ℕ) → IsCountedPrefix part held
-        → option_map string_bytes text ≡ cut_text (unfinished_line held)) }
+    ensures { IfOk result (λ text. (content : List ℕ) → IsCountedPrefix part content
+        → option_map string_bytes text ≡ cut_text (unfinished_line content)) }
 {
     match part.last {
         LastLine::Ended | LastLine::LacksFeed => Ok(None),
@@ -105,14 +105,14 @@ fn older_journal<J: Source>(
     ensures err { IfErr result (λ fault. IsUnreadKept limits
         (J.remaining journal.old) (J.has_failed journal.new) fault) }
 {
-    let held = read_journal_to_keep(alloc, limits, journal)?;
-    if held.version.has_sources() {
+    let loaded_journal = read_journal_to_keep(alloc, limits, journal)?;
+    if loaded_journal.version.has_sources() {
         return Ok(None);
     }
-    let text = journal_text_of(alloc, Version::newest(), &held.object)?;
-    let cut = cut_text_of(alloc, held.part)?;
+    let text = journal_text_of(alloc, Version::newest(), &loaded_journal.object)?;
+    let cut = cut_text_of(alloc, loaded_journal.part)?;
     Ok(Some(OlderJournal {
-        bytes: held.bytes,
+        bytes: loaded_journal.bytes,
         text,
         cut,
     }))

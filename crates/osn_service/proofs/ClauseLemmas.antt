@@ -46,8 +46,8 @@ some_text rules s line =
 
 -- ---- a write failed
 
-module _ {rules : ServeRules} {begun now : SessionState} {n : ℕ} (i : Input)
-    (h : AnswersInPart rules begun now i.bytes n) where
+module _ {rules : ServeRules} {initial now : SessionState} {n : ℕ} (i : Input)
+    (h : AnswersInPart rules initial now i.bytes n) where
   -- all lines are those that were answered and those after them
   whole : (all : List (List ℕ)) → take (length h.lines_taken) all ≡ h.lines_taken →
       h.lines_taken ++ drop (length h.lines_taken) all ≡ all
@@ -57,20 +57,20 @@ module _ {rules : ServeRules} {begun now : SessionState} {n : ℕ} (i : Input)
 
   -- a prefix of the replies to all lines is written
   part_of_all : (all : List (List ℕ)) → take (length h.lines_taken) all ≡ h.lines_taken →
-      InPart (line_text rules) (line_after rules) begun.object now.object all begun.written
+      InPart (line_text rules) (line_after rules) initial.object now.object all initial.written
       now.written n
   part_of_all all e =
-      subst (λ (l : List (List ℕ)). InPart (line_text rules) (line_after rules) begun.object
-      now.object l begun.written now.written n) (whole all e)
-      (InPart-more (line_text rules) (line_after rules) (some_text rules) begun.object now.object
+      subst (λ (l : List (List ℕ)). InPart (line_text rules) (line_after rules) initial.object
+      now.object l initial.written now.written n) (whole all e)
+      (InPart-more (line_text rules) (line_after rules) (some_text rules) initial.object now.object
       h.lines_taken (drop (length h.lines_taken) all) _ _ n h.part)
 
   -- the reply to one of them is too long
-  long : HasLongReply rules begun.object h.lines_taken →
-      IfSome i.bytes (λ bytes. HasLongReply rules begun.object (lines bytes))
+  long : HasLongReply rules initial.object h.lines_taken →
+      IfSome i.bytes (λ bytes. HasLongReply rules initial.object (lines bytes))
   long k =
       IfSome-weaker i.bytes (λ bytes. take (length h.lines_taken) (lines bytes) ≡ h.lines_taken)
-      (λ bytes. HasLongReply rules begun.object (lines bytes))
+      (λ bytes. HasLongReply rules initial.object (lines bytes))
       (λ bytes e.
       let rest = drop (length h.lines_taken) (lines bytes) in
       record {
@@ -86,14 +86,15 @@ module _ {rules : ServeRules} {begun now : SessionState} {n : ℕ} (i : Input)
 
   -- what the service has done then
   pub Serves-in_part : (holds_back : Bool) →
-      Serves rules begun.object now.object i (output_since begun now.written now.failed holds_back)
+      Serves rules initial.object now.object i
+      (output_since initial now.written now.failed holds_back)
       (Err (record { lines = n; cause = WriteFault }))
-      × RefusesNone rules begun.object i (Err (record { lines = n; cause = WriteFault }))
+      × RefusesNone rules initial.object i (Err (record { lines = n; cause = WriteFault }))
   Serves-in_part holds_back = (
     record {
       written =
           IfSome-weaker i.bytes (λ bytes. take (length h.lines_taken) (lines bytes) ≡ h.lines_taken)
-          (λ bytes. WritesInPart rules begun.object begun.written now.written (lines bytes) n)
+          (λ bytes. WritesInPart rules initial.object initial.written now.written (lines bytes) n)
           (λ bytes e.
           let k = part_of_all (lines bytes) e in
           record {
@@ -105,7 +106,7 @@ module _ {rules : ServeRules} {begun now : SessionState} {n : ℕ} (i : Input)
           }) h.first;
       object =
           IfSome-weaker i.bytes (λ bytes. take (length h.lines_taken) (lines bytes) ≡ h.lines_taken)
-          (λ bytes. IsAfterOrNext rules begun.object now.object (lines bytes) n)
+          (λ bytes. IsAfterOrNext rules initial.object now.object (lines bytes) n)
           (λ bytes e. ⊎_elim (λ k. inl k) (λ k. inr k.1) (part_of_all (lines bytes) e).reached)
           h.first;
       passed = tt;
@@ -119,13 +120,13 @@ module _ {rules : ServeRules} {begun now : SessionState} {n : ℕ} (i : Input)
   )
 
 -- a write failed while lines were taken, or a change was not kept, which is passed on
-module _ {F : Type 0} (rules : ServeRules) (begun now : SessionState) (holds_back : Bool)
+module _ {F : Type 0} (rules : ServeRules) (initial now : SessionState) (holds_back : Bool)
     (i : Input) where
   -- by the reason
   passed : (n : ℕ) (cause : ServiceFault F) →
-      HasTaken rules begun now holds_back i (Err (record { lines = n; cause = cause })) →
-      ServesStore rules begun.object now.object i
-      (output_since begun now.written now.failed holds_back)
+      HasTaken rules initial now holds_back i (Err (record { lines = n; cause = cause })) →
+      ServesStore rules initial.object now.object i
+      (output_since initial now.written now.failed holds_back)
       (Err (record { lines = n; cause = cause }))
   passed n (Serve NoMemory) h = absurd h
   passed n (Serve ReadFault) h = absurd h
@@ -134,15 +135,15 @@ module _ {F : Type 0} (rules : ServeRules) (begun now : SessionState) (holds_bac
 
   -- for either
   pub Serves-passed : (end : EndedEarly (ServiceFault F)) →
-      HasTaken rules begun now holds_back i (Err end) →
-      ServesStore rules begun.object now.object i
-      (output_since begun now.written now.failed holds_back) (Err end)
+      HasTaken rules initial now holds_back i (Err end) →
+      ServesStore rules initial.object now.object i
+      (output_since initial now.written now.failed holds_back) (Err end)
   Serves-passed end h = passed end.lines end.cause h
 
 -- ---- what waits must be written then
 
-module _ {rules : ServeRules} {begun now : SessionState} {n : ℕ} (i : Input)
-    (h : AnswersFirst rules begun now i.bytes n) where
+module _ {rules : ServeRules} {initial now : SessionState} {n : ℕ} (i : Input)
+    (h : AnswersFirst rules initial now i.bytes n) where
   -- they are the first lines by their number
   firsts : IfSome i.bytes (λ bytes. take n (lines bytes) ≡ h.lines_taken)
   firsts =
@@ -152,11 +153,11 @@ module _ {rules : ServeRules} {begun now : SessionState} {n : ℕ} (i : Input)
 
   -- a write of it failed
   pub Serves-unwritten : (new : Option (List ℕ)) (failed : Bool) (unwritten : ℕ)
-      (holds_back : Bool) → WritesSome now.written new now.waiting unwritten →
-      WriteFails now.failed failed now.waiting.text.items →
-      Serves rules begun.object now.object i (output_since begun new failed holds_back)
+      (holds_back : Bool) → WritesSome now.written new now.buffer unwritten →
+      WriteFails now.failed failed now.buffer.text.items →
+      Serves rules initial.object now.object i (output_since initial new failed holds_back)
       (Err (record { lines = n - unwritten; cause = WriteFault }))
-      × RefusesNone rules begun.object i
+      × RefusesNone rules initial.object i
       (Err (record { lines = n - unwritten; cause = WriteFault }))
   Serves-unwritten new failed unwritten holds_back some reason =
       let later : SessionState = record now { written = new; failed = failed } in
@@ -167,57 +168,58 @@ module _ {rules : ServeRules} {begun now : SessionState} {n : ℕ} (i : Input)
 
   -- it was written
   module _ (new : Option (List ℕ)) (unwritten holds_back : Bool)
-      (written : Appends now.written new now.waiting.text.items) (sound : unwritten ≡ now.failed)
+      (written : Appends now.written new now.buffer.text.items) (sound : unwritten ≡ now.failed)
       (passed_on : holds_back ≡ false) where
     -- the replies to them are written
-    first_written : IfSome i.bytes (λ bytes. WritesFirst rules begun.object begun.written new
+    first_written : IfSome i.bytes (λ bytes. WritesFirst rules initial.object initial.written new
         (lines bytes) n)
     first_written =
         IfSome-weaker i.bytes (λ bytes. take n (lines bytes) ≡ h.lines_taken)
-        (λ bytes. WritesFirst rules begun.object begun.written new (lines bytes) n)
+        (λ bytes. WritesFirst rules initial.object initial.written new (lines bytes) n)
         (λ bytes e. record {
           enough = omega (arith, h.count, ap length e, length-take n (lines bytes));
           written =
-              subst (λ (l : List (List ℕ)). Appends begun.written new
-              (outputs rules begun.object l)) (sym e)
-              (Waits-written (line_text rules) (line_after rules) begun.object now.object
+              subst (λ (l : List (List ℕ)). Appends initial.written new
+              (outputs rules initial.object l)) (sym e)
+              (Waits-written (line_text rules) (line_after rules) initial.object now.object
               h.lines_taken
-              begun.written now.written new now.waiting h.serving.waits written);
+              initial.written now.written new now.buffer h.serving.waits written);
         }) firsts
 
     -- the object is in the state after them
     first_reached : IfSome i.bytes
-        (λ bytes. IsAfterLines rules begun.object now.object (lines bytes) n)
+        (λ bytes. IsAfterLines rules initial.object now.object (lines bytes) n)
     first_reached =
         IfSome-weaker i.bytes (λ bytes. take n (lines bytes) ≡ h.lines_taken)
-        (λ bytes. IsAfterLines rules begun.object now.object (lines bytes) n)
-        (λ bytes e. h.serving.waits.reached ∙ ap (after_lines rules begun.object) (sym e)) firsts
+        (λ bytes. IsAfterLines rules initial.object now.object (lines bytes) n)
+        (λ bytes e. h.serving.waits.reached ∙ ap (after_lines rules initial.object) (sym e)) firsts
 
     -- all lines were answered
-    pub Serves-all : EndsTaking rules begun.object i n AtEnd →
-        Serves rules begun.object now.object i (output_since begun new unwritten holds_back) (Ok n)
-        × RefusesNone rules begun.object i (Ok n)
+    pub Serves-all : EndsTaking rules initial.object i n AtEnd →
+        Serves rules initial.object now.object i (output_since initial new unwritten holds_back)
+        (Ok n)
+        × RefusesNone rules initial.object i (Ok n)
     Serves-all end =
         let all : (bytes : List ℕ) → n ≡ length (lines bytes) → take n (lines bytes) ≡ lines bytes =
         λ bytes count. take_all n (lines bytes) (omega (arith, count)) in (
           record {
             written =
                 IfSome-both i.bytes
-                (λ bytes. WritesFirst rules begun.object begun.written new (lines bytes) n)
+                (λ bytes. WritesFirst rules initial.object initial.written new (lines bytes) n)
                 (λ bytes. n ≡ length (lines bytes))
-                (λ bytes. WritesAll rules begun.object begun.written new (lines bytes) n)
+                (λ bytes. WritesAll rules initial.object initial.written new (lines bytes) n)
                 (λ bytes k count. record {
                   count = count;
                   written =
-                      subst (λ (l : List (List ℕ)). Appends begun.written new
-                      (outputs rules begun.object l)) (all bytes count) k.written;
+                      subst (λ (l : List (List ℕ)). Appends initial.written new
+                      (outputs rules initial.object l)) (all bytes count) k.written;
                 }) first_written end.0;
             object =
                 IfSome-both i.bytes
-                (λ bytes. IsAfterLines rules begun.object now.object (lines bytes) n)
+                (λ bytes. IsAfterLines rules initial.object now.object (lines bytes) n)
                 (λ bytes. n ≡ length (lines bytes))
-                (λ bytes. IsStateAfter rules begun.object now.object (lines bytes))
-                (λ bytes k count. k ∙ ap (after_lines rules begun.object) (all bytes count))
+                (λ bytes. IsStateAfter rules initial.object now.object (lines bytes))
+                (λ bytes k count. k ∙ ap (after_lines rules initial.object) (all bytes count))
                 first_reached end.0;
             passed = passed_on;
             read = end.1;
@@ -225,17 +227,17 @@ module _ {rules : ServeRules} {begun now : SessionState} {n : ℕ} (i : Input)
             sink = sound ∙ h.serving.sound;
           },
           λ asked. IfSome-both i.bytes
-              (λ bytes. NoneRefused rules begun.object (take n (lines bytes)))
+              (λ bytes. NoneRefused rules initial.object (take n (lines bytes)))
               (λ bytes. n ≡ length (lines bytes))
-              (λ bytes. NoneRefused rules begun.object (lines bytes))
-              (λ bytes k count. subst (NoneRefused rules begun.object) (all bytes count) k)
+              (λ bytes. NoneRefused rules initial.object (lines bytes))
+              (λ bytes k count. subst (NoneRefused rules initial.object) (all bytes count) k)
               (end.3 asked) end.0,
         )
 
     -- the last of them was refused and ended the service
-    pub Serves-refused : EndsTaking rules begun.object i n AtRefusal →
-        ServesToRefusal rules begun.object now.object i
-        (output_since begun new unwritten holds_back) n
+    pub Serves-refused : EndsTaking rules initial.object i n AtRefusal →
+        ServesToRefusal rules initial.object now.object i
+        (output_since initial new unwritten holds_back) n
     Serves-refused end = record {
       stops_at_refusal = end.0;
       written = first_written;
@@ -247,10 +249,10 @@ module _ {rules : ServeRules} {begun now : SessionState} {n : ℕ} (i : Input)
     }
 
     -- some lines were answered
-    pub Serves-first : (cause : ServeFault) → EndsTaking rules begun.object i n (ByFault cause) →
-        Serves rules begun.object now.object i (output_since begun new unwritten holds_back)
+    pub Serves-first : (cause : ServeFault) → EndsTaking rules initial.object i n (ByFault cause) →
+        Serves rules initial.object now.object i (output_since initial new unwritten holds_back)
         (Err (record { lines = n; cause = cause }))
-        × RefusesNone rules begun.object i (Err (record { lines = n; cause = cause }))
+        × RefusesNone rules initial.object i (Err (record { lines = n; cause = cause }))
     Serves-first NoMemory end = (
       record {
         written = first_written;

@@ -137,10 +137,10 @@ pub whole_reply : (old mid new : List ℕ) (reader edition : ℕ) (given answer 
     ++ (codes ",\"reader\":" ++ (decimal reader ++ codes "}")))) →
     new ≡ old ++ compact_text (answered_data reader edition answer)
 unfolding escape_byte
-whole_reply old mid new reader edition given answer same begun ended =
+whole_reply old mid new reader edition given answer same initial ended =
     let end = codes ",\"edition\":" ++ (decimal edition
     ++ (codes ",\"reader\":" ++ (decimal reader ++ codes "}"))) in
     ended
-    ∙ (ap (λ l. l ++ end) begun
+    ∙ (ap (λ l. l ++ end) initial
     ∙ (chain old ((codes "{\"answer\":", compact_text given) ∷ []) end
     ∙ ap (λ d. old ++ compact_text (answered_data reader edition d)) same))

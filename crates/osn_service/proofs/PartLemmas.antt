@@ -128,20 +128,22 @@ reached_at after s (x ∷ xs) (suc j) h =
     (ChangesNothing-take after (after s x) xs j h)))
 
 -- some of the lines were answered whole, and this many not
-pub record PartOf {S : Type 0} (text : S → List ℕ → List ℕ) (after : S → List ℕ → S) (begun now : S)
+pub record PartOf {S : Type 0} (text : S → List ℕ → List ℕ) (after : S → List ℕ → S)
+    (initial now : S)
     (lines : List (List ℕ)) (old new : Option (List ℕ)) (unwritten : ℕ) : Type 0 where
   pub n : ℕ
   pub count : n + unwritten ≡ length lines
-  pub part : InPart text after begun now lines old new n
+  pub part : InPart text after initial now lines old new n
 
 -- some of what waited was written
-pub PartOf-from : {S : Type 0} (text : S → List ℕ → List ℕ) (after : S → List ℕ → S) (begun now : S)
+pub PartOf-from : {S : Type 0} (text : S → List ℕ → List ℕ) (after : S → List ℕ → S)
+    (initial now : S)
     (lines : List (List ℕ)) (a b c : Option (List ℕ)) (w : ReplyBuffer) (unwritten : ℕ) →
-    Waits text after begun now lines a b w → WritesSome b c w unwritten →
-    PartOf text after begun now lines a c unwritten
-PartOf-from {S} text after begun now lines a b c w unwritten h k =
-    let s = fold after begun h.done in
-    let first = replies text after begun h.done in
+    Waits text after initial now lines a b w → WritesSome b c w unwritten →
+    PartOf text after initial now lines a c unwritten
+PartOf-from {S} text after initial now lines a b c w unwritten h k =
+    let s = fold after initial h.done in
+    let first = replies text after initial h.done in
     let j = whole_in (ends_from text after 0 s h.rest) k.bytes in
     let n = length h.done + j in
     let W : Whole text after 0 s h.rest k.bytes j =
@@ -151,18 +153,20 @@ PartOf-from {S} text after begun now lines a b c w unwritten h k =
     ap length h.split ∙ length-append h.done h.rest in
     let places : length w.ends.items ≡ length h.rest =
     ap length h.places ∙ length-ends text after 0 s h.rest in
-    let all : replies text after begun lines ≡ first ++ w.text.items =
-    sym (Waits-all text after begun now lines a b w h) in
+    let all : replies text after initial lines ≡ first ++ w.text.items =
+    sym (Waits-all text after initial now lines a b w h) in
     let front : (i : ℕ) → take (length h.done + i) lines ≡ h.done ++ take i h.rest =
     λ i. ap (take (length h.done + i)) h.split ∙ take-append-add h.done h.rest i in
-    let said : (i : ℕ) → length (replies text after begun (take (length h.done + i) lines)) ≡ length
+    let said : (i : ℕ) → length (replies text after initial (take (length h.done + i) lines))
+    ≡ length
     first + length (replies text after s (take i h.rest)) =
-    λ i. ap (λ l. length (replies text after begun l)) (front i)
-    ∙ (ap length (replies-append text after begun h.done (take i h.rest))
+    λ i. ap (λ l. length (replies text after initial l)) (front i)
+    ∙ (ap length (replies-append text after initial h.done (take i h.rest))
     ∙ length-append first (replies text after s (take i h.rest))) in
-    let stands : (i : ℕ) → fold after s (take i h.rest) ≡ fold after begun
+    let stands : (i : ℕ) → fold after s (take i h.rest) ≡ fold after initial
     (take (length h.done + i) lines) =
-    λ i. sym (ap (fold after begun) (front i) ∙ fold-append after begun h.done (take i h.rest)) in
+    λ i. sym (ap (fold after initial) (front i) ∙ fold-append after initial h.done (take i h.rest))
+    in
     let next : length h.done + suc j ≡ n + 1 = omega arith in
     record {
       n = n;
@@ -178,15 +182,15 @@ PartOf-from {S} text after begun now lines a b c w unwritten h k =
         whole = omega (arith, said j, W.whole);
         no_more = λ lt.
             subst (λ (i : ℕ). length first + k.bytes < length
-            (replies text after begun (take i lines))) next
+            (replies text after initial (take i lines))) next
             (omega (arith, said (suc j), W.no_more (omega (arith, size))));
         reached =
             ⊎_elim
-            (λ e. inl (Waits-at text after begun now lines a b w h ∙ (e ∙ stands j)))
+            (λ e. inl (Waits-at text after initial now lines a b w h ∙ (e ∙ stands j)))
             (λ e. inr (
               omega (arith, e.0, size),
-              subst (λ (i : ℕ). now ≡ fold after begun (take i lines)) next
-                  (Waits-at text after begun now lines a b w h ∙ (e.1 ∙ stands (suc j))),
+              subst (λ (i : ℕ). now ≡ fold after initial (take i lines)) next
+                  (Waits-at text after initial now lines a b w h ∙ (e.1 ∙ stands (suc j))),
             ))
             (reached_at after s h.rest j h.changes);
       };
@@ -195,36 +199,36 @@ PartOf-from {S} text after begun now lines a b c w unwritten h k =
 -- the reply to the next line ends after those before it
 next_is_past : {S : Type 0} (text : S → List ℕ → List ℕ) (after : S → List ℕ → S) →
     ((s : S) (line : List ℕ) → 0 < length (text s line)) →
-    (begun : S) (lines more : List (List ℕ)) (bytes n : ℕ) → n ≡ length lines →
-    bytes ≤ length (replies text after begun lines) → n < length (lines ++ more) →
-    bytes < length (replies text after begun (take (n + 1) (lines ++ more)))
-next_is_past text after some begun lines [] bytes n e le lt =
+    (initial : S) (lines more : List (List ℕ)) (bytes n : ℕ) → n ≡ length lines →
+    bytes ≤ length (replies text after initial lines) → n < length (lines ++ more) →
+    bytes < length (replies text after initial (take (n + 1) (lines ++ more)))
+next_is_past text after some initial lines [] bytes n e le lt =
     absurd (omega (arith, length-append lines []))
-next_is_past text after some begun lines (x ∷ xs) bytes n e le lt =
-    let s = fold after begun lines in
+next_is_past text after some initial lines (x ∷ xs) bytes n e le lt =
+    let s = fold after initial lines in
     let count : n + 1 ≡ length lines + 1 = omega arith in
     let front : take (n + 1) (lines ++ x ∷ xs) ≡ lines ++ take 1 (x ∷ xs) =
     ap (λ i. take i (lines ++ x ∷ xs)) count ∙ take-append-add lines (x ∷ xs) 1 in
-    let size : length (replies text after begun (take (n + 1) (lines ++ x ∷ xs))) ≡ length
-    (replies text after begun lines) + length (text s x ++ []) =
-    ap (λ l. length (replies text after begun l)) front
-    ∙ (ap length (replies-append text after begun lines (x ∷ []))
-    ∙ length-append (replies text after begun lines) (text s x ++ [])) in
+    let size : length (replies text after initial (take (n + 1) (lines ++ x ∷ xs))) ≡ length
+    (replies text after initial lines) + length (text s x ++ []) =
+    ap (λ l. length (replies text after initial l)) front
+    ∙ (ap length (replies-append text after initial lines (x ∷ []))
+    ∙ length-append (replies text after initial lines) (text s x ++ [])) in
     omega (arith, size, some s x, length-append (text s x) [])
 
 -- more lines, which were not answered
 pub InPart-more : {S : Type 0} (text : S → List ℕ → List ℕ) (after : S → List ℕ → S) →
     ((s : S) (line : List ℕ) → 0 < length (text s line)) →
-    (begun now : S) (lines more : List (List ℕ)) (a b : Option (List ℕ)) (n : ℕ) →
-    InPart text after begun now lines a b n → InPart text after begun now (lines ++ more) a b n
-InPart-more text after some begun now lines more a b n h =
-    let said = replies-append text after begun lines more in
+    (initial now : S) (lines more : List (List ℕ)) (a b : Option (List ℕ)) (n : ℕ) →
+    InPart text after initial now lines a b n → InPart text after initial now (lines ++ more) a b n
+InPart-more text after some initial now lines more a b n h =
+    let said = replies-append text after initial lines more in
     let front : (i : ℕ) → i ≤ length lines → take i (lines ++ more) ≡ take i lines =
     λ i le. take-append-le i lines more le in
     let fronts : (i : ℕ) → i ≤ length lines →
-    length (replies text after begun (take i (lines ++ more))) ≡ length
-    (replies text after begun (take i lines)) =
-    λ i le. ap (λ l. length (replies text after begun l)) (front i le) in
+    length (replies text after initial (take i (lines ++ more))) ≡ length
+    (replies text after initial (take i lines)) =
+    λ i le. ap (λ l. length (replies text after initial l)) (front i le) in
     record {
       bytes = h.bytes;
       enough = omega (arith, h.enough, length-append lines more);
@@ -233,29 +237,29 @@ InPart-more text after some begun now lines more a b n h =
             arith,
             h.within,
             ap length said,
-            length-append (replies text after begun lines)
-                (replies text after (fold after begun lines) more),
+            length-append (replies text after initial lines)
+                (replies text after (fold after initial lines) more),
           );
       written =
           subst (Appends a b)
           (sym (ap (take h.bytes) said
-          ∙ take-append-le h.bytes (replies text after begun lines)
-          (replies text after (fold after begun lines) more) h.within))
+          ∙ take-append-le h.bytes (replies text after initial lines)
+          (replies text after (fold after initial lines) more) h.within))
           h.written;
       whole = omega (arith, h.whole, fronts n h.enough);
       no_more = λ lt.
           ⊎_elim
           (λ less. omega (arith, h.no_more less, fronts (n + 1) (omega (arith, less))))
-          (λ all. next_is_past text after some begun lines more h.bytes n
+          (λ all. next_is_past text after some initial lines more h.bytes n
           (omega (arith, all, h.enough)) h.within lt)
           (cases_lt n (length lines));
       reached =
           ⊎_elim
-          (λ e. inl (e ∙ ap (fold after begun) (sym (front n h.enough))))
+          (λ e. inl (e ∙ ap (fold after initial) (sym (front n h.enough))))
           (λ e. inr (
             omega (arith, e.0, length-append lines more),
             e.1
-                ∙ ap (fold after begun) (sym (front (n + 1) (omega (arith, e.0)))),
+                ∙ ap (fold after initial) (sym (front (n + 1) (omega (arith, e.0)))),
           ))
           h.reached;
     }

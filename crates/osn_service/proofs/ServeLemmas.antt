@@ -63,88 +63,88 @@ IsShort-settled rules s lines a b w w' short settles =
     (λ k. subst (IsShort rules s lines) (sym k.text) (inl (omega arith))) settles
 
 -- nothing is answered yet
-pub Serving-nothing : (rules : ServeRules) (s : SessionState) → s.waiting.text.items ≡ [] →
-    s.waiting.ends.items ≡ [] → Serving rules s [] s
+pub Serving-nothing : (rules : ServeRules) (s : SessionState) → s.buffer.text.items ≡ [] →
+    s.buffer.ends.items ≡ [] → Serving rules s [] s
 Serving-nothing rules s text ends = record {
   waits =
-      Waits-nothing (line_text rules) (line_after rules) s.object s.written s.waiting text ends;
+      Waits-nothing (line_text rules) (line_after rules) s.object s.written s.buffer text ends;
   short = subst (IsShort rules s.object []) (sym text) (inl (omega arith));
   sound = refl;
 }
 
-module _ {rules : ServeRules} {begun s t : SessionState} {lines : List (List ℕ)} where
+module _ {rules : ServeRules} {initial s t : SessionState} {lines : List (List ℕ)} where
   -- nothing was written, or all that waited
-  pub Serving-settled : Serving rules begun lines s → Settled s t → Serving rules begun lines t
+  pub Serving-settled : Serving rules initial lines s → Settled s t → Serving rules initial lines t
   Serving-settled h k = record {
     waits =
-        Waits-settle (line_text rules) (line_after rules) begun.object s.object t.object lines
-        begun.written s.written t.written s.waiting t.waiting h.waits k.settles k.object;
+        Waits-settle (line_text rules) (line_after rules) initial.object s.object t.object lines
+        initial.written s.written t.written s.buffer t.buffer h.waits k.settles k.object;
     short =
-        IsShort-settled rules begun.object lines s.written t.written s.waiting t.waiting h.short
+        IsShort-settled rules initial.object lines s.written t.written s.buffer t.buffer h.short
         k.settles;
     sound = k.sound ∙ h.sound;
   }
 
   -- a line was answered
-  pub Serving-answered : (line : List ℕ) → length s.waiting.text.items < full →
-      Serving rules begun lines s →
+  pub Serving-answered : (line : List ℕ) → length s.buffer.text.items < full →
+      Serving rules initial lines s →
       Answered (line_outcome rules s.object line) (line_after rules s.object line) s t →
-      Serving rules begun (lines ++ line ∷ []) t
+      Serving rules initial (lines ++ line ∷ []) t
   Serving-answered line less h k = record {
     waits =
-        Waits-add (line_text rules) (line_after rules) begun.object s.object t.object _ lines line
-        begun.written s.written t.written s.waiting t.waiting h.waits k.adds refl k.object;
+        Waits-add (line_text rules) (line_after rules) initial.object s.object t.object _ lines line
+        initial.written s.written t.written s.buffer t.buffer h.waits k.adds refl k.object;
     short = inr (record {
       before = lines;
       line = line;
       rest = [];
       split = refl;
       long =
-          subst (λ (o : ObjectState). length t.waiting.text.items - 65535
+          subst (λ (o : ObjectState). length t.buffer.text.items - 65535
           ≤ length (line_text rules o line)) h.waits.reached
           (reply_added s.object t.object (line_text rules s.object line) s.written t.written
-          s.waiting t.waiting less k.adds);
+          s.buffer t.buffer less k.adds);
     });
     sound = k.sound ∙ h.sound;
   }
 
   -- a write failed
-  pub Failing-from : {unwritten : ℕ} → Serving rules begun lines s → Unwritten s t unwritten →
-      Failing rules begun lines t unwritten
+  pub Failing-from : {unwritten : ℕ} → Serving rules initial lines s → Unwritten s t unwritten →
+      Failing rules initial lines t unwritten
   Failing-from {unwritten} h k =
       let text = line_text rules in
       let after = line_after rules in
-      let part = PartOf-from text after begun.object s.object lines begun.written s.written
-      t.written s.waiting unwritten h.waits k.some in
+      let part = PartOf-from text after initial.object s.object lines initial.written s.written
+      t.written s.buffer unwritten h.waits k.some in
       record {
         whole = part.n;
         count = part.count;
         part =
-            subst (λ (o : ObjectState). InPart text after begun.object o lines begun.written
+            subst (λ (o : ObjectState). InPart text after initial.object o lines initial.written
             t.written part.n) (sym k.object) part.part;
         reason = RepliesFail-from _ _ _ _ _ _ _ h.sound h.short k.reason;
       }
 
   -- the change of a line was not kept
-  pub Unkept-from : {holds_back : Bool} (line : List ℕ) → Serving rules begun lines s →
+  pub Unkept-from : {holds_back : Bool} (line : List ℕ) → Serving rules initial lines s →
       TakenBack (line_after rules s.object line) s t holds_back →
-      Unkept rules begun lines line t holds_back
+      Unkept rules initial lines line t holds_back
   Unkept-from line h k = record {
     written =
-        Waits-written (line_text rules) (line_after rules) begun.object s.object lines
-        begun.written s.written t.written s.waiting h.waits k.written;
+        Waits-written (line_text rules) (line_after rules) initial.object s.object lines
+        initial.written s.written t.written s.buffer h.waits k.written;
     none = k.none;
     sound = k.sound ∙ h.sound;
     passed = k.passed;
     reached =
-        after_one (line_after rules) begun.object s.object t.object lines line h.waits.reached
+        after_one (line_after rules) initial.object s.object t.object lines line h.waits.reached
         k.object;
   }
 
 -- no more replies wait than lines were answered
-pub Serving-few : (rules : ServeRules) (begun s : SessionState) (lines : List (List ℕ)) →
-    Serving rules begun lines s → length s.waiting.ends.items ≤ length lines
-Serving-few rules begun s lines h =
+pub Serving-few : (rules : ServeRules) (initial s : SessionState) (lines : List (List ℕ)) →
+    Serving rules initial lines s → length s.buffer.ends.items ≤ length lines
+Serving-few rules initial s lines h =
     let w = h.waits in
     omega (
       arith,
@@ -152,7 +152,7 @@ Serving-few rules begun s lines h =
       length-append w.done w.rest,
       ap length w.places,
       length-ends (line_text rules) (line_after rules) 0
-          (fold (line_after rules) begun.object w.done) w.rest,
+          (fold (line_after rules) initial.object w.done) w.rest,
     )
 
 -- another line, which is not refused

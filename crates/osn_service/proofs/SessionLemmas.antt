@@ -20,8 +20,8 @@ use Rattle.osn_service.proofs.ServeLemmas.{Serving-nothing, Serving-settled, Ser
 use Rattle.osn_service.proofs.ServeLemmas.{Failing-from, Unkept-from, NoneRefused-more}
 
 -- one session is another with what it lends kept
-IsSame-then : {W S : Type 0} {begun s t : Session W S} → IsSame begun s → IsSame s t →
-    IsSame begun t
+IsSame-then : {W S : Type 0} {initial s t : Session W S} → IsSame initial s → IsSame s t →
+    IsSame initial t
 IsSame-then h k = record {
   rules = k.rules ∙ h.rules;
   store = k.store ∙ h.store;
@@ -43,8 +43,8 @@ module _ {W S F : Type 0} (contents : W → Option (List ℕ)) (has_failed holds
   now_of = session_state_of contents has_failed state
 
   -- nothing is answered yet
-  pub Served-nothing : (s : Session W S) → s.waiting.now.text.items ≡ [] →
-      s.waiting.now.ends.items ≡ [] → Served s [] s
+  pub Served-nothing : (s : Session W S) → s.buffer.now.text.items ≡ [] →
+      s.buffer.now.ends.items ≡ [] → Served s [] s
   Served-nothing s text ends = record {
     same = record { rules = refl; store = refl; sink = refl };
     lent = λ _ k. k;
@@ -53,11 +53,11 @@ module _ {W S F : Type 0} (contents : W → Option (List ℕ)) (has_failed holds
     keeps = λ _ k. k;
   }
 
-  module _ (begun s t : Session W S) (before : List (List ℕ)) (h : Served begun before s)
+  module _ (initial s t : Session W S) (before : List (List ℕ)) (h : Served initial before s)
       (same : IsSame s t) where
     -- nothing was answered, and nothing was written or all that waited
     pub Served-settled : KeepsSince lends s.store.now t.store.now → Settled (now_of s) (now_of t) →
-        KeepsSince has_kept s.store.now t.store.now → Served begun before t
+        KeepsSince has_kept s.store.now t.store.now → Served initial before t
     Served-settled lent settled keeps = record {
       same = IsSame-then h.same same;
       lent = λ b k. lent b (h.lent b k);
@@ -70,7 +70,8 @@ module _ {W S F : Type 0} (contents : W → Option (List ℕ)) (has_failed holds
     pub Stopped-unwritten : (at : Option (List ℕ)) (failed : UnwrittenReplies) →
         KeepsSince lends s.store.now t.store.now →
         Unwritten (now_of s) (now_of t) failed.unwritten →
-        KeepsSince has_kept s.store.now t.store.now → Stopped begun before at t (WriteFailed failed)
+        KeepsSince has_kept s.store.now t.store.now
+        → Stopped initial before at t (WriteFailed failed)
     Stopped-unwritten at failed lent unwritten keeps = record {
       same = IsSame-then h.same same;
       lent = λ b k. lent b (h.lent b k);
@@ -80,18 +81,18 @@ module _ {W S F : Type 0} (contents : W → Option (List ℕ)) (has_failed holds
 
     -- a line, once nothing was written or all that waited
     module _ (mid : SessionState) (line : List ℕ) (room : Settled (now_of s) mid)
-        (less : length mid.waiting.text.items < full) where
+        (less : length mid.buffer.text.items < full) where
       -- that was so before the line
-      ready : Serving begun.rules (now_of begun) before mid
+      ready : Serving initial.rules (now_of initial) before mid
       ready = Serving-settled h.serving room
 
       -- whether the line is refused, by the rules from the beginning
       same_refusal : is_refused (line_outcome s.rules mid.object line)
-          ≡ is_refused (line_outcome begun.rules
-          (after_lines begun.rules (state begun.store.now) before) line)
+          ≡ is_refused (line_outcome initial.rules
+          (after_lines initial.rules (state initial.store.now) before) line)
       same_refusal =
           ap (λ (r : ServeRules). is_refused (line_outcome r mid.object line)) h.same.rules
-          ∙ ap (λ (o : ObjectState). is_refused (line_outcome begun.rules o line))
+          ∙ ap (λ (o : ObjectState). is_refused (line_outcome initial.rules o line))
           ready.waits.reached
 
       -- what became of it
@@ -103,7 +104,7 @@ module _ {W S F : Type 0} (contents : W → Option (List ℕ)) (has_failed holds
 
       -- its reply waits
       answered : {refused : Bool} → Replies refused →
-          Serving begun.rules (now_of begun) (before ++ line ∷ []) (now_of t)
+          Serving initial.rules (now_of initial) (before ++ line ∷ []) (now_of t)
       answered {refused} k =
           Serving-answered line less ready
           (subst (λ (r : ServeRules). Answered (line_outcome r mid.object line)
@@ -112,14 +113,14 @@ module _ {W S F : Type 0} (contents : W → Option (List ℕ)) (has_failed holds
       -- it was answered, and is not the last
       pub Served-answered : {refused : Bool} → Replies refused →
           (s.rules.stop_at_refusal ≡ true → refused ≡ false) →
-          Served begun (before ++ line ∷ []) t
+          Served initial (before ++ line ∷ []) t
       Served-answered {refused} k goes_on = record {
         same = IsSame-then h.same same;
         lent = λ b l. k.0 b (h.lent b l);
         serving = answered k;
         spared =
             λ asked.
-            NoneRefused-more begun.rules (state begun.store.now) before line (h.spared asked)
+            NoneRefused-more initial.rules (state initial.store.now) before line (h.spared asked)
             (sym same_refusal ∙ (sym k.1
             ∙ goes_on (ap (λ (r : ServeRules). r.stop_at_refusal) h.same.rules ∙ asked)));
         keeps = λ b l. k.3 b (h.keeps b l);
@@ -127,7 +128,7 @@ module _ {W S F : Type 0} (contents : W → Option (List ℕ)) (has_failed holds
 
       -- it was refused, and is the last
       pub Stopped-refused : {refused : Bool} → Replies refused → refused ≡ true →
-          s.rules.stop_at_refusal ≡ true → Stopped begun before (Some line) t Refused
+          s.rules.stop_at_refusal ≡ true → Stopped initial before (Some line) t Refused
       Stopped-refused {refused} k is asked =
           let stops = sym (ap (λ (r : ServeRules). r.stop_at_refusal) h.same.rules) ∙ asked in
           record {
@@ -148,7 +149,7 @@ module _ {W S F : Type 0} (contents : W → Option (List ℕ)) (has_failed holds
       pub Stopped-unanswered : (why : Stop F) →
           Answers lends has_kept has_lost (line_outcome s.rules mid.object line)
           (line_after s.rules mid.object line) mid (now_of t) (holds_back t.sink.now) s.store.now
-          t.store.now (Err why) → Stopped begun before (Some line) t why
+          t.store.now (Err why) → Stopped initial before (Some line) t why
       Stopped-unanswered NoMemory k = record {
         same = IsSame-then h.same same;
         lent = λ b l. k.0 b (h.lent b l);

@@ -19,7 +19,7 @@ use Rattle.osn_request.specs.declared.request.Request.TheVariants.{Stage, Publis
 use Rattle.osn_request.specs.Request.{request}
 use Rattle.osn_service.specs.declared.rules.ServeRules.{ServeRules}
 use Rattle.osn_service.specs.Served.{after_lines}
-use Rattle.osn_service.specs.Session.{allowed, state_after, line_after}
+use Rattle.osn_service.specs.Session.{allowed_request, state_after, line_after}
 use Rattle.osn_service.specs.Sources.{GivesNoSource, KeepsSourceless}
 
 -- an edit without a source was staged or not
@@ -50,7 +50,7 @@ edit_leaves s e (Some source) given h = h
 
 -- a request, if no source is taken
 request_leaves : (read_only : Bool) (s : ObjectState) (asked : Result Request WireFault)
-    → GivesNoSource s → GivesNoSource (state_after s (allowed read_only false asked))
+    → GivesNoSource s → GivesNoSource (state_after s (allowed_request read_only false asked))
 request_leaves true s (Ok (Stage e)) h = h
 request_leaves true s (Ok Publish) h = h
 request_leaves true s (Ok (Ask reader query)) h = h
@@ -65,7 +65,7 @@ line_leaves : (rules : ServeRules) (s : ObjectState) (line : List ℕ)
     → KeepsSourceless rules s (line_after rules s line)
 line_leaves rules s line none h =
     let asked = request newest_version rules.readers line in
-    subst (λ b. GivesNoSource (state_after s (allowed rules.read_only b asked))) (sym none)
+    subst (λ b. GivesNoSource (state_after s (allowed_request rules.read_only b asked))) (sym none)
     (request_leaves rules.read_only s asked h)
 
 -- lines in order

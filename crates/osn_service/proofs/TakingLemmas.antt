@@ -14,7 +14,7 @@ use Rattle.osn_lines.specs.Faults as fault
 use Rattle.osn_lines.specs.Faults.{IsReadFault}
 use Rattle.osn_lines.specs.Lines.{lines}
 use Rattle.osn_lines.specs.Streams.{Input}
-use Rattle.osn_lines.specs.Taking.{TakesAll, TakesFirst, TakesEnded, StopsAfter}
+use Rattle.osn_lines.specs.Takers.{TakesAll, TakesFirst, TakesEnded, StopsAfter}
 use Rattle.osn_service.specs.declared.fault.ServiceFault.{ServiceFault}
 use Rattle.osn_service.specs.declared.fault.ServiceFault.TheVariants.{NotKept}
 use Rattle.osn_service.specs.declared.rules.ServeRules.{ServeRules}
@@ -75,29 +75,30 @@ IsNext-from all taken line n first next = record {
 }
 
 -- a write failed, and of the n lines that were taken this many replies are not written whole
-pub AnswersInPart-from : {rules : ServeRules} {begun now : SessionState} {input : Option (List ℕ)}
-    (n unwritten : ℕ) (taken : List (List ℕ)) → Failing rules begun taken now unwritten →
+pub AnswersInPart-from : {rules : ServeRules} {initial now : SessionState} {input : Option (List ℕ)}
+    (n unwritten : ℕ) (taken : List (List ℕ)) → Failing rules initial taken now unwritten →
     n ≡ length taken → IfSome input (λ bytes. take n (lines bytes) ≡ taken) →
-    AnswersInPart rules begun now input (n - unwritten)
-AnswersInPart-from {rules} {begun} {now} {input} n unwritten taken h count first =
+    AnswersInPart rules initial now input (n - unwritten)
+AnswersInPart-from {rules} {initial} {now} {input} n unwritten taken h count first =
     let same : h.whole ≡ n - unwritten = omega (arith, h.count, count) in
     record {
       lines_taken = taken;
       part =
-          subst (λ (m : ℕ). InPart (line_text rules) (line_after rules) begun.object now.object
-          taken begun.written now.written m) same h.part;
+          subst (λ (m : ℕ). InPart (line_text rules) (line_after rules) initial.object now.object
+          taken initial.written now.written m) same h.part;
       reason = h.reason;
       first = subst (λ (m : ℕ). IfSome input (λ bytes. take m (lines bytes) ≡ taken)) count first;
     }
 
 -- no more replies wait than lines were taken
-pub HasTaken-few : {F : Type 0} (rules : ServeRules) (begun now : SessionState) (holds_back : Bool)
+pub HasTaken-few : {F : Type 0} (rules : ServeRules) (initial now : SessionState)
+    (holds_back : Bool)
     (i : Input) (taken : Result LinesTaken (EndedEarly (ServiceFault F))) →
-    HasTaken rules begun now holds_back i taken →
-    IfOk taken (λ taken. length now.waiting.ends.items ≤ taken.lines)
-HasTaken-few rules begun now holds_back i (Ok taken) h =
-    omega (arith, h.0.count, Serving-few rules begun now h.0.lines_taken h.0.serving)
-HasTaken-few rules begun now holds_back i (Err end) h = tt
+    HasTaken rules initial now holds_back i taken →
+    IfOk taken (λ taken. length now.buffer.ends.items ≤ taken.lines)
+HasTaken-few rules initial now holds_back i (Ok taken) h =
+    omega (arith, h.0.count, Serving-few rules initial now h.0.lines_taken h.0.serving)
+HasTaken-few rules initial now holds_back i (Err end) h = tt
 
 module _ {W S F : Type 0} (contents : W → Option (List ℕ)) (has_failed holds_back : W → Bool)
     (state : S → ObjectState) (lends has_kept : S → S → Type 0)
@@ -276,7 +277,7 @@ module _ {W S F : Type 0} (contents : W → Option (List ℕ)) (has_failed holds
       fault.MatchFault cause (i.unread ≡ i.unread_before) (IsReadFault i.unread i.bytes)
       (λ _. i.unread ≡ i.unread_before)
 
-  module _ (text : s.waiting.now.text.items ≡ []) (ends : s.waiting.now.ends.items ≡ []) where
+  module _ (text : s.buffer.now.text.items ≡ []) (ends : s.buffer.now.ends.items ≡ []) where
     -- nothing was taken at first
     none : Serves s [] s
     none = Served-nothing contents has_failed holds_back state lends has_kept has_lost s text ends

@@ -78,41 +78,43 @@ Waits-nothing text after s a w none no_ends = record {
 }
 
 -- the bytes that were written and those that wait are the replies to all lines
-pub Waits-all : {S : Type 0} (text : S → List ℕ → List ℕ) (after : S → List ℕ → S) (begun now : S)
+pub Waits-all : {S : Type 0} (text : S → List ℕ → List ℕ) (after : S → List ℕ → S) (initial now : S)
     (lines : List (List ℕ)) (a b : Option (List ℕ)) (w : ReplyBuffer)
-    (h : Waits text after begun now lines a b w) →
-    replies text after begun h.done ++ w.text.items ≡ replies text after begun lines
-Waits-all text after begun now lines a b w h =
-    ap (λ l. replies text after begun h.done ++ l) h.texts
-    ∙ (sym (replies-append text after begun h.done h.rest)
-    ∙ ap (replies text after begun) (sym h.split))
+    (h : Waits text after initial now lines a b w) →
+    replies text after initial h.done ++ w.text.items ≡ replies text after initial lines
+Waits-all text after initial now lines a b w h =
+    ap (λ l. replies text after initial h.done ++ l) h.texts
+    ∙ (sym (replies-append text after initial h.done h.rest)
+    ∙ ap (replies text after initial) (sym h.split))
 
 -- the state after the lines that were written and those whose replies wait
-pub Waits-at : {S : Type 0} (text : S → List ℕ → List ℕ) (after : S → List ℕ → S) (begun now : S)
+pub Waits-at : {S : Type 0} (text : S → List ℕ → List ℕ) (after : S → List ℕ → S) (initial now : S)
     (lines : List (List ℕ)) (a b : Option (List ℕ)) (w : ReplyBuffer)
-    (h : Waits text after begun now lines a b w) → now ≡ fold after (fold after begun h.done) h.rest
-Waits-at text after begun now lines a b w h =
-    h.reached ∙ (ap (fold after begun) h.split ∙ fold-append after begun h.done h.rest)
+    (h : Waits text after initial now lines a b w) → now
+    ≡ fold after (fold after initial h.done) h.rest
+Waits-at text after initial now lines a b w h =
+    h.reached ∙ (ap (fold after initial) h.split ∙ fold-append after initial h.done h.rest)
 
 -- all that waits is written
 pub Waits-written : {S : Type 0} (text : S → List ℕ → List ℕ) (after : S → List ℕ → S)
-    (begun now : S) (lines : List (List ℕ)) (a b c : Option (List ℕ)) (w : ReplyBuffer) →
-    Waits text after begun now lines a b w → Appends b c w.text.items →
-    Appends a c (replies text after begun lines)
-Waits-written text after begun now lines a b c w h k =
-    subst (Appends a c) (Waits-all text after begun now lines a b w h)
-    (Appends-then a b c (replies text after begun h.done) w.text.items h.written k)
+    (initial now : S) (lines : List (List ℕ)) (a b c : Option (List ℕ)) (w : ReplyBuffer) →
+    Waits text after initial now lines a b w → Appends b c w.text.items →
+    Appends a c (replies text after initial lines)
+Waits-written text after initial now lines a b c w h k =
+    subst (Appends a c) (Waits-all text after initial now lines a b w h)
+    (Appends-then a b c (replies text after initial h.done) w.text.items h.written k)
 
 -- all that waits is written, and nothing waits then
-pub Waits-write : {S : Type 0} (text : S → List ℕ → List ℕ) (after : S → List ℕ → S) (begun now : S)
+pub Waits-write : {S : Type 0} (text : S → List ℕ → List ℕ) (after : S → List ℕ → S)
+    (initial now : S)
     (lines : List (List ℕ)) (a b c : Option (List ℕ)) (w w' : ReplyBuffer) →
-    Waits text after begun now lines a b w → Writes b c w w' →
-    Waits text after begun now lines a c w'
-Waits-write text after begun now lines a b c w w' h k = record {
+    Waits text after initial now lines a b w → Writes b c w w' →
+    Waits text after initial now lines a c w'
+Waits-write text after initial now lines a b c w w' h k = record {
   done = lines;
   rest = [];
   split = sym (append-nil lines);
-  written = Waits-written text after begun now lines a b c w h k.all;
+  written = Waits-written text after initial now lines a b c w h k.all;
   texts = k.text;
   places = k.ends;
   reached = h.reached;
@@ -121,44 +123,44 @@ Waits-write text after begun now lines a b c w w' h k = record {
 
 -- nothing was written, or all that waited
 pub Waits-settle : {S : Type 0} (text : S → List ℕ → List ℕ) (after : S → List ℕ → S)
-    (begun now u : S) (lines : List (List ℕ)) (a b c : Option (List ℕ)) (w w' : ReplyBuffer) →
-    Waits text after begun now lines a b w → Settles b c w w' → u ≡ now →
-    Waits text after begun u lines a c w'
-Waits-settle {S} text after begun now u lines a b c w w' h settled same =
-    subst (λ (v : S). Waits text after begun v lines a c w') (sym same)
+    (initial now u : S) (lines : List (List ℕ)) (a b c : Option (List ℕ)) (w w' : ReplyBuffer) →
+    Waits text after initial now lines a b w → Settles b c w w' → u ≡ now →
+    Waits text after initial u lines a c w'
+Waits-settle {S} text after initial now u lines a b c w w' h settled same =
+    subst (λ (v : S). Waits text after initial v lines a c w') (sym same)
     (⊎_elim
     (λ k. record {
       done = h.done;
       rest = h.rest;
       split = h.split;
       written =
-          subst (λ (o : Option (List ℕ)). Appends a o (replies text after begun h.done)) (sym k.0)
+          subst (λ (o : Option (List ℕ)). Appends a o (replies text after initial h.done)) (sym k.0)
           h.written;
       texts = k.1 ∙ h.texts;
       places = k.2 ∙ h.places;
       reached = h.reached;
       changes = h.changes;
     })
-    (λ k. Waits-write text after begun now lines a b c w w' h k)
+    (λ k. Waits-write text after initial now lines a b c w w' h k)
     settled)
 
 -- another line
-pub after_one : {S : Type 0} (after : S → List ℕ → S) (begun s u : S) (lines : List (List ℕ))
-    (line : List ℕ) → s ≡ fold after begun lines → u ≡ after s line →
-    u ≡ fold after begun (lines ++ line ∷ [])
-after_one after begun s u lines line h e =
-    e ∙ (ap (λ v. after v line) h ∙ sym (fold-append after begun lines (line ∷ [])))
+pub after_one : {S : Type 0} (after : S → List ℕ → S) (initial s u : S) (lines : List (List ℕ))
+    (line : List ℕ) → s ≡ fold after initial lines → u ≡ after s line →
+    u ≡ fold after initial (lines ++ line ∷ [])
+after_one after initial s u lines line h e =
+    e ∙ (ap (λ v. after v line) h ∙ sym (fold-append after initial lines (line ∷ [])))
 
 -- another reply, which changes nothing
-Waits-behind : {S : Type 0} (text : S → List ℕ → List ℕ) (after : S → List ℕ → S) (begun s u : S)
+Waits-behind : {S : Type 0} (text : S → List ℕ → List ℕ) (after : S → List ℕ → S) (initial s u : S)
     (lines : List (List ℕ)) (line : List ℕ) (a b c : Option (List ℕ)) (w w' : ReplyBuffer) →
-    Waits text after begun s lines a b w → u ≡ s → c ≡ b →
+    Waits text after initial s lines a b w → u ≡ s → c ≡ b →
     w'.text.items ≡ w.text.items ++ text s line →
     w'.ends.items ≡ w.ends.items ++ length w'.text.items ∷ [] → u ≡ after s line →
-    Waits text after begun u (lines ++ line ∷ []) a c w'
-Waits-behind text after begun s u lines line a b c w w' h same kept pushed ended e =
-    let v = fold after begun h.done in
-    let at = Waits-at text after begun s lines a b w h in
+    Waits text after initial u (lines ++ line ∷ []) a c w'
+Waits-behind text after initial s u lines line a b c w w' h same kept pushed ended e =
+    let v = fold after initial h.done in
+    let at = Waits-at text after initial s lines a b w h in
     let all : w'.text.items ≡ replies text after v (h.rest ++ line ∷ []) =
     pushed
     ∙ (ap (λ l. l ++ text s line) h.texts
@@ -170,7 +172,8 @@ Waits-behind text after begun s u lines line a b c w w' h same kept pushed ended
       rest = h.rest ++ line ∷ [];
       split = ap (λ l. l ++ line ∷ []) h.split ∙ append_assoc h.done h.rest (line ∷ []);
       written =
-          subst (λ (o : Option (List ℕ)). Appends a o (replies text after begun h.done)) (sym kept)
+          subst (λ (o : Option (List ℕ)). Appends a o (replies text after initial h.done))
+          (sym kept)
           h.written;
       texts = all;
       places =
@@ -178,41 +181,42 @@ Waits-behind text after begun s u lines line a b c w w' h same kept pushed ended
           ∙ (ap (λ l. l ++ length w'.text.items ∷ []) h.places
           ∙ (ap (λ n. ends_from text after 0 v h.rest ++ n ∷ []) (omega (arith, ap length all))
           ∙ sym (ends-append text after 0 v h.rest line)));
-      reached = after_one after begun s u lines line h.reached e;
+      reached = after_one after initial s u lines line h.reached e;
       changes =
           ChangesFirst-append after v h.rest line h.changes
           (ap (λ t. after t line) (sym at) ∙ (sym e ∙ (same ∙ at)));
     }
 
 -- what waited was written before another reply
-Waits-first : {S : Type 0} (text : S → List ℕ → List ℕ) (after : S → List ℕ → S) (begun s u : S)
+Waits-first : {S : Type 0} (text : S → List ℕ → List ℕ) (after : S → List ℕ → S) (initial s u : S)
     (lines : List (List ℕ)) (line : List ℕ) (a b c : Option (List ℕ)) (w w' : ReplyBuffer) →
-    Waits text after begun s lines a b w → Appends b c w.text.items → w'.text.items ≡ text s line →
+    Waits text after initial s lines a b w → Appends b c w.text.items → w'.text.items
+    ≡ text s line →
     w'.ends.items ≡ length (text s line) ∷ [] → u ≡ after s line →
-    Waits text after begun u (lines ++ line ∷ []) a c w'
-Waits-first text after begun s u lines line a b c w w' h k texts ends e =
-    let v = fold after begun lines in
+    Waits text after initial u (lines ++ line ∷ []) a c w'
+Waits-first text after initial s u lines line a b c w w' h k texts ends e =
+    let v = fold after initial lines in
     let at : text s line ≡ text v line = ap (λ t. text t line) h.reached in
     record {
       done = lines;
       rest = line ∷ [];
       split = refl;
-      written = Waits-written text after begun s lines a b c w h k;
+      written = Waits-written text after initial s lines a b c w h k;
       texts = texts ∙ (at ∙ sym (append-nil (text v line)));
       places = ends ∙ ap (λ n. n ∷ []) (omega (arith, ap length at));
-      reached = after_one after begun s u lines line h.reached e;
+      reached = after_one after initial s u lines line h.reached e;
       changes = tt;
     }
 
 -- another reply
-pub Waits-add : {S : Type 0} (text : S → List ℕ → List ℕ) (after : S → List ℕ → S) (begun s u : S)
+pub Waits-add : {S : Type 0} (text : S → List ℕ → List ℕ) (after : S → List ℕ → S) (initial s u : S)
     (reply : List ℕ) (lines : List (List ℕ)) (line : List ℕ) (a b c : Option (List ℕ))
-    (w w' : ReplyBuffer) → Waits text after begun s lines a b w → Adds s u reply b c w w' →
-    reply ≡ text s line → u ≡ after s line → Waits text after begun u (lines ++ line ∷ []) a c w'
-Waits-add text after begun s u reply lines line a b c w w' h adds is_reply e =
+    (w w' : ReplyBuffer) → Waits text after initial s lines a b w → Adds s u reply b c w w' →
+    reply ≡ text s line → u ≡ after s line → Waits text after initial u (lines ++ line ∷ []) a c w'
+Waits-add text after initial s u reply lines line a b c w w' h adds is_reply e =
     ⊎_elim
-    (λ k. Waits-behind text after begun s u lines line a b c w w' h k.0 k.1
+    (λ k. Waits-behind text after initial s u lines line a b c w w' h k.0 k.1
     (k.2.text ∙ ap (λ l. w.text.items ++ l) is_reply) k.2.ends e)
-    (λ k. Waits-first text after begun s u lines line a b c w w' h k.0 (k.1 ∙ is_reply)
+    (λ k. Waits-first text after initial s u lines line a b c w w' h k.0 (k.1 ∙ is_reply)
     (k.2 ∙ ap (λ l. length l ∷ []) is_reply) e)
     adds

@@ -18,6 +18,7 @@ use Rattle.osn_territory.specs.StyleWords.{style_word}
 use Rattle.osn_written.specs.declared.any_date.Reckoning.{Reckoning}
 use Rattle.osn_written.specs.declared.any_date.Reckoning.TheVariants.{OldStyle, NewStyle}
 use Rattle.osn_written.specs.declared.kind.Kind.{Kind}
+use Rattle.osn_written.specs.Feast.{feast_name}
 use Rattle.osn_written.specs.Kind.{kind_word}
 use Rattle.osn_written.specs.Words.{no_day_words, fault_words}
 use Rattle.osn_register.specs.declared.answer.Answer.{Answer}
@@ -25,6 +26,7 @@ use Rattle.osn_register.specs.declared.answer.Answer.TheVariants as answers
 use Rattle.osn_register.specs.declared.answer.Exception.{Exception}
 use Rattle.osn_register.specs.declared.answer.Found.{Found}
 use Rattle.osn_register.specs.declared.answer.FoundChange.{FoundChange}
+use Rattle.osn_register.specs.declared.answer.FoundFeast.{FoundFeast}
 use Rattle.osn_register.specs.declared.answer.FoundRun.{FoundRun}
 use Rattle.osn_register.specs.declared.answer.Land.{Land}
 use Rattle.osn_register.specs.declared.answer.PeriodAndSource.{PeriodAndSource}
@@ -164,6 +166,23 @@ abbrev pub changes_data : List FoundChange → Data
 changes_data changes =
     object (member (codes "changes") (list_data (map change_data changes)) no_members)
 
+-- a feast by its name, its day, and the year from 1 January with its Easter
+abbrev pub found_feast_data : FoundFeast → Data
+found_feast_data f = object (
+    member (codes "feast") (string (feast_name f.feast))
+    (member (codes "found") (found_data f.found)
+    (member (codes "year") (whole f.year)
+    no_members)))
+
+abbrev pub feasts_data : List FoundFeast → Data
+feasts_data feasts =
+    object (member (codes "feasts") (list_data (map found_feast_data feasts)) no_members)
+
+-- the day that has a date by a calendar, as the territory names it, or none
+abbrev pub converted_data : List Found → Data
+converted_data found =
+    object (member (codes "days") (list_data (map found_data found)) no_members)
+
 -- the word of a date's kind
 abbrev pub word_of_kind : Option Kind → List ℕ
 word_of_kind None = codes "none"
@@ -199,6 +218,7 @@ weekday_data w = string (weekday_name w)
 abbrev pub written_data : WrittenAnswer → Data
 written_data w = object (
     member (codes "approximate") (boolean w.is_approximate)
+    (member (codes "ends_in_next_year") (boolean w.remarks.ends_in_next_year)
     (member (codes "kind") (string (word_of_kind w.kind))
     (member (codes "named_calendar") (option_data named_calendar_data w.remarks.reckoning)
     (member (codes "named_weekday") (option_data weekday_data w.remarks.weekday)
@@ -214,7 +234,7 @@ written_data w = object (
     (member (codes "uncertain") (boolean w.is_uncertain)
     (member (codes "weekday") (option_data boolean w.is_on_weekday)
     (member (codes "year") (list_data (map found_run_data w.near.year))
-    no_members))))))))))))))))
+    no_members)))))))))))))))))
 
 abbrev pub answered_data : ℕ → ℕ → Data → Data
 answered_data reader edition answer = object (
@@ -245,6 +265,10 @@ replied_data reader edition (answers.Exceptions exceptions) =
     answered_data reader edition (exceptions_data exceptions)
 replied_data reader edition (answers.Changes changes) =
     answered_data reader edition (changes_data changes)
+replied_data reader edition (answers.Feasts feasts) =
+    answered_data reader edition (feasts_data feasts)
+replied_data reader edition (answers.Converted found) =
+    answered_data reader edition (converted_data found)
 replied_data reader edition (answers.Written written) =
     answered_data reader edition (written_data written)
 replied_data reader edition (answers.Refused f) = object (

@@ -6,7 +6,7 @@ use Rattle.osn_lines.specs.declared.fault.EndedEarly.{EndedEarly}
 use Rattle.osn_lines.specs.Faults.{IsReadFault}
 use Rattle.osn_lines.specs.Lines.{lines}
 use Rattle.osn_lines.specs.Streams.{Input, Output}
-use Rattle.osn_lines.specs.Taking.{HasRead}
+use Rattle.osn_lines.specs.Takers.{HasRead}
 use Rattle.osn_service.specs.declared.fault.ServeFault.{ServeFault}
 use Rattle.osn_service.specs.declared.fault.ServiceFault.{ServiceFault}
 use Rattle.osn_service.specs.declared.rules.ServeRules.{ServeRules}
@@ -94,8 +94,8 @@ abbrev pub KeepsStore : {S F : Type 0} → (S → S → Type 0) → (S → Objec
     → ServeRules → ObjectState → S → S → Input → Result Served (EndedEarly (ServiceFault F))
     → Type 0
 KeepsStore {S} has_kept has_lost rules s old new i result =
-    MatchService result (λ end. (begun : S) → has_kept begun old → has_kept begun new)
-    (λ n. (begun : S) → has_kept begun old → has_kept begun new)
+    MatchService result (λ end. (initial : S) → has_kept initial old → has_kept initial new)
+    (λ n. (initial : S) → has_kept initial old → has_kept initial new)
     (λ n why. (before : ObjectState)
     × IfSome i.bytes (λ bytes. before ≡ after_lines rules s (take n (lines bytes)))
-    × ((begun : S) → has_kept begun old → has_lost begun before new why))
+    × ((initial : S) → has_kept initial old → has_lost initial before new why))

@@ -30,16 +30,17 @@ ChangesFirst after s (line ∷ rest) = ChangesNothing after (after s line) rest
 
 -- the lines were answered. The replies to the last of them wait, and of those lines only the first
 -- has changed anything
-pub record Waits {S : Type 0} (text : S → List ℕ → List ℕ) (after : S → List ℕ → S) (begun now : S)
-    (lines : List (List ℕ)) (old new : Option (List ℕ)) (waiting : ReplyBuffer) : Type 0 where
+pub record Waits {S : Type 0} (text : S → List ℕ → List ℕ) (after : S → List ℕ → S)
+    (initial now : S)
+    (lines : List (List ℕ)) (old new : Option (List ℕ)) (buffer : ReplyBuffer) : Type 0 where
   pub done : List (List ℕ)
   pub rest : List (List ℕ)
   pub split : lines ≡ done ++ rest
-  pub written : Appends old new (replies text after begun done)
-  pub texts : waiting.text.items ≡ replies text after (fold after begun done) rest
-  pub places : waiting.ends.items ≡ ends_from text after 0 (fold after begun done) rest
-  pub reached : now ≡ fold after begun lines
-  pub changes : ChangesFirst after (fold after begun done) rest
+  pub written : Appends old new (replies text after initial done)
+  pub texts : buffer.text.items ≡ replies text after (fold after initial done) rest
+  pub places : buffer.ends.items ≡ ends_from text after 0 (fold after initial done) rest
+  pub reached : now ≡ fold after initial lines
+  pub changes : ChangesFirst after (fold after initial done) rest
 
 -- another reply waits
 pub record Pushes (old new : ReplyBuffer) (reply : List ℕ) : Type 0 where
@@ -53,13 +54,13 @@ pub record Writes (written now : Option (List ℕ)) (old new : ReplyBuffer) : Ty
   pub ends : new.ends.items ≡ []
 
 -- some bytes of what waited are written, and this many replies of it not whole
-pub record WritesSome (written now : Option (List ℕ)) (waiting : ReplyBuffer)
+pub record WritesSome (written now : Option (List ℕ)) (buffer : ReplyBuffer)
     (unwritten : ℕ) : Type 0 where
   pub bytes : ℕ
-  pub within : bytes ≤ length waiting.text.items
-  pub some : Appends written now (take bytes waiting.text.items)
-  pub count : unwritten + count_by (λ end. nat_le end bytes) waiting.ends.items
-      ≡ length waiting.ends.items
+  pub within : bytes ≤ length buffer.text.items
+  pub some : Appends written now (take bytes buffer.text.items)
+  pub count : unwritten + count_by (λ end. nat_le end bytes) buffer.ends.items
+      ≡ length buffer.ends.items
 
 -- a reply was added that changes nothing, or what waited was written before it
 abbrev pub Adds : {S : Type 0} → S → S → List ℕ → Option (List ℕ) → Option (List ℕ) → ReplyBuffer →
@@ -77,13 +78,14 @@ Settles written now old new =
 
 -- a prefix of the replies is written, with those to n lines whole and no more, and no line after
 -- the next has changed anything
-pub record InPart {S : Type 0} (text : S → List ℕ → List ℕ) (after : S → List ℕ → S) (begun now : S)
+pub record InPart {S : Type 0} (text : S → List ℕ → List ℕ) (after : S → List ℕ → S)
+    (initial now : S)
     (lines : List (List ℕ)) (old new : Option (List ℕ)) (n : ℕ) : Type 0 where
   pub bytes : ℕ
   pub enough : n ≤ length lines
-  pub within : bytes ≤ length (replies text after begun lines)
-  pub written : Appends old new (take bytes (replies text after begun lines))
-  pub whole : length (replies text after begun (take n lines)) ≤ bytes
-  pub no_more : n < length lines → bytes < length (replies text after begun (take (n + 1) lines))
-  pub reached : (now ≡ fold after begun (take n lines))
-      ⊎ ((n < length lines) × (now ≡ fold after begun (take (n + 1) lines)))
+  pub within : bytes ≤ length (replies text after initial lines)
+  pub written : Appends old new (take bytes (replies text after initial lines))
+  pub whole : length (replies text after initial (take n lines)) ≤ bytes
+  pub no_more : n < length lines → bytes < length (replies text after initial (take (n + 1) lines))
+  pub reached : (now ≡ fold after initial (take n lines))
+      ⊎ ((n < length lines) × (now ≡ fold after initial (take (n + 1) lines)))

@@ -77,15 +77,15 @@ without_source Publish = Ok Publish
 without_source (Ask reader q) = Ok (Ask reader q)
 
 -- a line's request, by whether it may only read, and whether an edit may give a source
-abbrev pub allowed : Bool → Bool → Result Request WireFault → Result Request WireFault
-allowed true takes_sources r = r >>= reading
-allowed false true r = r
-allowed false false r = r >>= without_source
+abbrev pub allowed_request : Bool → Bool → Result Request WireFault → Result Request WireFault
+allowed_request true takes_sources r = r >>= reading
+allowed_request false true r = r
+allowed_request false false r = r >>= without_source
 
 -- what a line requests
 abbrev pub line_request : ServeRules → List ℕ → Result Request WireFault
 line_request rules line =
-    allowed rules.read_only rules.takes_sources (request newest_version rules.readers line)
+    allowed_request rules.read_only rules.takes_sources (request newest_version rules.readers line)
 
 -- the reply to a line, and the state that it leaves
 abbrev pub line_outcome : ServeRules → ObjectState → List ℕ → Outcome

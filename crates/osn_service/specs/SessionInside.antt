@@ -26,42 +26,42 @@ pub record SessionState : Type 0 where
   pub object : ObjectState
   pub written : Option (List ℕ)
   pub failed : Bool
-  pub waiting : ReplyBuffer
+  pub buffer : ReplyBuffer
 
 -- that of a store, a sink and a buffer
 abbrev pub session_state : {W S : Type 0} → (W → Option (List ℕ)) → (W → Bool) → (S → ObjectState)
     → S → W → ReplyBuffer → SessionState
-session_state contents has_failed state store sink waiting = record {
+session_state contents has_failed state store sink buffer = record {
   object = state store;
   written = contents sink;
   failed = has_failed sink;
-  waiting = waiting;
+  buffer = buffer;
 }
 
 -- ---- one line
 
 -- a reply was added, and the object is this one then
 pub record Answered (outcome : Outcome) (after : ObjectState) (s t : SessionState) : Type 0 where
-  pub adds : Adds s.object t.object (reply_line outcome) s.written t.written s.waiting t.waiting
+  pub adds : Adds s.object t.object (reply_line outcome) s.written t.written s.buffer t.buffer
   pub object : t.object ≡ after
   pub sound : t.failed ≡ s.failed
 
 -- nothing was answered, and nothing was written or all that waited
 pub record Settled (s t : SessionState) : Type 0 where
-  pub settles : Settles s.written t.written s.waiting t.waiting
+  pub settles : Settles s.written t.written s.buffer t.buffer
   pub object : t.object ≡ s.object
   pub sound : t.failed ≡ s.failed
 
 -- a write of what waited failed, with this many replies not written whole
 pub record Unwritten (s t : SessionState) (unwritten : ℕ) : Type 0 where
-  pub some : WritesSome s.written t.written s.waiting unwritten
+  pub some : WritesSome s.written t.written s.buffer unwritten
   pub object : t.object ≡ s.object
-  pub reason : WriteFails s.failed t.failed s.waiting.text.items
+  pub reason : WriteFails s.failed t.failed s.buffer.text.items
 
 -- what waited was written, the object is this one then, and its reply was taken back
 pub record TakenBack (after : ObjectState) (s t : SessionState) (holds_back : Bool) : Type 0 where
-  pub written : Appends s.written t.written s.waiting.text.items
-  pub none : t.waiting.text.items ≡ []
+  pub written : Appends s.written t.written s.buffer.text.items
+  pub none : t.buffer.text.items ≡ []
   pub object : t.object ≡ after
   pub sound : t.failed ≡ s.failed
   pub passed : holds_back ≡ false
@@ -70,7 +70,7 @@ pub record TakenBack (after : ObjectState) (s t : SessionState) (holds_back : Bo
 abbrev pub KeepsNoMore : {S F : Type 0} → (S → S → Type 0) → (S → ObjectState → S → F → Type 0)
     → S → ObjectState → S → F → Type 0
 KeepsNoMore {S} has_kept has_lost old before new why =
-    (begun : S) → has_kept begun old → has_lost begun before new why
+    (initial : S) → has_kept initial old → has_lost initial before new why
 
 -- what became of a line with this outcome and after which the object is this one, by whether it was
 -- answered
@@ -97,30 +97,30 @@ IsShort rules s lines text =
     (length text < full) ⊎ HasReply rules s lines (length text - 65535)
 
 -- lines were answered, and the replies to the last of them wait
-pub record Serving (rules : ServeRules) (begun : SessionState) (lines : List (List ℕ))
+pub record Serving (rules : ServeRules) (initial : SessionState) (lines : List (List ℕ))
     (now : SessionState) : Type 0 where
-  pub waits : Waits (line_text rules) (line_after rules) begun.object now.object lines
-      begun.written now.written now.waiting
-  pub short : IsShort rules begun.object lines now.waiting.text.items
-  pub sound : now.failed ≡ begun.failed
+  pub waits : Waits (line_text rules) (line_after rules) initial.object now.object lines
+      initial.written now.written now.buffer
+  pub short : IsShort rules initial.object lines now.buffer.text.items
+  pub sound : now.failed ≡ initial.failed
 
 -- lines were answered, and a write failed with this many of their replies not written whole
-pub record Failing (rules : ServeRules) (begun : SessionState) (lines : List (List ℕ))
+pub record Failing (rules : ServeRules) (initial : SessionState) (lines : List (List ℕ))
     (now : SessionState) (unwritten : ℕ) : Type 0 where
   pub whole : ℕ
   pub count : whole + unwritten ≡ length lines
-  pub part : InPart (line_text rules) (line_after rules) begun.object now.object lines
-      begun.written now.written whole
-  pub reason : RepliesFail rules begun.object begun.failed now.failed lines
+  pub part : InPart (line_text rules) (line_after rules) initial.object now.object lines
+      initial.written now.written whole
+  pub reason : RepliesFail rules initial.object initial.failed now.failed lines
 
 -- lines were answered and their replies written, and the change of the line after them was not kept
-pub record Unkept (rules : ServeRules) (begun : SessionState) (lines : List (List ℕ))
+pub record Unkept (rules : ServeRules) (initial : SessionState) (lines : List (List ℕ))
     (line : List ℕ) (now : SessionState) (holds_back : Bool) : Type 0 where
-  pub written : Appends begun.written now.written (outputs rules begun.object lines)
-  pub none : now.waiting.text.items ≡ []
-  pub sound : now.failed ≡ begun.failed
+  pub written : Appends initial.written now.written (outputs rules initial.object lines)
+  pub none : now.buffer.text.items ≡ []
+  pub sound : now.failed ≡ initial.failed
   pub passed : holds_back ≡ false
-  pub reached : now.object ≡ after_lines rules begun.object (lines ++ line ∷ [])
+  pub reached : now.object ≡ after_lines rules initial.object (lines ++ line ∷ [])
 
 -- if a refusal ends the service, no line of these was refused
 abbrev pub Spared : ServeRules → ObjectState → List (List ℕ) → Type 0
@@ -136,73 +136,74 @@ pub record Refused (rules : ServeRules) (s : ObjectState) (lines : List (List �
 -- ---- the session
 
 -- what one session lends and keeps, another does
-pub record IsSame {W S : Type 0} (begun now : Session W S) : Type 0 where
-  pub rules : now.rules ≡ begun.rules
-  pub store : now.store.ghost_name ≡ begun.store.ghost_name
-  pub sink : now.sink.ghost_name ≡ begun.sink.ghost_name
+pub record IsSame {W S : Type 0} (initial now : Session W S) : Type 0 where
+  pub rules : now.rules ≡ initial.rules
+  pub store : now.store.ghost_name ≡ initial.store.ghost_name
+  pub sink : now.sink.ghost_name ≡ initial.sink.ghost_name
 
 -- what a session has now
 abbrev pub session_state_of : {W S : Type 0} → (W → Option (List ℕ)) → (W → Bool) →
     (S → ObjectState) → Session W S → SessionState
 session_state_of contents has_failed state s =
-    session_state contents has_failed state s.store.now s.sink.now s.waiting.now
+    session_state contents has_failed state s.store.now s.sink.now s.buffer.now
 
 -- no reply waits, and no reply is held back
 pub record IsReady {W S : Type 0} (holds_back : W → Bool) (now : Session W S) : Type 0 where
-  pub text : now.waiting.now.text.items ≡ []
-  pub ends : now.waiting.now.ends.items ≡ []
+  pub text : now.buffer.now.text.items ≡ []
+  pub ends : now.buffer.now.ends.items ≡ []
   pub passed : holds_back now.sink.now ≡ false
 
 module _ {W S F : Type 0} (contents : W → Option (List ℕ)) (has_failed holds_back : W → Bool)
     (state : S → ObjectState) (lends has_kept : S → S → Type 0)
     (has_lost : S → ObjectState → S → F → Type 0) where
   -- what was one session is another, once it took these lines, none of which ended it
-  pub record HasServed (begun : Session W S) (lines : List (List ℕ)) (now : Session W S) : Type 0
+  pub record HasServed (initial : Session W S) (lines : List (List ℕ)) (now : Session W S) : Type 0
     where
-      pub same : IsSame begun now
-      pub lent : KeepsSince lends begun.store.now now.store.now
-      pub serving : Serving begun.rules (session_state_of contents has_failed state begun) lines
+      pub same : IsSame initial now
+      pub lent : KeepsSince lends initial.store.now now.store.now
+      pub serving : Serving initial.rules (session_state_of contents has_failed state initial) lines
           (session_state_of contents has_failed state now)
-      pub spared : Spared begun.rules (state begun.store.now) lines
-      pub keeps : KeepsSince has_kept begun.store.now now.store.now
+      pub spared : Spared initial.rules (state initial.store.now) lines
+      pub keeps : KeepsSince has_kept initial.store.now now.store.now
 
   -- it took these lines, and a write failed
-  pub record HasFailed (begun : Session W S) (lines : List (List ℕ)) (now : Session W S)
+  pub record HasFailed (initial : Session W S) (lines : List (List ℕ)) (now : Session W S)
       (unwritten : ℕ) : Type 0 where
-    pub same : IsSame begun now
-    pub lent : KeepsSince lends begun.store.now now.store.now
-    pub failing : Failing begun.rules (session_state_of contents has_failed state begun) lines
+    pub same : IsSame initial now
+    pub lent : KeepsSince lends initial.store.now now.store.now
+    pub failing : Failing initial.rules (session_state_of contents has_failed state initial) lines
         (session_state_of contents has_failed state now) unwritten
-    pub keeps : KeepsSince has_kept begun.store.now now.store.now
+    pub keeps : KeepsSince has_kept initial.store.now now.store.now
 
   -- it took these lines, and the change of this one was not kept
-  pub record HasLost (begun : Session W S) (lines : List (List ℕ)) (at : Option (List ℕ))
+  pub record HasLost (initial : Session W S) (lines : List (List ℕ)) (at : Option (List ℕ))
       (now : Session W S) (why : F) : Type 0 where
     pub line : List ℕ
     pub is : at ≡ Some line
-    pub same : IsSame begun now
-    pub lent : KeepsSince lends begun.store.now now.store.now
-    pub unkept : Unkept begun.rules (session_state_of contents has_failed state begun) lines line
+    pub same : IsSame initial now
+    pub lent : KeepsSince lends initial.store.now now.store.now
+    pub unkept : Unkept initial.rules (session_state_of contents has_failed state initial) lines
+        line
         (session_state_of contents has_failed state now) (holds_back now.sink.now)
-    pub spared : Spared begun.rules (state begun.store.now) lines
-    pub fails : KeepsNoMore has_kept has_lost begun.store.now
-        (after_lines begun.rules (state begun.store.now) lines) now.store.now why
+    pub spared : Spared initial.rules (state initial.store.now) lines
+    pub fails : KeepsNoMore has_kept has_lost initial.store.now
+        (after_lines initial.rules (state initial.store.now) lines) now.store.now why
 
   -- it took these lines and this one, which was refused and is the last
-  pub record HasRefused (begun : Session W S) (lines : List (List ℕ)) (at : Option (List ℕ))
+  pub record HasRefused (initial : Session W S) (lines : List (List ℕ)) (at : Option (List ℕ))
       (now : Session W S) : Type 0 where
     pub line : List ℕ
     pub is : at ≡ Some line
-    pub same : IsSame begun now
-    pub lent : KeepsSince lends begun.store.now now.store.now
-    pub serving : Serving begun.rules (session_state_of contents has_failed state begun)
+    pub same : IsSame initial now
+    pub lent : KeepsSince lends initial.store.now now.store.now
+    pub serving : Serving initial.rules (session_state_of contents has_failed state initial)
         (lines ++ line ∷ []) (session_state_of contents has_failed state now)
-    pub refused : Refused begun.rules (state begun.store.now) lines line
-    pub keeps : KeepsSince has_kept begun.store.now now.store.now
+    pub refused : Refused initial.rules (state initial.store.now) lines line
+    pub keeps : KeepsSince has_kept initial.store.now now.store.now
 
   -- it took these lines and stopped, between two lines or at one
   abbrev pub HasStopped : Session W S → List (List ℕ) → Option (List ℕ) → Session W S → Stop F
       → Type 0
-  HasStopped begun lines at now why =
-      MatchStop why (HasServed begun lines now) (HasFailed begun lines now)
-      (HasLost begun lines at now) (HasRefused begun lines at now)
+  HasStopped initial lines at now why =
+      MatchStop why (HasServed initial lines now) (HasFailed initial lines now)
+      (HasLost initial lines at now) (HasRefused initial lines at now)

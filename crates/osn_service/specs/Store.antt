@@ -11,7 +11,7 @@ MatchStoreFault (NotKept why) P Q = Q why
 
 -- what held since any moment still does
 abbrev pub KeepsSince : {S : Type 0} → (S → S → Type 0) → S → S → Type 0
-KeepsSince {S} Holds old new = (begun : S) → Holds begun old → Holds begun new
+KeepsSince {S} Holds old new = (initial : S) → Holds initial old → Holds initial new
 
 -- the store is this object now, and the changes that were kept since any moment still are
 pub record Makes {S : Type 0} (state : S → ObjectState) (has_kept : S → S → Type 0) (old new : S)
@@ -24,4 +24,4 @@ pub record FailsToKeep {S F : Type 0} (state : S → ObjectState) (has_kept : S 
     (has_lost : S → ObjectState → S → F → Type 0) (old new : S) (object : ObjectState) (why : F)
     : Type 0 where
   pub is : state new ≡ object
-  pub fails : (begun : S) → has_kept begun old → has_lost begun (state old) new why
+  pub fails : (initial : S) → has_kept initial old → has_lost initial (state old) new why

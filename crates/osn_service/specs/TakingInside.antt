@@ -10,7 +10,7 @@ use Rattle.osn_lines.specs.declared.fault.TakeFault.TheVariants as take
 use Rattle.osn_lines.specs.Faults.{IsReadFault}
 use Rattle.osn_lines.specs.Lines.{lines}
 use Rattle.osn_lines.specs.Streams.{Input, Output}
-use Rattle.osn_lines.specs.Taking.{HasRead}
+use Rattle.osn_lines.specs.Takers.{HasRead}
 use Rattle.osn_service.specs.declared.fault.ServeFault.TheVariants.{NoMemory, ReadFault, WriteFault}
 use Rattle.osn_service.specs.declared.fault.ServiceFault.{ServiceFault}
 use Rattle.osn_service.specs.declared.fault.ServiceFault.TheVariants.{Serve, NotKept}
@@ -52,21 +52,21 @@ IsWithin n (take.Stopped stop.Refused) = ⊤
 
 -- n lines were answered, the first n of the input if that is known, and their replies are written
 -- or wait
-pub record AnswersFirst (rules : ServeRules) (begun now : SessionState) (input : Option (List ℕ))
+pub record AnswersFirst (rules : ServeRules) (initial now : SessionState) (input : Option (List ℕ))
     (n : ℕ) : Type 0 where
   pub lines_taken : List (List ℕ)
-  pub serving : Serving rules begun lines_taken now
+  pub serving : Serving rules initial lines_taken now
   pub count : n ≡ length lines_taken
   pub first : IfSome input (λ bytes. take (length lines_taken) (lines bytes) ≡ lines_taken)
 
 -- the first lines of the input were answered, a write failed, and a prefix of their replies with
 -- those to n lines is written
-pub record AnswersInPart (rules : ServeRules) (begun now : SessionState) (input : Option (List ℕ))
+pub record AnswersInPart (rules : ServeRules) (initial now : SessionState) (input : Option (List ℕ))
     (n : ℕ) : Type 0 where
   pub lines_taken : List (List ℕ)
-  pub part : InPart (line_text rules) (line_after rules) begun.object now.object lines_taken
-      begun.written now.written n
-  pub reason : RepliesFail rules begun.object begun.failed now.failed lines_taken
+  pub part : InPart (line_text rules) (line_after rules) initial.object now.object lines_taken
+      initial.written now.written n
+  pub reason : RepliesFail rules initial.object initial.failed now.failed lines_taken
   pub first : IfSome input (λ bytes. take (length lines_taken) (lines bytes) ≡ lines_taken)
 
 -- if a refusal ends the service, none of the first n lines was refused
@@ -92,10 +92,10 @@ EndsTaking rules s i n (ByFault WriteFault) = ⊥
 
 -- what a sink had at a moment, and has now
 abbrev pub output_since : SessionState → Option (List ℕ) → Bool → Bool → Output
-output_since begun new unwritten holds_back = record {
-  old = begun.written;
+output_since initial new unwritten holds_back = record {
+  old = initial.written;
   new = new;
-  unwritten_before = begun.failed;
+  unwritten_before = initial.failed;
   unwritten = unwritten;
   holds_back = holds_back;
 }
@@ -104,14 +104,14 @@ output_since begun new unwritten holds_back = record {
 -- kept
 abbrev pub HasTaken : {F : Type 0} → ServeRules → SessionState → SessionState → Bool → Input
     → Result LinesTaken (EndedEarly (ServiceFault F)) → Type 0
-HasTaken rules begun now holds_back i (Ok taken) =
-    AnswersFirst rules begun now i.bytes taken.lines
-    × EndsTaking rules begun.object i taken.lines taken.end
-HasTaken rules begun now holds_back i (Err end) =
+HasTaken rules initial now holds_back i (Ok taken) =
+    AnswersFirst rules initial now i.bytes taken.lines
+    × EndsTaking rules initial.object i taken.lines taken.end
+HasTaken rules initial now holds_back i (Err end) =
     MatchServiceFault end.cause
-    (λ fault. MatchFault fault ⊥ ⊥ (AnswersInPart rules begun now i.bytes end.lines))
-    (λ why. ServesUnkept rules begun.object now.object i
-    (output_since begun now.written now.failed holds_back) end.lines)
+    (λ fault. MatchFault fault ⊥ ⊥ (AnswersInPart rules initial now i.bytes end.lines))
+    (λ why. ServesUnkept rules initial.object now.object i
+    (output_since initial now.written now.failed holds_back) end.lines)
 
 -- what a store has kept when taking lines ended
 abbrev pub HasKept : {S F : Type 0} → (S → S → Type 0) → (S → ObjectState → S → F → Type 0)

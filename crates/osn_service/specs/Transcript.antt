@@ -5,9 +5,10 @@ use Rattle.serde_json.specs.Data.{Data, string, object, member, no_members}
 use Rattle.osn_register.specs.declared.query.Query.{Query}
 use Rattle.osn_register.specs.declared.query.Query.TheVariants.{Read, DayIn, Easter, YearFigures}
 use Rattle.osn_register.specs.declared.query.Query.TheVariants.{Lands, Periods, Exceptions, Changes}
-use Rattle.osn_register.specs.declared.query.Query.TheVariants.{Written}
+use Rattle.osn_register.specs.declared.query.Query.TheVariants.{Feasts, Convert, Written}
 use Rattle.osn_core.specs.declared.step.Reply.{Reply}
 use Rattle.osn_days.specs.declared.weekday.Weekday.{Weekday}
+use Rattle.osn_days.specs.CalendarWords.{calendar_word}
 use Rattle.osn_days.specs.Weekday.{weekday_name}
 use Rattle.osn_request.specs.Json.{whole, signed}
 use Rattle.osn_service.specs.ReplyText.{replied_data, line_of}
@@ -74,6 +75,21 @@ query_data reader (Changes code) = object (
     (member (codes "op") (string (codes "changes"))
     (member (codes "reader") (whole reader)
     no_members)))
+query_data reader (Feasts code year) = object (
+    member (codes "code") (string code)
+    (member (codes "op") (string (codes "feasts"))
+    (member (codes "reader") (whole reader)
+    (member (codes "year") (signed year)
+    no_members))))
+query_data reader (Convert code calendar year month day) = object (
+    member (codes "calendar") (string (calendar_word calendar))
+    (member (codes "code") (string code)
+    (member (codes "day") (signed day)
+    (member (codes "month") (signed month)
+    (member (codes "op") (string (codes "convert"))
+    (member (codes "reader") (whole reader)
+    (member (codes "year") (signed year)
+    no_members)))))))
 query_data reader (Written code text date weekday) = query_date_data reader code text weekday
 
 -- what a reader asked, and the reply

@@ -10,6 +10,7 @@ ghost use Rattle.serde_json.specs.Written.{compact_text};
 mod answer;
 mod change;
 mod date;
+mod feast;
 mod figures;
 mod found;
 mod period;
@@ -165,10 +166,10 @@ pub fn push_reply(alloc: Global, outcome: &Outcome, out: &mut Vec<u8>) -> Result
     ensures err { OnErr result (out.new.items ≡ out.old.items) }
 {
     let mut line = LineWriter::new(alloc, mem::replace(out, Vec::new(alloc)));
-    let written = write_line(&mut line, outcome);
-    *out = match written {
+    let write_result = write_line(&mut line, outcome);
+    *out = match write_result {
         Ok(()) => line.into_bytes(),
         Err(_) => line.into_before(),
     };
-    written
+    write_result
 }

@@ -89,8 +89,8 @@ fn take_all<R: Source, W: Sink, S: Store>(
     session: &mut Session<'_, '_, '_, W, S>,
     source: &mut R,
 ) -> Result<LinesTaken, EndedEarly<ServiceFault<S::Fault>>>
-    requires text { session.old.waiting.now.text.items ≡ [] }
-    requires ends { session.old.waiting.now.ends.items ≡ [] }
+    requires text { session.old.buffer.now.text.items ≡ [] }
+    requires ends { session.old.buffer.now.ends.items ≡ [] }
     ensures same { IsSame session.old session.new }
     ensures lent { KeepsSince S.lends session.old.store.now session.new.store.now }
     ensures sources { KeepsSourceless session.old.rules (S.state session.old.store.now)
@@ -117,26 +117,27 @@ fn take_all<R: Source, W: Sink, S: Store>(
 /// no more had to be.
 fn write_rest<W: Sink, S: Store>(
     sink: &mut W,
-    waiting: &mut ReplyBuffer,
+    buffer: &mut ReplyBuffer,
     outcome: Result<LinesTaken, EndedEarly<ServiceFault<S::Fault>>>,
 ) -> Result<Served, EndedEarly<ServiceFault<S::Fault>>>
-    requires { IfOk outcome (λ outcome. length waiting.old.ends.items ≤ outcome.lines) }
+    requires { IfOk outcome (λ outcome. length buffer.old.ends.items ≤ outcome.lines) }
     // Whatever was taken, and by which rules.
-    ensures serves { (rules : ServeRules) (begun : SessionState) (object : ObjectState) (i : Input)
-        → HasTaken rules begun (record {
+    ensures serves { (rules : ServeRules) (initial : SessionState) (object : ObjectState)
+        (i : Input)
+        → HasTaken rules initial (record {
           object = object;
           written = W.contents sink.old;
           failed = W.has_failed sink.old;
-          waiting = waiting.old;
+          buffer = buffer.old;
         }) (W.holds_back sink.old) i outcome →
-        ServesStore rules begun.object object i (output_since begun (W.contents sink.new)
+        ServesStore rules initial.object object i (output_since initial (W.contents sink.new)
         (W.has_failed sink.new) (W.holds_back sink.new)) result }
     ensures keeps { (rules : ServeRules) (s : ObjectState) (old : S) (new : S) (i : Input) →
         HasKept S.has_kept S.has_lost rules s old new i outcome →
         KeepsStore S.has_kept S.has_lost rules s old new i result }
 {
     let LinesTaken { lines, end } = outcome?;
-    if let Err(UnwrittenReplies { unwritten }) = waiting.write(sink) {
+    if let Err(UnwrittenReplies { unwritten }) = buffer.write(sink) {
         return Err(EndedEarly {
             lines: lines - unwritten,
             cause: ServiceFault::Serve(ServeFault::WriteFault),
@@ -163,8 +164,8 @@ fn run<R: Source, W: Sink, S: Store>(
     session: &mut Session<'_, '_, '_, W, S>,
     source: &mut R,
 ) -> Result<Served, EndedEarly<ServiceFault<S::Fault>>>
-    requires text { session.old.waiting.now.text.items ≡ [] }
-    requires ends { session.old.waiting.now.ends.items ≡ [] }
+    requires text { session.old.buffer.now.text.items ≡ [] }
+    requires ends { session.old.buffer.now.ends.items ≡ [] }
     ensures same { IsSame session.old session.new }
     ensures lent { KeepsSince S.lends session.old.store.now session.new.store.now }
     ensures sources { KeepsSourceless session.old.rules (S.state session.old.store.now)
@@ -179,7 +180,7 @@ fn run<R: Source, W: Sink, S: Store>(
         (input_of R.remaining R.has_failed source.old source.new) result }
 {
     let outcome = take_all(session, source);
-    write_rest::<W, S>(session.sink, session.waiting, outcome)
+    write_rest::<W, S>(session.sink, session.buffer, outcome)
 }
 
 /// Answers every line of the source up to its end, by these rules, from the store that is given.
@@ -213,7 +214,7 @@ pub fn serve_store<R: Source, W: Sink, S: Store>(
         (input_of R.remaining R.has_failed source.old source.new) result }
 {
     let mut scratch = Scratch::new(alloc);
-    let mut waiting = ReplyBuffer::new(alloc);
+    let mut buffer = ReplyBuffer::new(alloc);
     run(
         &mut Session {
             alloc,
@@ -221,7 +222,7 @@ pub fn serve_store<R: Source, W: Sink, S: Store>(
             rules,
             store,
             sink,
-            waiting: &mut waiting,
+            buffer: &mut buffer,
         },
         source,
     )

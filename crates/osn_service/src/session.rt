@@ -36,17 +36,17 @@ use std::alloc::{AllocError, Global};
 /// Adds the reply to a line that changes nothing, and returns whether it was refused.
 fn push_outcome(
     alloc: Global,
-    waiting: &mut ReplyBuffer,
+    buffer: &mut ReplyBuffer,
     outcome: Outcome,
 ) -> Result<bool, AllocError>
     ensures refused { IfOk result (λ refused. refused ≡ is_refused outcome) }
-    ensures ok { OnOk result (Pushes waiting.old waiting.new (reply_line outcome)) }
-    ensures err { OnErr result (waiting.new.text.items ≡ waiting.old.text.items) }
-    ensures err_ends { OnErr result (waiting.new.ends.items ≡ waiting.old.ends.items) }
+    ensures ok { OnOk result (Pushes buffer.old buffer.new (reply_line outcome)) }
+    ensures err { OnErr result (buffer.new.text.items ≡ buffer.old.text.items) }
+    ensures err_ends { OnErr result (buffer.new.ends.items ≡ buffer.old.ends.items) }
 {
-    let refused = outcome.is_refused();
-    waiting.push(alloc, outcome)?;
-    Ok(refused)
+    let is_refusal = outcome.is_refused();
+    buffer.push(alloc, outcome)?;
+    Ok(is_refusal)
 }
 
 /// Makes a change that is not refused, after what waits is written, and adds its reply, which is
@@ -55,25 +55,25 @@ fn change<W: Sink, S: Store>(
     alloc: Global,
     store: &mut S,
     sink: &mut W,
-    waiting: &mut ReplyBuffer,
+    buffer: &mut ReplyBuffer,
     change: Change,
 ) -> Result<bool, Stop<S::Fault>>
     ensures { Answers S.lends S.has_kept S.has_lost (change_outcome (S.state store.old) change)
         (change_after (S.state store.old) change)
-        (session_state W.contents W.has_failed S.state store.old sink.old waiting.old)
-        (session_state W.contents W.has_failed S.state store.new sink.new waiting.new)
+        (session_state W.contents W.has_failed S.state store.old sink.old buffer.old)
+        (session_state W.contents W.has_failed S.state store.new sink.new buffer.new)
         (W.holds_back sink.new) store.old store.new result }
 {
     let number = match store.check(&change) {
         Ok(number) => number,
-        Err(refusal) => return Ok(push_outcome(alloc, waiting, Outcome::Refused(refusal))?),
+        Err(refusal) => return Ok(push_outcome(alloc, buffer, Outcome::Refused(refusal))?),
     };
-    waiting.write(sink)?;
-    waiting.push(alloc, change.outcome(number))?;
+    buffer.write(sink)?;
+    buffer.push(alloc, change.outcome(number))?;
     match store.make(change) {
         Ok(()) => Ok(false),
         Err(fault) => {
-            waiting.clear();
+            buffer.clear();
             Err(Stop::from(fault))
         }
     }
@@ -96,25 +96,30 @@ fn ask<S: Store>(
     store: &S,
     reader: u32,
     query: LineQuery<'_>,
-    waiting: &mut ReplyBuffer,
+    buffer: &mut ReplyBuffer,
 ) -> Result<bool, AllocError>
     ensures refused { IfOk result (λ refused. refused
         ≡ is_refused (spec.ask_outcome (S.state store.now) reader (line_query query.entry))) }
-    ensures ok { OnOk result (Pushes waiting.old waiting.new
+    ensures ok { OnOk result (Pushes buffer.old buffer.new
         (reply_line (spec.ask_outcome (S.state store.now) reader (line_query query.entry)))) }
-    ensures err { OnErr result (waiting.new.text.items ≡ waiting.old.text.items) }
-    ensures err_ends { OnErr result (waiting.new.ends.items ≡ waiting.old.ends.items) }
+    ensures err { OnErr result (buffer.new.text.items ≡ buffer.old.text.items) }
+    ensures err_ends { OnErr result (buffer.new.ends.items ≡ buffer.old.ends.items) }
 {
     let reply = reply_to(alloc, store, query)?;
-    push_outcome(alloc, waiting, Outcome::Replied { reader, reply })
+    push_outcome(alloc, buffer, Outcome::Replied { reader, reply })
 }
 
-/// Returns what a line asks for, if the rules let it in.
-fn allowed(rules: ServeRules, request: LineRequest<'_>) -> Result<LineRequest<'_>, WireFault>
+/// Returns what a line asks for, if the rules accept it.
+fn allowed_request(
+    rules: ServeRules,
+    request: LineRequest<'_>,
+) -> Result<LineRequest<'_>, WireFault>
     ensures { MatchResult result
-        (λ r. spec.allowed rules.read_only rules.takes_sources (Ok (as_request request.entry))
+        (λ r. spec.allowed_request rules.read_only rules.takes_sources
+        (Ok (as_request request.entry))
         ≡ Ok (as_request r))
-        (λ f. spec.allowed rules.read_only rules.takes_sources (Ok (as_request request.entry))
+        (λ f. spec.allowed_request rules.read_only rules.takes_sources
+        (Ok (as_request request.entry))
         ≡ Err f) }
 {
     match request {
@@ -133,16 +138,16 @@ fn allowed(rules: ServeRules, request: LineRequest<'_>) -> Result<LineRequest<'_
 fn request_in<'a>(
     alloc: Global,
     rules: ServeRules,
-    read: &'a Result<LineObject<'_>, RequestError>,
+    object: &'a Result<LineObject<'_>, RequestError>,
 ) -> Result<LineRequest<'a>, RequestError>
-    ensures request { (whole : List ℕ) → IsReadOf whole read.now → MatchResult result
+    ensures request { (whole : List ℕ) → IsReadOf whole object.now → MatchResult result
         (λ r. spec.line_request rules whole ≡ Ok (as_request r))
         (λ e. Fails e (spec.line_request rules whole)) }
-    ensures memory { IfErr result (λ e. e ≡ NoMemory → (whole : List ℕ) → IsReadOf whole read.now
-        → WantsMemory rules.readers whole read.now) }
+    ensures memory { IfErr result (λ e. e ≡ NoMemory → (whole : List ℕ) → IsReadOf whole object.now
+        → WantsMemory rules.readers whole object.now) }
 {
-    match read {
-        Ok(object) => Ok(allowed(rules, line_request_of(alloc, rules.readers, object)?)?),
+    match object {
+        Ok(object) => Ok(allowed_request(rules, line_request_of(alloc, rules.readers, object)?)?),
         Err(error) => Err(*error),
     }
 }
@@ -154,21 +159,21 @@ fn answer_read<W: Sink, S: Store>(
     rules: ServeRules,
     store: &mut S,
     sink: &mut W,
-    waiting: &mut ReplyBuffer,
-    read: &Result<LineObject<'_>, RequestError>,
+    buffer: &mut ReplyBuffer,
+    object: &Result<LineObject<'_>, RequestError>,
 ) -> Result<bool, Stop<S::Fault>>
-    ensures { (whole : List ℕ) → IsReadOf whole read.now → Answers S.lends S.has_kept S.has_lost
+    ensures { (whole : List ℕ) → IsReadOf whole object.now → Answers S.lends S.has_kept S.has_lost
         (spec.line_outcome rules (S.state store.old) whole)
         (spec.line_after rules (S.state store.old) whole)
-        (session_state W.contents W.has_failed S.state store.old sink.old waiting.old)
-        (session_state W.contents W.has_failed S.state store.new sink.new waiting.new)
+        (session_state W.contents W.has_failed S.state store.old sink.old buffer.old)
+        (session_state W.contents W.has_failed S.state store.new sink.new buffer.new)
         (W.holds_back sink.new) store.old store.new result }
 {
-    match request_in(alloc, rules, read) {
-        Ok(LineRequest::Stage(edit)) => change(alloc, store, sink, waiting, Change::Stage(edit)),
-        Ok(LineRequest::Publish) => change(alloc, store, sink, waiting, Change::Publish),
-        Ok(LineRequest::Ask { reader, query }) => Ok(ask(alloc, store, reader, query, waiting)?),
-        Err(RequestError::Fault(fault)) => Ok(push_outcome(alloc, waiting, Outcome::Fault(fault))?),
+    match request_in(alloc, rules, object) {
+        Ok(LineRequest::Stage(edit)) => change(alloc, store, sink, buffer, Change::Stage(edit)),
+        Ok(LineRequest::Publish) => change(alloc, store, sink, buffer, Change::Publish),
+        Ok(LineRequest::Ask { reader, query }) => Ok(ask(alloc, store, reader, query, buffer)?),
+        Err(RequestError::Fault(fault)) => Ok(push_outcome(alloc, buffer, Outcome::Fault(fault))?),
         Err(RequestError::NoMemory) => Err(Stop::NoMemory),
     }
 }
@@ -181,33 +186,33 @@ fn answer<W: Sink, S: Store>(
     rules: ServeRules,
     store: &mut S,
     sink: &mut W,
-    waiting: &mut ReplyBuffer,
+    buffer: &mut ReplyBuffer,
     line: Line<'_>,
 ) -> Result<bool, Stop<S::Fault>>
     ensures { (whole : List ℕ) → IsLine line.entry whole → Answers S.lends S.has_kept S.has_lost
         (spec.line_outcome rules (S.state store.old) whole)
         (spec.line_after rules (S.state store.old) whole)
-        (session_state W.contents W.has_failed S.state store.old sink.old waiting.old)
-        (session_state W.contents W.has_failed S.state store.new sink.new waiting.new)
+        (session_state W.contents W.has_failed S.state store.old sink.old buffer.old)
+        (session_state W.contents W.has_failed S.state store.new sink.new buffer.new)
         (W.holds_back sink.new) store.old store.new result }
 {
-    let read = object_of(alloc, scratch, line);
-    answer_read(alloc, rules, store, sink, waiting, &read)
+    let object = object_of(alloc, scratch, line);
+    answer_read(alloc, rules, store, sink, buffer, &object)
 }
 
 /// Writes what waits if enough waits to be written, so that less waits then.
-fn make_room<W: Sink>(sink: &mut W, waiting: &mut ReplyBuffer) -> Result<(), UnwrittenReplies>
+fn make_room<W: Sink>(sink: &mut W, buffer: &mut ReplyBuffer) -> Result<(), UnwrittenReplies>
     ensures ok { OnOk result
-        (Settles (W.contents sink.old) (W.contents sink.new) waiting.old waiting.new) }
-    ensures room { OnOk result (length waiting.new.text.items < full) }
+        (Settles (W.contents sink.old) (W.contents sink.new) buffer.old buffer.new) }
+    ensures room { OnOk result (length buffer.new.text.items < full) }
     ensures sound { OnOk result (W.has_failed sink.new ≡ W.has_failed sink.old) }
     ensures err { IfErr result (λ failed.
-        WritesSome (W.contents sink.old) (W.contents sink.new) waiting.old failed.unwritten) }
+        WritesSome (W.contents sink.old) (W.contents sink.new) buffer.old failed.unwritten) }
     ensures reason { OnErr result
-        (WriteFails (W.has_failed sink.old) (W.has_failed sink.new) waiting.old.text.items) }
+        (WriteFails (W.has_failed sink.old) (W.has_failed sink.new) buffer.old.text.items) }
 {
-    if waiting.is_full() {
-        return waiting.write(sink);
+    if buffer.is_full() {
+        return buffer.write(sink);
     }
     Ok(())
 }
@@ -221,7 +226,7 @@ pub(crate) struct Session<'a, 'b, 'c, W, S> {
     pub(crate) rules: ServeRules,
     pub(crate) store: &'a mut S,
     pub(crate) sink: &'b mut W,
-    pub(crate) waiting: &'c mut ReplyBuffer,
+    pub(crate) buffer: &'c mut ReplyBuffer,
 }
 
 impl<'a, 'b, 'c, W: Sink, S: Store> LineTaker for Session<'a, 'b, 'c, W, S> {
@@ -238,23 +243,23 @@ impl<'a, 'b, 'c, W: Sink, S: Store> LineTaker for Session<'a, 'b, 'c, W, S> {
     ghost is_ready = { IsReady W.holds_back };
 
     fn take(&mut self, line: Line<'_>) -> Result<(), Stop<S::Fault>> {
-        make_room(self.sink, self.waiting)?;
-        let refused = answer(
+        make_room(self.sink, self.buffer)?;
+        let is_refusal = answer(
             self.alloc,
             self.scratch,
             self.rules,
             self.store,
             self.sink,
-            self.waiting,
+            self.buffer,
             line,
         )?;
-        if refused && self.rules.stop_at_refusal {
+        if is_refusal && self.rules.stop_at_refusal {
             return Err(Stop::Refused);
         }
         Ok(())
     }
 
     fn before_read(&mut self) -> Result<(), Stop<S::Fault>> {
-        Ok(self.waiting.write(self.sink)?)
+        Ok(self.buffer.write(self.sink)?)
     }
 }

@@ -36,10 +36,10 @@ impl<F> From<UnwrittenReplies> for Stop<F> {
     ghost use Rattle.std.specs.Prelude.{◌≡◌};
     ghost use Rattle.osn_service.specs.declared.stop.Stop.TheVariants.{WriteFailed};
 
-    ghost from_gives = { λ failed e. e ≡ WriteFailed failed };
+    ghost from_gives = { λ replies e. e ≡ WriteFailed replies };
 
-    fn from(failed: UnwrittenReplies) -> Stop<F> {
-        Stop::WriteFailed(failed)
+    fn from(replies: UnwrittenReplies) -> Stop<F> {
+        Stop::WriteFailed(replies)
     }
 }
 

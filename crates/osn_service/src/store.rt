@@ -64,13 +64,13 @@ pub trait Store {
     // The object that it is.
     ghost state: { Self → ObjectState };
 
-    // `lends begun now`: what was `begun` and is `now` lends the same.
+    // `lends initial now`: what was `initial` and is `now` lends the same.
     ghost lends: { Self → Self → Type 0 } = { λ _ _. ⊤ };
 
-    // `has_kept begun now`: each change that made of what was `begun` what is `now` is kept.
+    // `has_kept initial now`: each change that made of what was `initial` what is `now` is kept.
     ghost has_kept: { Self → Self → Type 0 };
 
-    // `has_lost begun before now why`: each change was kept up to where the object was `before`,
+    // `has_lost initial before now why`: each change was kept up to where the object was `before`,
     // and the one that made it `now` was not, because of `why`.
     ghost has_lost: { Self → ObjectState → Self → Self.Fault → Type 0 };
 

@@ -14,8 +14,10 @@ use Rattle.osn_written.specs.declared.any_date.PartialDate.{PartialDate}
 use Rattle.osn_written.specs.declared.any_date.PartialDate.TheVariants as date
 use Rattle.osn_written.specs.declared.any_date.AnyDate.{AnyDate}
 use Rattle.osn_written.specs.declared.any_date.Year.{Year}
+use Rattle.osn_written.specs.AnyDate.{in_year}
 use Rattle.osn_written.specs.Feast.{feast_name}
 use Rattle.osn_written.specs.Portion.{portion_words}
+use Rattle.osn_written.specs.WrittenDate.{month_day_words}
 use Rattle.osn_territory.specs.Dual.{year_text}
 
 -- ---- a day, a month, a year
@@ -49,11 +51,13 @@ words_of_date (date.Year year) = words_of_year year
 
 -- ---- from when to when
 
--- 1640, 1640 to 1645, before 1640, not after 1640, after 1640, not before 1640, the first third of
--- 1640, Easter 1640
+-- 1640, 1640 to 1645, 3 May to 10 May 1640, before 1640, not after 1640, after 1640, not before 1640,
+-- the first third of 1640, Easter 1640
 unfoldable pub words_of_extent : Extent → List ℕ
 words_of_extent (extent.On d) = words_of_date d
 words_of_extent (extent.FromTo a b) = words_of_date a ++ (codes " to " ++ words_of_date b)
+words_of_extent (extent.DaysOfYear a b year) =
+    month_day_words a ++ (codes " to " ++ words_of_date (in_year b year))
 words_of_extent (extent.Before d) = codes "before " ++ words_of_date d
 words_of_extent (extent.NotAfter d) = codes "not after " ++ words_of_date d
 words_of_extent (extent.After d) = codes "after " ++ words_of_date d

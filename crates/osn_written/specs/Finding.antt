@@ -32,6 +32,7 @@ use Rattle.osn_written.specs.declared.span.NoSpan.{NoSpan}
 use Rattle.osn_written.specs.declared.span.NoSpan.TheVariants as spans
 use Rattle.osn_written.specs.declared.written_date.WrittenDate.{WrittenDate}
 use Rattle.osn_written.specs.Absence.{absence}
+use Rattle.osn_written.specs.AnyDate.{in_year}
 use Rattle.osn_written.specs.Runs.{runs_meant}
 use Rattle.osn_written.specs.Spans.{span_meant}
 
@@ -59,6 +60,7 @@ absence_in p t date = absence p t (first_day_of date)
 -- the first date of what is written, and the last one: of a feast, its year
 abbrev pub ends_of : Extent → PartialDate × PartialDate
 ends_of (extent.FromTo first last) = (first, last)
+ends_of (extent.DaysOfYear first last year) = (in_year first year, in_year last year)
 ends_of (extent.On date) = (date, date)
 ends_of (extent.Before date) = (date, date)
 ends_of (extent.NotAfter date) = (date, date)

@@ -28,6 +28,7 @@ kind_of_date (date.Year year) = kinds.Year
 abbrev pub kind_of : Extent → Kind
 kind_of (extent.On date) = kind_of_date date
 kind_of (extent.FromTo first last) = kinds.Range
+kind_of (extent.DaysOfYear first last year) = kinds.Range
 kind_of (extent.Before date) = kinds.Before
 kind_of (extent.NotAfter date) = kinds.Before
 kind_of (extent.After date) = kinds.After

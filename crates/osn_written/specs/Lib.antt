@@ -8,6 +8,7 @@ pub mod Runs
 pub mod Union
 pub mod Feast
 pub mod FeastDays
+pub mod YearFeasts
 pub mod OneDay
 pub mod Portion
 pub mod Spans

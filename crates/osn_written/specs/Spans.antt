@@ -1,16 +1,20 @@
 -- From which day to which a written date, a range or a bound may be in a territory. This project's
 -- profile.
-use Rattle.std.specs.Prelude.{ℕ, ◌+◌, ◌-◌, nat_le, nat_lt, if◌then◌else◌, List, [], ◌∷◌}
-use Rattle.std.specs.Prelude.{Option, Some, None, Result, Ok, Err}
+use Rattle.std.specs.Prelude.{ℕ, Bool, true, false, not, ◌&&◌, ◌||◌, ◌==◌, ◌+◌, ◌-◌, nat_le, nat_lt}
+use Rattle.std.specs.Prelude.{if◌then◌else◌, List, [], ◌∷◌, Option, Some, None, is_some}
+use Rattle.std.specs.Prelude.{Result, Ok, Err}
 use Rattle.osn_days.specs.Rules.{Rules}
 use Rattle.osn_written.specs.declared.any_date.Extent.{Extent}
 use Rattle.osn_written.specs.declared.any_date.Extent.TheVariants as extent
 use Rattle.osn_written.specs.declared.any_date.PartialDate.{PartialDate}
+use Rattle.osn_written.specs.declared.any_date.Year.{Year}
 use Rattle.osn_territory.specs.declared.runs.Run.{Run}
 use Rattle.osn_territory.specs.Territory.{TerritoryModel}
 use Rattle.osn_written.specs.declared.span.NoSpan.{NoSpan}
 use Rattle.osn_written.specs.declared.span.NoSpan.TheVariants.{NoDay, NoLastDay, OutOfOrder}
 use Rattle.osn_written.specs.declared.span.NoSpan.TheVariants.{OffTheLine}
+use Rattle.osn_written.specs.declared.written_date.MonthDay.{MonthDay}
+use Rattle.osn_written.specs.AnyDate.{in_year}
 use Rattle.osn_written.specs.FeastDays.{feast_meant}
 use Rattle.osn_written.specs.declared.portion.Portion.{Portion}
 use Rattle.osn_written.specs.Portion.{part_of_run}
@@ -43,6 +47,55 @@ from_to (Some first) None = Err NoLastDay
 from_to (Some first) (Some last) =
     if nat_le first last then Ok (record { first = first; last = last }) else Err OutOfOrder
 
+-- ---- days with one year written for both
+
+-- by month and day they are in order, in one month or in two that follow each other. A longer range
+-- may be of one year that is counted otherwise: 1 January to 31 December 1675
+abbrev pub are_close : MonthDay → MonthDay → Bool
+are_close a b = (a.month == b.month && nat_le a.day b.day) || b.month == a.month + 1
+
+-- the last one may be of the next year: they are close, and the year is not double. The year 10000
+-- has no next one
+abbrev pub may_end_in_next_year : MonthDay → MonthDay → Year → Bool
+may_end_in_next_year a b year =
+    are_close a b && (not year.is_double && nat_lt year.first 10000)
+
+abbrev pub next_year : Year → Year
+next_year year = record year { first = year.first + 1 }
+
+-- both are of the year that is written
+abbrev pub in_one_year : Rules → TerritoryModel → MonthDay → MonthDay → Year → Result Run NoSpan
+in_one_year p t a b year =
+    from_to (first_meant p t (in_year a year)) (last_meant p t (in_year b year))
+
+-- the last one is of the next year, and the first of its days there is meant
+abbrev pub into_next_year : Rules → TerritoryModel → MonthDay → MonthDay → Year → Result Run NoSpan
+into_next_year p t a b year =
+    from_to (first_meant p t (in_year a year)) (first_meant p t (in_year b (next_year year)))
+
+-- the days over the beginning of a year: those into the next year, if the last one may be of it, and
+-- in the year that is written the first day is after the last
+abbrev pub over_new_year : Bool → Result Run NoSpan → Result Run NoSpan → Option Run
+over_new_year true (Err OutOfOrder) (Ok run) = Some run
+over_new_year may_end span next = None
+
+abbrev pub days_over_new_year : Rules → TerritoryModel → MonthDay → MonthDay → Year → Option Run
+days_over_new_year p t a b year =
+    over_new_year (may_end_in_next_year a b year) (in_one_year p t a b year)
+    (into_next_year p t a b year)
+
+-- those days, or else the days of the year that is written
+abbrev pub or_in_one_year : Option Run → Result Run NoSpan → Result Run NoSpan
+or_in_one_year (Some run) span = Ok run
+or_in_one_year None span = span
+
+-- what is written ends in the next year
+abbrev pub ends_in_next_year : Rules → TerritoryModel → Extent → Bool
+ends_in_next_year p t (extent.DaysOfYear a b year) = is_some (days_over_new_year p t a b year)
+ends_in_next_year p t e = false
+
+-- ---- parts and bounds
+
 -- the part of the days of a span
 abbrev pub part_of_span : Portion → Result Run NoSpan → Result Run NoSpan
 part_of_span portion (Ok run) = Ok (part_of_run portion run)
@@ -68,11 +121,14 @@ not_before p None = Err NoDay
 not_before p (Some d) = Ok (record { first = d; last = p.high })
 
 -- from the first day that a date or a range may mean to the last one. A range lasts from the first
--- day of its first date to the last day of its last date, and a bound reaches to an end of the
--- line. A part of a date is that of the days from its first to its last one
+-- day of its first date to the last day of its last date. With one year written for two days, it may
+-- last into the next year. A bound reaches to an end of the line. A part of a date is that of the
+-- days from its first to its last one
 abbrev pub span_meant : Rules → TerritoryModel → Extent → Result Run NoSpan
 span_meant p t (extent.On date) = from_to (first_meant p t date) (last_meant p t date)
 span_meant p t (extent.FromTo a b) = from_to (first_meant p t a) (last_meant p t b)
+span_meant p t (extent.DaysOfYear a b year) =
+    or_in_one_year (days_over_new_year p t a b year) (in_one_year p t a b year)
 span_meant p t (extent.Before date) = before (first_meant p t date)
 span_meant p t (extent.NotAfter date) = not_after (last_meant p t date)
 span_meant p t (extent.After date) = after p (last_meant p t date)

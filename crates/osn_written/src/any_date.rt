@@ -4,6 +4,7 @@ ghost use Rattle.osn_written.specs.AnyDate as spec;
 
 use crate::feast::Feast;
 use crate::portion::Portion;
+use crate::written_date::MonthDay;
 use osn_days::Weekday;
 
 /// A year as it is written. For a double year, such as `1731/2`, it is the first one.
@@ -30,6 +31,13 @@ pub enum PartialDate {
 pub enum Extent {
     On(PartialDate),
     FromTo(PartialDate, PartialDate),
+    /// From a day to another one, with one year written for both, such as `18-26 March 1675`. If
+    /// the place began a year between them, the last day is of the next year.
+    DaysOfYear {
+        first: MonthDay,
+        last: MonthDay,
+        year: Year,
+    },
     Before(PartialDate),
     NotAfter(PartialDate),
     After(PartialDate),
@@ -37,7 +45,23 @@ pub enum Extent {
     /// In a part of a month or a year, such as the first third of it.
     Part(Portion, PartialDate),
     /// On the day of a feast in a year, as the place counted it.
-    Feast { feast: Feast, year: Year },
+    Feast {
+        feast: Feast,
+        year: Year,
+    },
+}
+
+impl MonthDay {
+    /// Returns the day of a year.
+    pub fn in_year(self, year: Year) -> PartialDate
+        ensures { result ≡ spec.in_year self year }
+    {
+        PartialDate::Day {
+            year,
+            month: self.month,
+            day: self.day,
+        }
+    }
 }
 
 impl PartialDate {
@@ -68,7 +92,9 @@ impl Extent {
             | Extent::After(date)
             | Extent::NotBefore(date)
             | Extent::Part(_, date) => date.has_year_of_three_digits(),
-            Extent::Feast { year, .. } => year.has_three_digits,
+            Extent::DaysOfYear { year, .. } | Extent::Feast { year, .. } => {
+                year.has_three_digits
+            }
         }
     }
 }

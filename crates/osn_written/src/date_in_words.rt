@@ -90,6 +90,9 @@ impl fmt::Display for ExtentInWords {
             Extent::FromTo(first, last) => {
                 write!(f, "{} to {}", SimpleInWords(first), SimpleInWords(last))
             }
+            Extent::DaysOfYear { first, last, year } => {
+                write!(f, "{first} to {}", SimpleInWords(last.in_year(year)))
+            }
             Extent::Before(date) => write!(f, "before {}", SimpleInWords(date)),
             Extent::NotAfter(date) => write!(f, "not after {}", SimpleInWords(date)),
             Extent::After(date) => write!(f, "after {}", SimpleInWords(date)),

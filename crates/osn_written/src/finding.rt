@@ -91,6 +91,7 @@ pub fn ends_of(extent: Extent) -> (PartialDate, PartialDate)
 {
     match extent {
         Extent::FromTo(first, last) => (first, last),
+        Extent::DaysOfYear { first, last, year } => (first.in_year(year), last.in_year(year)),
         Extent::On(date)
         | Extent::Before(date)
         | Extent::NotAfter(date)

@@ -61,7 +61,7 @@ pub fn kind_of(extent: Extent) -> Kind
 {
     match extent {
         Extent::On(date) => kind_of_date(date),
-        Extent::FromTo(_, _) => Kind::Range,
+        Extent::FromTo(_, _) | Extent::DaysOfYear { .. } => Kind::Range,
         Extent::Before(_) | Extent::NotAfter(_) => Kind::Before,
         Extent::After(_) | Extent::NotBefore(_) => Kind::After,
         Extent::Part(_, _) => Kind::Part,

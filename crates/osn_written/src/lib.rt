@@ -23,6 +23,7 @@ mod span;
 mod union;
 mod words;
 mod written_date;
+mod year_feasts;
 
 pub use absence::{Absence, absence_of};
 pub use any_date::{AnyDate, Extent, PartialDate, Reckoning, Year};
@@ -40,5 +41,6 @@ pub use one_day::plain_day;
 pub use portion::Portion;
 pub use runs::runs_meant;
 pub use set::{AbsentMember, find_set, is_set_approximate, is_set_uncertain};
-pub use span::{NoSpan, first_of, last_of, span_meant};
+pub use span::{NoSpan, ends_in_next_year, first_of, last_of, span_meant};
 pub use written_date::{DateFault, MonthDay, WrittenDate, number_of, parts_at, weekday_named};
+pub use year_feasts::{FeastDay, PRINCIPAL_FEASTS, feasts_of_year};

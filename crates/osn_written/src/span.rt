@@ -1,12 +1,13 @@
 //! From which day to which a written date, a range or a bound may be in a territory.
-ghost use Rattle.std.specs.Prelude.{◌≡◌, ◌≤◌, IfOk};
+ghost use Rattle.std.specs.Prelude.{◌≡◌, ◌≤◌, ◌<◌, IfOk};
 ghost use Rattle.osn_days.specs.Rules.{newest_rules};
 ghost use Rattle.osn_written.specs.Spans as spec;
 
-use crate::any_date::{Extent, PartialDate};
+use crate::any_date::{Extent, PartialDate, Year};
 use crate::feast_days::feast_meant;
 use crate::portion::{Portion, part_of_run};
 use crate::runs::runs_meant;
+use crate::written_date::MonthDay;
 use osn_days::{Day, HIGH};
 use osn_territory::{Run, Territory};
 use std::alloc::{AllocError, Global};
@@ -157,10 +158,130 @@ fn range_meant(
     Ok(from_to(first, last))
 }
 
+/// Returns whether two days are in order by month and day, in one month or in two that follow each
+/// other.
+fn are_close(first: MonthDay, last: MonthDay) -> bool
+    ensures { result ≡ spec.are_close first last }
+{
+    first.month == last.month && first.day <= last.day
+        || u32::from(last.month) == u32::from(first.month) + 1
+}
+
+/// Returns whether the last of two days with one year may be of the next year.
+fn may_end_in_next_year(first: MonthDay, last: MonthDay, year: Year) -> bool
+    ensures { result ≡ spec.may_end_in_next_year first last year }
+{
+    are_close(first, last) && !year.is_double && year.first < 10000
+}
+
+/// Returns the year after a year.
+fn next_year(year: Year) -> Year
+    requires { year.first < 10000 }
+    ensures { result ≡ spec.next_year year }
+{
+    Year {
+        first: year.first + 1,
+        ..year
+    }
+}
+
+/// Returns the run from a day of a year to the first day with a date in the next year.
+fn into_next_year(
+    alloc: Global,
+    territory: &Territory,
+    first: MonthDay,
+    last: MonthDay,
+    year: Year,
+) -> Result<Result<Run, NoSpan>, AllocError>
+    requires { year.first < 10000 }
+    ensures { IfOk result (λ span. span
+        ≡ spec.into_next_year newest_rules territory.now first last year) }
+{
+    let first = first_meant(alloc, territory, first.in_year(year))?;
+    let last = first_meant(alloc, territory, last.in_year(next_year(year)))?;
+    Ok(from_to(first, last))
+}
+
+/// Returns the run from a day of a year to another day of it, whatever their months and days are.
+fn in_one_year(
+    alloc: Global,
+    territory: &Territory,
+    first: MonthDay,
+    last: MonthDay,
+    year: Year,
+) -> Result<Result<Run, NoSpan>, AllocError>
+    ensures { IfOk result (λ span. span
+        ≡ spec.in_one_year newest_rules territory.now first last year) }
+{
+    range_meant(alloc, territory, first.in_year(year), last.in_year(year))
+}
+
+/// Returns the run over the beginning of a year that two days with one year mean, if they do.
+fn days_over_new_year(
+    alloc: Global,
+    territory: &Territory,
+    first: MonthDay,
+    last: MonthDay,
+    year: Year,
+) -> Result<Option<Run>, AllocError>
+    ensures { IfOk result (λ run. run
+        ≡ spec.days_over_new_year newest_rules territory.now first last year) }
+{
+    if !may_end_in_next_year(first, last, year) {
+        return Ok(None);
+    }
+    match in_one_year(alloc, territory, first, last, year)? {
+        Err(NoSpan::OutOfOrder) => Ok(into_next_year(alloc, territory, first, last, year)?.ok()),
+        _ => Ok(None),
+    }
+}
+
+/// Returns the run that two days with one year mean.
+fn days_of_year_meant(
+    alloc: Global,
+    territory: &Territory,
+    first: MonthDay,
+    last: MonthDay,
+    year: Year,
+) -> Result<Result<Run, NoSpan>, AllocError>
+    ensures { IfOk result (λ span. span ≡ spec.or_in_one_year
+        (spec.days_over_new_year newest_rules territory.now first last year)
+        (spec.in_one_year newest_rules territory.now first last year)) }
+{
+    match days_over_new_year(alloc, territory, first, last, year)? {
+        Some(run) => Ok(Ok(run)),
+        None => in_one_year(alloc, territory, first, last, year),
+    }
+}
+
+/// Returns whether what is written ends in the year after the one that is written: it is a range of
+/// two days with one year, in one month or in two that follow each other, and in that year the
+/// first day is after the last one. In England `18-26 March 1675` ends on 26 March 1676.
+///
+/// # Errors
+///
+/// `AllocError` if there is no memory for the runs of a date.
+pub fn ends_in_next_year(
+    alloc: Global,
+    territory: &Territory,
+    extent: Extent,
+) -> Result<bool, AllocError>
+    ensures { IfOk result (λ ends. ends
+        ≡ spec.ends_in_next_year newest_rules territory.now extent) }
+{
+    match extent {
+        Extent::DaysOfYear { first, last, year } => {
+            Ok(days_over_new_year(alloc, territory, first, last, year)?.is_some())
+        }
+        _ => Ok(false),
+    }
+}
+
 /// Returns the days from the first one that a date, a range or a bound may mean in a territory to
 /// the last one, or why no day is meant. A range lasts from the first day of its first date to the
-/// last day of its last date. A bound reaches to the first or the last day of the line. A part of a
-/// date is that part of the days from its first day to its last day.
+/// last day of its last date, which may be of the next year if one year is written for two days. A
+/// bound reaches to the first or the last day of the line. A part of a date is that part of the
+/// days from its first day to its last day.
 ///
 /// # Errors
 ///
@@ -175,6 +296,9 @@ pub fn span_meant(
     match extent {
         Extent::On(date) => range_meant(alloc, territory, date, date),
         Extent::FromTo(first, last) => range_meant(alloc, territory, first, last),
+        Extent::DaysOfYear { first, last, year } => {
+            days_of_year_meant(alloc, territory, first, last, year)
+        }
         Extent::Before(date) => Ok(before(first_meant(alloc, territory, date)?)),
         Extent::NotAfter(date) => Ok(not_after(last_meant(alloc, territory, date)?)),
         Extent::After(date) => Ok(after(last_meant(alloc, territory, date)?)),

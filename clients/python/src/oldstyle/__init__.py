@@ -4,7 +4,7 @@
     >>> print(Register("samples.journal").read("GB", "11 Feb. 1731/32"))
     Friday 11 February 1731/2, 1732-02-22 Gregorian (GB, edition 5)
 """
-from .answers import Change, Day, Land, ListedEaster, Period, Reading, Regime, Run
+from .answers import Change, Day, Feast, Land, ListedEaster, Period, Reading, Regime, Run
 from .faults import (BadCode, BadDate, BadField, DayOffLine, Fault, JournalRefused, LineTooLong,
                      NotJson, NotObject, OldstyleError, PlacesRefused, ProgramBusy,
                      ProgramDiffers, ProgramEnded, ProgramFailed, ProgramMissing, ProgramSlow,
@@ -15,7 +15,7 @@ from .pool import Pool
 from .register import Register
 
 __version__ = "0.1.0"
-__all__ = ["BadCode", "BadDate", "BadField", "Change", "Day", "DayOffLine", "Fault",
+__all__ = ["BadCode", "BadDate", "BadField", "Change", "Day", "DayOffLine", "Fault", "Feast",
            "JournalRefused", "Land", "LineTooLong", "ListedEaster", "NotJson", "NotObject",
            "OldstyleError", "Period", "Places", "PlacesRefused", "Pool", "ProgramBusy",
            "ProgramDiffers", "ProgramEnded", "ProgramFailed", "ProgramMissing", "ProgramSlow",

@@ -71,6 +71,7 @@ class Reading:
     named_weekday: Optional[str] = None
     not_counted_double: bool = False
     three_digits: bool = False
+    ends_in_next_year: bool = False
     nearest: Tuple[Day, ...] = ()
     skipped: Tuple[int, ...] = ()
     year: Tuple[Run, ...] = ()
@@ -163,6 +164,15 @@ class ListedEaster:
     source: Optional[str] = None
 
 
+@dataclass(frozen=True)
+class Feast:
+    """A principal feast, its day, and the year counted from 1 January with its Easter."""
+
+    feast: str
+    found: Day
+    year: int
+
+
 def reading_of(code: str, date: str, reply: Mapping[str, Any]) -> Reading:
     """The reading in a reply to `written`."""
     answer = reply["answer"]
@@ -176,6 +186,7 @@ def reading_of(code: str, date: str, reply: Mapping[str, Any]) -> Reading:
         "named_weekday": answer.get("named_weekday"),
         "not_counted_double": answer.get("not_counted_double", False),
         "three_digits": answer.get("three_digits", False),
+        "ends_in_next_year": answer.get("ends_in_next_year", False),
         "nearest": tuple([day_of(day) for day in answer.get("nearest", ())]),
         "skipped": tuple(answer.get("skipped", ())),
         "year": tuple([run_of(run) for run in answer.get("year", ())])})

@@ -6,7 +6,7 @@ import os
 from typing import (Any, Dict, Iterable, Iterator, List, Literal, NoReturn, Optional, Sequence,
                     Type, TypeVar, Union, overload)
 
-from .answers import (Change, Land, ListedEaster, Period, Reading, from_members,
+from .answers import (Change, Feast, Land, ListedEaster, Period, Reading, from_members,
                       reading_of)
 from .faults import Fault, JournalRefused, ProgramDiffers, fault_of
 from .service import Service, program_at, absolute, unreadable
@@ -102,6 +102,11 @@ class Register:
         """The Easters that a territory lists, in ascending order of their years."""
         return self._all_of(ListedEaster, "exceptions", code=code)
 
+    def feasts(self, code: str, year: int) -> List[Feast]:
+        """The principal feasts that a territory dated in a year, as it counted the year, in the
+        order of their Easters."""
+        return self._all_of(Feast, "feasts", code=code, year=year)
+
     def ask(self, op: str, **members: Any) -> Dict[str, Any]:
         """The answer to any query of docs/FORMATS.md, such as
         `ask("easter", code="GB", year=1753)`."""
@@ -114,7 +119,7 @@ class Register:
             self._differs(question)
         return answer
 
-    def _all_of(self, kind: Type[Value], op: str, **members: str) -> List[Value]:
+    def _all_of(self, kind: Type[Value], op: str, **members: Any) -> List[Value]:
         """The list in the answer to a query, which has the query's name."""
         try:
             return [from_members(kind, item) for item in self.ask(op, **members)[op]]

@@ -67,6 +67,7 @@ QUERIES = {
                      ("weekday",)),
     "day": Query("day", PLACE | {"day": number}),
     "easter": Query("easter", PLACE | {"year": number}),
+    "feasts": Query("feasts", PLACE | {"year": number}),
     "figures": Query("figures", {"year": number}),
 }
 

@@ -7,7 +7,7 @@ import os
 from flask import Flask, current_app, request
 
 from . import problems, words
-from .printed_pages import Printer
+from .commands import Commands
 from .register import Register
 from .settings import Settings
 from .tables import Tables
@@ -25,7 +25,7 @@ class Page(Flask):
         super().__init__("oldstyle_web")
         self.settings = settings
         self.register = Register(settings)
-        self.printer = Printer(settings)
+        self.commands = Commands(settings)
         self.tables = Tables(settings)
         self.version = version_of(os.path.join(self.root_path, "static"))
 

@@ -6,7 +6,7 @@ import os
 import tempfile
 from dataclasses import dataclass
 
-from .printed_pages import Printer
+from .commands import Commands
 from .problems import N_, Problem, no_place, unavailable
 from .settings import reason_of
 
@@ -20,17 +20,17 @@ class EditionFound:
     territory: list[str]
 
 
-def edition_found(printer: Printer, number: int, code: str) -> EditionFound:
+def edition_found(commands: Commands, number: int, code: str) -> EditionFound:
     """What the program prints of the journal up to an edition."""
     with tempfile.TemporaryDirectory() as folder:
         before, after, text = (os.path.join(folder, name) for name in ("before", "after", "text"))
-        copy_editions(printer.settings.journal, number - 1, before)
-        copy_editions(printer.settings.journal, number, after)
-        territory = printed(printer, after, "territory", code) if code else []
+        copy_editions(commands.settings.journal, number - 1, before)
+        copy_editions(commands.settings.journal, number, after)
+        territory = printed(commands, after, "territory", code) if code else []
         with open(text, "w", encoding="utf-8") as file:
             # (without its first line, which names an edition that the one before doesn't have)
-            file.write("\n".join(printed(printer, after, "text")[1:]))
-        return EditionFound(number, printed(printer, before, "plan", text), territory)
+            file.write("\n".join(printed(commands, after, "text")[1:]))
+        return EditionFound(number, printed(commands, before, "plan", text), territory)
 
 
 def copy_editions(journal: str, count: int, path: str) -> None:
@@ -49,11 +49,11 @@ def copy_editions(journal: str, count: int, path: str) -> None:
         raise Problem(404, N_("The journal has no such edition yet."))
 
 
-def printed(printer: Printer, journal: str, *words: str) -> list[str]:
+def printed(commands: Commands, journal: str, command: str, *words: str) -> list[str]:
     """The lines that a command prints over a part of the journal."""
-    status, out, errors = printer.run(words, journal)
+    status, out, errors = commands.run(command, journal, *words)
     if not status:
         return out.split("\n")[:-1]
     if "no territory has the code" in errors:
-        raise no_place(words[1])
+        raise no_place(words[0])
     raise unavailable("it can't read the journal up to that edition")

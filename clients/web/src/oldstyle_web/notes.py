@@ -82,6 +82,8 @@ def remarks_of(name: str, written: dict[str, Any], weekday: str) -> Iterator[str
     named = written["named_weekday"]
     if named and weekday and named != weekday:
         yield _("The date names %(day)s: write one weekday, or the same one twice.", day=_(named))
+    if written["ends_in_next_year"]:
+        yield _("Ends in the next year.")
     if written["not_counted_double"]:
         yield _("Not counted double there: the place wrote only the later year.")
     if written["three_digits"]:

@@ -8,7 +8,7 @@ from typing import Any
 from flask import Blueprint, Response, jsonify, render_template, request, url_for
 from oldstyle import Land
 
-from . import dates, months
+from . import dates, months, years
 from .context import NAME, page
 from .dates import DateFound, date_found
 from .drawing import line_of_time, years_of
@@ -168,11 +168,11 @@ def year() -> Response:
     year_asked = number_of(word("year"), 1, 9_999)
 
     def work(asking: Asking) -> tuple[list[Land], str, Any]:
-        lands = asking.lands(code)
         if not code or year_asked is None:
-            return lands, "", None
+            return asking.lands(code), "", None
+        lands = asking.lands(code, years.questions_of(code, year_asked))
         name = name_in(lands, code)
-        return lands, name, year_found(page().printer, asking, code, year_asked)
+        return lands, name, year_found(asking, code, year_asked)
     edition, (lands, name, content) = page().register.of_one_edition(work)
     return written("year.html", edition, here="year", code=code, name=name, year=year_asked,
                    title=_("The year %(year)s in %(name)s", year=year_asked, name=name) if content
@@ -192,7 +192,7 @@ def edition() -> Response:
     title = _("Edition %(number)s of %(journal)s", number=number,
               journal=page().settings.journal_name)
     return written("edition.html", newest, title=f"{title}: {code}" if code else title, code=code,
-                   content=edition_found(page().printer, number, code))
+                   content=edition_found(page().commands, number, code))
 
 
 @blueprint.get("/forms")

@@ -4,10 +4,10 @@ from __future__ import annotations
 from dataclasses import dataclass
 from typing import Any
 
-from oldstyle import Change, Day, Run
+from oldstyle import Change, Day, Feast, Run
+from oldstyle.answers import from_members, run_of
 
 from .months import sources_of
-from .printed_pages import Printer, feasts_of_year
 from .register import Asking
 from .words import year_in
 
@@ -21,33 +21,34 @@ class YearFound:
     runs: list[Run]
     months: list[tuple[int, Run]]
     changes: list[Change]
-    feasts: list[tuple[str, Day]]
+    feasts: list[Feast]
+    easters: list[Day]
     listed: list[Day]
     figures: dict[str, Any]
     sources: list[str]
 
-    @property
-    def easters(self) -> list[Day]:
-        return [found for name, found in self.feasts if name == "Easter"]
+
+def questions_of(code: str, year: int) -> list[dict[str, Any]]:
+    """The questions for the feasts and the figures of a year, its days, and those of its months."""
+    dates = [f"{year:04}", *(f"{year:04}-{month:02}" for month in range(1, 13))]
+    return [{"op": "feasts", "code": code, "year": year}, {"op": "figures", "year": year},
+            *({"op": "written", "code": code, "date": date} for date in dates)]
 
 
-def year_found(printer: Printer, asking: Asking, code: str, year: int) -> YearFound:
+def year_found(asking: Asking, code: str, year: int) -> YearFound:
     """The days, the feasts and the figures of a year."""
-    runs, *months = asking.runs(code, [f"{year:04}", *(f"{year:04}-{month:02}"
-                                                       for month in range(1, 13))])
-    named = feasts_of_year(printer, asking, code, year)
-    days = asking.days(code, (number for _, number in named))
-    feasts = [(name, found) for (name, _), found in zip(named, days)]
-    easters = [found for name, found in feasts if name == "Easter"]
+    dated, figures, *written = asking.answers(questions_of(code, year))
+    runs, *months = [[run_of(run) for run in answer["runs"]] for answer in written]
+    feasts = [from_members(Feast, feast) for feast in dated["feasts"]]
+    easters = [one.found for one in feasts if one.feast == "Easter"]
     listed = [easter for easter in asking.exceptions(code) if easter.found in easters]
-    figures, = asking.answers([{"op": "figures", "year": year}])
     changes = [change for change in asking.changes(code) if meets(change, year)]
     sources = [*sources_of(asking.periods(code), runs), *(change.source for change in changes),
                *(easter.source for easter in listed)]
     return YearFound(
         year, runs, sorted(((month, run) for month, found in enumerate(months, 1) for run in found),
                            key=lambda one: one[1].first.day),
-        changes, feasts, [easter.found for easter in listed], figures,
+        changes, feasts, easters, [easter.found for easter in listed], figures,
         list(filter(None, sources)))
 
 

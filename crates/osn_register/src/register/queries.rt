@@ -2,6 +2,7 @@
 ghost use Rattle.std.specs.Prelude.{◌≡◌, true, IfOk, OnErr, ◌<◌, length, map};
 ghost use Rattle.osn_days.specs.Rules.{first_rules, newest_rules};
 ghost use Rattle.osn_register.specs.Answer as spec;
+ghost use Rattle.osn_register.specs.QueryRefusal as refusals;
 ghost use Rattle.osn_register.specs.BorrowedQuery.{as_query};
 ghost use Rattle.osn_register.specs.EarlierRules.{KeepsAnswer};
 ghost use Rattle.osn_register.specs.Plain.{code_refusal};
@@ -15,11 +16,11 @@ use crate::numbers::{day_on_line, label_of_numbers, year_in_range};
 use crate::query::Query;
 use crate::refusal::Refusal;
 use crate::register::Register;
-use crate::territory_answer::{easters, exceptions, on_day, periods, reading};
+use crate::territory_answer::{converted, easters, exceptions, feasts, on_day, periods, reading};
 use crate::text::Text;
 use crate::unanswered::Unanswered;
 use crate::written_answer::written;
-use osn_days::Weekday;
+use osn_days::{Calendar, Weekday};
 use osn_written::{DateReading, Listing};
 use std::alloc::{AllocError, Global};
 
@@ -47,7 +48,7 @@ impl Register {
         // as a law: only the definition's refusals refuse a query
         ensures refused { IfOk result
             (λ a. spec.refusal_in a
-            ≡ spec.query_refusal newest_rules self.now.territories query.now) }
+            ≡ refusals.query_refusal newest_rules self.now.territories query.now) }
         ensures memory { OnErr result
             (spec.takes_memory (spec.answer newest_rules self.now.territories query.now) ≡ true) }
         // as a law: if the first rules have the year or the day, it keeps what they answer
@@ -66,7 +67,7 @@ impl Register {
         ensures value { IfOk result
             (λ a. a ≡ spec.answer newest_rules self.now.territories (as_query query.entry)) }
         ensures refused { IfOk result (λ a. spec.refusal_in a
-            ≡ spec.query_refusal newest_rules self.now.territories (as_query query.entry)) }
+            ≡ refusals.query_refusal newest_rules self.now.territories (as_query query.entry)) }
         ensures memory { OnErr result (spec.takes_memory
             (spec.answer newest_rules self.now.territories (as_query query.entry)) ≡ true) }
         ensures earlier_rules { IfOk result
@@ -81,7 +82,7 @@ impl Register {
 
     fn lawful_answer(&self, query: BorrowedQuery<'_>) -> Result<Answer, Unanswered>
         ensures { IsAnswered
-            (spec.query_refusal newest_rules self.now.territories (as_query query.entry))
+            (refusals.query_refusal newest_rules self.now.territories (as_query query.entry))
             (spec.answer newest_rules self.now.territories (as_query query.entry)) result }
     {
         match query {
@@ -93,13 +94,17 @@ impl Register {
             BorrowedQuery::Periods(code) => self.periods(code),
             BorrowedQuery::Exceptions(code) => self.exceptions(code),
             BorrowedQuery::Changes(code) => self.changes(code),
+            BorrowedQuery::Feasts(code, year) => self.feasts(code, year),
+            BorrowedQuery::Convert(code, calendar, year, month, day) => {
+                self.convert(code, calendar, year, month, day)
+            }
             BorrowedQuery::Written(code, _, date, weekday) => self.written(code, date, weekday),
         }
     }
 
     fn read(&self, code: &str, year: i64, month: i64, day: i64) -> Result<Answer, Unanswered>
         ensures { IsAnswered
-            (spec.read_refusal newest_rules self.now.territories code.now year month day)
+            (refusals.read_refusal newest_rules self.now.territories code.now year month day)
             (spec.read_answer newest_rules self.now.territories code.now year month day) result }
     {
         let territory = self.known_territory(code)?;
@@ -109,7 +114,7 @@ impl Register {
 
     fn day_in(&self, code: &str, day: i64) -> Result<Answer, Unanswered>
         ensures { IsAnswered
-            (spec.day_refusal newest_rules self.now.territories code.now day)
+            (refusals.day_refusal newest_rules self.now.territories code.now day)
             (spec.day_in_answer newest_rules self.now.territories code.now day) result }
     {
         let (territory, sources) = self.known_entry(code)?;
@@ -119,7 +124,7 @@ impl Register {
 
     fn easter(&self, code: &str, year: i64) -> Result<Answer, Unanswered>
         ensures { IsAnswered
-            (spec.easter_refusal newest_rules self.now.territories code.now year)
+            (refusals.easter_refusal newest_rules self.now.territories code.now year)
             (spec.easter_answer newest_rules self.now.territories code.now year) result }
     {
         let (territory, sources) = self.known_entry(code)?;
@@ -152,6 +157,34 @@ impl Register {
     {
         let (territory, sources) = self.known_entry(code)?;
         Ok(changes(self.alloc, territory, sources)?)
+    }
+
+    fn feasts(&self, code: &str, year: i64) -> Result<Answer, Unanswered>
+        ensures { IsAnswered
+            (refusals.easter_refusal newest_rules self.now.territories code.now year)
+            (spec.feasts_in_answer newest_rules self.now.territories code.now year) result }
+    {
+        let territory = self.known_territory(code)?;
+        let year = year_in_range(year)?;
+        Ok(feasts(self.alloc, territory, year)?)
+    }
+
+    fn convert(
+        &self,
+        code: &str,
+        calendar: Calendar,
+        year: i64,
+        month: i64,
+        day: i64,
+    ) -> Result<Answer, Unanswered>
+        ensures { IsAnswered
+            (refusals.read_refusal newest_rules self.now.territories code.now year month day)
+            (spec.convert_in_answer newest_rules self.now.territories code.now calendar
+            year month day) result }
+    {
+        let territory = self.known_territory(code)?;
+        let label = label_of_numbers(year, month, day)?;
+        Ok(converted(self.alloc, territory, calendar, label)?)
     }
 
     fn written(

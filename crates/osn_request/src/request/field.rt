@@ -10,7 +10,7 @@ use crate::member::Member;
 use crate::request::json_object::JsonObject;
 use crate::version::Version;
 use crate::wire_fault::WireFault;
-use osn_days::{Keyword, Weekday};
+use osn_days::{Calendar, Keyword, Weekday};
 use osn_register::Source;
 use osn_territory::{Regime, Style};
 use osn_written::weekday_named;
@@ -71,6 +71,16 @@ pub fn weekday_at<O: JsonObject>(object: &O) -> Result<Option<Weekday>, WireFaul
         return Ok(None);
     }
     Ok(Some(named_weekday_at(object)?))
+}
+
+/// Returns the calendar that a member names.
+///
+/// # Errors
+/// Returns `BadField` if the member is missing, not a text or not the word of a calendar.
+pub fn calendar_at<O: JsonObject>(object: &O) -> Result<Calendar, WireFault>
+    ensures { result ≡ spec.calendar_at (O.value object.now) }
+{
+    word_at(object, Member::Calendar)
 }
 
 /// Returns the style that a member gives, if its word is one of the version's.

@@ -23,7 +23,7 @@ pub enum LineQuery<'a> {
 }
 
 /// Returns the query about a date as it is written, by what is read of its text.
-fn written(
+fn written_query(
     alloc: Global,
     code: &str,
     date: &str,
@@ -55,7 +55,7 @@ impl<'a> LineQuery<'a> {
                 code,
                 date,
                 weekday,
-            } => written(alloc, code, date, weekday),
+            } => written_query(alloc, code, date, weekday),
         }
     }
 }

@@ -37,6 +37,8 @@ pub enum QueryOp {
     Periods,
     Exceptions,
     Changes,
+    Feasts,
+    Convert,
     Written,
 }
 
@@ -59,6 +61,8 @@ fn op_named(word: &str) -> Option<Op>
         "periods" => Some(Op::Query(QueryOp::Periods)),
         "exceptions" => Some(Op::Query(QueryOp::Exceptions)),
         "changes" => Some(Op::Query(QueryOp::Changes)),
+        "feasts" => Some(Op::Query(QueryOp::Feasts)),
+        "convert" => Some(Op::Query(QueryOp::Convert)),
         "written" => Some(Op::Query(QueryOp::Written)),
         _ => None,
     }

@@ -8,7 +8,7 @@ ghost use Rattle.osn_request.specs.Request.{GivesLast};
 
 use crate::member::Member;
 use crate::request::RequestError;
-use crate::request::field::{text_at, weekday_at, whole_at};
+use crate::request::field::{calendar_at, text_at, weekday_at, whole_at};
 use crate::request::json_object::JsonObject;
 use crate::request::line_query::LineQuery;
 use crate::request::op::QueryOp;
@@ -83,6 +83,27 @@ fn changes_of<O: JsonObject>(object: &O) -> Result<LineQuery<'_>, WireFault>
     Ok(LineQuery::Plain(BorrowedQuery::Changes(code)))
 }
 
+#[tactic(auto, unfolding(crate::specs::QueryRequest::feasts_of))]
+fn feasts_of<O: JsonObject>(object: &O) -> Result<LineQuery<'_>, WireFault>
+    ensures { Reads result (spec.feasts_of (O.value object.now)) }
+{
+    let code = text_at(object, Member::Code)?;
+    let year = whole_at(object, Member::Year)?;
+    Ok(LineQuery::Plain(BorrowedQuery::Feasts(code, year)))
+}
+
+#[tactic(auto, unfolding(crate::specs::QueryRequest::convert_of))]
+fn convert_of<O: JsonObject>(object: &O) -> Result<LineQuery<'_>, WireFault>
+    ensures { Reads result (spec.convert_of (O.value object.now)) }
+{
+    let code = text_at(object, Member::Code)?;
+    let calendar = calendar_at(object)?;
+    let year = whole_at(object, Member::Year)?;
+    let month = whole_at(object, Member::Month)?;
+    let day = whole_at(object, Member::Day)?;
+    Ok(LineQuery::Plain(BorrowedQuery::Convert(code, calendar, year, month, day)))
+}
+
 #[tactic(auto, unfolding(crate::specs::QueryRequest::year_figures_of))]
 fn year_figures_of<O: JsonObject>(object: &O) -> Result<LineQuery<'_>, WireFault>
     ensures { Reads result (spec.year_figures_of (O.value object.now)) }
@@ -118,6 +139,8 @@ fn query_by<O: JsonObject>(op: QueryOp, object: &O) -> Result<LineQuery<'_>, Wir
         QueryOp::Periods => periods_of(object),
         QueryOp::Exceptions => exceptions_of(object),
         QueryOp::Changes => changes_of(object),
+        QueryOp::Feasts => feasts_of(object),
+        QueryOp::Convert => convert_of(object),
         QueryOp::Written => written_of(object),
     }
 }

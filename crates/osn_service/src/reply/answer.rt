@@ -11,17 +11,19 @@ use crate::reply::written::write_written;
 use osn_computus::Epact;
 use osn_core::Reply;
 use osn_days::{Day, Year};
-use osn_register::{Answer, Exception, Found, FoundChange, Land, PeriodAndSource, Refusal, Source};
+use osn_register::{
+    Answer, Exception, Found, FoundChange, FoundFeast, Land, PeriodAndSource, Refusal, Source,
+};
 use std::alloc::AllocError;
 
 /// Begins a reply with a reading.
-fn write_reading(out: &mut LineWriter, found: &[Found], skipped: &[Day]) -> Result<(), AllocError>
+fn write_reading(out: &mut LineWriter, days: &[Found], skipped: &[Day]) -> Result<(), AllocError>
     ensures text { OnOk result (out.new.text ≡ out.old.text
         ++ (codes "{\"answer\":" ++ compact_text
-        (spec.reading_data found.now skipped.now))) }
+        (spec.reading_data days.now skipped.now))) }
     ensures before { out.new.before ≡ out.old.before }
 {
-    write_list(out, r#"{"answer":{"days":"#, found)?;
+    write_list(out, r#"{"answer":{"days":"#, days)?;
     write_list(out, r#","skipped":"#, skipped)?;
     out.push("}")
 }
@@ -29,15 +31,15 @@ fn write_reading(out: &mut LineWriter, found: &[Found], skipped: &[Day]) -> Resu
 /// Begins a reply with a day and its period.
 fn write_on_day(
     out: &mut LineWriter,
-    found: &Found,
+    day: &Found,
     period: &PeriodAndSource,
 ) -> Result<(), AllocError>
     ensures text { OnOk result (out.new.text ≡ out.old.text
-        ++ (codes "{\"answer\":" ++ compact_text (spec.on_day_data found.now period.now))) }
+        ++ (codes "{\"answer\":" ++ compact_text (spec.on_day_data day.now period.now))) }
     ensures before { out.new.before ≡ out.old.before }
 {
     out.push_number(r#"{"answer":{"first":"#, period.period.first.number())?;
-    write_member(out, r#","found":"#, found)?;
+    write_member(out, r#","found":"#, day)?;
     out.push_number(r#","last":"#, period.period.last.number())?;
     write_member(out, r#","regime":"#, &period.period.regime)?;
     write_source(out, &period.source)?;
@@ -47,15 +49,15 @@ fn write_on_day(
 /// Begins a reply with the Easters of a year.
 fn write_easters(
     out: &mut LineWriter,
-    found: &[Found],
+    days: &[Found],
     listed: bool,
     source: &Option<Source>,
 ) -> Result<(), AllocError>
     ensures text { OnOk result (out.new.text ≡ out.old.text ++ (codes "{\"answer\":"
-        ++ compact_text (spec.easters_data found.now listed source.now))) }
+        ++ compact_text (spec.easters_data days.now listed source.now))) }
     ensures before { out.new.before ≡ out.old.before }
 {
-    write_list(out, r#"{"answer":{"days":"#, found)?;
+    write_list(out, r#"{"answer":{"days":"#, days)?;
     write_flag(out, r#","listed":"#, listed)?;
     write_source(out, source)?;
     out.push("}")
@@ -98,6 +100,26 @@ fn write_changes(out: &mut LineWriter, changes: &[FoundChange]) -> Result<(), Al
     ensures before { out.new.before ≡ out.old.before }
 {
     write_list(out, r#"{"answer":{"changes":"#, changes)?;
+    out.push("}")
+}
+
+/// Begins a reply with the day of a date by a calendar.
+fn write_converted(out: &mut LineWriter, days: &[Found]) -> Result<(), AllocError>
+    ensures text { OnOk result (out.new.text ≡ out.old.text
+        ++ (codes "{\"answer\":" ++ compact_text (spec.converted_data days.now))) }
+    ensures before { out.new.before ≡ out.old.before }
+{
+    write_list(out, r#"{"answer":{"days":"#, days)?;
+    out.push("}")
+}
+
+/// Begins a reply with feasts.
+fn write_feasts(out: &mut LineWriter, feasts: &[FoundFeast]) -> Result<(), AllocError>
+    ensures text { OnOk result (out.new.text ≡ out.old.text
+        ++ (codes "{\"answer\":" ++ compact_text (spec.feasts_data feasts.now))) }
+    ensures before { out.new.before ≡ out.old.before }
+{
+    write_list(out, r#"{"answer":{"feasts":"#, feasts)?;
     out.push("}")
 }
 
@@ -165,7 +187,7 @@ pub(crate) fn write_reply(
     ensures before { out.new.before ≡ out.old.before }
 {
     let edition = reply.edition;
-    let begun = match &reply.answer {
+    let fields = match &reply.answer {
         Answer::Reading { found, skipped } => {
             write_reading(out, found.as_slice(), skipped.as_slice())
         }
@@ -202,9 +224,11 @@ pub(crate) fn write_reply(
         Answer::Periods(periods) => write_periods(out, periods.as_slice()),
         Answer::Exceptions(exceptions) => write_exceptions(out, exceptions.as_slice()),
         Answer::Changes(changes) => write_changes(out, changes.as_slice()),
+        Answer::Feasts(feasts) => write_feasts(out, feasts.as_slice()),
+        Answer::Converted(days) => write_converted(out, days.as_slice()),
         Answer::Written(written) => write_written(out, written),
         Answer::Refused(refusal) => return write_refused(out, reader, edition, *refusal),
     };
-    begun?;
+    fields?;
     end_reply(out, edition, reader)
 }

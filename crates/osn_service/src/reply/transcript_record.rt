@@ -8,7 +8,7 @@ use crate::line_writer::LineWriter;
 use crate::reply::answer::write_reply;
 use crate::reply::write_json::WriteJson;
 use osn_core::Reply;
-use osn_days::Weekday;
+use osn_days::{Calendar, Keyword, Weekday};
 use osn_register::{Query, Text};
 use std::alloc::AllocError;
 
@@ -111,6 +111,41 @@ fn write_changes(out: &mut LineWriter, reader: u32, code: &Text) -> Result<(), A
     out.push("}")
 }
 
+fn write_feasts(out: &mut LineWriter, reader: u32, code: &Text, year: i64) -> Result<(), AllocError>
+    ensures text { OnOk result (out.new.text ≡ out.old.text
+        ++ compact_text (spec.query_data reader (queries.Feasts code.now year))) }
+    ensures before { out.new.before ≡ out.old.before }
+{
+    out.push_text(r#"{"code":"#, code.as_str())?;
+    out.push_text(r#","op":"#, "feasts")?;
+    out.push_number(r#","reader":"#, reader)?;
+    out.push_signed(r#","year":"#, year)?;
+    out.push("}")
+}
+
+fn write_convert(
+    out: &mut LineWriter,
+    reader: u32,
+    code: &Text,
+    calendar: Calendar,
+    date: (i64, i64, i64),
+) -> Result<(), AllocError>
+    ensures text { OnOk result (out.new.text ≡ out.old.text ++ compact_text
+        (spec.query_data reader
+        (queries.Convert code.now calendar date.0 date.1 date.2))) }
+    ensures before { out.new.before ≡ out.old.before }
+{
+    let (year, month, day) = date;
+    out.push_text(r#"{"calendar":"#, calendar.word())?;
+    out.push_text(r#","code":"#, code.as_str())?;
+    out.push_signed(r#","day":"#, day)?;
+    out.push_signed(r#","month":"#, month)?;
+    out.push_text(r#","op":"#, "convert")?;
+    out.push_number(r#","reader":"#, reader)?;
+    out.push_signed(r#","year":"#, year)?;
+    out.push("}")
+}
+
 fn write_written(
     out: &mut LineWriter,
     reader: u32,
@@ -154,6 +189,14 @@ fn write_query(out: &mut LineWriter, reader: u32, query: &Query) -> Result<(), A
         Query::Periods { code } => write_periods(out, reader, code),
         Query::Exceptions { code } => write_exceptions(out, reader, code),
         Query::Changes { code } => write_changes(out, reader, code),
+        Query::Feasts { code, year } => write_feasts(out, reader, code, *year),
+        Query::Convert {
+            code,
+            calendar,
+            year,
+            month,
+            day,
+        } => write_convert(out, reader, code, *calendar, (*year, *month, *day)),
         Query::Written {
             code,
             text,

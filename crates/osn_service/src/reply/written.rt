@@ -74,14 +74,15 @@ impl WriteJson for Reckoning {
 }
 
 /// Begins a reply with what a text means as a date.
-pub(crate) fn write_written(out: &mut LineWriter, written: &WrittenAnswer) -> Result<(), AllocError>
+pub(crate) fn write_written(out: &mut LineWriter, answer: &WrittenAnswer) -> Result<(), AllocError>
     ensures text { OnOk result (out.new.text ≡ out.old.text
-        ++ (codes "{\"answer\":" ++ compact_text (spec.written_data written.now))) }
+        ++ (codes "{\"answer\":" ++ compact_text (spec.written_data answer.now))) }
     ensures before { out.new.before ≡ out.old.before }
 {
-    let (remarks, near) = (&written.remarks, &written.near);
-    write_flag(out, r#"{"answer":{"approximate":"#, written.is_approximate)?;
-    out.push_text(r#","kind":"#, word_of_kind(written.kind))?;
+    let (remarks, near) = (&answer.remarks, &answer.near);
+    write_flag(out, r#"{"answer":{"approximate":"#, answer.is_approximate)?;
+    write_flag(out, r#","ends_in_next_year":"#, remarks.ends_in_next_year)?;
+    out.push_text(r#","kind":"#, word_of_kind(answer.kind))?;
     write_member(out, r#","named_calendar":"#, &remarks.reckoning)?;
     write_member(out, r#","named_weekday":"#, &remarks.weekday)?;
     write_list(out, r#","nearest":"#, near.days.as_slice())?;
@@ -90,15 +91,15 @@ pub(crate) fn write_written(out: &mut LineWriter, written: &WrittenAnswer) -> Re
         r#","not_counted_double":"#,
         remarks.is_not_counted_double,
     )?;
-    write_flag(out, r#","other_calendar":"#, written.is_by_other_calendar)?;
+    write_flag(out, r#","other_calendar":"#, answer.is_by_other_calendar)?;
     write_list(out, r#","read_as":"#, remarks.read_as.as_slice())?;
-    write_member(out, r#","reason":"#, &written.reason)?;
-    write_list(out, r#","runs":"#, written.runs.as_slice())?;
+    write_member(out, r#","reason":"#, &answer.reason)?;
+    write_list(out, r#","runs":"#, answer.runs.as_slice())?;
     write_list(out, r#","skipped":"#, near.changes.as_slice())?;
-    write_flag(out, r#","supplied":"#, written.is_supplied)?;
+    write_flag(out, r#","supplied":"#, answer.is_supplied)?;
     write_flag(out, r#","three_digits":"#, remarks.has_year_of_three_digits)?;
-    write_flag(out, r#","uncertain":"#, written.is_uncertain)?;
-    write_member(out, r#","weekday":"#, &written.is_on_weekday)?;
+    write_flag(out, r#","uncertain":"#, answer.is_uncertain)?;
+    write_member(out, r#","weekday":"#, &answer.is_on_weekday)?;
     write_list(out, r#","year":"#, near.year.as_slice())?;
     out.push("}")
 }

@@ -13,13 +13,13 @@ returns-in_err-append_whole-clause-err g c =
     (λ e is. (
       cut.0,
       cut.1,
-      (λ edits lines held known whole.
-          let done = cut.2 held known whole in (
+      (λ edits lines content known whole.
+          let done = cut.2 content known whole in (
             inl (c.in_err-append_whole.field-0.0, failed.reason, is),
             inr (
               done.0,
-              cut_back (CanStay g.K.KeptFile.cut_back_may_fail) c.args.part held
-                  c.args.lines.now edits _ _ (lines held whole) whole done.1 failed.err,
+              cut_back (CanStay g.K.KeptFile.cut_back_may_fail) c.args.part content
+                  c.args.lines.now edits _ _ (lines content whole) whole done.1 failed.err,
             ),
           )),
     ))

@@ -4,7 +4,7 @@ use Rattle.osn_report.specs.declared.status.Status.TheVariants as statuses
 use Rattle.osn_serve_commands.specs.Serve.{input_if}
 use Rattle.osn_serve_commands.proofs.SaveLemmas.{may_fail_if}
 use Rattle.osn_commands.proofs.PlanLemmas.{reports_no_hindrance, is_there, opened_if}
-use Rattle.osn_commands.specs.Keeping.{ReportsHindrance}
+use Rattle.osn_commands.specs.HindranceCause.{ReportsHindrance}
 use Rattle.osn_commands.proofs.in_folder.plan_in_folder.Goals as goal
 
 pub returns-in-Done-clause-ok : goal.returns-in-Done-clause-ok

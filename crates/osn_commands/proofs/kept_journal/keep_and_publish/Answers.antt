@@ -3,16 +3,16 @@ use Rattle.osn_folder.specs.Folder.{Changes, Leaves}
 use Rattle.osn_journal.specs.KeptJournal.{file_of}
 use Rattle.osn_lines.specs.Streams.{input_of, output_of}
 use Rattle.osn_report.specs.Folders.{folders_of}
-use Rattle.osn_commands.specs.Keeping.{unkept_line}
+use Rattle.osn_commands.specs.HindranceCause.{unkept_line}
 use Rattle.osn_commands.specs.PublishFolder.{SavesEdition}
 use Rattle.osn_commands.proofs.kept_journal.keep_and_publish.Goals as goal
 
-pub returns-in-Ok-published : goal.returns-in-Ok-published
-returns-in-Ok-published g c =
+pub returns-in-Ok-publish_result : goal.returns-in-Ok-publish_result
+returns-in-Ok-publish_result g c =
     let file = g.D.Keeper.KeptFile in
     let state = file_of file.contents file.synced file.fault in
     let found = c.in-Ok.file in
-    let journal = c.publish_command-published.new.journal in
+    let journal = c.publish_command-publish_result.new.journal in
     inr (
       g.D.Folder.known c.keep.new.self,
       c.in-Ok.ensures.ok,
@@ -23,21 +23,21 @@ returns-in-Ok-published g c =
       c.in-Ok.ensures.source,
       (λ yes. (journal, yes)),
       inl (
-        state c.publish_command-published.new.keeper,
-        c.in-Ok-published.ensures.ended,
+        state c.publish_command-publish_result.new.keeper,
+        c.in-Ok-publish_result.ensures.ended,
         c.release.ensures,
       ),
     )
 
-pub returns-in-Err-published : goal.returns-in-Err-published
-returns-in-Err-published g c =
+pub returns-in-Err-publish_result : goal.returns-in-Err-publish_result
+returns-in-Err-publish_result g c =
     let file = g.D.Keeper.KeptFile in
     let state = file_of file.contents file.synced file.fault in
     let found = c.in-Ok.file in
-    let published = c.publish_command-published in
-    let journal = published.new.journal in
-    let older = c.in-Err-published.older in
-    let quiet = c.in-Err-published.ensures.quiet in
+    let publish = c.publish_command-publish_result in
+    let journal = publish.new.journal in
+    let older = c.in-Err-publish_result.older in
+    let quiet = c.in-Err-publish_result.ensures.quiet in
     let folder = g.D.Folder.known in
     let text = string_bytes older.edition.text in
     let anew = string_bytes older.edition.journal in
@@ -63,7 +63,7 @@ returns-in-Err-published g c =
         anew,
         text,
         cut,
-        c.in-Err-published.ensures.older,
+        c.in-Err-publish_result.ensures.older,
         folder c.release.new.self,
         subst (λ k. Changes (Leaves path (file.contents k)) (folder c.keep.new.self)
             (folder c.release.new.self)) quiet.0 c.release.ensures,
@@ -76,7 +76,7 @@ returns-in-Err-published g c =
             (output_of e.contents e.has_failed e.holds_back c.args.errors.now errors) status)
             quiet.1
             (subst (λ old. SavesEdition path c.deref.result.now anew text cut done
-            (output_of w.contents w.has_failed w.holds_back published.new.output output)
+            (output_of w.contents w.has_failed w.holds_back publish.new.output output)
             (output_of e.contents e.has_failed e.holds_back old errors) status) quiet.2
             c.save_edition.ensures)),
       ),

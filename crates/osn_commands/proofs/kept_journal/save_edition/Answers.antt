@@ -9,7 +9,7 @@ returns-in-Ok g c =
     let folder = g.D.Folder.known in
     let errors = c.report_cut.new.errors in
     inr (
-      subst (λ t. SavesAnew c.args.path.now c.args.loaded.now t
+      subst (λ t. SavesAnew c.args.path.now c.args.content.now t
           (folder c.args.folder.now) (folder c.save_anew.new.folder))
           c.as_str-journal.ensures.value c.in-Ok.ensures.ok,
       record {
@@ -29,7 +29,7 @@ returns-in-Err g c =
     let folder = g.D.Folder.known in
     inl (
       refl,
-      subst (λ t. CannotSaveAnew c.args.path.now c.args.loaded.now t
+      subst (λ t. CannotSaveAnew c.args.path.now c.args.content.now t
           (folder c.args.folder.now) (folder c.save_anew.new.folder)
           (output_of g.E.Sink.contents g.E.Sink.has_failed g.E.Sink.holds_back c.args.errors.now
           c.save_anew.new.errors) c.in-Err.status) c.as_str-journal.ensures.value

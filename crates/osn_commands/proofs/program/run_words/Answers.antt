@@ -7,7 +7,7 @@ use Rattle.osn_commands.proofs.program.run_words.Goals as goal
 
 pub returns-in-Err : goal.returns-in-Err
 returns-in-Err g c =
-    show_typed (map g.S.AsStr.text c.args.typed.now)
+    show_typed (map g.S.AsStr.text c.args.arguments.now)
     (map (λ (word : Bor (List ℕ)). word.now) c.args.words.now) c.in-Err.error
     c.help_on-help.result.now
     (MayFail g.D.File.Source.has_failed) (CanStay g.D.Keeper.KeptFile.cut_back_may_fail) _

@@ -9,10 +9,10 @@ use Rattle.osn_commands.specs.Since.{later_lines, later_than, request_of}
 use Rattle.osn_commands.proofs.publish.publish_held.Goals as goal
 
 pub returns-then-not-is_empty-clause-ok : goal.returns-then-not-is_empty-clause-ok
-returns-then-not-is_empty-clause-ok g c = λ given part_of.
-    let s = c.args.held.object in
+returns-then-not-is_empty-clause-ok g c = λ input part_of.
+    let s = c.args.journal.object in
     reports_pending (CanStay g.K.KeptFile.cut_back_may_fail) (request_of c.args.request)
-    c.args.held.version s c.args.target.now _ _ given _ _ c.report_line.result s.pending
+    c.args.journal.version s c.args.target.now _ _ input _ _ c.report_line.result s.pending
     (ap (λ l. length l == 0) (sym c.pending.ensures)
     ∙ (sym c.is_empty.ensures ∙ c.if-not-is_empty.true)) (
       refl,
@@ -25,8 +25,8 @@ returns-then-not-is_empty-clause-ok g c = λ given part_of.
     )
 
 pub returns-in-Some-clause-ok : goal.returns-in-Some-clause-ok
-returns-in-Some-clause-ok g c = λ given part_of.
-    let s = c.args.held.object in
+returns-in-Some-clause-ok g c = λ input part_of.
+    let s = c.args.journal.object in
     let request = request_of c.args.request in
     let none : (length s.pending == 0) ≡ true =
     ap (λ l. length l == 0) (sym c.pending.ensures)
@@ -35,7 +35,7 @@ returns-in-Some-clause-ok g c = λ given part_of.
     ap length (sym c.batches-editions.ensures.value) in
     let late : later_than request.edition (length s.batches) ≡ Some c.in-Some.edition = cc in
     reports_later (CanStay g.K.KeptFile.cut_back_may_fail) request
-    c.args.held.version s c.args.target.now _ _ given _ _ c.report_line-in-Some.result s.pending
+    c.args.journal.version s c.args.target.now _ _ input _ _ c.report_line-in-Some.result s.pending
     c.in-Some.edition none late (
       refl,
       refl,
@@ -46,25 +46,25 @@ returns-in-Some-clause-ok g c = λ given part_of.
 
 pub returns-in-Ok-clause-ok : goal.returns-in-Ok-clause-ok
 returns-in-Ok-clause-ok g c =
-    let s = c.args.held.object in
+    let s = c.args.journal.object in
     let request = request_of c.args.request in
     let none : (length s.pending == 0) ≡ true =
     ap (λ l. length l == 0) (sym c.pending.ensures)
     ∙ (sym c.is_empty.ensures ∙ c.if-not-is_empty.false) in
     let had : later_than request.edition (length s.batches) ≡ None = cc in
     IfOk-weaker c.publish_unless_behind.result _ _
-    (λ status h given part_of.
-    planned (CanStay g.K.KeptFile.cut_back_may_fail) request c.args.held.version s
-    c.args.target.now _ _ given _ _ status s.pending none had (inr (
+    (λ status h input part_of.
+    planned (CanStay g.K.KeptFile.cut_back_may_fail) request c.args.journal.version s
+    c.args.target.now _ _ input _ _ status s.pending none had (inr (
       c.in-Ok.edits.items,
       same_plan s _ _ c.args.target.now.territories _ _ c.register.ensures.limits
           c.register.ensures.territories refl c.in-Ok.ensures.ok,
-      h given part_of,
+      h input part_of,
     ))) c.publish_unless_behind.ensures.ok
 
 pub returns-in-Ok-clause-older : goal.returns-in-Ok-clause-older
 returns-in-Ok-clause-older g c =
-    let s = c.args.held.object in
+    let s = c.args.journal.object in
     let had : later_than c.args.request.edition (length s.batches) ≡ None = cc in
     IfErr-weaker c.publish_unless_behind.result _ _
     (λ older h. record {
@@ -83,20 +83,20 @@ returns-in-Ok-clause-older g c =
 pub publish_unless_behind-requires-clause-pending :
     goal.publish_unless_behind-requires-clause-pending
 publish_unless_behind-requires-clause-pending g c =
-    none_pending c.args.held.object.pending
+    none_pending c.args.journal.object.pending
     (ap (λ l. length l == 0) (sym c.pending.ensures)
     ∙ (sym c.is_empty.ensures ∙ c.if-not-is_empty.false))
 
 pub returns-in-Err-clause-ok : goal.returns-in-Err-clause-ok
-returns-in-Err-clause-ok g c = λ given part_of.
-    let s = c.args.held.object in
+returns-in-Err-clause-ok g c = λ input part_of.
+    let s = c.args.journal.object in
     let request = request_of c.args.request in
     let none : (length s.pending == 0) ≡ true =
     ap (λ l. length l == 0) (sym c.pending.ensures)
     ∙ (sym c.is_empty.ensures ∙ c.if-not-is_empty.false) in
     let had : later_than request.edition (length s.batches) ≡ None = cc in
-    planned (CanStay g.K.KeptFile.cut_back_may_fail) request c.args.held.version s
-    c.args.target.now _ _ given _ _ c.report_plan_fault.result s.pending none had (inl (
+    planned (CanStay g.K.KeptFile.cut_back_may_fail) request c.args.journal.version s
+    c.args.target.now _ _ input _ _ c.report_plan_fault.result s.pending none had (inl (
       refl,
       (
         c.in-Err.fault,

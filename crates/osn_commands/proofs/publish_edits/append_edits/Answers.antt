@@ -6,12 +6,12 @@ use Rattle.osn_commands.specs.PublishInside.{CanStay}
 use Rattle.osn_commands.proofs.publish_edits.append_edits.Goals as goal
 
 pub returns-then-is_empty : goal.returns-then-is_empty
-returns-then-is_empty g c = λ given part_of.
+returns-then-is_empty g c = λ input part_of.
     let size : length c.args.edits.items ≡ vec_len c.args.edits =
     omega (arith, c.args.edits.ok.0) in
     nothing_published (CanStay g.K.KeptFile.cut_back_may_fail) c.args.path.now c.args.object.now
     c.args.target.now
-    _ _ given _ _ c.print.result c.args.edits.items
+    _ _ input _ _ c.print.result c.args.edits.items
     (ap (λ (n : ℕ). n == 0) size
     ∙ (sym c.is_empty.ensures ∙ c.if-is_empty.true))
     refl
@@ -19,25 +19,25 @@ returns-then-is_empty g c = λ given part_of.
     c.no_change_text.ensures)
 
 pub returns-in-Ok : goal.returns-in-Ok
-returns-in-Ok g c = λ given part_of.
+returns-in-Ok g c = λ input part_of.
     let size : length c.args.edits.items ≡ vec_len c.args.edits =
     omega (arith, c.args.edits.ok.0) in
     edition_written (CanStay g.K.KeptFile.cut_back_may_fail) c.args.path.now c.args.object.now
     c.args.target.now
-    _ _ given _ _ c.publish_edition.result c.args.edits.items
+    _ _ input _ _ c.publish_edition.result c.args.edits.items
     (ap (λ (n : ℕ). n == 0) size
     ∙ (sym c.is_empty.ensures ∙ c.if-is_empty.false)) c.in-Ok.ensures.lawful
     c.in-Ok.ensures.sources
     (rw (← c.in-Ok.ensures.text)
-    (c.publish_edition.ensures given part_of c.args.edits.items c.in-Ok.ensures.lines))
+    (c.publish_edition.ensures input part_of c.args.edits.items c.in-Ok.ensures.lines))
 
 pub returns-in-Err : goal.returns-in-Err
-returns-in-Err g c = λ given part_of.
+returns-in-Err g c = λ input part_of.
     let size : length c.args.edits.items ≡ vec_len c.args.edits =
     omega (arith, c.args.edits.ok.0) in
     edition_refused (CanStay g.K.KeptFile.cut_back_may_fail) c.args.path.now c.args.object.now
     c.args.target.now
-    _ _ given _ _ c.report.result c.args.edits.items c.in-Err.refusal
+    _ _ input _ _ c.report.result c.args.edits.items c.in-Err.refusal
     (ap (λ (n : ℕ). n == 0) size
     ∙ (sym c.is_empty.ensures ∙ c.if-is_empty.false)) c.in-Err.ensures.refused
     (refl, (refl, c.report.ensures))

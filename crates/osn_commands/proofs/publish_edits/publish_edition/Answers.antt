@@ -5,7 +5,7 @@ use Rattle.osn_commands.specs.PublishInside.{AreLinesOf}
 use Rattle.osn_commands.proofs.publish_edits.publish_edition.Goals as goal
 
 pub returns-in-Ok : goal.returns-in-Ok
-returns-in-Ok g c = λ given part_of edits lines.
+returns-in-Ok g c = λ input part_of edits lines.
     let h = c.in-Ok.ensures.ok in
     let errors = c.write_edition.new.errors in
     let made = h.2 edits (subst (AreLinesOf c.args.part edits) (sym c.deref.ensures.value) lines) in
@@ -17,13 +17,14 @@ returns-in-Ok g c = λ given part_of edits lines.
       reports = h.1;
       ended = inl (
         rw (← c.as_str.ensures.value) c.print_report.ensures,
-        (λ held known got.
-            made held known (known_bytes given held (IsCountedPrefix c.args.part) got part_of)),
+        (λ content known got.
+            made content known
+            (known_bytes input content (IsCountedPrefix c.args.part) got part_of)),
       );
     }
 
 pub returns-in-Err : goal.returns-in-Err
-returns-in-Err g c = λ given part_of edits lines.
+returns-in-Err g c = λ input part_of edits lines.
     let h = c.in-Err.ensures.err in
     let errors = c.write_edition.new.errors in
     let made = h.2 edits (subst (AreLinesOf c.args.part edits) (sym c.deref.ensures.value) lines) in
@@ -36,7 +37,8 @@ returns-in-Err g c = λ given part_of edits lines.
       ended = inr (
         c.in-Err.fault,
         (refl, c.report_at.ensures),
-        (λ held known got.
-            made held known (known_bytes given held (IsCountedPrefix c.args.part) got part_of)),
+        (λ content known got.
+            made content known
+            (known_bytes input content (IsCountedPrefix c.args.part) got part_of)),
       );
     }

@@ -14,15 +14,15 @@ pub returns-clause-ok : goal.returns-clause-ok
 returns-clause-ok c =
     let bytes = c.args.bytes.now in
     let lines = c.ended_count-lines.result in
-    let ended = c.ended_length-ended in
+    let whole = c.ended_length-whole_length in
     let part = c.part_by.ensures in
     let last =
-    state_found bytes lines ended.result c.in_ok-last.last c.ended_count-lines.ensures
-    ended.ensures.value c.in_ok-last.ensures in
+    state_found bytes lines whole.result c.in_ok-last.last c.ended_count-lines.ensures
+    whole.ensures.value c.in_ok-last.ensures in
     record {
       bytes =
-          part.bytes ∙ ap (λ l. by_last l ended.result (length bytes)) last
-          ∙ ap (λ (n : ℕ). by_last (last_line_of bytes) n (length bytes)) ended.ensures.value;
+          part.bytes ∙ ap (λ l. by_last l whole.result (length bytes)) last
+          ∙ ap (λ (n : ℕ). by_last (last_line_of bytes) n (length bytes)) whole.ensures.value;
       lines =
           part.lines ∙ ap (λ l. by_last l lines (lines + 1)) last
           ∙ ap (λ (n : ℕ). by_last (last_line_of bytes) n (n + 1)) c.ended_count-lines.ensures;
@@ -35,8 +35,8 @@ returns-clause-few c =
     let fits : length bytes < 2 ^ 63 = search rules in
     let lines = c.ended_count-lines.result in
     let last =
-    state_found bytes lines c.ended_length-ended.result c.in_ok-last.last
-    c.ended_count-lines.ensures c.ended_length-ended.ensures.value c.in_ok-last.ensures in
+    state_found bytes lines c.ended_length-whole_length.result c.in_ok-last.last
+    c.ended_count-lines.ensures c.ended_length-whole_length.ensures.value c.in_ok-last.ensures in
     let is = c.part_by.ensures.lines ∙ ap (λ l. by_last l lines (lines + 1)) last
     ∙ ap (λ (n : ℕ). by_last (last_line_of bytes) n (n + 1)) c.ended_count-lines.ensures in
     omega (arith, fits, is, whole_count-le bytes)

@@ -3,7 +3,7 @@ use Rattle.osn_days.specs.Rules.{newest_rules}
 use Rattle.osn_lines.specs.Lines.{lines}
 use Rattle.osn_files.specs.Journal.{load}
 use Rattle.osn_files.specs.JournalText.{journal_text_of}
-use Rattle.osn_files.specs.Loaded.{HasEdits}
+use Rattle.osn_files.specs.LoadedText.{HasEdits}
 use Rattle.osn_files.proofs.VersionFacts.{has_own_edits}
 use Rattle.osn_files.proofs.written.journal_text.Goals as goal
 

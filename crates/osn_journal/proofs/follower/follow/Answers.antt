@@ -20,7 +20,7 @@ use Rattle.osn_journal.proofs.follower.follow.Goals as goal
 
 pub loop-call-init : goal.loop-call-init
 loop-call-init g c =
-    let begun = g.W.Sink.contents c.args.sink.now in
+    let initial = g.W.Sink.contents c.args.sink.now in
     record {
       buffer = c.in-Ok.ensures;
       few = omega (arith, ap length c.new-2.ensures);
@@ -30,7 +30,7 @@ loop-call-init g c =
         [],
         [],
         Arrive-nothing (g.A.Arrivals.arrived c.args.arrivals.now),
-        IsFollowing-none (following c.args.readers c.args.stop_at_refusal) begun
+        IsFollowing-none (following c.args.readers c.args.stop_at_refusal) initial
             (record { journal = c.new.result; requests = c.new-2.result; lines = 0 })
             (subst (λ (l : Limits). IsJournalOf l [] c.new.result) (sym c.new.ensures.limits)
             c.new.ensures.journal)

@@ -7,13 +7,14 @@ use Rattle.osn_journal.proofs.kept_service.serve_kept.Goals as goal
 
 pub returns-clause-keeps : goal.returns-clause-keeps
 returns-clause-keeps g c =
-    let begun : KeptObject g.row.K.Denot =
+    let initial : KeptObject g.row.K.Denot =
     record { alloc = c.args.alloc; object = c.args.object; keeper = c.args.keeper } in
     let input =
     input_of g.R.Source.remaining g.R.Source.has_failed c.args.source.now c.serve_store.new.source
     in
     let kept =
-    KeepsFile-begun g.K.KeptFile.contents g.K.KeptFile.synced g.K.KeptFile.fault c.args.rules begun
+    KeepsFile-begun g.K.KeptFile.contents g.K.KeptFile.synced g.K.KeptFile.fault c.args.rules
+    initial
     c.serve_store.new.store input c.serve_store.result c.serve_store.ensures.keeps in
     search rules
 

@@ -1,18 +1,20 @@
-use Rattle.std.proofs.Common.{◌≡◌, ◌<◌, inl, inr, rules, ◌∙◌, ◌++◌, length, take, refl, sym, ap}
+use Rattle.std.proofs.Common.{◌≡◌, ◌<◌, [], inl, inr, rules, ◌∙◌, ◌++◌, length, take, refl, sym}
+use Rattle.std.proofs.Common.{ap, subst}
 use Rattle.std.proofs.Common.{arith}
 use Rattle.std.proofs.Common.{length-append}
 use Rattle.std.proofs.lemmas.List.{take_at, length-take}
 use Rattle.std.proofs.lemmas.Result.{on_ok_weaker, IfErr-weaker, IfOk-weaker}
 use Rattle.osn_days.specs.Rules.{newest_rules}
-use Rattle.osn_lines.proofs.ByteLemmas.{Consumes-then, Consumes-end, Consumes-keeps}
+use Rattle.osn_lines.proofs.ByteLemmas.{Consumes-nothing, Consumes-then, Consumes-end, Consumes-keeps}
 use Rattle.osn_letters.specs.declared.fault.LettersFault.TheVariants.{NoMemory}
 use Rattle.osn_letters.specs.Faults.{is_write_fault}
-use Rattle.osn_letters.specs.LettersInside.{tally_from, text_from}
+use Rattle.osn_letters.specs.LettersInside.{Passes, tally_from, text_from}
 use Rattle.osn_letters.specs.TableInside.{letters_tally}
 use Rattle.osn_letters.specs.Table.{letters_written, basis}
 use Rattle.osn_letters.proofs.CountFacts.{all_counted, read_counted}
 use Rattle.osn_letters.proofs.LetterFacts.{err_of_fault}
-use Rattle.osn_letters.proofs.StreamFacts.{nothing_early, end_whole, end_early}
+use Rattle.osn_letters.proofs.StreamFacts.{nothing_early, passes_nothing}
+use Rattle.osn_letters.proofs.StreamFacts.{end_whole, end_early}
 use Rattle.osn_letters.proofs.StreamFacts.{read_early, read_passes, ends_weaker, end_long}
 use Rattle.osn_letters.proofs.QuietFacts.{read_settled}
 use Rattle.osn_letters.proofs.StreamFacts.{unread_ends, unread_fault}
@@ -22,6 +24,12 @@ use Rattle.osn_letters.proofs.stream.write_letters.Goals as goal
 
 pub returns-in_default-clause-early : goal.returns-in_default-clause-early
 returns-in_default-clause-early g c =
+    nothing_early (letters_written
+    (basis newest_rules c.args.register.now.territories c.args.edition
+    c.args.settings)) _ _ NoMemory refl
+
+pub returns-in_default-new-clause-early : goal.returns-in_default-new-clause-early
+returns-in_default-new-clause-early g c =
     nothing_early (letters_written
     (basis newest_rules c.args.register.now.territories c.args.edition
     c.args.settings)) _ _ NoMemory refl
@@ -195,6 +203,28 @@ returns-clause-source g c =
       inr (input_long _ _ inv.0 4294967295 (omega (arith, inv.1, c.loop-call-test.false)) inv.2),
       λ fault_is. read_settled all c.loop-call.letters _ _ _ _ inv.0 inv.2 inv.3,
     )
+
+pub loop-call-init : goal.loop-call-init
+loop-call-init g c =
+    let all = letters_written (basis newest_rules c.args.register.now.territories c.args.edition
+    c.args.settings) in
+    let sink = g.W.Sink.contents c.args.sink.now in
+    record {
+      buffer = c.in-Ok.ensures;
+      few = omega (arith, c.in-Ok-new.ensures.line);
+      ready = c.in-Ok-new.ensures.ready;
+      empty = c.in-Ok-new.ensures.empty;
+      source = refl;
+      sink = refl;
+      progress = (
+        [],
+        omega arith,
+        Consumes-nothing (g.R.Source.remaining c.args.source.now),
+        λ more. subst (Passes sink sink (all more)) (sym (c.in-Ok-new.ensures.text more))
+            (passes_nothing sink (all more)),
+        λ more. sym (c.in-Ok-new.ensures.tally more),
+      );
+    }
 
 pub loop-call-preserved : goal.loop-call-preserved
 loop-call-preserved g c =

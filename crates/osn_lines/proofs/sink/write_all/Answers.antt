@@ -6,7 +6,7 @@ use Rattle.osn_lines.proofs.sink.write_all.Goals as goal
 pub loop-call-preserved : goal.loop-call-preserved
 loop-call-preserved g c =
     let bytes = c.args.bytes.now in
-    let from = c.loop-call.written in
+    let from = c.loop-call.count in
     let size = length-drop from bytes in
     let rest = ap length (take_rest bytes from) in
     record {

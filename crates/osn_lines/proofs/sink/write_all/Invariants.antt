@@ -6,8 +6,8 @@ abbrev pub invariant-loop-call : goal.invariant-loop-call
 invariant-loop-call g l =
     let contents = g.W.Sink.contents in
     record {
-      within : l.written ≤ length l.bytes;
-      calls : l._call ≤ l.written;
-      appends : Appends (contents l.fn.sink) (contents l.sink) (take l.written l.bytes);
+      within : l.count ≤ length l.bytes;
+      calls : l._call ≤ l.count;
+      appends : Appends (contents l.fn.sink) (contents l.sink) (take l.count l.bytes);
       sound : g.W.Sink.has_failed l.sink ≡ g.W.Sink.has_failed l.fn.sink;
     }

@@ -28,7 +28,7 @@ loop-call-init g c = record {
       cuts = record { whole = λ more. refl };
       takes = Takes-nothing g.T.LineTaker.after c.args.taker.now;
       count = refl;
-      rest = (c.new-unended.ensures, tt);
+      rest = (c.new-partial_line.ensures, tt);
     },
   );
 }
@@ -39,9 +39,9 @@ returns-in_default-read-clause-fault g c =
     let after = g.T.LineTaker.after in
     let ready =
     IsTaken-rests after c.args.taker.now c.loop-call.taker c.before_read.new.self inv.0 0
-    c.loop-call.lines (IsUnended c.loop-call.unended) inv.3
+    c.loop-call.lines (IsUnended c.loop-call.partial_line) inv.3
     c.in_default-before_read.ensures.ready in
-    TakesEnded-from after _ _ _ _ inv.0 c.loop-call.unended _ ready
+    TakesEnded-from after _ _ _ _ inv.0 c.loop-call.partial_line _ ready
     (Consumes-keeps _ _ _ inv.0 inv.2 c.in_default-read.ensures.bytes)
 
 pub returns-then-read-eq0-clause-takes : goal.returns-then-read-eq0-clause-takes
@@ -63,9 +63,10 @@ returns-then-read-eq0-clause-takes g c =
     bytes.0 in
     let ready =
     IsTaken-rests after s c.loop-call.taker t inv.0 0 c.loop-call.lines
-    (IsUnended c.loop-call.unended) inv.3 c.in_default-before_read.ensures.ready in
+    (IsUnended c.loop-call.partial_line) inv.3 c.in_default-before_read.ensures.ready in
     IfOk-weaker c.take_rest.result _ _
-    (λ n h. TakesAll-from after s t c.take_rest.new.taker _ _ inv.0 c.loop-call.unended _ n ready
+    (λ n h. TakesAll-from after s t c.take_rest.new.taker _ _ inv.0 c.loop-call.partial_line _ n
+    ready
     consumed (bytes.1 c.if-read-eq0.true some) h)
     c.take_rest.ensures.takes
 
@@ -91,13 +92,15 @@ returns-then-read-eq0-clause-fault g c =
     let end = bytes.1 c.if-read-eq0.true some in
     let ready =
     IsTaken-rests after s c.loop-call.taker t inv.0 0 c.loop-call.lines
-    (IsUnended c.loop-call.unended) inv.3 c.in_default-before_read.ensures.ready in
+    (IsUnended c.loop-call.partial_line) inv.3 c.in_default-before_read.ensures.ready in
     IfErr-weaker c.take_rest.result _ _
     (λ last h. MatchFault-weaker last.cause _ _ _ _ _ _
-    (λ same. TakesFirst-at_end after s t u _ _ inv.0 c.loop-call.unended _ last.lines ready consumed
+    (λ same. TakesFirst-at_end after s t u _ _ inv.0 c.loop-call.partial_line _ last.lines ready
+    consumed
     h.0 same)
     (λ k. absurd k)
-    (λ why stops. StopsAfter-at_end after stopped s t u _ _ inv.0 c.loop-call.unended _ last.lines
+    (λ why stops. StopsAfter-at_end after stopped s t u _ _ inv.0 c.loop-call.partial_line _
+    last.lines
     why ready consumed end h.0 stops)
     h.1)
     c.take_rest.ensures.fault
@@ -124,13 +127,13 @@ returns-in-Err-take_piece-clause-fault g c =
     let consumed = Consumes-then _ _ _ inv.0 got inv.2 c.in-Ok-read.ensures.bytes.0 in
     let ready =
     IsTaken-rests after s c.loop-call.taker t inv.0 0 c.loop-call.lines
-    (IsUnended c.loop-call.unended) inv.3 c.in_default-before_read.ensures.ready in
+    (IsUnended c.loop-call.partial_line) inv.3 c.in_default-before_read.ensures.ready in
     MatchFault-weaker c.in-Err-take_piece.cause _ _ _ _ _ _
     (λ h. TakesFirst-from after s u _ _ (inv.0 ++ got) _ _
-    (IsTaken-then after s t u inv.0 _ got c.loop-call.unended 0 _ _ _ ready same h) consumed)
+    (IsTaken-then after s t u inv.0 _ got c.loop-call.partial_line 0 _ _ _ ready same h) consumed)
     (λ k. absurd k)
     (λ why h. StopsAfter-from after stopped s u _ _ (inv.0 ++ got) _ why
-    (IsStopped-then after stopped s t u inv.0 _ got c.loop-call.unended 0 _ _ why ready same h)
+    (IsStopped-then after stopped s t u inv.0 _ got c.loop-call.partial_line 0 _ _ why ready same h)
     consumed)
     c.in-Err-take_piece.ensures.fault
 
@@ -158,9 +161,9 @@ loop-call-preserved g c =
     omega (arith, length-take read c.read.new.buffer, c.in-Ok-read.ensures.bound) in
     let ready =
     IsTaken-rests after s c.loop-call.taker t inv.0 0 c.loop-call.lines
-    (IsUnended c.loop-call.unended) inv.3 c.in_default-before_read.ensures.ready in
+    (IsUnended c.loop-call.partial_line) inv.3 c.in_default-before_read.ensures.ready in
     let all =
-    IsTaken-then after s t u inv.0 _ got c.loop-call.unended 0 c.loop-call.lines _ _ ready same
+    IsTaken-then after s t u inv.0 _ got c.loop-call.partial_line 0 c.loop-call.lines _ _ ready same
     c.in_default-take_piece.ensures.takes in
     let size_now = ap length (sym c.deref.ensures.value ∙ here) in
     record {
@@ -191,18 +194,20 @@ loop-call-preserved g c =
 pub returns-clause-fault : goal.returns-clause-fault
 returns-clause-fault g c =
     let inv = c.loop-call.invariant.progress in
-    TakesEnded-from g.T.LineTaker.after _ _ _ _ inv.0 c.loop-call.unended _ inv.3 inv.2
+    TakesEnded-from g.T.LineTaker.after _ _ _ _ inv.0 c.loop-call.partial_line _ inv.3 inv.2
 
 pub returns-in-Err-clause-recent : goal.returns-in-Err-clause-recent
 returns-in-Err-clause-recent g c =
     let inv = c.loop-call.invariant.progress in
-    HasKeptUp-all _ _ _ (HasRead-from g.T.LineTaker.after _ _ _ _ inv.0 c.loop-call.unended _ inv.3
+    HasKeptUp-all _ _ _
+    (HasRead-from g.T.LineTaker.after _ _ _ _ inv.0 c.loop-call.partial_line _ inv.3
     inv.2)
 
 pub returns-in_default-read-clause-recent : goal.returns-in_default-read-clause-recent
 returns-in_default-read-clause-recent g c =
     let inv = c.loop-call.invariant.progress in
-    HasKeptUp-all _ _ _ (HasRead-from g.T.LineTaker.after _ _ _ _ inv.0 c.loop-call.unended _ inv.3
+    HasKeptUp-all _ _ _
+    (HasRead-from g.T.LineTaker.after _ _ _ _ inv.0 c.loop-call.partial_line _ inv.3
     (Consumes-keeps _ _ _ inv.0 inv.2 c.in_default-read.ensures.bytes))
 
 pub returns-then-read-eq0-clause-recent : goal.returns-then-read-eq0-clause-recent
@@ -211,7 +216,8 @@ returns-then-read-eq0-clause-recent g c =
     let consumed =
     Consumes-end _ _ _ inv.0 c.read.new.buffer c.in-Ok-read.read c.if-read-eq0.true inv.2
     c.in-Ok-read.ensures.bytes.0 in
-    let before = HasRead-from g.T.LineTaker.after _ _ _ _ inv.0 c.loop-call.unended _ inv.3 consumed
+    let before = HasRead-from g.T.LineTaker.after _ _ _ _ inv.0 c.loop-call.partial_line _ inv.3
+    consumed
     in
     IfErr-weaker c.take_rest.result _ _
     (λ last h. HasKeptUp-at_end _ _ _ last.lines before h.0)
@@ -235,11 +241,13 @@ returns-in-Err-take_piece-clause-recent g c =
     (λ h. omega (arith, (h inv.3.left inv.3.rest).count)) (λ k. k)
     (λ why h. omega (arith, (h inv.3.left inv.3.rest).count))
     c.in-Err-take_piece.ensures.fault) in
-    HasKeptUp-more g.T.LineTaker.after _ _ _ _ inv.0 got c.loop-call.unended c.loop-call.lines _
+    HasKeptUp-more g.T.LineTaker.after _ _ _ _ inv.0 got c.loop-call.partial_line c.loop-call.lines
+    _
     inv.3 (Consumes-then _ _ _ inv.0 got inv.2 c.in-Ok-read.ensures.bytes.0) few le
 
 pub returns-clause-recent : goal.returns-clause-recent
 returns-clause-recent g c =
     let inv = c.loop-call.invariant.progress in
-    HasKeptUp-all _ _ _ (HasRead-from g.T.LineTaker.after _ _ _ _ inv.0 c.loop-call.unended _ inv.3
+    HasKeptUp-all _ _ _
+    (HasRead-from g.T.LineTaker.after _ _ _ _ inv.0 c.loop-call.partial_line _ inv.3
     inv.2)

@@ -14,5 +14,6 @@ invariant-loop-call g l =
       source : g.R.Source.has_failed l.source ≡ g.R.Source.has_failed l.fn.source;
       progress : (read : List ℕ) × (l._call ≤ length read)
           × Consumes (g.R.Source.remaining l.fn.source) (g.R.Source.remaining l.source) read
-          × IsTaken g.T.LineTaker.after l.fn.taker l.taker read 0 l.lines (IsUnended l.unended);
+          × IsTaken g.T.LineTaker.after l.fn.taker l.taker read 0 l.lines
+          (IsUnended l.partial_line);
     }

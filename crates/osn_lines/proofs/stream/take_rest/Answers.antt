@@ -1,7 +1,7 @@
 use Rattle.std.proofs.Common.{◌≡◌, ◌∙◌, List, [], ◌∷◌, Some, length, refl, sym, ap, arith, subst}
 use Rattle.std.proofs.Common.{append-nil, ℕ}
 use Rattle.osn_lines.specs.Lines.{lines}
-use Rattle.osn_lines.specs.Taking.{Takes, Stops}
+use Rattle.osn_lines.specs.Takers.{Takes, Stops}
 use Rattle.osn_lines.proofs.InputLemmas.{MatchFault-weaker}
 use Rattle.osn_lines.proofs.LineLemmas.{lines-rest}
 use Rattle.osn_lines.proofs.TakeLemmas.{Takes-nothing}

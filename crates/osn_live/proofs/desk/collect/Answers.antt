@@ -58,7 +58,7 @@ loop-list-preserved g c =
           (subst (AreAt gate) step.1 (loop.invariant.gates gate all)) in
           let hears = subst (λ r. OnOk r (HearsOf g.G.Gate.let_pass g.G.Gate.saw_end
           handle.promise.2.value handle.promise.3 (length handle.promise.1.value.items)))
-          c.in_ok-replies.ensures.same c.join-worked.ensures.hears in
+          c.in_ok-replies.ensures.same c.join-work_result.ensures.hears in
           let one = hears_at g.G.Gate.let_pass g.G.Gate.saw_end handle.promise gate _ list.now at
           numbers.0 (started_first origin _ _ _ _ handle list.now step.1 step.0
           loop.invariant.started).list_is hears in
@@ -108,8 +108,9 @@ returns-in_err-replies-clause-gate g c =
           let at = All-head (λ h. h.promise.2.value ≡ gate) handle _
           (subst (AreAt gate) step.1 (loop.invariant.gates gate all)) in
           gate_at (g.G.Gate.is_open gate) _ _ _ _ _
-          (subst (λ x. IfErr c.join-worked.result.replies (IsOfPassing (g.G.Gate.is_open x))) at
-          c.join-worked.ensures.gate) c.in_err-replies.ensures.fault;
+          (subst (λ x. IfErr c.join-work_result.result.replies (IsOfPassing (g.G.Gate.is_open x)))
+          at
+          c.join-work_result.ensures.gate) c.in_err-replies.ensures.fault;
     } in
     search (rules, called)
 
@@ -139,7 +140,7 @@ returns-in_err-replies-clause-names g c =
       after = into_iter_items (zip_second c.next.new.self);
       place = place.1 ∙ ap (λ x. place.0 ++ x) step.1;
       number = omega (arith, place.2);
-      work = c.join-worked.result;
-      kept = c.join-worked.ensures;
+      work = c.join-work_result.result;
+      kept = c.join-work_result.ensures;
       seen = refl;
     }) c.in_err-replies.ensures.fault)

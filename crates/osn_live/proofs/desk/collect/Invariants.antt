@@ -8,7 +8,7 @@ use Rattle.osn_days.specs.Rules.{newest_rules}
 use Rattle.osn_core.specs.declared.step.Reply.{Reply}
 use Rattle.osn_live.specs.Desk.{AreAll, HearsOfLists}
 use Rattle.osn_live.specs.InsideDesk.{AreStarted, AreAt, AreNumbered}
-use Rattle.osn_live.specs.declared.work.Worked.{Worked}
+use Rattle.osn_live.specs.declared.work.WorkResult.{WorkResult}
 use Rattle.osn_live.specs.declared.work.Works.{Works}
 use Rattle.osn_live.proofs.desk.collect.Given as goal
 
@@ -21,7 +21,7 @@ invariant-loop-list g l = record {
   lists : l.who + length (iter_rest (zip_first l.list-iterator)) ≡ length l.lists;
   gates : (gate : g.row.G.Denot) → AreAt gate l.fn.handles.items →
       AreAt gate (into_iter_items (zip_second l.list-iterator));
-  place : (front : List (PromisedHandle Worked (Works g.row.G.Denot)))
+  place : (front : List (PromisedHandle WorkResult (Works g.row.G.Denot)))
       × (l.fn.handles.items ≡ front ++ into_iter_items (zip_second l.list-iterator))
       × (length front ≡ l.who);
   numbers : AreNumbered (l.who + 1) (into_iter_items (zip_second l.list-iterator));

@@ -5,7 +5,7 @@ use Rattle.std.specs.Slice.Iter.{iter_rest}
 use Rattle.std.specs.Vec.Iter.{into_iter_items, into_iter_len}
 use Rattle.core.specs.declared.thread.PromisedHandle.{PromisedHandle}
 use Rattle.osn_live.specs.declared.protocol.Origin.{Origin}
-use Rattle.osn_live.specs.declared.work.Worked.{Worked}
+use Rattle.osn_live.specs.declared.work.WorkResult.{WorkResult}
 use Rattle.osn_live.specs.declared.work.Works.{Works}
 use Rattle.osn_live.specs.InsideDesk.{AreStarted, AreAt, AreNumbered}
 use Rattle.osn_live.proofs.desk.start_all.Given as goal
@@ -18,7 +18,7 @@ invariant-loop-list g l = record {
       ≡ length (iter_rest (zip_first l.list-iterator));
   started : (o : Origin) → All (λ r. r.origin ≡ o) l.fn.readers.items →
       All (λ r. r.origin ≡ o) (into_iter_items (zip_second l.list-iterator))
-      × ((hs : List (PromisedHandle Worked (Works g.row.G.Denot))) →
+      × ((hs : List (PromisedHandle WorkResult (Works g.row.G.Denot))) →
       AreStarted o hs (iter_rest (zip_first l.list-iterator)) →
       AreStarted o (l.handles.items ++ hs) l.lists);
   gates : AreAt l.fn.gate l.handles.items;

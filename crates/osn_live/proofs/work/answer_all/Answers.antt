@@ -8,7 +8,7 @@ use Rattle.osn_register.specs.declared.limits.Limits.{Limits}
 use Rattle.osn_core.specs.Sequential.{reply_at}
 use Rattle.osn_live.specs.Desk.{AreReplies}
 use Rattle.osn_live.specs.declared.protocol.Origin.{Origin}
-use Rattle.osn_live.proofs.Answered.{replies_later, replies_more}
+use Rattle.osn_live.proofs.ReplyLemmas.{replies_later, replies_more}
 use Rattle.osn_live.proofs.AtWork.{ask_at}
 use Rattle.osn_live.proofs.Hears.{hears_more}
 use Rattle.osn_live.proofs.work.answer_all.Goals as goal

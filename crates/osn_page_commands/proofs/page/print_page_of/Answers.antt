@@ -13,8 +13,8 @@ returns-in-Ok g c =
     let errors = output_of g.E.Sink.contents g.E.Sink.has_failed g.E.Sink.holds_back
     c.args.errors.now c.print_text_of.new.errors in
     page_made s c.args.path.now c.args.code.now c.args.date.now c.args.topic.now wrote errors
-    c.ended.result
+    c.page_status.result
     c.print_text_of.result c.in-Ok.field-0.lacks_day c.in-Ok.ensures.lawful c.in-Ok.ensures.lacks
     (subst (λ text. PrintsTopicText c.args.topic.now text wrote errors c.print_text_of.result)
     c.in-Ok.ensures.text c.print_text_of.ensures)
-    c.ended.ensures
+    c.page_status.ensures

@@ -9,5 +9,5 @@ use Rattle.osn_pages.proofs.year_feasts.push_feasts_among.Given as goal
 abbrev pub invariant-loop-feast : goal.invariant-loop-feast
 invariant-loop-feast l =
     string_bytes l.out ≡ string_bytes l.initial.out
-    ++ flat_map (spec.feast_text newest_rules l.territory (sources_of l.code l.register.territories)
-    l.year l.easter) (take l.feast-index l.feasts)
+    ++ flat_map (spec.feast_text newest_rules l.territory (sources_of l.code l.register.territories))
+    (take l.feast-index l.feasts)

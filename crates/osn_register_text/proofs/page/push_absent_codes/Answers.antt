@@ -4,11 +4,11 @@ use Rattle.osn_register_text.proofs.page.push_absent_codes.Goals as goal
 
 pub returns-in_default : goal.returns-in_default
 returns-in_default c =
-    all_written c.args.target.now.territories c.args.register.now.territories c.loop-place.place _ _
-    (sym c.in_default.ensures.value) c.loop-place.invariant
+    all_written c.args.target.now.territories c.args.register.now.territories c.loop-index.index _ _
+    (sym c.in_default.ensures.value) c.loop-index.invariant
 
-pub loop-place-preserved : goal.loop-place-preserved
-loop-place-preserved c =
-    next_written c.args.target.now.territories c.args.register.now.territories c.loop-place.place _
-    _ _ _ (string_bytes c.loop-place.out) _ (sym c.in-Some.ensures.value) c.loop-place.invariant
+pub loop-index-preserved : goal.loop-index-preserved
+loop-index-preserved c =
+    next_written c.args.target.now.territories c.args.register.now.territories c.loop-index.index _
+    _ _ _ (string_bytes c.loop-index.out) _ (sym c.in-Some.ensures.value) c.loop-index.invariant
     c.in_ok-push_absent_code.ensures

@@ -6,8 +6,8 @@ use Rattle.osn_register_text.proofs.planning.all_edits.Given as goal
 abbrev pub invariant-loop-code : goal.invariant-loop-code
 invariant-loop-code l =
     l.edits.items
-    ++ edits_for l.target.territories l.register.territories (drop l.place l.target.territories)
+    ++ edits_for l.target.territories l.register.territories (drop l.index l.target.territories)
     ≡ all_edits l.target.territories l.register.territories
 
 abbrev pub decreases-loop-code : goal.decreases-loop-code
-decreases-loop-code l = length l.target.territories - l.place
+decreases-loop-code l = length l.target.territories - l.index

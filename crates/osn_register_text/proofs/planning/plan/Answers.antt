@@ -1,5 +1,5 @@
 use Rattle.osn_register_text.specs.Fault.{IsFault}
-use Rattle.osn_register_text.proofs.Mapped.{handed_on}
+use Rattle.osn_register_text.proofs.ChangeEdits.{handed_on}
 use Rattle.osn_register_text.proofs.Whole.{planned, not_planned}
 use Rattle.osn_register_text.proofs.planning.plan.Goals as goal
 

@@ -20,7 +20,7 @@ each-init c =
 
 pub each-preserved : goal.each-preserved
 each-preserved c =
-    territory_step c.args.register.now.territories c.each.place c.in-Some.code.now
+    territory_step c.args.register.now.territories c.each.index c.in-Some.code.now
     c.in-Some.name.now
     c.in-Some.territory.now _ (string_bytes c.each.text)
     (string_bytes c.push_next_territory.new.out)
@@ -33,16 +33,16 @@ whole c =
     let territories = c.args.register.now.territories in
     elim c.each-test.branch [
       | else-each-test w ↦
-          territories_end territories c.each.place _ (string_bytes c.each.text)
-          (ap (option_map listing_of) (sym (slice_get_past territories c.each.place (omega (
+          territories_end territories c.each.index _ (string_bytes c.each.text)
+          (ap (option_map listing_of) (sym (slice_get_past territories c.each.index (omega (
             arith,
-            c.limits-place-end.ensures.well_formed.within,
-            ap (λ m. m.lands) c.limits-place-end.ensures.value,
+            c.limits-index-end.ensures.well_formed.within,
+            ap (λ m. m.lands) c.limits-index-end.ensures.value,
             w.each-test.false,
           )))))
           c.each.invariant
       | then-each-test+in_default w ↦
-          territories_end territories c.each.place _ (string_bytes c.each.text)
+          territories_end territories c.each.index _ (string_bytes c.each.text)
           w.in_default.ensures.value
           c.each.invariant
     ]

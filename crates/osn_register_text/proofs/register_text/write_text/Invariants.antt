@@ -8,4 +8,4 @@ abbrev pub invariant-each : goal.invariant-each
 invariant-each l =
     spec.register_text newest_rules l.fn.edition l.register.territories
     ≡ string_bytes l.text
-    ++ spec.territories_text newest_rules (drop l.place l.register.territories)
+    ++ spec.territories_text newest_rules (drop l.index l.register.territories)

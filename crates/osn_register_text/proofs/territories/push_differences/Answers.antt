@@ -1,6 +1,6 @@
 use Rattle.std.proofs.Common.{◌++◌, ap, ◌∙◌}
 use Rattle.osn_register_text.specs.PlanInside.{sources_at}
-use Rattle.osn_register_text.proofs.Mapped.{four, differences_mapped, ok_by}
+use Rattle.osn_register_text.proofs.ChangeEdits.{four, differences_mapped, ok_by}
 use Rattle.osn_register_text.proofs.territories.push_differences.Goals as goal
 
 pub returns : goal.returns

@@ -1,6 +1,6 @@
 use Rattle.std.proofs.Common.{◌++◌, ap, ◌∙◌}
 use Rattle.osn_register_text.specs.PlanInside.{sources_at}
-use Rattle.osn_register_text.proofs.Mapped.{two, later_mapped, ok_by}
+use Rattle.osn_register_text.proofs.ChangeEdits.{two, later_mapped, ok_by}
 use Rattle.osn_register_text.proofs.territories.push_later.Goals as goal
 
 pub returns : goal.returns

@@ -1,8 +1,8 @@
 use Rattle.std.proofs.Common.{◌+◌, take, subst, sym, arith}
 use Rattle.osn_register.specs.Plain.{RegisterModel}
 use Rattle.osn_register_text.specs.Fault.{IsTrialFault}
-use Rattle.osn_register_text.proofs.Mapped.{handed_on}
-use Rattle.osn_register_text.proofs.Tried.{HasTaken, taken_more, not_taken}
+use Rattle.osn_register_text.proofs.ChangeEdits.{handed_on}
+use Rattle.osn_register_text.proofs.EditTrials.{HasTaken, taken_more, not_taken}
 use Rattle.osn_register_text.proofs.trial.try_edits.Goals as goal
 
 pub returns-in_err-check_edit-clause-err : goal.returns-in_err-check_edit-clause-err

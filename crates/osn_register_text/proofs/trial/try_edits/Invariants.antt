@@ -1,5 +1,5 @@
 use Rattle.std.proofs.Common.{take}
-use Rattle.osn_register_text.proofs.Tried.{HasTaken}
+use Rattle.osn_register_text.proofs.EditTrials.{HasTaken}
 use Rattle.osn_register_text.proofs.trial.try_edits.Given as goal
 
 -- the draft has taken the edits so far

@@ -14,6 +14,6 @@ returns-in_default g c =
     reports_refusal errors (Desk fault) (fault_line (Desk fault)) _
     (other_desk fault c.in_default.not-NoMemory) refl
     (c.report_line.ensures (fault_line (Desk fault))
-    (IfOk-weaker c.refused-line.result _ _
+    (IfOk-weaker c.refusal_number_line-line.result _ _
     (λ text e. e ∙ reports_desk fault _ _ c.in_default.not-NoMemory c.number.ensures c.name.ensures)
-    c.refused-line.ensures))
+    c.refusal_number_line-line.ensures))

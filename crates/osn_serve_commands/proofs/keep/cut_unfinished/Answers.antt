@@ -9,8 +9,8 @@ pub returns-in-Ended-clause-ok : goal.returns-in-Ended-clause-ok
 returns-in-Ended-clause-ok g c = (
   None,
   refl,
-  (λ held known whole.
-      let is = all_left c.args.part held c.in-Ended.is whole in (is.0, known ∙ is.1)),
+  (λ content known whole.
+      let is = all_left c.args.part content c.in-Ended.is whole in (is.0, known ∙ is.1)),
 )
 
 pub returns-in_err-message-in-Unfinished-clause-err
@@ -34,7 +34,7 @@ returns-in_ok-cut-in-Unfinished-clause-ok g c = (
   subst (WritesLine (output_of g.E.Sink.contents g.E.Sink.has_failed g.E.Sink.holds_back
       c.args.errors.now c.write_line.new.errors))
       (c.as_str.ensures.value ∙ c.in_ok-message-in-Unfinished.ensures) c.write_line.ensures,
-  (λ held known whole.
-      unfinished_cut c.args.part held _ _ c.in-Unfinished.is
+  (λ content known whole.
+      unfinished_cut c.args.part content _ _ c.in-Unfinished.is
       c.in_ok-cut-in-Unfinished.ensures.ok known whole),
 )

@@ -12,7 +12,7 @@ returns-in_err-cut_unfinished-clause-err g c =
       subst (λ f. IsChangeFault f (g.K.KeptFile.fault c.cut_unfinished.new.keeper)) (sym is) h.0,
       None,
       h.1,
-      (λ held known whole. inl (refl, h.2 ∙ known)),
+      (λ content known whole. inl (refl, h.2 ∙ known)),
     ))
 
 pub returns-clause-ok : goal.returns-clause-ok
@@ -22,9 +22,9 @@ returns-clause-ok g c =
     (λ h. (
       cut.0,
       cut.1,
-      (λ held known whole.
-          let is = cut.2 held known whole in
-          let text = h held is.1 whole in
+      (λ content known whole.
+          let is = cut.2 content known whole in
+          let text = h content is.1 whole in
           (is.0, text.0, text.1)),
     ))
     c.append_missing.ensures.ok
@@ -37,9 +37,9 @@ returns-clause-err g c =
       h.0,
       cut.0,
       cut.1,
-      (λ held known whole.
-          let is = cut.2 held known whole in
-          let text = h.1 held is.1 whole in
+      (λ content known whole.
+          let is = cut.2 content known whole in
+          let text = h.1 content is.1 whole in
           inr (is.0, text.0, text.1)),
     ))
     c.append_missing.ensures.err

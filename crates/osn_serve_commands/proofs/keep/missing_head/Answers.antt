@@ -6,9 +6,10 @@ use Rattle.osn_serve_commands.proofs.keep.missing_head.Goals as goal
 pub returns-then-part-eq0 : goal.returns-then-part-eq0
 returns-then-part-eq0 c =
     IfOk-weaker c.head_line.result _ _
-    (λ head is held whole. head_missing c.args.part held head.items c.if-part-eq0.true is whole)
+    (λ head is content whole. head_missing c.args.part content head.items c.if-part-eq0.true is
+    whole)
     c.head_line.ensures
 
 pub returns : goal.returns
-returns c = λ held whole.
-    head_not_missing c.args.part held c.new.result.items c.if-part-eq0.false (search rules) whole
+returns c = λ content whole.
+    head_not_missing c.args.part content c.new.result.items c.if-part-eq0.false (search rules) whole

@@ -1,6 +1,6 @@
 use Rattle.std.proofs.Common.{inl, inr, ap, refl, string_bytes, ◌∙◌}
 use Rattle.std.proofs.lemmas.Result.{IfOk-weaker}
-use Rattle.osn_serve_commands.specs.Saving.{beside_line}
+use Rattle.osn_serve_commands.specs.Save.{beside_line}
 use Rattle.osn_serve_commands.proofs.saved_file.save_journal.Goals as goal
 
 pub returns-in-Ok : goal.returns-in-Ok

@@ -1,7 +1,7 @@
 use Rattle.std.proofs.Common.{◌≡◌, ◌-◌, false, length, sym, subst, ◌∙◌}
 use Rattle.osn_core.specs.Control.{reader_at, is_marked}
 use Rattle.osn_core.specs.CoreInside.{IsPlaced, IsLag}
-use Rattle.osn_core.proofs.Placed.{claimed_placed}
+use Rattle.osn_core.proofs.ReaderPositions.{claimed_placed}
 use Rattle.osn_core.proofs.machine.Core.claim.Goals as goal
 
 pub invariant_of-self : goal.invariant_of-self

@@ -1,8 +1,8 @@
 use Rattle.std.proofs.Common.{length, sym, subst}
 use Rattle.osn_core.specs.Control.{reader_at, leave}
 use Rattle.osn_core.specs.CoreInside.{IsPlaced}
-use Rattle.osn_core.proofs.Standing.{move_keeps}
-use Rattle.osn_core.proofs.Placed.{leave_placed}
+use Rattle.osn_core.proofs.ReaderMoves.{move_keeps}
+use Rattle.osn_core.proofs.ReaderPositions.{leave_placed}
 use Rattle.osn_core.proofs.machine.Core.leave.Goals as goal
 
 pub invariant_of-self : goal.invariant_of-self

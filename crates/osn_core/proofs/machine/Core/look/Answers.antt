@@ -1,8 +1,8 @@
 use Rattle.std.proofs.Common.{inl, inr, length, sym, subst}
 use Rattle.osn_core.specs.Control.{reader_at, look, readers_after}
 use Rattle.osn_core.specs.CoreInside.{IsPlaced}
-use Rattle.osn_core.proofs.Standing.{move_keeps, next_or_old}
-use Rattle.osn_core.proofs.Placed.{look_placed}
+use Rattle.osn_core.proofs.ReaderMoves.{move_keeps, next_or_old}
+use Rattle.osn_core.proofs.ReaderPositions.{look_placed}
 use Rattle.osn_core.proofs.machine.Core.look.Goals as goal
 
 pub invariant_of-self : goal.invariant_of-self

@@ -4,8 +4,8 @@ use Rattle.osn_core.specs.Control.{reader_at}
 use Rattle.osn_core.specs.LiveAndStandby.{IsSeenBy}
 use Rattle.osn_core.specs.CoreInside.{core_in}
 use Rattle.osn_core.specs.Machine.{CoreState}
-use Rattle.osn_core.proofs.Placed.{seen_by, standby_side}
-use Rattle.osn_core.proofs.Standing.{test_other}
+use Rattle.osn_core.proofs.ReaderPositions.{seen_by, standby_side}
+use Rattle.osn_core.proofs.ReaderMoves.{test_other}
 use Rattle.osn_core.proofs.machine.Core.side.Goals as goal
 
 pub returns-else-side-self-clause-readers : goal.returns-else-side-self-clause-readers

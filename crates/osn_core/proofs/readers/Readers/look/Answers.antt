@@ -1,7 +1,7 @@
 use Rattle.std.proofs.Common.{◌∙◌}
 use Rattle.std.proofs.lemmas.Result.{IfOk-weaker, on_ok_weaker}
 use Rattle.osn_core.specs.Control.{look}
-use Rattle.osn_core.proofs.Standing.{out_found, after_found}
+use Rattle.osn_core.proofs.ReaderMoves.{out_found, after_found}
 use Rattle.osn_core.proofs.readers.Readers.look.Goals as goal
 
 pub returns-in-Some-clause-out : goal.returns-in-Some-clause-out

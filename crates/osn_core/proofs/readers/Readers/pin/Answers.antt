@@ -1,6 +1,6 @@
 use Rattle.std.proofs.Common.{◌∙◌}
 use Rattle.osn_core.specs.Control.{pin}
-use Rattle.osn_core.proofs.Standing.{out_found, after_found}
+use Rattle.osn_core.proofs.ReaderMoves.{out_found, after_found}
 use Rattle.osn_core.proofs.readers.Readers.pin.Goals as goal
 
 pub returns-in-Some-clause-out : goal.returns-in-Some-clause-out

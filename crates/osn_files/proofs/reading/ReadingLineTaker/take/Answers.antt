@@ -5,8 +5,8 @@ use Rattle.osn_files.proofs.reading.ReadingLineTaker.take.Goals as goal
 pub returns-clause-takes : goal.returns-clause-takes
 returns-clause-takes g c =
     on_ok_weaker c.take_line.result
-    (λ one whole is begun before h.
-    Reads-line g.F.LineFold.step g.F.LineFold.state begun c.args.self.now
+    (λ one whole is initial before h.
+    Reads-line g.F.LineFold.step g.F.LineFold.state initial c.args.self.now
     (record {
       alloc = c.args.self.now.alloc;
       scratch = c.take_line.new.scratch;
@@ -19,7 +19,8 @@ returns-clause-takes g c =
 pub returns-clause-stop : goal.returns-clause-stop
 returns-clause-stop g c =
     IfErr-weaker c.take_line.result _ _
-    (λ why stop whole is begun before h.
-    StopsReading-line g.F.LineFold.step g.F.LineFold.state begun c.args.self.now before whole why h
+    (λ why stop whole is initial before h.
+    StopsReading-line g.F.LineFold.step g.F.LineFold.state initial c.args.self.now before whole why
+    h
     (stop whole is))
     c.take_line.ensures.err

@@ -1,5 +1,5 @@
 use Rattle.std.proofs.Common.{◌++◌, ◌∙◌, sym, subst, List, ℕ}
-use Rattle.osn_lines.specs.Ended.{ended_bytes}
+use Rattle.osn_lines.specs.LastLineFeed.{ended_bytes}
 use Rattle.osn_journal.specs.FollowerInside.{GivesSameLines}
 use Rattle.osn_journal.proofs.FrontLemmas.{ended-added, few-added, long_of, not_long, rest-added}
 use Rattle.osn_journal.proofs.LineLemmas.{rest-pass, no_line-pass}
@@ -8,15 +8,15 @@ use Rattle.osn_journal.proofs.line_front.LineFront.read.Goals.{else-len-gt-LONGE
 use Rattle.osn_journal.proofs.line_front.LineFront.read.Goals.{else-len-gt-LONGEST_LINE-via-else-len-gt-LONGEST_LINE}
 
 pub returns-then-ended_length-eq0-clause-lines : goal.returns-then-ended_length-eq0-clause-lines
-returns-then-ended_length-eq0-clause-lines c = λ waiting h.
-    subst (λ (l : List ℕ). GivesSameLines l (ended_bytes (waiting ++ c.args.more.now)))
+returns-then-ended_length-eq0-clause-lines c = λ pending_bytes h.
+    subst (λ (l : List ℕ). GivesSameLines l (ended_bytes (pending_bytes ++ c.args.more.now)))
     (sym c.new.ensures.items)
-    (no_line-pass waiting c.args.more.now c.args.self.now h
+    (no_line-pass pending_bytes c.args.more.now c.args.self.now h
     (sym c.ended_length.ensures.value ∙ c.if-ended_length-eq0.true))
 
 pub returns-then-ended_length-eq0-clause-rest : goal.returns-then-ended_length-eq0-clause-rest
-returns-then-ended_length-eq0-clause-rest c = λ waiting h.
-    rest-pass waiting c.args.more.now c.args.self.now h
+returns-then-ended_length-eq0-clause-rest c = λ pending_bytes h.
+    rest-pass pending_bytes c.args.more.now c.args.self.now h
     (sym c.ended_length.ensures.value ∙ c.if-ended_length-eq0.true)
     (long_of c.args.self.now _ c.len.ensures c.if-len-gt-LONGEST_LINE.true)
 

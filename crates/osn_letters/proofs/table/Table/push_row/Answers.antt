@@ -10,7 +10,8 @@ unfolding letter_text
 returns-clause-text c =
     written_by c.write_row.result _ _ _ _ _ _ _ refl refl
     (c.in_ok-push_to.ensures.fields
-    ∙ ap (λ own. own ++ (fields_and_remarks c.in_ok-made.made).fields) c.keep_fields.ensures.fields
+    ∙ ap (λ own. own ++ (fields_and_remarks c.in_ok-fields.fields).fields)
+    c.keep_fields.ensures.fields
     ∙ ap (λ made. take c.args.columns.own (fields_of c.args.row.now) ++ made.fields)
-    c.in_ok-made.ensures)
+    c.in_ok-fields.ensures)
     c.write_row.ensures.text

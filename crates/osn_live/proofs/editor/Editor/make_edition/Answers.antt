@@ -15,7 +15,7 @@ new-next-requires g c =
     ap (λ (k : CertificateState). k.batches) c.in-Some.ensures
     ∙ ap (λ (es : List Edit). batches ++ es ∷ []) c.pending.ensures in
     rw (c.limits.ensures, c.again.ensures, now) (c.in-Ok.ensures.ok
-    ∙ c.in_ok-published.ensures.value
+    ∙ c.in_ok-register_copy.ensures.value
     ∙ c.register.ensures
     ∙ ap (λ (ls : List EntryModel). record { limits = d.register.limits; territories = ls })
     (c.self.invariant.draft.territories ∙ draft_register newest_rules (object_of d batches)))

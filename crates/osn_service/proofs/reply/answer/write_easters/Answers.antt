@@ -14,7 +14,7 @@ unfolding escape_byte
 returns-clause-text c =
     let old = c.args.out.now.text in
     let source = c.args.source.now in
-    let days = compact_text (list_data (map spec.found_data c.args.found.now)) in
+    let days = compact_text (list_data (map spec.found_data c.args.days.now)) in
     let listed = compact_text (boolean c.args.listed) in
     at_last c.push.result c.push.ensures.text
     (λ e. rw (

@@ -12,7 +12,7 @@ pub returns-clause-text : goal.returns-clause-text
 unfolding escape_byte
 returns-clause-text c =
     let old = c.args.out.now.text in
-    let found = compact_text (spec.found_data c.args.found.now) in
+    let found = compact_text (spec.found_data c.args.day.now) in
     let period = c.args.period.now.period in
     let source = c.args.period.now.source in
     let regime = compact_text (spec.regime_data period.regime) in

@@ -19,7 +19,7 @@ returns-clause-text c =
     (chain c.args.out.now.text
     ((
       codes "{\"answer\":{\"days\":",
-      compact_text (list_data (map spec.found_data c.args.found.now)),
+      compact_text (list_data (map spec.found_data c.args.days.now)),
     )
     ∷ (codes ",\"skipped\":", compact_text (list_data (map whole c.args.skipped.now)))
     ∷ [])

@@ -11,25 +11,26 @@ use Rattle.osn_service.proofs.reply.written.write_written.Goals as goal
 pub returns-clause-text : goal.returns-clause-text
 unfolding escape_byte
 returns-clause-text c =
-    let w = c.args.written.now in
+    let w = c.args.answer.now in
     at_last c.push.result c.push.ensures.text
     (λ e. rw (
       e,
       c.in_ok-write_list-5.ensures.text,
       c.in_ok-write_member-4.ensures.text,
+      c.in_ok-write_flag-7.ensures.text,
       c.in_ok-write_flag-6.ensures.text,
       c.in_ok-write_flag-5.ensures.text,
-      c.in_ok-write_flag-4.ensures.text,
       c.in_ok-write_list-4.ensures.text,
       c.in_ok-write_list-3.ensures.text,
       c.in_ok-write_member-3.ensures.text,
       c.in_ok-write_list-2.ensures.text,
+      c.in_ok-write_flag-4.ensures.text,
       c.in_ok-write_flag-3.ensures.text,
-      c.in_ok-write_flag-2.ensures.text,
       c.in_ok-write_list.ensures.text,
       c.in_ok-write_member-2.ensures.text,
       c.in_ok-write_member.ensures.text,
       c.in_ok-push_text.ensures.text,
+      c.in_ok-write_flag-2.ensures.text,
       c.in_ok-write_flag.ensures.text,
       c.word_of_kind.ensures,
       c.as_slice.ensures,
@@ -40,6 +41,7 @@ returns-clause-text c =
     )
     (chain c.args.out.now.text
     ((codes "{\"answer\":{\"approximate\":", compact_text (boolean w.is_approximate))
+    ∷ (codes ",\"ends_in_next_year\":", compact_text (boolean w.remarks.ends_in_next_year))
     ∷ (codes ",\"kind\":", quoted (spec.word_of_kind w.kind))
     ∷ (
       codes ",\"named_calendar\":",
