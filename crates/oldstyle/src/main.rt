@@ -9,9 +9,10 @@ use osn_folder::Disk;
 use osn_lines::Plain;
 use osn_report::{StandardOutput, end_output};
 use std::env::VarError;
-use std::fs::{File, OpenOptions};
+use std::fs::{DirBuilder, File, OpenOptions};
 use std::io::IsTerminal;
 use std::os::fd::{AsRawFd, RawFd};
+use std::os::unix::fs::DirBuilderExt;
 use std::process::ExitCode;
 use std::rt::{Env, Files};
 use std::{env, fs, io};
@@ -26,14 +27,14 @@ fn variable(rt: &(impl Env + AllocGlobal), name: &str) -> Option<String> {
     env::var(rt, name).ok().filter(|value| !value.is_empty())
 }
 
-/// Returns the path of the user's own journal, as the environment says it.
-fn own_journal(rt: &(impl Env + AllocGlobal)) -> Option<String> {
+/// Returns the folder of the user's own journal, as the environment says it.
+fn own_folder(rt: &(impl Env + AllocGlobal)) -> Option<String> {
     let alloc = rt.alloc();
     match variable(rt, "XDG_DATA_HOME") {
-        Some(folder) => format!(in alloc; "{folder}/oldstyle/register.journal").ok(),
+        Some(folder) => format!(in alloc; "{folder}/oldstyle").ok(),
         None => {
             let home = variable(rt, "HOME")?;
-            format!(in alloc; "{home}/.local/share/oldstyle/register.journal").ok()
+            format!(in alloc; "{home}/.local/share/oldstyle").ok()
         }
     }
 }
@@ -61,6 +62,29 @@ fn takes_text(args: &[String]) -> bool {
     matches!(command_in(args), "plan" | "publish")
 }
 
+/// Returns whether the command line plans or publishes a text that is there and names no journal:
+/// one word follows the command.
+fn takes_text_alone(rt: &impl Files, args: &[String]) -> bool {
+    let words = args.iter().skip(2).filter(|word| !word.starts_with('-'));
+    takes_text(args)
+        && words.count() == 1
+        && !args.iter().any(|word| word.starts_with("--journal"))
+        && first_word(args).is_some_and(|text| is_there(rt, text.as_str()))
+}
+
+/// Returns the path of the user's own journal. If a text is to be published to it, its folder is
+/// made if it is not there, readable by the user alone; if it can't be made, the command reports
+/// that it is not there.
+fn own_journal(rt: &(impl Env + Files + AllocGlobal), args: &[String]) -> Option<String> {
+    let folder = own_folder(rt)?;
+    if takes_text_alone(rt, args) {
+        let mut builder = DirBuilder::new();
+        builder.recursive(true).mode(0o700);
+        let _ = builder.create(rt, folder.as_str());
+    }
+    format!(in rt.alloc(); "{folder}/register.journal").ok()
+}
+
 /// Returns the path of the journal of a command line that names none: what `OLDSTYLE_JOURNAL` says,
 /// or else the user's own journal, if there is one. If the first word after the command names a
 /// file, it is the journal, and there is no default. But after `plan` and `publish` it may be the
@@ -76,7 +100,7 @@ fn default_journal(rt: &(impl Env + Files + AllocGlobal), args: &[String]) -> Op
     match env::var(rt, "OLDSTYLE_JOURNAL") {
         Ok(path) if !path.is_empty() => Some(path),
         Ok(_) | Err(VarError::NotPresent) => {
-            own_journal(rt).filter(|path| takes_text || is_there(rt, path.as_str()))
+            own_journal(rt, args).filter(|path| takes_text || is_there(rt, path.as_str()))
         }
         Err(_) => None,
     }

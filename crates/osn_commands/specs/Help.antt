@@ -31,7 +31,7 @@ abbrev pub missing_help : Text → Text
 missing_help command =
     if is_some (words_without command)
     then codes
-    "help: the file of the journal comes first, or --journal FILE or OLDSTYLE_JOURNAL names it\n"
+    "help: name the journal first, by --journal or by OLDSTYLE_JOURNAL; publish TEXT makes one\n"
     else (if begins_with_journal command
     then codes "help: the file of the journal comes first, or --journal FILE names it\n"
     else [])

@@ -20,7 +20,7 @@ const READERS: &str = "help: write the number of readers, 1 to 64\n";
 const JOURNAL: &str = "help: the file of the journal comes first, or --journal FILE names it\n";
 
 const JOURNAL_OR_DEFAULT: &str =
-    "help: the file of the journal comes first, or --journal FILE or OLDSTYLE_JOURNAL names it\n";
+    "help: name the journal first, by --journal or by OLDSTYLE_JOURNAL; publish TEXT makes one\n";
 
 const FILE: &str = "help: write the file of the journal after the option: --journal FILE\n";
 

@@ -132,8 +132,8 @@ fn form_line(alloc: Global, path: &str, role: Role) -> Result<String, AllocError
     format!(in alloc; "help: {}: {}\n", Escaped(path), form_text(role))
 }
 
-/// Returns whether a line is of another kind than those of a file: it is not an object, or lacks the
-/// member that all of them have.
+/// Returns whether a line is of another kind than those of a file: it is not an object, or lacks
+/// the member that all of them have.
 fn is_other_kind(role: Role, fault: WireFault) -> bool
     ensures { result ≡ spec.is_other_kind role fault }
 {
