@@ -225,7 +225,7 @@ def peak_memory(child):
 
 
 def run_watched(command, source=None):
-    """The processor seconds of a run, its peak of resident memory in MiB, looked at as it runs,
+    """The processor seconds of a run, its peak of resident memory in MiB, sampled as it runs,
     and what it wrote."""
     child = subprocess.Popen(command, stdin=source, stdout=subprocess.PIPE)
     peak = 0

@@ -1,7 +1,7 @@
 #!/usr/bin/env python3
-"""Which day a letter means in Great Britain, by the package of clients/python: examples/client.py
+"""Prints which day a date means in Great Britain, with the package of clients/python.
 
-It runs from the top of the repository, after `pip install ./clients/python`. The territory is a
+Run it from the top of the repository, after `pip install ./clients/python`. The territory is a
 sample that claims no history.
 """
 from oldstyle import Register

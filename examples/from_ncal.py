@@ -1,10 +1,10 @@
 #!/usr/bin/env python3
-"""A text of the countries that ncal knows, in TOML: ncal -p | examples/from_ncal.py [EASTER]
+"""Makes a text of the countries that ncal knows, in TOML: ncal -p | examples/from_ncal.py [EASTER]
 
 The Debian package ncal has a list of countries, each with the last day of its Julian calendar. The
-change is on the next day. What that list says is the list's claim, and none of this project's: it
-is a start for an editor, who must compare each territory with the country's own records, and cite
-these as the source of the change. Years begin on 1 January in this text, and the rule of
+change is on the next day. What that list says is its own claim, not this project's: it is a start
+for an editor, who must compare each territory with the country's own records, and cite these as
+the source of the change. Years begin on 1 January in this text, and the rule of
 Easter is that of the calendar, or EASTER (`julian` or `gregorian`) throughout. If the text is in
 countries.toml, this publishes it: ./oldstyle publish countries.journal countries.toml
 """

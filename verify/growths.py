@@ -262,7 +262,7 @@ class Command:
         return got[::2] == NO_MEMORY and self.is_whole(got) and " --save " in self.words
 
     def is_noted(self, got):
-        """Returns whether only notes are not as with ample memory, below a plan or elsewhere."""
+        """Returns whether only notes differ, below a plan or elsewhere."""
         without = (self.ample.status, without_notes(self.ample.errors))
         is_plan = self.words.startswith("plan") and self.ample.status == 0
         return self.is_whole(got) and (
@@ -340,7 +340,7 @@ def main():
         print(f"| {name} | {growths} | {growths - same} | {same} | {again} |")
     wrong = [name for name, row in rows.items() if row.wrong or not row.growths]
     growths = sum(row.growths for row in rows.values())
-    print(f"{growths} growths refused in {len(rows)} calls, {len(wrong)} calls go otherwise")
+    print(f"{growths} growths refused in {len(rows)} calls, {len(wrong)} calls differ")
     return 1 if wrong else 0
 
 

@@ -372,7 +372,7 @@ def main():
     for what in untried:
         print(f"not tried: {what}")
     tried, right = map(sum, zip(*counts.values()))
-    print(f"{tried} runs under {len(counts)} conditions, {tried - right} go otherwise, "
+    print(f"{tried} runs under {len(counts)} conditions, {tried - right} differ, "
           f"{len(untried)} not tried")
     return 0 if tried == right else 1
 

@@ -229,7 +229,7 @@ def verdicts_in(clone, crate):
 
 def report(crate, verdicts, listed):
     """Prints the results of a crate's mutants. Returns how many there are, and how many of them
-    went otherwise than listed."""
+    had another verdict than listed."""
     count, for_a_name, bad = Counter(), 0, 0
     for mutant in further(crate):
         verdict = verdicts.get(mutant.place, "its crate is not proved")

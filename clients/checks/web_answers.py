@@ -145,7 +145,7 @@ def days_shown(fragment):
 
 
 def differences(html, program, journal, code, date, weekday="", order=""):
-    """What a fragment says otherwise than `read` prints."""
+    """What a fragment says that differs from what `read` prints."""
     fragment = Fragment(html)
     lines, stderr = read_page(program, journal, code, date, weekday, order)
     result, expected = days_shown(fragment), found_printed(lines, FEAST in html)

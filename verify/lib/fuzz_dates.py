@@ -94,7 +94,7 @@ def ends_of(answer):
 
 
 def why_other_row(answer, row):
-    """What a row of `letters` says otherwise than an answer."""
+    """What a row of `letters` says that differs from an answer."""
     kind = "" if answer["kind"] == "none" else answer["kind"]
     remarks = row["remark"].split("; ")
     if row["kind"] != kind or (row["earliest"], row["latest"]) != ends_of(answer):

@@ -23,7 +23,7 @@ from web_runs import Page
 
 AT_ONCE = 40
 SECONDS = 40
-# How long a reply is waited for if the request is not whole.
+# How long to wait for the reply to an incomplete request.
 QUIET = 0.5
 HEAD = re.compile(rb"HTTP/1\.[01] (\d{3}) [^\r\n]*\r\n(.*?)\r\n\r\n", re.S)
 LENGTH = re.compile(rb"^content-length: (\d+)\r?$", re.I | re.M)
@@ -153,7 +153,7 @@ class Web:
             "code", "date", "weekday"} else None
 
     def why_other_dates(self, dates):
-        """Each date that the page answers otherwise than the query."""
+        """Each date for which the page has another answer than the query."""
         answered = [(request, date, json.loads(response[HEAD.match(response).end():]))
                  for request, date, response in dates if HEAD.match(response)[1] == b"200"]
         answered = [one for one in answered if "written" in one[2]]
