@@ -84,6 +84,12 @@ def file_at(path):
     return path
 
 
+def text_of(path):
+    """The text of a file of the repository."""
+    with open(os.path.join(TOP, path), encoding="utf-8") as file:
+        return file.read()
+
+
 def newer_source():
     """A source that was changed after this tree's program was built, if there is one."""
     built = os.path.getmtime(BUILT)

@@ -21,6 +21,7 @@ import tempfile
 
 from lib.checks import check, verdict
 from lib.common import CommandLine, compact, end, mounted, run
+from lib.conditions import copy_over
 from lib.keeper import HEAD, LOCKED, PUBLISH, REPLACED, Editor, Run, journal_lines, land
 
 
@@ -152,13 +153,8 @@ def take_away(_, path):
     os.remove(path)
 
 
-def copy_over(_, path):
-    shutil.copy(path, path + ".new")
-    os.replace(path + ".new", path)
-
-
 # What is done to a file before a run saves to it.
-CHANGES = [overwrite, cut, lengthen, take_away, copy_over]
+CHANGES = [overwrite, cut, lengthen, take_away, lambda _, path: copy_over(path)]
 
 
 def text_at(path):

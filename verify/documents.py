@@ -5,8 +5,9 @@ A session is the lines of one document that begin with '> ', its requests, and w
 replies. A run is a line that begins with '$ ./oldstyle ', in a folder that has all that is at the
 top of the repository, and what earlier runs of the document made. It may end with '< FILE', its
 input. What it prints, on standard output and then on standard error, are the lines after it, up to
-the next run or the end of the block. After '$ cat > FILE << END', as in the cases, the lines up to
-END make a file. Prints each reply and each run that differs.
+the next run or the end of the block. They may also have the marks of the cases, '! ' and '[N]', and
+then the status counts. After '$ cat > FILE << END', as in the cases, the lines up to END make a
+file. Prints each reply and each run that differs.
 
 Compares the completions too: those of each shell have the commands and options of the help. Each
 text in the tables of docs/ERRORS.md must be printed by a case, or tried by a file in TRIED.
@@ -18,12 +19,13 @@ import re
 import shlex
 import tempfile
 
-from lib.common import TOP, CommandLine, end, file_at, run
+from lib.common import TOP, CommandLine, end, file_at, run, text_of
 
 RUN, FILE = "$ ./oldstyle ", "$ cat > "
 HELP = "crates/osn_cases/data/help.cases"
 SHELLS = "bash", "zsh", "fish"
 ERRORS = "docs/ERRORS.md"
+MARKED = re.compile(r"! |\[\d+\]$")
 # Parts of the texts in its tables that no case prints, and the files of verify/ that try them.
 TRIED = {
     "MiB of the transcript read": "audits.py", "no memory": "lib/command_cases.py",
@@ -60,15 +62,28 @@ def folder_of(lines, folder):
                 file.write(line + "\n")
 
 
-def printed_by(program, words, folder):
-    """The lines that a run prints, with the input of the file that it names after '<'."""
+def ended_run(program, words, folder):
+    """A run that ended, with the input of the file that it names after '<'."""
     stdin = []
     if "<" in words:
         words, (_, path) = words[:-2], words[-2:]
         with open(os.path.join(folder, path), encoding="utf-8", newline="\n") as file:
             stdin = file.read().split("\n")[:-1]
-    ended = run(program, words, lines=stdin, folder=folder)
-    return (ended.stdout + ended.stderr).split("\n")[:-1]
+    return run(program, words, lines=stdin, folder=folder)
+
+
+def lines_of(ended, is_marked):
+    """The lines that a run printed, with the marks of cases or without."""
+    output, errors = ended.stdout.split("\n")[:-1], ended.stderr.split("\n")[:-1]
+    if not is_marked:
+        return output + errors
+    status = [f"[{ended.returncode}]"] if ended.returncode else []
+    return [*(f"! {line}" for line in errors), *output, *status]
+
+
+def in_order(lines):
+    """The lines with the marks of cases, those of standard error first, wherever they are."""
+    return sorted(lines, key=lambda line: not line.startswith("! "))
 
 
 def differences(program, lines):
@@ -81,14 +96,10 @@ def differences(program, lines):
     with tempfile.TemporaryDirectory() as folder:
         folder_of(lines, folder)
         for words, expected in runs(lines):
-            printed = printed_by(program, words, folder)
-            if expected != printed:
+            is_marked = any(MARKED.match(line) for line in expected)
+            printed = lines_of(ended_run(program, words, folder), is_marked)
+            if (in_order(expected) if is_marked else expected) != printed:
                 yield f"{shlex.join(words)}\n  shown {expected}\n  given  {printed}"
-
-
-def text_of(path):
-    with open(os.path.join(TOP, path), encoding="utf-8") as file:
-        return file.read()
 
 
 def names_in_help():

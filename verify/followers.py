@@ -33,6 +33,7 @@ from contextlib import contextmanager
 
 from lib.checks import check, verdict
 from lib.common import CommandLine, compact, end, run
+from lib.conditions import copy_over
 from lib.keeper import (FOLLOWED_REPLACED, FOLLOWED_SHORTER, HEAD, PUBLISH, journal_lines,
                         land)
 from lib.keeper_rounds import TOWNS, keep_all
@@ -306,11 +307,6 @@ def follow_all(options, folder):
         text = file.read()
     check(f"followers of the socket say {text!r}", GONE.fullmatch(text))
     return journal, followers, stops
-
-
-def copy_over(path):
-    shutil.copy(path, path + ".new")
-    os.replace(path + ".new", path)
 
 
 # What is done to a file after a reply, and what its follower says.

@@ -1,9 +1,11 @@
 #!/usr/bin/env python3
-"""Checks that the mutants still apply, or tries those that the gate leaves out.
+"""Checks that the mutants still apply, or tries those that the gate leaves out, or counts which of
+these were not tried.
 
 mutants/README.md says what a mutant is. `check` proves nothing and takes a second. It reports each
 mutant, of the gate and of mutants/, whose old text is not exactly once in its file, that does not
-say what it breaks, or that repeats another.
+say what it breaks, or that repeats another. `untried` counts the mutants of each
+mutants/CRATE.edits that were written or changed after the commit in its first line.
 
 `try` clones what is committed, proves each crate, and then checks it with the mutants of
 mutants/CRATE.edits: of each function one, as many in one check as there are functions. A mutant
@@ -33,6 +35,7 @@ SAYS = "# "
 TRIED = "tried: "
 FUNCTION = re.compile(r"^ *(?:pub(?:\([a-z]+\))? )?(?:const )?fn (\w+)", re.M)
 NAME_ALONE = re.compile(r"has no field|is not in scope|has no `|was not admitted")
+TRIED_AT = re.compile(rf"{TRIED}([0-9a-f]{{7,}})\b")
 FAULT = re.compile(r"^.*\berror\[.*", re.M)
 
 
@@ -59,17 +62,23 @@ def data_file(crate):
     return os.path.join(DATA, f"{crate}.edits")
 
 
-def further(crate):
-    """The mutants of a crate that the gate leaves out."""
-    path, begin, block = data_file(crate), 1, []
-    lines = read(path).splitlines() if os.path.isfile(path) else []
-    for number, line in enumerate([*lines, ""], 1):
+def blocks_in(text):
+    """The blocks of a crate's file, each with the number of its first line."""
+    begin, block = 1, []
+    for number, line in enumerate([*text.splitlines(), ""], 1):
         if line:
             block.append(line)
             continue
         if block and not block[0].startswith(TRIED):
-            yield Mutant(crate, f"{os.path.relpath(path, TOP)}:{begin}", tuple(block))
+            yield begin, tuple(block)
         begin, block = number + 1, []
+
+
+def further(crate):
+    """The mutants of a crate that the gate leaves out."""
+    path = data_file(crate)
+    for begin, block in blocks_in(read(path) if os.path.isfile(path) else ""):
+        yield Mutant(crate, f"{os.path.relpath(path, TOP)}:{begin}", block)
 
 
 def of_the_gate(crate):
@@ -129,6 +138,31 @@ def check(crates):
         print(f"verify/mutants/survivors.txt: {names[name]} mutants are: {name}")
     print(f"{count} mutants, {bad} can't be applied or repeat another")
     return bool(bad or unclear)
+
+
+def tried_at(crate):
+    """The commit at which the mutants of a crate were last tried together, if there is one, and
+    those mutants, by their lines."""
+    match = TRIED_AT.match(read(data_file(crate)))
+    if match is None:
+        return None, set()
+    shown = subprocess.run(["git", "show", f"{match[1]}:./{os.path.basename(data_file(crate))}"],
+                           cwd=DATA, capture_output=True, text=True, check=False)
+    return match[1], {block for _, block in blocks_in("" if shown.returncode else shown.stdout)}
+
+
+def untried(crates):
+    """Reports how many mutants of each crate were never tried together with the others, or were
+    changed since."""
+    count, of_all = 0, 0
+    for crate in crates:
+        commit, before = tried_at(crate)
+        mutants = list(further(crate))
+        others = [mutant for mutant in mutants if mutant.lines not in before]
+        after = f"written or changed after {commit}" if commit else "in a file that names no commit"
+        print(f"{crate}: {len(others)} of {len(mutants)} {after}")
+        count, of_all = count + len(others), of_all + len(mutants)
+    print(f"{count} of {of_all} mutants were not tried together with the others of their crate")
 
 
 def functions_of(mutant, folder):
@@ -287,20 +321,21 @@ def part(text):
 
 def main():
     line = CommandLine(__doc__)
-    line.add_argument("action", choices=["check", "try"])
+    line.add_argument("action", choices=["check", "try", "untried"])
     line.add_argument("crates", nargs="*", metavar="CRATE", help="a crate; all by default")
     line.add_argument("--part", type=part, default=(1, 1), metavar="K/N",
                       help="of the crates, each Nth from the Kth on")
     options = line.parse_args()
     data = sorted(os.path.basename(path)[:-6] for path in glob.glob(os.path.join(DATA, "*.edits")))
     gate = {path.split(os.sep)[-2] for path in glob.glob(os.path.join(TOP, "crates/*/must-fail"))}
-    known = data if options.action == "try" else sorted({*data, *gate})
+    known = sorted({*data, *gate}) if options.action == "check" else data
     for crate in options.crates:
         if crate not in known:
             line.error(f"{crate} has no mutants: the crates that have some are {', '.join(known)}")
     first, step = options.part
     crates = (options.crates or known)[first - 1::step]
-    return int(check(crates) if options.action == "check" else tried(crates))
+    actions = {"check": check, "try": tried, "untried": untried}
+    return int(actions[options.action](crates) or 0)
 
 
 if __name__ == "__main__":

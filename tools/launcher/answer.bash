@@ -19,8 +19,9 @@ closed=""
 why_no_answer() {
     local file
     if ! only_reads "$@"; then
-        echo "one is given to read, convert, day, month, year, territory, almanac, letters, text, plan," \
-            "audit, replay, completions, and serve without --save, --keep and --follow"
+        echo "one is given to read, convert, day, month, year, territory, editions, diff, almanac," \
+            "letters, text, check, plan, audit, replay, completions, and serve without --save," \
+            "--keep and --follow"
     elif takes_input "$@" && [ -t 0 ]; then
         echo "the input is a terminal; give it as < FILE, or by a pipe"
     elif [ -n "$closed" ]; then
@@ -45,8 +46,8 @@ only_reads() {
         [[ ! $word =~ ^--(save|keep|follow)(=|$) ]] || return 1
     done
     case ${1:-} in
-        "" | read | convert | day | month | year | territory | almanac) ;;
-        letters | text | plan | audit | replay | serve | completions | help) ;;
+        "" | read | convert | day | month | year | territory | editions | diff | almanac) ;;
+        letters | text | check | plan | audit | replay | serve | completions | help) ;;
         *) asks_help "$@" ;;
     esac
 }
@@ -65,7 +66,7 @@ takes_input() { [[ ${1:-} =~ ^(|serve|letters)$ ]] && ! asks_help "$@"; }
 # names: the program gets neither while it is tried.
 reads_default() {
     local own=${XDG_DATA_HOME:-${HOME:-}/.local/share}/oldstyle/register.journal
-    [[ ${1:-} =~ ^(read|day|month|year|territory|almanac|letters|text|plan)$ ]] || return 1
+    [[ ${1:-} =~ ^(read|day|month|year|territory|editions|diff|almanac|letters|text|plan)$ ]] || return 1
     [[ " ${*:2} " != *" --journal"[\ =]* ]] && ! asks_help "$@" || return 1
     if [ "$1" = plan ]; then
         [ "$(plain_words "${@:2}")" = 1 ]

@@ -9,9 +9,9 @@ from contextlib import contextmanager
 TOP = os.path.abspath(os.path.join(os.path.dirname(__file__), "..", ".."))
 sys.path.append(os.path.join(TOP, "tools"))
 
-from command_line import SCRIPT, CommandLine, end, file_at, need
+from command_line import SCRIPT, CommandLine, end, file_at, need, text_of
 
-__all__ = ["CommandLine", "end", "file_at", "need"]
+__all__ = ["CommandLine", "end", "file_at", "need", "text_of"]
 JULIAN = {"calendar": "julian", "style": "january", "rule": "julian"}
 GREGORIAN = {"calendar": "gregorian", "style": "january", "rule": "gregorian"}
 

@@ -1,6 +1,8 @@
-"""Conditions in which a run fails: streams that take nothing, full disks, limits, few addresses."""
+"""Conditions in which a run fails: streams that take nothing, full disks, files that are replaced,
+limits, few addresses."""
 import os
 import resource
+import shutil
 import signal
 
 ADDRESSES = 6_000_000
@@ -27,6 +29,12 @@ def fill(path):
                 pass
     except OSError:
         pass
+
+
+def copy_over(path):
+    """Puts a copy of a file in its place."""
+    shutil.copy(path, path + ".new")
+    os.replace(path + ".new", path)
 
 
 def limited(length):

@@ -17,6 +17,7 @@ import pytest
 
 from oldstyle_web.application import create_app
 from oldstyle_web.context import Page
+from oldstyle_web.register import Asking, Register
 from oldstyle_web.settings import Settings
 
 TOP = Path(__file__).resolve().parents[3]
@@ -113,6 +114,14 @@ def page(program: str) -> Iterator[Page]:
     made = create_app(Settings(SAMPLES, program))
     yield made
     made.close()
+
+
+@pytest.fixture(scope="module")
+def asking(program: str) -> Iterator[Asking]:
+    """Asks the program about the samples."""
+    register = Register(Settings(SAMPLES, program))
+    yield Asking(register)
+    register.close()
 
 
 @pytest.fixture

@@ -7,10 +7,9 @@ from pathlib import Path
 from typing import Any, Callable
 
 import pytest
-from conftest import SAMPLES
 
 from oldstyle import Day
-from oldstyle_web.dates import ADVICE, DateFound, date_found, in_order
+from oldstyle_web.dates import ADVICE, RANGE_ADVICE, DateFound, date_found, in_order
 from oldstyle_web.register import Asking, Register
 from oldstyle_web.settings import Settings
 
@@ -55,6 +54,14 @@ def test_a_text_that_is_not_read_has_advice() -> None:
     assert found("year of one or two digits").advice == (
         "A year of one or two digits needs leading zeros, such as 0045.")
     assert found("skipped", "day").advice == found(None, "year").advice == ""
+    assert found("no month from 1 to 12").advice == "A month is 1 to 12."
+
+
+def test_a_range_of_years_with_a_short_one_has_advice_on_it() -> None:
+    written = {**ANSWERED, "kind": "none", "reason": "no month from 1 to 12"}
+    short = DateFound("GB", "Great Britain", "1640-45", "", "", written, [], [], [])
+    assert short.advice == ("A month is 1 to 12. In a range of years write the later year in full, "
+                            "such as 1640-1645.")
 
 
 @pytest.fixture
@@ -68,13 +75,6 @@ def easter_style(tmp_path: Path) -> str:
     path = tmp_path / "easter.journal"
     path.write_text("".join(f"{json.dumps(line)}\n" for line in lines))
     return str(path)
-
-
-@pytest.fixture(scope="module")
-def asking(program: str) -> Any:
-    register = Register(Settings(SAMPLES, program))
-    yield Asking(register)
-    register.close()
 
 
 @pytest.mark.parametrize("date, reason", [
@@ -93,6 +93,7 @@ def test_the_advice_is_that_of_the_program(asking: Asking, date: str, reason: st
     printed = subprocess.run([settings.program, "read", settings.journal, "GB", date], text=True,
                              check=False, capture_output=True)
     assert ADVICE[reason] in printed.stderr and not printed.stdout
+    assert (RANGE_ADVICE in printed.stderr) == (date == "1640-45")
 
 
 @pytest.mark.parametrize("code, date, weekday", [

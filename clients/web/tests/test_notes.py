@@ -3,14 +3,13 @@ from __future__ import annotations
 
 import re
 import subprocess
-from typing import Any, Iterator
+from typing import Any
 
 import pytest
 from conftest import SAMPLES
 
 from oldstyle_web.notes import notes_of
-from oldstyle_web.register import Asking, Register
-from oldstyle_web.settings import Settings
+from oldstyle_web.register import Asking
 
 SKIPPED = ["Tuesday 31 December 1751 was followed by Wednesday 1 January 1752.",
            "The year's beginning changed: until then years from 25 March, from then on years from "
@@ -18,13 +17,6 @@ SKIPPED = ["Tuesday 31 December 1751 was followed by Wednesday 1 January 1752.",
 YEAR = "That year ran there from Monday 25 March 1700 to Monday 24 March 1700/1."
 READ_AS = "Read as New Style, as the date says."
 NOT_SOUGHT = "Friday is not compared: the date is not written as a day."
-
-
-@pytest.fixture(scope="module")
-def asking(program: str) -> Iterator[Asking]:
-    register = Register(Settings(SAMPLES, program))
-    yield Asking(register)
-    register.close()
 
 
 def notes(asking: Asking, date: str, weekday: str = "") -> list[str]:

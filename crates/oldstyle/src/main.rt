@@ -72,9 +72,9 @@ fn takes_text_alone(rt: &impl Files, args: &[String]) -> bool {
         && first_word(args).is_some_and(|text| is_there(rt, text.as_str()))
 }
 
-/// Returns the path of the user's own journal. If a text is to be published to it, its folder is
-/// made if it is not there, readable by the user alone; if it can't be made, the command reports
-/// that it is not there.
+/// Returns the path of the user's own journal. If a text is given for it, its folder is made if
+/// it is not there, readable by the user alone; if it can't be made, the command reports that it is
+/// not there.
 fn own_journal(rt: &(impl Env + Files + AllocGlobal), args: &[String]) -> Option<String> {
     let folder = own_folder(rt)?;
     if takes_text_alone(rt, args) {

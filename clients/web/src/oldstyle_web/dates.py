@@ -29,8 +29,7 @@ ADVICE = {
     "not the year that follows": N_("after the / comes the year that follows, in full or by its "
                                     "last digits, such as 1731/2, 1731/32 or 1731/1732"),
     "no year from 0 to 10000": N_("a year is 0 to 10000"),
-    "no month from 1 to 12": N_("a month is 1 to 12: in a range of years write the later year in "
-                                "full, such as 1640-1645"),
+    "no month from 1 to 12": N_("a month is 1 to 12"),
     "no day from 1 to 31": N_("a day of a month is 1 to 31"),
     "no date": N_('it says that there is no date: write a day, such as "11 February 1731"'),
     "year of one or two digits": N_("a year of one or two digits needs leading zeros, such as "
@@ -56,6 +55,9 @@ ADVICE = {
                                            "years: write the months, such as December 1675 to "
                                            "February 1676"),
 }
+# Two years of which the later one is not in full: they are read as a year and a month.
+SHORT_RANGE = re.compile(r"\d{4}-\d{2}")
+RANGE_ADVICE = N_("in a range of years write the later year in full, such as 1640-1645")
 FLAGS = [("approximate", N_("approximate")), ("uncertain", N_("in doubt")),
          ("supplied", N_("supplied by an editor"))]
 KINDS = {"month": N_("The date is a month"), "year": N_("The date is a year"),
@@ -143,8 +145,11 @@ class DateFound:
     @property
     def advice(self) -> str:
         """What to write instead of a text that is not read."""
-        advice = ADVICE.get(self.reason or "") if self.kind == "none" else None
-        return as_sentence(_(advice)) if advice else ""
+        reason = self.reason if self.kind == "none" else None
+        advice = [ADVICE[reason]] if reason in ADVICE else []
+        if reason == "no month from 1 to 12" and SHORT_RANGE.fullmatch(self.date):
+            advice.append(RANGE_ADVICE)
+        return " ".join(as_sentence(_(text)) for text in advice)
 
     @property
     def cited(self) -> str:
