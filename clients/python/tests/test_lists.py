@@ -1,4 +1,4 @@
-"""The lists of a territory: its periods, its changes, the Easters that it lists, and its feasts."""
+"""What a register has of a territory: periods, changes, listed Easters, feasts, and conversions."""
 from __future__ import annotations
 
 import json
@@ -7,7 +7,8 @@ from typing import Any, Callable, Dict
 
 import pytest
 
-from oldstyle import Change, Day, Feast, ListedEaster, ProgramDiffers, Regime, Register
+from oldstyle import (BadField, Change, Day, Feast, ListedEaster, ProgramDiffers, Regime,
+                      Register)
 from oldstyle.commands import Context
 
 DAY: Dict[str, Any] = {"day": 1, "dual": "d", "gregorian": "0001-01-01", "jdn": 1721426,
@@ -71,3 +72,11 @@ def test_a_year_from_25_march_has_feasts_of_two_easters(context: Context) -> Non
         ("Easter", 1731, "18 April 1731"), ("Ascension", 1731, "27 May 1731"),
         ("Pentecost", 1731, "6 June 1731"), ("Trinity", 1731, "13 June 1731"),
         ("Septuagesima", 1732, "6 February 1731/2"), ("Ash Wednesday", 1732, "23 February 1731/2")]
+
+
+def test_a_date_is_converted_to_what_a_territory_wrote(context: Context) -> None:
+    found = context.register.convert("GB", "gregorian", 1732, 2, 22)
+    assert found is not None and (found.day, found.dual) == (632287, "11 February 1731/2")
+    assert context.register.convert("GB", "gregorian", 1700, 2, 29) is None
+    with pytest.raises(BadField):
+        context.register.convert("GB", "hebrew", 1732, 2, 22)

@@ -41,6 +41,11 @@ ASKED: list[tuple[str, dict[str, str], int]] = [
     ("easter", {"place": "RM", "year": "1582"}, 200), ("easter", {"place": "GB", "year": "0"}, 400),
     ("feasts", {"place": "GB", "year": "1731"}, 200),
     ("feasts", {"place": "GB", "year": "0"}, 400), ("feasts", {"place": "ZZ", "year": "0"}, 404),
+    ("convert", {"place": "GB", "calendar": "gregorian", "date": "1732-02-22"}, 200),
+    ("convert", {"place": "GB", "calendar": "swedish", "date": "1700-02-29"}, 200),
+    ("convert", {"place": "GB", "calendar": "hebrew", "date": "1732-02-22"}, 400),
+    ("convert", {"place": "ZZ", "calendar": "julian", "date": "1732-02-22"}, 404),
+    ("convert", {"place": "GB", "calendar": "julian"}, 400),
     ("figures", {"year": "1731"}, 200), ("figures", {"year": "10000"}, 400)]
 
 

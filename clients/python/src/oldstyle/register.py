@@ -6,7 +6,7 @@ import os
 from typing import (Any, Dict, Iterable, Iterator, List, Literal, NoReturn, Optional, Sequence,
                     Type, TypeVar, Union, overload)
 
-from .answers import (Change, Feast, Land, ListedEaster, Period, Reading, from_members,
+from .answers import (Change, Day, Feast, Land, ListedEaster, Period, Reading, from_members,
                       reading_of)
 from .faults import Fault, JournalRefused, ProgramDiffers, fault_of
 from .service import Service, program_at, absolute, unreadable
@@ -106,6 +106,17 @@ class Register:
         """The principal feasts that a territory dated in a year, as it counted the year, in the
         order of their Easters."""
         return self._all_of(Feast, "feasts", code=code, year=year)
+
+    def convert(self, code: str, calendar: str, year: int, month: int,
+                day: int) -> Optional[Day]:
+        """The day of a date by the calendar `gregorian`, `julian` or `swedish`, with the year from
+        1 January, as a territory dated it; or None if no day has that date."""
+        answer = self.ask("convert", code=code, calendar=calendar, year=year, month=month, day=day)
+        try:
+            days = [from_members(Day, item) for item in answer["days"]]
+        except (KeyError, TypeError):
+            self._differs("convert")
+        return days[0] if days else None
 
     def ask(self, op: str, **members: Any) -> Dict[str, Any]:
         """The answer to any query of docs/FORMATS.md, such as

@@ -68,6 +68,7 @@ QUERIES = {
     "day": Query("day", PLACE | {"day": number}),
     "easter": Query("easter", PLACE | {"year": number}),
     "feasts": Query("feasts", PLACE | {"year": number}),
+    "convert": Query("convert", PLACE | {"calendar": text("calendar"), "date": label}),
     "figures": Query("figures", {"year": number}),
 }
 
