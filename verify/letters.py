@@ -6,8 +6,9 @@ semicolons or tabs, in quotes or not, with line ends in them; its lines end by L
 some are empty. Its dates are of all forms, its places and weekdays are wrong now and then, and some
 have spaces around them. Some records have the most bytes that a record may have. Many tables have a
 fault in the header or in a row: what comes before it must be written, and the fault must be
-reported with the line on which the record begins, and status 1. In the end tables of over 128 MiB
-are read, which must show on a terminal how far they are.
+reported with the line on which the record begins, and status 1. With --keep-going a fault in a row
+is a remark instead, and the rows after it are written. In the end tables of over 128 MiB are read,
+which must show on a terminal how far they are.
 """
 import os
 import random
@@ -20,6 +21,7 @@ from lib.date_draws import (MALFORMED, any_case, date_text, journal_lines, label
                             write_journal)
 from lib.date_meaning import Territory
 from lib.letter_rows import COLUMNS, letter_fields
+from lib.near import nearest
 
 SEPARATORS = {"comma": ",", "semicolon": ";", "tab": "\t"}
 READ = ["place", "date", "weekday"]
@@ -40,33 +42,15 @@ TOO_LONG = "a record of more than 65536 bytes"
 OPEN_QUOTE = "a quote that opens in this record is never closed"
 TEXT_AFTER = "text follows a closing quote"
 
+# The remarks of the same with --keep-going.
+FLAWS = ["another number of fields", "more than 65536 bytes", "quote not closed",
+         "text after a closing quote"]
+
 
 def lacks(name, result, role):
     """The line of a header that lacks a column, and has these."""
     one_place = ", or the place of all rows with --in" if role == "place" else ""
     return f"no column {name}: the columns are {result}: name yours with --{role}{one_place}"
-
-
-def steps(word, name):
-    """How many letters are inserted, left out, replaced or swapped with the next one."""
-    table = {}
-    for i in range(len(word) + 1):
-        for j in range(len(name) + 1):
-            ways = [max(i, j)] if 0 in (i, j) else [
-                table[i - 1, j] + 1, table[i, j - 1] + 1,
-                table[i - 1, j - 1] + (word[i - 1] != name[j - 1])]
-            if min(i, j) > 1 and (word[i - 2:i], word[i - 1]) == (name[j - 2:j][::-1], name[j - 2]):
-                ways.append(table[i - 2, j - 2] + 1)
-            table[i, j] = min(ways)
-    return table[len(word), len(name)]
-
-
-def nearest(word, names):
-    """The first of the names that differ least from a word in ASCII, or None."""
-    most = min(len(word) // 3, 2)
-    counts = [steps(word.lower(), "".join(c.lower() if c.isascii() else c for c in name))
-              for name in names]
-    return names[counts.index(min(counts))] if min(counts) <= most else None
 
 
 def quoted(field):
@@ -99,6 +83,7 @@ class Form:
         self.has_weekday = chance.random() < 0.7
         others = chance.sample(["text", "a note", "No.", "\u00fcber"], chance.randint(0, 3))
         roles = READ if self.has_weekday else READ[:2]
+        self.keeps_going = chance.random() < 0.4
         self.columns = [*others, *(self.names[role] for role in roles)]
         chance.shuffle(self.columns)
 
@@ -107,6 +92,7 @@ class Form:
         for role in READ if self.has_weekday else READ[:2]:
             if self.names[role] != role:
                 words += [f"--{role}", self.names[role]]
+        words += ["--keep-going"] if self.keeps_going else []
         return words + (["--separator", self.word] if self.chance.random() < 0.3 else [])
 
     def field_text(self, field):
@@ -173,17 +159,27 @@ def lengthened(form, fields, place, length):
 
 
 def bad_record(chance, form, fields):
-    """A record that ends the table, and why."""
+    """A record that ends the table, why, of which kind that is, and the fields that it has."""
     kind = chance.randrange(4)
     if kind == 0:
         more = fields[:-1] if len(fields) > 2 and chance.random() < 0.5 else [*fields, "x"]
-        return form.record(more), OTHER_NUMBER.format(len(more), len(form.columns))
+        return form.record(more), OTHER_NUMBER.format(len(more), len(form.columns)), kind, more
     if kind == 1:
-        return lengthened(form, fields, 0, LONGEST + 1)[0], TOO_LONG
+        record, long = lengthened(form, fields, 0, LONGEST + 1)
+        return record, TOO_LONG, kind, long
     front = form.record(fields[:-1]) + form.separator
     if kind == 2:
-        return f'{front}"never closed{form.line_end}', OPEN_QUOTE
-    return f'{front}"closed" here', TEXT_AFTER
+        last = "never closed" + form.line_end
+        return f'{front}"{last}', OPEN_QUOTE, kind, [*fields[:-1], last + form.line_end]
+    return f'{front}"closed" here', TEXT_AFTER, kind, [*fields[:-1], "closed here"]
+
+
+def flawed_row(form, edition, kind, fields):
+    """The row of a record with a flaw: no day, one remark, and further fields after these."""
+    width = len(form.columns)
+    own = (fields + [""] * width)[:width]
+    added = [""] * (len(COLUMNS) - 2) + [str(edition), FLAWS[kind]]
+    return written_row([*own, *added, *fields[width:]], form.separator)
 
 
 def table_of(chance, form, territories, edition, middle):
@@ -201,10 +197,16 @@ def table_of(chance, form, territories, edition, middle):
         table.text += form.empty_lines()
         fields, read = row_of(chance, form, territories["XX"], middle)
         if bad and chance.random() < 0.05:
-            record, why = bad_record(chance, form, fields)
-            table.fault = table.fault_line(why)
+            record, why, kind, fields = bad_record(chance, form, fields)
+            if not form.keeps_going:
+                table.fault = table.fault_line(why)
+                table.add(record)
+                return table
             table.add(record)
-            return table
+            table.out += flawed_row(form, edition, kind, fields)
+            if kind == 2:
+                return table
+            continue
         record = form.record(fields)
         if "text" in form.columns and chance.random() < 0.02:
             record, fields = lengthened(form, fields, form.columns.index("text"), LONGEST)

@@ -16,6 +16,7 @@ from lib.calendars import (HIGH, LAST_LABEL_YEAR, LAST_YEAR, WEEKDAYS, Land, dat
                            key_of, labels, places)
 from lib.common import SCRIPT, CommandLine, compact, end
 from lib.date_meaning import Malformed, Territory, has_weekday, parse
+from lib.messages import message_of
 from lib.span_texts import Unread, span_of, why_none
 from lib.spans import Simple, near, none_answer, remarks, runs_found, runs_of, span_answer
 from lib.year_page import feasts
@@ -56,8 +57,9 @@ MEMBERS = {
 
 
 class Fault(Exception):
-    def __init__(self, number, **members):
+    def __init__(self, number, is_unknown=False, **members):
         super().__init__(number)
+        self.is_unknown = is_unknown
         self.members = {"fault": number, "name": NAMES[number], **members}
 
 
@@ -77,7 +79,7 @@ class Whole(int):
     """A whole number of JSON, unlike a float and a boolean."""
 
 
-def request_of(line, readers, version=NEWEST):
+def request_of(line, readers, version=NEWEST, is_strict=False):
     if len(line) > LONGEST_LINE:
         raise Fault(31)
     try:
@@ -93,6 +95,9 @@ def request_of(line, readers, version=NEWEST):
         raise Fault(34, field="op")
     if op not in MEMBERS:
         raise Fault(35)
+    if unknown := is_strict and sorted(
+            value.keys() - {"op", *MEMBERS[op].split()}, key=str.encode):
+        raise Fault(34, is_unknown=True, field=unknown[0])
     for member in MEMBERS[op].split():
         got = value.get(member)
         if member in ("code", "name", "date"):
@@ -120,18 +125,19 @@ class Service:
 
     def __init__(
         self, readers=8, lands=500, changes=40, exceptions=200, edits=20_000, editions=5_000,
-        version=NEWEST, takes_sources=True
+        version=NEWEST, takes_sources=True, explains=False, is_strict=False
     ):
-        self.readers, self.published, self.draft = readers, {}, {}
-        self.version, self.takes_sources = version, takes_sources
+        self.readers, self.explains, self.published, self.draft = readers, explains, {}, {}
+        self.version, self.takes_sources, self.is_strict = version, takes_sources, is_strict
         self.edits, self.pending, self.edition = 0, 0, 0
         self.most = dict(
             lands=lands, changes=changes, exceptions=exceptions, edits=edits, editions=editions
         )
 
     def reply(self, line):
+        is_unknown = False
         try:
-            op, value = request_of(line, self.readers, self.version)
+            op, value = request_of(line, self.readers, self.version, self.is_strict)
             if op == "publish":
                 members = self.publish()
             elif "reader" in MEMBERS[op]:
@@ -142,7 +148,9 @@ class Service:
                 refuse((lambda: is_given and not self.takes_sources, 46))
                 members = self.stage(op, value)
         except Fault as fault:
-            members = fault.members
+            members, is_unknown = fault.members, fault.is_unknown
+        if self.explains and "fault" in members:
+            members = {**members, "message": message_of(members, is_unknown)}
         return compact(members)
 
     def publish(self):
@@ -330,8 +338,12 @@ def version_of(head):
 
 
 def main():
-    CommandLine(__doc__).parse_args()
-    service = Service()
+    command_line = CommandLine(__doc__)
+    command_line.add_argument("--explain", action="store_true", help="as serve --explain")
+    command_line.add_argument("--strict-members", action="store_true",
+                              help="as serve --strict-members")
+    options = command_line.parse_args()
+    service = Service(explains=options.explain, is_strict=options.strict_members)
     for number, line in enumerate(sys.stdin.buffer, 1):
         try:
             print(service.reply(line.removesuffix(b"\n")))

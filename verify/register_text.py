@@ -8,7 +8,7 @@ each territory of the text is exactly as it says, with its sources, and all othe
 The file has grown by the fewest edits and a publish, or another one of version 4 has its place if
 one of version 2 takes sources; publishing again makes no edition and changes no byte. What is
 printed is by `text_pages.py`. Texts with random faults are refused, each with the path to its first
-fault, and nothing changes.
+fault, and nothing changes; `check` reports a fault of each territory.
 
 Then: journals that can't be published into, versions of a journal and `--upgrade`, concurrent
 publishes, a keeper and a follower beside them.
@@ -23,13 +23,14 @@ from lib.checks import check, verdict
 from lib.common import CommandLine, compact, end
 from lib.keeper import HEAD_4, PUBLISH
 from reference import NEWEST, cited
-from lib.territory_texts import WORDS, TextFault, after, differences, lands_of, comparable
+from lib.territory_texts import (WORDS, TextFault, after, comparable, differences, faults_of,
+                                 lands_of)
 from lib.text_draws import Draws, beginnings, journal_lines, version_for
 from lib.text_faults import spoiled_text
 from lib.text_files import LAND, Files, bytes_of, lines_of, published, refused
 from lib.text_journals import SAVED_AGAIN, try_all_journals
-from lib.text_pages import (absent_lines, edit_lines, fault_words, plan_end, publish_begin,
-                            publish_end, register_lines, texts_of)
+from lib.text_pages import (absent_lines, check_lines, edit_lines, fault_words, plan_end,
+                            publish_begin, publish_end, register_lines, texts_of)
 
 # The line of the edition that a text was made of.
 EDITION = re.compile(r"^edition = \d+\n\n?")
@@ -158,8 +159,13 @@ def try_fault(files, draws, number):
         return None
     journal = files.journal("journal", {})
     text = files.write("text", spoiled_text(draws.chance, lands))
+    content = bytes_of(text).decode()
+    errors = check_lines(text, content, faults_of(content))
+    done = files.run("check", text)
+    check(f"{what}: check reports {done.stderr!r}\n  and not {errors!r}",
+          (done.returncode, done.stderr) == (1 if errors else 0, errors))
     try:
-        lands_of(bytes_of(text).decode())
+        lands_of(content)
     except TextFault as fault:
         refused(files, what, text, text, fault_words(fault), journal)
         return fault.reason, fault.detail if fault.reason == "Refused" else None

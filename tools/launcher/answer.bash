@@ -60,7 +60,10 @@ asks_help() {
     return 1
 }
 
-takes_input() { [[ ${1:-} =~ ^(|serve|letters)$ ]] && ! asks_help "$@"; }
+# Returns whether the arguments ask for standard input, as `read` does if its date is -.
+takes_input() {
+    [[ ${1:-} =~ ^(|serve|letters)$ || "$* " == "read "*" - "* ]] && ! asks_help "$@"
+}
 
 # Returns whether the arguments leave out the journal, which the environment or the user's folder
 # names: the program gets neither while it is tried.

@@ -18,6 +18,7 @@ TERRITORY = ["name", "calendar", "style", "rule", "source", "note", "changes", "
 CHANGE = ["from", "calendar", "style", "rule", "source", "note"]
 EASTER = ["year", "date", "source", "note"]
 WORDS = ["calendar", "style", "rule"]
+DAY_KEYS = ["gregorian", "julian", "swedish", "day"]
 DATE = re.compile(r"([0-9]{3,9})-([0-9]{1,2})-([0-9]{1,2})")
 
 
@@ -49,18 +50,43 @@ def day_of(calendar, year, month, day):
 # ---- what a text says
 
 
-def edits_of(text):
-    """The edits that a text says, each with the path of its table."""
-    tables = tomllib.loads(text)
-    tables.pop("edition", None)
-    return [edit for code in sorted(tables, key=str.encode)
+def edits_of(tables):
+    """The edits that the tables of a text say, each with the path of its table."""
+    return [edit for code in sorted(tables, key=str.encode) if code != "edition"
             for edit in territory_edits(code, tables[code])]
 
 
 def lands_of(text, **limits):
     """The territories that a text says, or its first fault."""
+    return lands_in(tomllib.loads(text), **limits)
+
+
+def faults_of(text):
+    """The first fault of a text, if it has one, and then that of each other territory by itself,
+    each with the code of its territory."""
+    tables = tomllib.loads(text)
+    first = fault_in(tables)
+    if first is None:
+        return []
+    code = max((code for code in tables if f"{first.path}.".startswith(f"{code}.")), key=len)
+    further = [(other, fault_in({other: tables[other]}))
+               for other in sorted(tables, key=str.encode) if other != code]
+    return [(code, first), *(row for row in further if row[1])]
+
+
+def fault_in(tables):
+    """The first fault of tables, or None."""
+    try:
+        lands_in(tables)
+    except TextFault as fault:
+        return fault
+    return None
+
+
+def lands_in(tables, **limits):
+    """The territories that the tables of a text say, or their first fault."""
     service = Service(**limits)
-    for path, request in edits_of(text):
+    for path, request in edits_of(tables):
         try:
             service.stage(request["op"], request)
         except Fault as fault:
@@ -132,6 +158,8 @@ def day_at(members, path, name):
     if not isinstance(table, dict) or len(table) != 1:
         raise TextFault(path, "NotDay")
     (calendar, value), = table.items()
+    if calendar not in DAY_KEYS:
+        raise TextFault(path, "UnknownDayKey", calendar)
     if calendar == "day" and type(value) is int:
         return value
     if calendar in CALENDARS and isinstance(value, (datetime.date, datetime.time)):

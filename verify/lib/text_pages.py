@@ -7,7 +7,9 @@ import re
 from lib.calendars import dates
 from lib.date_meaning import Territory, weekday_of
 from lib.page_texts import YEARS, named, numbered
-from lib.territory_texts import WORDS, date_on
+from lib.near import nearest
+from lib.territory_texts import CHANGE, DAY_KEYS, EASTER, TERRITORY, WORDS, date_on
+from reference import REGIME
 
 DAY = ('write { gregorian = "1752-09-14" }, with julian or swedish in its place, '
        "or { day = 639797 }")
@@ -25,6 +27,10 @@ KEYS = {
     "easters": "a listed Easter has year, date, source and note",
     None: "a territory has name, calendar, style, rule, source, note, changes and easters",
 }
+NAMES = {"changes": CHANGE, "easters": EASTER, None: TERRITORY}
+ROWS = {"changes": "change", "easters": "listed Easter"}
+# The path of a list, or of a row of one.
+LIST = re.compile(r"(.*)\.(changes|easters)(\.\d+)?", re.S)
 # The characters on which a terminal acts, which are written by their numbers.
 ESCAPED = re.compile("[\0-\x1f\x7f-\x9f\u061c\u200e\u200f\u2028-\u202e\u2066-\u2069]")
 SHORT = {"\t": "\\t", "\n": "\\n", "\r": "\\r"}
@@ -226,7 +232,59 @@ def fault_words(fault):
     words |= {f"No{word.capitalize()}": lambda: f'"{fault.detail}" is not a {key}: {ALLOWED[key]}'
               for word in WORDS}
     reason_text = words.get(fault.reason, lambda: ALLOWED[key])()
-    return escaped(f"{fault.path}: {reason_text}")
+    return "\n".join([escaped(f"{fault.path}: {reason_text}"), *fault_help(fault)])
+
+
+def check_lines(path, text, faults):
+    """What `check` reports of a text with these faults, each with the code of its territory."""
+    if not faults:
+        return ""
+    count = "1 fault" if len(faults) == 1 else f"{len(faults)} faults"
+    lines = text.split("\n")
+    return "".join(f"oldstyle: {path}: {fault_words(fault)}\n{place_note(code, lines)}"
+                   for code, fault in faults) + f"note: {count}\n"
+
+
+def place_note(code, lines):
+    """The line on where the table of a code begins, if it is found."""
+    for number, line in enumerate(lines, 1):
+        if line.startswith((f"[{code}]", f"{code} =")):
+            return f"note: {escaped(code)} begins on line {number}\n"
+    return ""
+
+
+def fault_help(fault):
+    """The line below that message, in a list, if there is one."""
+    if fault.reason in ("NotTable", "NotList"):
+        return ["help: " + table_help(fault.path)]
+    names = names_allowed(fault)
+    meant = nearest(fault.detail, names) if names else None
+    if meant:
+        return [f"help: {escaped(fault.detail)}: did you mean {meant}?"]
+    if fault.reason == "UnknownDayKey":
+        return [f"help: {escaped(fault.detail)}: a day has one key: gregorian, julian, swedish "
+                "or day"]
+    return []
+
+
+def table_help(path):
+    """What to do about what is not a table, or not a list of tables, at a path."""
+    row = LIST.fullmatch(path)
+    if row:
+        return f"write [[{escaped(row[1])}.{row[2]}]] above the keys of each {ROWS[row[2]]}"
+    if path in TERRITORY:
+        return f"{path} is a key of a territory: write it below the line of a code, such as [GB]"
+    return (f"{escaped(path)}: write each territory as a table: [GB], for example, and its keys "
+            "below")
+
+
+def names_allowed(fault):
+    """The names of which the wrong one of a fault may be a mistyped one."""
+    if fault.reason == "UnknownKey":
+        return NAMES[part_of(fault.path, fault.detail)]
+    if fault.reason == "UnknownDayKey":
+        return DAY_KEYS
+    return REGIME.get(fault.reason.removeprefix("No").lower())
 
 
 def part_of(path, name):

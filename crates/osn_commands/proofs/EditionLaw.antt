@@ -47,7 +47,7 @@ staged-alone s es none =
     ∙ ap (λ (p : List Edit). with_edition (record s { pending = p ++ es })) none
     ∙ ap (λ (p : List Edit). record s { batches = s.batches ++ es ∷ []; pending = p }) (sym none)
 
--- none of two refusals applies
+-- if there is no first refusal of two, neither applies
 neither : (first second : Option Refusal) → or_else first second ≡ None
     → (first ≡ None) × (second ≡ None)
 neither None second none = (refl, none)

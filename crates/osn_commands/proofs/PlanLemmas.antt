@@ -1,7 +1,7 @@
 -- A plan from the register of an object is one from what the object has published, and a journal
 -- that may be there is as the plan's contract says.
 use Rattle.std.proofs.Common.{◌≡◌, ℕ, Bool, List, Option, Some, None, is_some, option_map}
-use Rattle.std.proofs.Common.{refl, subst}
+use Rattle.std.proofs.Common.{refl, subst, sym}
 use Rattle.osn_core.specs.Sequential.{ObjectState}
 use Rattle.osn_folder.specs.Folder.{Known}
 use Rattle.osn_register_text.specs.Plan.{IsPlan}
@@ -13,7 +13,8 @@ use Rattle.osn_report.specs.Messages.{ReportsNothing}
 use Rattle.osn_report.specs.declared.status.Status.{Status}
 use Rattle.osn_report.specs.declared.status.Status.TheVariants as statuses
 use Rattle.osn_serve_commands.specs.Serve.{input_if}
-use Rattle.osn_commands.specs.InFolder.{IsOpened, ReportsHindranceAfter}
+use Rattle.osn_commands.specs.HindranceCause.{ReportsHindrance}
+use Rattle.osn_commands.specs.InFolder.{IsOpened, ReportsHindranceAfter, refused_if}
 use Rattle.osn_commands.specs.Text.{published}
 
 pub same_plan : (s : ObjectState) (limits : Limits) (territories target : List EntryModel)
@@ -49,14 +50,30 @@ module _ {S : Type 0} (remaining : S → Option (List ℕ)) (has_failed : S → 
 
 -- ---- what is written
 
+-- after one that was, it was reported why the journal could not be kept
+pub reports_hindrance : (printed reported status : Status) (refuses : Bool) (path : List ℕ)
+    (there : Bool) (before after : Option Known) (e : Output) → printed ≡ statuses.Done
+    → ReportsHindrance path there before after e reported → status ≡ refused_if refuses reported
+    → ReportsHindranceAfter printed refuses path there before after e status
+reports_hindrance printed reported status refuses path there before after e is found ends =
+    subst (λ p. ReportsHindranceAfter p refuses path there before after e status) (sym is)
+    (reported, found, ends)
+
 -- after a plan that was not printed nothing more is
-pub reports_no_hindrance : (printed : Status) (path : List ℕ) (there : Bool) (known : Option Known)
-    (e : Output) → (printed ≡ statuses.Done → ⊥) → ReportsNothing e
-    → ReportsHindranceAfter printed path there known known e printed
-reports_no_hindrance statuses.Done path there known e other nothing = absurd (other refl)
-reports_no_hindrance statuses.Refused path there known e other nothing = (refl, refl, nothing)
-reports_no_hindrance statuses.Misused path there known e other nothing = (refl, refl, nothing)
-reports_no_hindrance statuses.ReadFault path there known e other nothing = (refl, refl, nothing)
-reports_no_hindrance statuses.WriteFault path there known e other nothing = (refl, refl, nothing)
-reports_no_hindrance statuses.Unwritten path there known e other nothing = (refl, refl, nothing)
-reports_no_hindrance statuses.NoMemory path there known e other nothing = (refl, refl, nothing)
+pub reports_no_hindrance : (printed : Status) (refuses : Bool) (path : List ℕ) (there : Bool)
+    (known : Option Known) (e : Output) → (printed ≡ statuses.Done → ⊥) → ReportsNothing e
+    → ReportsHindranceAfter printed refuses path there known known e printed
+reports_no_hindrance statuses.Done refuses path there known e other nothing =
+    absurd (other refl)
+reports_no_hindrance statuses.Refused refuses path there known e other nothing =
+    (refl, refl, nothing)
+reports_no_hindrance statuses.Misused refuses path there known e other nothing =
+    (refl, refl, nothing)
+reports_no_hindrance statuses.ReadFault refuses path there known e other nothing =
+    (refl, refl, nothing)
+reports_no_hindrance statuses.WriteFault refuses path there known e other nothing =
+    (refl, refl, nothing)
+reports_no_hindrance statuses.Unwritten refuses path there known e other nothing =
+    (refl, refl, nothing)
+reports_no_hindrance statuses.NoMemory refuses path there known e other nothing =
+    (refl, refl, nothing)

@@ -46,7 +46,7 @@ module _ (Stays : Type 0) (journal : List ℕ) (s : ObjectState) (target : Regis
   edition_written [] some lawful sources h = absurd (cc)
   edition_written (edit ∷ edits) some lawful sources h = inr (rw lawful (sources, h))
 
-  -- they are refused, or memory ran out
+  -- edits are refused, or memory ran out
   pub edition_refused : (edits : List Edit) (f : Refusal) → (length edits == 0) ≡ false
       → IsNoMemoryOr (edition_refusal s edits) f → Refuses (Refused f) old file o e status
       → AppendsEdits Stays journal s target old file input edits o e status
@@ -87,7 +87,7 @@ module _ (Stays : Type 0) (request : RequestModel) (version : Version) (s : Obje
       → PublishesUnlessPending Stays version s pending request target old file input o e status
   planned pending none had h = nothing_pending pending none (rw had h)
 
-  -- or it is
+  -- the text is of a later edition
   pub reports_later : (pending : List Edit) (edition : ℕ) → (length pending == 0) ≡ true
       → later_than request.edition (length s.batches) ≡ Some edition
       → RefusesBy (later_lines request.text request.journal edition (length s.batches)) old file o e

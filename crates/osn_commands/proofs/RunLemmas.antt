@@ -97,7 +97,7 @@ pub not_done : {T F : Type 0} (done : Result T F) (cause : F) (Why : Type 0)
     → done ≡ Err cause → OnErr done Why → Why
 not_done done cause Why is h = subst (λ r. OnErr r Why) is h
 
--- it was shown with the help on the typed words
+-- the fault of the arguments was shown with the help on the typed words
 pub show_typed : (arguments args : List (List ℕ)) (error : Error) (help : List ℕ)
     (CanFail : Bool → Type 0) (CanStay : Type 0) (d : Folders) (i : Input) (o e : Output)
     (status : Status)

@@ -20,7 +20,7 @@ module _ (edition : ℕ) (territories : List EntryModel) (path code : List ℕ) 
       → PrintsTerritory edition territories path code o e status
   territory_printed none h = rw none h
 
-  -- none has it
+  -- no territory has the code
   pub territory_refused : (refusal : Refusal) → code_refusal territories code ≡ Some refusal → o.new
       ≡ o.old → ReportsIfMade e statuses.Refused (territory_refusal_line path code refusal) status
       → PrintsTerritory edition territories path code o e status

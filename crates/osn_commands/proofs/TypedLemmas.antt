@@ -14,7 +14,7 @@ pub any_of_map : {X : Type 0} (f : X → Text) (p : Text → Bool) → (words : 
 any_of_map f p [] = refl
 any_of_map f p (word ∷ words) = ap (λ rest. p (f word) || rest) (any_of_map f p words)
 
--- the same number, by their texts
+-- the count of plain words from a place is that of their texts
 from_map : {X : Type 0} (f : X → Text) (next : Next) (words : List X)
     → plain_from f next words ≡ plain_from (λ word. word) next (map f words)
 from_map f next [] = refl

@@ -43,8 +43,9 @@ is_flag word =
     || (bytes_eq word (codes "--summary") || (bytes_eq word (codes "--replace")
     || (bytes_eq word (codes "--onto-newest")
     || (bytes_eq word (codes "--upgrade") || (bytes_eq word (codes "--read-only")
-    || (bytes_eq word (codes "--stop-at-refusal") || (bytes_eq word (codes "--help")
-    || bytes_eq word (codes "-h")))))))))
+    || (bytes_eq word (codes "--stop-at-refusal") || (bytes_eq word (codes "--explain")
+    || (bytes_eq word (codes "--strict-members") || (bytes_eq word (codes "--help")
+    || bytes_eq word (codes "-h")))))))))))
 
 -- a word that begins with a hyphen and has more
 abbrev pub is_option : Text → Bool

@@ -45,7 +45,8 @@ PrintsEdits limits earlier later path from to o e status =
     ⊎ ((edits : List Edit) × IsPlan limits later earlier edits
     × PrintsIfMade (diff_text earlier later edits from to) o e status)
 
--- the same for two editions that an object has; memory may run out first, which was reported
+-- how the plan between two editions of an object is printed. Memory for their territories may run
+-- out first, which is reported
 abbrev pub PrintsBetween : ObjectState → List ℕ → ℕ → ℕ → Output → Output → Status → Type 0
 PrintsBetween s path from to o e status =
     ((o.new ≡ o.old) × EndsBy e NoMemory status)
@@ -57,15 +58,16 @@ missing_edition editions from to =
     if nat_lt editions from then Some from
     else (if nat_lt editions to then Some to else None)
 
--- that was done, unless the object lacks the edition of a number, which was reported
+-- the plan between two editions was printed, unless the object lacks the edition of a number, which
+-- was reported
 abbrev pub PrintsOrLacks : Option ℕ → ObjectState → List ℕ → ℕ → ℕ → Output → Output → Status
     → Type 0
 PrintsOrLacks None s path from to o e status = PrintsBetween s path from to o e status
 PrintsOrLacks (Some number) s path from to o e status =
     (o.new ≡ o.old) × ReportsEditionFault (TooLate number (length s.batches)) e status
 
--- for a journal of this path: it is refused; or it makes an object, and that was done for two of
--- its editions
+-- how `diff` ends over a journal of this path. The journal is refused; or it makes an object, and
+-- the plan between two of its editions was printed
 abbrev pub PrintsDiff : Limits → List ℕ → Input → ℕ → ℕ → Output → Output → Status → Type 0
 PrintsDiff limits path journal from to o e status =
     ((fault : FileFault) × MakesNoObject limits journal fault
@@ -87,8 +89,9 @@ numbers_or_first first second (Some from) = numbers_or_second from second (numbe
 abbrev pub numbers_of : List ℕ → List ℕ → Result (ℕ × ℕ) (List ℕ)
 numbers_of first second = numbers_or_first first second (number_of first)
 
--- the first edition is not the later one, and the journal was opened and that was done; or it is,
--- which was reported, and no file was opened
+-- how `diff` ends by the numbers of two editions. If the first one is later than the second, this
+-- was reported, and no file was opened. Otherwise the journal was opened, and the plan between the
+-- editions was printed
 abbrev pub RunsInOrder : Bool → Limits → List ℕ → ℕ → ℕ → (Bool → Type 0) → Folders → Output
     → Output → Status → Type 0
 RunsInOrder true limits journal from to CanFail d o e status =
@@ -96,8 +99,8 @@ RunsInOrder true limits journal from to CanFail d o e status =
 RunsInOrder false limits journal from to CanFail d o e status =
     ReadsOne journal CanFail d (λ file. PrintsDiff limits journal file from to o e status)
 
--- the same by the words of the editions; or one of them is not a number, which was reported, and no
--- file was opened
+-- how `diff` ends by the words of two editions. If one of them is not a number, this was reported,
+-- and no file was opened
 abbrev pub RunsDiff : Limits → List ℕ → List ℕ → List ℕ → (Bool → Type 0) → Folders → Output
     → Output → Status → Type 0
 RunsDiff limits journal first second CanFail d o e status = MatchResult (numbers_of first second)

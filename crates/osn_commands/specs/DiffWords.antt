@@ -26,7 +26,7 @@ backward_lines from to = codes "oldstyle: edition "
     ++ (codes " is later than edition "
     ++ (decimal to ++ codes "\nhelp: write the earlier edition first\n")))
 
--- that was reported
+-- it was reported that the edition which is named first is the later one
 abbrev pub ReportsBackward : ℕ → ℕ → Output → Status → Type 0
 ReportsBackward from to e status =
     ReportsIfMade e statuses.Misused (backward_lines from to) status

@@ -81,7 +81,8 @@ has_negative_date words = takes_date (command_in words) && list_any is_negative 
 abbrev pub takes_json : Text → Bool
 takes_json command =
     bytes_eq command (codes "read") || (bytes_eq command (codes "day")
-    || bytes_eq command (codes "territory"))
+    || (bytes_eq command (codes "month") || (bytes_eq command (codes "year")
+    || bytes_eq command (codes "territory"))))
 
 abbrev pub is_json : Text → Bool
 is_json word = bytes_eq word (codes "--json")
@@ -114,7 +115,7 @@ unknown_help words =
     then codes "help: a year is 1 to 9999, and no date begins with a hyphen\n"
     else (if has_json_elsewhere words
     then codes
-    "help: read, day and territory have --json: the command serve answers other questions in JSON\n"
+    "help: read, day, month, year and territory have --json: serve answers other queries in JSON\n"
     else (if is_named_twice words
     then codes "help: the journal is named twice: leave out the first argument or --journal\n"
     else (if has_surplus words then surplus_help (command_in words) else [])))

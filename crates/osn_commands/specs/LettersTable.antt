@@ -19,8 +19,8 @@ abbrev pub file_of : Option (List ℕ) → Option (List ℕ)
 file_of None = None
 file_of (Some path) = file_in path
 
--- for a table that was opened: the journal could not be opened, which was reported, and nothing was
--- written; or the letters of the table were read
+-- how the letters of an opened table are read: the journal could not be opened, which was reported,
+-- and nothing was written; or the letters of the table were read
 abbrev pub ReadsOpened : Limits → List ℕ → LettersModel → (Bool → Type 0) → Folders → Input → Output
     → Output → Status → Type 0
 ReadsOpened limits journal options CanFail d table o e status =
@@ -28,7 +28,7 @@ ReadsOpened limits journal options CanFail d table o e status =
     ⊎ RunsLetters limits journal options CanFail d table o e status
 
 -- the file of the table could not be opened, which was reported, and nothing was written; or it was
--- opened, and that was done
+-- opened, and the letters of its table were read
 abbrev pub ReadsFile : Limits → List ℕ → List ℕ → LettersModel → (Bool → Type 0) → Folders → Output
     → Output → Status → Type 0
 ReadsFile limits journal path options CanFail d o e status =
@@ -46,7 +46,7 @@ ReadsTable None limits journal options CanFail d i o e status =
 ReadsTable (Some path) limits journal options CanFail d i o e status =
     ReadsFile limits journal path options CanFail d o e status
 
--- the same for a table that may be named
+-- how the letters of a table are read, which may be a named file or standard input
 abbrev pub RunsTable : Limits → List ℕ → Option (List ℕ) → LettersModel → (Bool → Type 0) → Folders
     → Input → Output → Output → Status → Type 0
 RunsTable limits journal table options CanFail d i o e status =

@@ -4,6 +4,7 @@ pub mod PlanWords
 pub mod Note
 pub mod PlanFault
 pub mod Plan
+pub mod CheckFaults
 pub mod Check
 pub mod DiffWords
 pub mod Diff

@@ -20,7 +20,7 @@ use Rattle.osn_commands.specs.declared.note.Note.TheVariants as notes
 
 -- ---- which note
 
--- that a publish refuses edits by this, or else another note
+-- the note that a publish refuses edits by this refusal, or else another note
 abbrev pub refusal_or : Option Refusal → Note → Note
 refusal_or None other = other
 refusal_or (Some refusal) other = notes.Refused refusal
@@ -42,7 +42,7 @@ abbrev pub edits_note : Bool → Version → ObjectState → List Edit → Note
 edits_note false version s edits = edits_or s edits notes.New
 edits_note true version s edits = version_note version s edits
 
--- that these edits are pending, or else another note
+-- the note that these edits are pending, or else another note
 abbrev pub pending_or : List Edit → Note → Note
 pending_or [] other = other
 pending_or (e ∷ es) other = notes.Pending (length (e ∷ es))

@@ -1,5 +1,5 @@
 -- What the command `plan` prints, and what it writes to standard error.
-use Rattle.std.specs.Prelude.{◌≡◌, ◌⊎◌, ◌+◌, ◌++◌, ⊤, ℕ, Bool, List, length}
+use Rattle.std.specs.Prelude.{◌≡◌, ◌⊎◌, ◌+◌, ◌++◌, ◌==◌, ⊤, ℕ, Bool, List, length, not}
 use Rattle.std.specs.Prelude.{Option, Some, None, IfSome, is_some}
 use Rattle.osn_days.specs.Rules.{newest_rules}
 use Rattle.osn_core.specs.Sequential.{ObjectState}
@@ -28,6 +28,7 @@ use Rattle.osn_commands.specs.PlanWords.{plan_end}
 use Rattle.osn_commands.specs.Since.{behind, behind_lines, later_lines, later_than}
 use Rattle.osn_commands.specs.Text.{published}
 use Rattle.osn_commands.specs.TextFile.{Says, IsTextFileFault, ReportsTextFile}
+use Rattle.osn_commands.specs.declared.plan.PlanEnd.{PlanEnd}
 use Rattle.osn_commands.specs.declared.text_file.TextFileFault.{TextFileFault}
 
 -- the lines of a plan, which would be the next edition of an object
@@ -53,7 +54,7 @@ pub record PrintsNoted (text : List ℕ) (note : Option (List ℕ)) (o e : Outpu
   pub prints : PrintsIfMade text o (first_output e between failed held_back) printed
   pub notes : ReportsNoteAfter printed note (later_output e between failed) status
 
--- that a text is behind an edition, or else another line
+-- the line that a text is behind an edition, or else another line
 abbrev pub behind_or : List ℕ → List ℕ → ObjectState → Option ℕ → Option (List ℕ)
     → Option (List ℕ)
 behind_or journal text s None other = other
@@ -77,14 +78,19 @@ RefusesPlan s path target o e status =
     (fault : PlanFault) × IsFault s.limits target.territories (published s) fault × (o.new ≡ o.old)
     × ReportsPlanFault path e fault status
 
+-- there is something to change
+abbrev pub has_edits : List Edit → Bool
+has_edits edits = not (length edits == 0)
+
 -- the plan from what an object has published to the target register was printed, and then
 -- lines on its edits were written, if there are some; or there is no plan
 abbrev pub PrintsPlanTo : ObjectState → List ℕ → RegisterModel → (List Edit → Option (List ℕ))
-    → Output → Output → Status → Type 0
-PrintsPlanTo s path target note o e status =
-    RefusesPlan s path target o e status
+    → Output → Output → PlanEnd → Type 0
+PrintsPlanTo s path target note o e end =
+    RefusesPlan s path target o e end.status
     ⊎ ((edits : List Edit) × IsPlan s.limits target.territories (published s) edits
-    × PrintsNoted (plan_text s target edits) (note edits) o e status)
+    × PrintsNoted (plan_text s target edits) (note edits) o e end.status
+    × (end.has_edits ≡ has_edits edits))
 
 -- the file of this path says no register, which was reported
 abbrev pub RefusesText : Limits → List ℕ → Input → Output → Output → Status → Type 0
@@ -92,23 +98,26 @@ RefusesText limits path text o e status =
     (fault : TextFileFault) × IsTextFileFault limits text fault × (o.new ≡ o.old)
     × ReportsTextFile path e fault status
 
--- that, unless the text is of an edition that the journal lacks, which was reported
+-- a plan was printed, unless the text is of an edition that the journal lacks, which was reported
 abbrev pub PrintsUnlessLater : Option ℕ → ObjectState → List ℕ → List ℕ → RegisterModel
-    → (List Edit → Option (List ℕ)) → Output → Output → Status → Type 0
-PrintsUnlessLater None s journal path target note o e status =
-    PrintsPlanTo s path target note o e status
-PrintsUnlessLater (Some edition) s journal path target note o e status =
+    → (List Edit → Option (List ℕ)) → Output → Output → PlanEnd → Type 0
+PrintsUnlessLater None s journal path target note o e end =
+    PrintsPlanTo s path target note o e end
+PrintsUnlessLater (Some edition) s journal path target note o e end =
     (o.new ≡ o.old)
-    × ReportsIfMade e statuses.Refused (later_lines path journal edition (length s.batches)) status
+    × ReportsIfMade e statuses.Refused (later_lines path journal edition (length s.batches))
+    end.status
 
--- the same for what the text of this path says, which may be nothing, by the edition that it says
+-- how a plan is printed for the text of this path. If the text is refused, this was reported; or it
+-- says a register and perhaps an edition, and the plan is printed unless that edition is later than
+-- the newest one
 abbrev pub PrintsPlanOf : Limits → ObjectState → List ℕ → List ℕ → Input
-    → (Option ℕ → List Edit → Option (List ℕ)) → Output → Output → Status → Type 0
-PrintsPlanOf limits s journal path text note o e status =
-    RefusesText limits path text o e status
+    → (Option ℕ → List Edit → Option (List ℕ)) → Output → Output → PlanEnd → Type 0
+PrintsPlanOf limits s journal path text note o e end =
+    RefusesText limits path text o e end.status
     ⊎ ((edition : Option ℕ) × (target : RegisterModel) × Says limits text.bytes edition target
     × PrintsUnlessLater (later_than edition (length s.batches)) s journal path target
-    (note edition) o e status)
+    (note edition) o e end)
 
 -- a journal is of this version, by its head, if it is there
 abbrev pub IsOfVersionIf : Option Input → Version → Type 0
@@ -116,14 +125,14 @@ IsOfVersionIf None version = ⊤
 IsOfVersionIf (Some journal) version =
     IfSome journal.bytes (λ bytes. IsOfVersion version (lines bytes))
 
--- for a journal and a text, each with its path: the journal is refused; or it makes an object, or
--- there is none, and that was done with an empty one
+-- how `plan` ends over a journal and a text, each with its path. The journal is refused; or it
+-- makes an object, which is empty if there is no journal, and the plan for the text was printed
 abbrev pub PrintsPlan : Limits → List ℕ → Option Input → List ℕ → Input → Output → Output
-    → Status → Type 0
-PrintsPlan limits path journal text_path text o e status =
+    → PlanEnd → Type 0
+PrintsPlan limits path journal text_path text o e end =
     ((fault : FileFault) × BeginsNot limits journal fault
-    × PrintsNoneAt path (File fault) o e status)
+    × PrintsNoneAt path (File fault) o e end.status)
     ⊎ ((s : ObjectState) × Begins limits journal s
     × (version : Version) × IsOfVersionIf journal version
     × PrintsPlanOf limits s path text_path text
-    (edits_line path text_path (is_some journal) version s) o e status)
+    (edits_line path text_path (is_some journal) version s) o e end)

@@ -18,11 +18,11 @@ plan_end edits next =
     else decimal edits
     ++ (codes " edits: publish makes them edition " ++ (decimal next ++ codes "\n")))
 
--- that the journal of a path is new
+-- the line that the journal of a path is new
 unfoldable pub new_line : List ℕ → List ℕ
 new_line path = codes "note: " ++ (escaped path ++ codes " is a new journal\n")
 
--- that it is, if it has no edition
+-- the line that a journal is new, if it has no edition
 abbrev pub new_journal_line : List ℕ → ℕ → List ℕ
 new_journal_line path editions = if editions == 0 then new_line path else []
 
@@ -45,12 +45,12 @@ abbrev pub advice : List ℕ
 advice = codes ": publish what is pending with serve --keep and the line {\"op\":\"publish\"}, "
     ++ codes "or remove the lines after the last publish from the journal\n"
 
--- the line on a journal with this many pending edits, which are so called
+-- the line on a journal with this many pending edits, which this word names
 unfoldable pub pending_text : ℕ → List ℕ → List ℕ → List ℕ
 pending_text pending edits advice = codes "oldstyle: publish refuses a journal with "
     ++ (decimal pending ++ (codes " pending " ++ (edits ++ advice)))
 
--- the same with these words
+-- the line on a journal with this many pending edits, with the advice above
 abbrev pub pending_line : ℕ → List ℕ
 pending_line pending = pending_text pending (edits_word pending) advice
 

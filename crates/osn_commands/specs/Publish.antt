@@ -39,13 +39,13 @@ use Rattle.osn_commands.specs.Text.{published}
 
 -- ---- what is printed
 
--- that the journal of a path is new, if it is, and the lines of a plan
+-- the line that the journal of a path is new, if it is, and the lines of a plan
 abbrev pub begun_text : List ℕ → ObjectState → RegisterModel → List Edit → List ℕ
 begun_text path s target edits =
     new_journal_line path (length s.batches)
     ++ plan_page newest_rules (published s) target.territories edits
 
--- these, and the line on the edition that was made
+-- the lines of begun_text, and the line on the edition that was made
 abbrev pub published_text : List ℕ → ObjectState → RegisterModel → List Edit → List ℕ
 published_text path s target edits =
     begun_text path s target edits ++ published_line (length s.batches + 1)
@@ -84,7 +84,7 @@ abbrev pub HoldsEdition : List ℕ → List Edit → Option KeptFileFault → Op
 HoldsEdition content edits before cut file =
     (cut ≡ unfinished_line content) × (file ≡ ready_file (edition_text content edits) before)
 
--- it is not, since the file could not be changed
+-- the edition is not in the file, since the file could not be changed
 abbrev pub LosesEdition : Type 0 → List ℕ → List Edit → CommandFault → Option ℕ → FileState → Type 0
 LosesEdition CanStay content edits fault cut file =
     IsChangeFault fault file.fault × IsLeftWhole CanStay content edits cut file.contents
@@ -111,7 +111,8 @@ pub record WritesEdition (CanStay : Type 0) (path : List ℕ) (old file : FileSt
 abbrev pub Refuses : CommandFault → FileState → FileState → Output → Output → Status → Type 0
 Refuses fault old file o e status = (file ≡ old) × PrintsNone fault o e status
 
--- the same by this line, which takes memory
+-- nothing was changed in the file, nothing was printed, and this line was reported. If there was no
+-- memory for the line, that was reported
 abbrev pub RefusesBy : List ℕ → FileState → FileState → Output → Output → Status → Type 0
 RefusesBy line old file o e status =
     (file ≡ old) × (o.new ≡ o.old) × ReportsIfMade e statuses.Refused line status
@@ -130,8 +131,8 @@ AppendsEdits CanStay path s target old file input (edit ∷ edits) o e status =
     (published_text path s target (edit ∷ edits)) o e status)
     (λ refusal. Refuses (Refused refusal) old file o e status)
 
--- that, if a journal of this version is kept; or it is not, which was reported with the path of the
--- journal
+-- edits were appended as an edition, if a journal of this version is kept. If it is not, this was
+-- reported with the path of the journal
 abbrev pub AppendsIfKept : Bool → Type 0 → List ℕ → Version → ObjectState → RegisterModel
     → FileState → FileState → Option (List ℕ) → List Edit → Output → Output → Status → Type 0
 AppendsIfKept true CanStay path version s target old file input edits o e status =
@@ -139,8 +140,9 @@ AppendsIfKept true CanStay path version s target old file input edits o e status
 AppendsIfKept false CanStay path version s target old file input edits o e status =
     RefusesBy (not_kept_line path version) old file o e status
 
--- if edits need sources that the version lacks, one of them is refused, or memory ran out;
--- otherwise that was done
+-- If these edits need sources that the version lacks, the publish is refused: one of the edits is
+-- refused, or memory ran out. Otherwise the edits were appended, if the version is one that publish
+-- keeps.
 abbrev pub PublishesEdits : Bool → Type 0 → List ℕ → Version → ObjectState → RegisterModel
     → FileState → FileState → Option (List ℕ) → List Edit → Output → Output → Status → Type 0
 PublishesEdits true CanStay path version s target old file input edits o e status =
@@ -149,7 +151,7 @@ PublishesEdits true CanStay path version s target old file input edits o e statu
 PublishesEdits false CanStay path version s target old file input edits o e status =
     AppendsIfKept (is_kept version) CanStay path version s target old file input edits o e status
 
--- that, unless the text is behind an edition, which was reported
+-- the edits were published, unless the text is behind an edition, which was reported
 abbrev pub PublishesUnlessBehind : Option ℕ → Type 0 → RequestModel → Version → ObjectState
     → RegisterModel → FileState → FileState → Option (List ℕ) → List Edit → Output → Output
     → Status → Type 0
@@ -173,7 +175,8 @@ PublishesPlan CanStay version s request target old file input o e status =
     target old
     file input edits o e status)
 
--- that, unless the text is of an edition that the journal lacks, which was reported
+-- the edits of the plan were published, unless the text is of an edition that the journal lacks,
+-- which was reported
 abbrev pub PublishesUnlessLater : Option ℕ → Type 0 → Version → ObjectState → RequestModel
     → RegisterModel → FileState → FileState → Option (List ℕ) → Output → Output → Status → Type 0
 PublishesUnlessLater None CanStay version s request target old file input o e status =
@@ -182,7 +185,7 @@ PublishesUnlessLater (Some edition) CanStay version s request target old file in
     RefusesBy (later_lines request.text request.journal edition (length s.batches)) old file o e
     status
 
--- that, unless edits are pending, which was reported
+-- the edits of the plan were published, unless edits are pending, which was reported
 abbrev pub PublishesUnlessPending : Type 0 → Version → ObjectState → List Edit → RequestModel
     → RegisterModel → FileState → FileState → Option (List ℕ) → Output → Output → Status → Type 0
 PublishesUnlessPending CanStay version s [] request target old file input o e status =
@@ -191,9 +194,9 @@ PublishesUnlessPending CanStay version s [] request target old file input o e st
 PublishesUnlessPending CanStay version s (edit ∷ edits) request target old file input o e status =
     RefusesBy (pending_line (length (edit ∷ edits))) old file o e status
 
--- How a publish ends over a file that was `old` and is `file` then, and which a source gave. It
--- contains no object, and is as it was; or it contains one, in a journal of some version, and that
--- was done.
+-- How a publish ends over a file that was `old` and is `file` then, and which a source gave. If it
+-- contains no object, it is as it was. Otherwise it contains an object in a journal of some
+-- version, and the edits of the plan were published, or it was reported why not.
 abbrev pub EndsPublish : Type 0 → Limits → RequestModel → RegisterModel → FileState → FileState
     → Input → Output → Output → Status → Type 0
 EndsPublish CanStay limits request target old file input o e status =

@@ -72,8 +72,8 @@ KeepsAndPublishes limits request target CanFail CanStay d o e status =
 
 -- ---- the command
 
--- The text was opened. It says no register, and nothing else was done; or it says one, and that was
--- done.
+-- The text was opened. It says no register, and nothing else was done; or it says one, and the
+-- register was published in the folder.
 pub record PublishesInFolder (limits : Limits) (path text_path : List ℕ) (onto_newest : Bool)
     (CanFail : Bool → Type 0) (CanStay : Type 0) (d : Folders) (o e : Output) (status : Status)
     : Type 0 where

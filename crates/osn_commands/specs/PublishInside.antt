@@ -68,8 +68,9 @@ pub record IsOlderOf (path content : List ℕ) (part : CountedPrefix) (version :
   pub printed : text ≡ published_text path s target edits
   pub message : IsCutOf part cut
 
--- The same of a journal with nothing pending that has the edition of the text, with the edits of a
--- plan that no later edition hinders.
+-- How a journal of an older version would be rewritten for the text of a request. Nothing is
+-- pending, and the journal has the edition of the text. The edits are those of a plan that no later
+-- edition hinders.
 pub record IsOlderPlan (request : RequestModel) (content : List ℕ) (part : CountedPrefix)
     (version : Version) (s : ObjectState) (target : RegisterModel) (bytes journal text : List ℕ)
     (cut : Option (List ℕ)) : Type 0 where

@@ -62,7 +62,7 @@ Runs limits (working script questions) CanFail CanStay d i o e status =
     ReadsTwo script questions CanFail d
     (λ editor readers. PrintsSuch (Transcribes limits editor readers) o e status)
 Runs limits (printing journal edition page) CanFail CanStay d i o e status =
-    RunsPage limits journal edition page CanFail d o e status
+    RunsPage limits journal edition page CanFail d i o e status
 Runs limits (auditing journal transcript) CanFail CanStay d i o e status =
     ReadsTwo journal transcript CanFail d
     (λ edits answers. PrintsSuch (Audits limits edits answers) o e status)
@@ -80,8 +80,8 @@ Runs limits (writing_text journal edition code) CanFail CanStay d i o e status =
     RunsText limits journal edition code CanFail d o e status
 Runs limits (checking text) CanFail CanStay d i o e status =
     ReadsOne text CanFail d (λ file. PrintsCheck limits text file o e status)
-Runs limits (planning journal text) CanFail CanStay d i o e status =
-    PlansInFolder limits journal text CanFail d o e status
+Runs limits (planning journal text strict) CanFail CanStay d i o e status =
+    PlansInFolder limits journal text strict CanFail d o e status
 Runs limits (publishing journal text onto_newest) CanFail CanStay d i o e status =
     PublishesInFolder limits journal text onto_newest CanFail CanStay d o e status
 
@@ -117,7 +117,8 @@ Fails limits (comparing journal from to) CanFail d path fault = IsOpenFailure jo
 Fails limits (writing_text journal edition code) CanFail d path fault =
     IsOpenFailure journal d path fault
 Fails limits (checking text) CanFail d path fault = IsOpenFailure text d path fault
-Fails limits (planning journal text) CanFail d path fault = IsOpenFailure journal d path fault
+Fails limits (planning journal text strict) CanFail d path fault =
+    IsOpenFailure journal d path fault
 Fails limits (publishing journal text onto_newest) CanFail d path fault =
     IsOpenFailure text d path fault
 
@@ -138,7 +139,7 @@ Shows kind help o e status =
     × ((IsHelp kind × Prints text o e status)
     ⊎ ((IsHelp kind → ⊥) × (o.new ≡ o.old) × ReportsLine e statuses.Misused (text ++ help) status))
 
--- that, or memory ran out first
+-- help or an error of the arguments was shown, or memory ran out first
 abbrev pub ShowsOrEnds : ErrorKind → List ℕ → Output → Output → Status → Type 0
 ShowsOrEnds kind help o e status =
     HasNoMemory o e status ⊎ ((kind ≢ OutOfMemory) × Shows kind help o e status)
@@ -152,7 +153,7 @@ RunsUnder limits command CanFail CanStay d i o e status =
     ⊎ ((path : Text) × (fault : CommandFault) × Fails limits command CanFail d path fault
     × PrintsNoneAt path fault o e status)
 
--- that, or the words of the limits are not limits
+-- what is asked for was done, or ended early, or the words of the limits are not limits
 abbrev pub RunsInvocation : InvocationModel → (Bool → Type 0) → Type 0 → Folders → Input → Output
     → Output → Status → Type 0
 RunsInvocation request CanFail CanStay d i o e status = MatchResult (limits_of_words request.limits)

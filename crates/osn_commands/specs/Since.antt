@@ -74,7 +74,8 @@ behind None batches edits = None
 behind (Some edition) batches edits =
     if list_any (change_again edits) (drop edition batches) then Some edition else None
 
--- the same, if that hinders a publish
+-- the edition of a text, if these edits of its plan change again what a later edition changed, and
+-- the publish is not onto the newest edition
 abbrev pub hindering_edition : RequestModel → List (List Edit) → List Edit → Option ℕ
 hindering_edition request batches edits =
     if request.onto_newest then None else behind request.edition batches edits
@@ -98,7 +99,7 @@ abbrev pub edition_lines : List EntryModel → ℕ → List Edit → List ℕ
 edition_lines territories number edits = codes "edition "
     ++ (decimal number ++ (codes ":\n" ++ plan_page newest_rules [] territories edits))
 
--- the same of the editions after that of a number
+-- what each edition after that of a number changed, in the words of a plan
 abbrev pub editions_lines : List EntryModel → ℕ → List (List Edit) → List ℕ
 editions_lines territories number [] = []
 editions_lines territories number (batch ∷ batches) =

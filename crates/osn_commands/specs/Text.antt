@@ -40,8 +40,8 @@ PrintsTerritories edition path None o e status =
 PrintsTerritories edition path (Some code) o e status =
     PrintsTerritory edition.number edition.territories path code o e status
 
--- for a journal of this path: it is refused; or it makes an object, and that was done for its
--- edition of a number, or the newest one
+-- how `text` ends over a journal of this path. The journal is refused; or it makes an object, and
+-- the territories of its edition of a number, or of the newest one, were printed
 abbrev pub PrintsText : Limits → List ℕ → Input → Option ℕ → Option (List ℕ) → Output → Output
     → Status → Type 0
 PrintsText limits path journal number code o e status =

@@ -14,6 +14,7 @@ use Rattle.osn_report.specs.declared.fault.CommandFault.TheVariants as command_f
 use Rattle.osn_report.specs.declared.status.Status.{Status}
 use Rattle.osn_report.specs.declared.status.Status.TheVariants as statuses
 use Rattle.osn_lines.specs.Escape.{escaped}
+use Rattle.osn_register_text.specs.FaultHelp.{fault_help}
 use Rattle.osn_register_text.specs.Text.{IsFaultOf, text_of_table}
 use Rattle.osn_register_text.specs.Words.{text_fault_text}
 use Rattle.osn_register_text.specs.declared.fault.TextFault.{TextFault}
@@ -32,7 +33,7 @@ BytesSay limits bytes edition r =
     (r.limits ≡ limits) × IsUtf8 bytes
     × (text_of_table limits bytes ≡ Some (Ok (edition, r.territories)))
 
--- they say no register, by this fault
+-- these bytes say no register, by this fault
 abbrev pub BytesSayNone : Limits → List ℕ → TextFileFault → Type 0
 BytesSayNone limits bytes faults.NoMemory = ⊤
 BytesSayNone limits bytes faults.ReadFault = ⊥
@@ -57,12 +58,18 @@ abbrev pub text_line : List ℕ → List ℕ → List ℕ
 text_line path message =
     codes "oldstyle: " ++ (escaped path ++ (codes ": " ++ (message ++ codes "\n")))
 
+-- the line on a fault of a text of this path, and the line of help below it, if there is one
+abbrev pub fault_lines : List ℕ → TextFault → List ℕ
+fault_lines path fault = codes "oldstyle: "
+    ++ (escaped path
+    ++ (codes ": " ++ (text_fault_text fault ++ (codes "\n" ++ fault_help fault))))
+
 -- it was reported what a text says wrongly, or that memory ran out
 abbrev pub ReportsText : List ℕ → Output → TextFault → Status → Type 0
-ReportsText path e (text_faults.Toml why) status = ReportsIfMade e statuses.Refused
-    (text_line path (text_fault_text (text_faults.Toml why))) status
-ReportsText path e (text_faults.Key why) status = ReportsIfMade e statuses.Refused
-    (text_line path (text_fault_text (text_faults.Key why))) status
+ReportsText path e (text_faults.Toml why) status =
+    ReportsIfMade e statuses.Refused (fault_lines path (text_faults.Toml why)) status
+ReportsText path e (text_faults.Key why) status =
+    ReportsIfMade e statuses.Refused (fault_lines path (text_faults.Key why)) status
 ReportsText path e text_faults.NoMemory status = EndsBy e command_faults.NoMemory status
 
 -- it was reported why the file of this path says no register

@@ -1,16 +1,19 @@
-//! The command `check`: whether a text has a fault, without comparing it with a journal.
+//! The command `check`: whether a text has faults, without comparing it with a journal.
 ghost use Rattle.std.specs.Prelude.{◌≡◌, ◌∷◌, [], IfErr, IfOk, OnErr, length, string_bytes};
 ghost use Rattle.osn_folder.specs.Folder.{CannotOpen, IsCauseAt, MayFail};
 ghost use Rattle.osn_lines.specs.Streams.{input_of, output_of};
 ghost use Rattle.osn_report.specs.Folders.{ReadsOne, folders_of};
 ghost use Rattle.osn_commands.specs.Check as spec;
 
-use crate::text_file::{read_register_text, report_text_file};
+use crate::check_faults::report_faults;
+use crate::text_file::{TextFileFault, report_text_fault, report_text_file};
 use osn_folder::{Folder, OpenFailed, open_file};
-use osn_lines::{Sink, Source};
+use osn_lines::{Sink, Source, read_all};
 use osn_register::{Limits, Register};
-use osn_report::{Status, print};
+use osn_register_text::{TextFault, parse_text};
+use osn_report::{Status, print, report_no_memory};
 use std::alloc::{AllocError, Global};
+use std::str;
 
 /// Returns the line on a text of this many territories without a fault.
 #[tactic(auto, unfolding(crate::specs::Check::checked_line))]
@@ -32,10 +35,71 @@ fn register_line(alloc: Global, register: &Register) -> Result<String, AllocErro
     checked_line(alloc, territories.len())
 }
 
+/// Reports on standard error why the text of this path says no register: if that is the fault of a
+/// table, with those of the other territories. Returns the status.
+fn report_check<E: Sink>(
+    alloc: Global,
+    limits: Limits,
+    path: &str,
+    text: &str,
+    fault: &TextFault,
+    errors: &mut E,
+) -> Status
+    ensures { spec.ReportsCheck limits path.now text.now
+        (output_of E.contents E.has_failed E.holds_back errors.old errors.new) fault.now result }
+{
+    match fault {
+        TextFault::Key(first) => report_faults(alloc, limits, path, text, first, errors),
+        TextFault::Toml(_) => report_text_fault(alloc, errors, path, fault),
+        TextFault::NoMemory => report_no_memory(errors),
+    }
+}
+
+/// Prints how many territories a text has, or reports its faults.
+fn check_text<W: Sink, E: Sink>(
+    alloc: Global,
+    limits: Limits,
+    path: &str,
+    text: &str,
+    output: &mut W,
+    errors: &mut E,
+) -> Status
+    ensures { spec.ChecksText limits path.now text.now
+        (output_of W.contents W.has_failed W.holds_back output.old output.new)
+        (output_of E.contents E.has_failed E.holds_back errors.old errors.new) result }
+{
+    match parse_text(alloc, limits, text) {
+        Ok(said) => print(register_line(alloc, &said.register), output, errors),
+        Err(fault) => report_check(alloc, limits, path, text, &fault, errors),
+    }
+}
+
+/// Prints how many territories the text of these bytes has, or reports its faults, or that the
+/// bytes are not a text.
+fn check_bytes<W: Sink, E: Sink>(
+    alloc: Global,
+    limits: Limits,
+    path: &str,
+    bytes: &[u8],
+    output: &mut W,
+    errors: &mut E,
+) -> Status
+    ensures { spec.ChecksBytes limits path.now bytes.now
+        (output_of W.contents W.has_failed W.holds_back output.old output.new)
+        (output_of E.contents E.has_failed E.holds_back errors.old errors.new) result }
+{
+    match str::from_utf8(bytes) {
+        Ok(text) => check_text(alloc, limits, path, text, output, errors),
+        Err(_) => report_text_file(alloc, errors, path, &TextFileFault::NotUtf8),
+    }
+}
+
 /// Runs the command `check`: prints how many territories the text of this path has, under these
 /// limits. The text is read whole before anything is printed.
 ///
-/// If the text has a fault, standard error reports the first one, and the status says so.
+/// If the text has faults, standard error reports the first one and then that of each other
+/// territory that is wrong by itself, with the line on which its table begins, and how many they
+/// are. The status says so. If the text is not TOML, that alone is reported.
 pub fn check_command<T: Source, W: Sink, E: Sink>(
     alloc: Global,
     limits: Limits,
@@ -49,13 +113,9 @@ pub fn check_command<T: Source, W: Sink, E: Sink>(
         (output_of W.contents W.has_failed W.holds_back output.old output.new)
         (output_of E.contents E.has_failed E.holds_back errors.old errors.new) result }
 {
-    match read_register_text(alloc, limits, text) {
-        Ok(register_text) => print(
-            register_line(alloc, &register_text.register),
-            output,
-            errors,
-        ),
-        Err(fault) => report_text_file(alloc, errors, path, &fault),
+    match read_all(alloc, text) {
+        Ok(bytes) => check_bytes(alloc, limits, path, &bytes, output, errors),
+        Err(fault) => report_text_file(alloc, errors, path, &TextFileFault::from(fault)),
     }
 }
 

@@ -99,6 +99,8 @@ fn is_flag(word: &str) -> bool
             | "--upgrade"
             | "--read-only"
             | "--stop-at-refusal"
+            | "--explain"
+            | "--strict-members"
             | "--help"
             | "-h"
     )

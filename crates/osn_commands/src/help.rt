@@ -30,7 +30,7 @@ const NAMED_TWICE: &str =
 const NEGATIVE: &str = "help: a year is 1 to 9999, and no date begins with a hyphen\n";
 
 const JSON: &str =
-    "help: read, day and territory have --json: the command serve answers other questions in JSON\n";
+    "help: read, day, month, year and territory have --json: serve answers other queries in JSON\n";
 
 const SERVED: &str = "help: name the journal by an option: oldstyle serve --journal FILE\n";
 
@@ -118,7 +118,7 @@ fn some_negative<S: AsStr>(words: &[S]) -> bool
     words.iter().any(|word| is_negative(word.as_str()))
 }
 
-/// The same, by the texts of the words.
+/// Returns whether the text of one of these words begins as a negative number does.
 fn has_negative<S: AsStr>(words: &[S]) -> bool
     ensures { result ≡ list_any spec.is_negative (map S.text words.now) }
 {
@@ -136,7 +136,7 @@ fn has_negative_date<S: AsStr>(words: &[S]) -> bool
 fn takes_json(command: &str) -> bool
     ensures { result ≡ spec.takes_json command.now }
 {
-    matches!(command, "read" | "day" | "territory")
+    matches!(command, "read" | "day" | "month" | "year" | "territory")
 }
 
 /// Returns whether a word is the option `--json`.
@@ -153,7 +153,7 @@ fn some_json<S: AsStr>(words: &[S]) -> bool
     words.iter().any(|word| is_json(word.as_str()))
 }
 
-/// The same, by the texts of the words.
+/// Returns whether the text of one of these words is that option.
 fn has_json<S: AsStr>(words: &[S]) -> bool
     ensures { result ≡ list_any spec.is_json (map S.text words.now) }
 {

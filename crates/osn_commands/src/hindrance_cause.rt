@@ -84,7 +84,7 @@ fn cause_at<D: Folder>(folder: &mut D, path: &str, failure: OpenFailed) -> KeepC
     }
 }
 
-/// Returns why a file is not kept, after the fault of that.
+/// Returns why a file is not kept, by the fault of keeping it.
 pub(crate) fn cause_of<D: Folder>(folder: &mut D, path: &str, fault: KeepFault) -> KeepCause
     ensures { spec.IsCauseOf path.now (D.known folder.old) (D.known folder.new) fault result }
 {

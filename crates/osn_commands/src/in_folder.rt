@@ -1,5 +1,5 @@
 //! The commands `text` and `plan` over the files of a folder, opened by their paths first.
-ghost use Rattle.std.specs.Prelude.{◌≡◌, ◌≢◌, ◌∷◌, [], IfErr, IfOk, OnErr, option_map};
+ghost use Rattle.std.specs.Prelude.{◌≡◌, ◌≢◌, ◌&&◌, ◌∷◌, [], IfErr, IfOk, OnErr, option_map, true};
 ghost use Rattle.osn_folder.specs.Folder.{CannotOpen, IsCauseAt, MayFail};
 ghost use Rattle.osn_folder.specs.declared.fault.OpenFailed.{OpenFailed};
 ghost use Rattle.osn_lines.specs.Streams.{output_of};
@@ -9,7 +9,7 @@ ghost use Rattle.osn_commands.specs.InFolder as spec;
 ghost use Rattle.osn_commands.specs.Text.{PrintsText};
 
 use crate::hindrance_cause::report_hindrance;
-use crate::plan::plan_command;
+use crate::plan::{PlanEnd, plan_command};
 use crate::text::text_command;
 use osn_core::edition_of_word;
 use osn_folder::{Folder, OpenFailed, open_file};
@@ -113,7 +113,7 @@ fn plan_by<D: Folder, W: Sink, E: Sink>(
     text: &str,
     output: &mut W,
     errors: &mut E,
-) -> Status
+) -> PlanEnd
     ensures { spec.PrintsPlanBy limits path.now
         (input_if D.File.remaining D.File.has_failed journal.old journal.new) text.now
         (MayFail D.File.has_failed) (folders_of D.known folder.old folder.new)
@@ -124,13 +124,38 @@ fn plan_by<D: Folder, W: Sink, E: Sink>(
         Ok(mut file) => plan_command(
             alloc, limits, path, journal, text, &mut file, output, errors,
         ),
-        Err(cause) => report_open_failure(alloc, errors, text, cause),
+        Err(cause) => PlanEnd {
+            status: report_open_failure(alloc, errors, text, cause),
+            has_edits: false,
+        },
     }
+}
+
+/// Returns the status of a plan for which edits are a refusal, and which has some.
+fn refused(status: Status) -> Status
+    ensures { result ≡ spec.refused_if true status }
+{
+    match status {
+        Status::Done => Status::Refused,
+        other => other,
+    }
+}
+
+/// Returns the status after all was printed, which is a refusal if the plan has edits and `strict`
+/// is true.
+fn strict_status(strict: bool, has_edits: bool, status: Status) -> Status
+    ensures { result ≡ spec.refused_if (strict && has_edits) status }
+{
+    if strict && has_edits {
+        return refused(status);
+    }
+    status
 }
 
 /// Opens the journal of a path, if one is there, and then a text, and does what `plan_command`
 /// does. If the text could not be opened, standard error reports why, with its path. After a plan
-/// it reports why the journal could not be kept, as far as that is found out without making one.
+/// it reports why the journal could not be kept, as far as that is found out without making one. If
+/// `strict` is true, a plan with edits is a refusal, which the status alone says.
 ///
 /// # Errors
 ///
@@ -141,10 +166,11 @@ pub fn plan_in_folder<D: Folder, W: Sink, E: Sink>(
     folder: &mut D,
     journal: &str,
     text: &str,
+    strict: bool,
     output: &mut W,
     errors: &mut E,
 ) -> Result<Status, OpenFailed>
-    ensures ok { IfOk result (spec.PlansInFolder limits journal.now text.now
+    ensures ok { IfOk result (spec.PlansInFolder limits journal.now text.now strict
         (MayFail D.File.has_failed) (folders_of D.known folder.old folder.new)
         (output_of W.contents W.has_failed W.holds_back output.old output.new)
         (output_of E.contents E.has_failed E.holds_back errors.old errors.new)) }
@@ -156,10 +182,14 @@ pub fn plan_in_folder<D: Folder, W: Sink, E: Sink>(
 {
     let mut file = open_if_there(folder, journal)?;
     let is_there = file.is_some();
-    match plan_by(
+    let end = plan_by(
         alloc, limits, folder, journal, &mut file, text, output, errors,
-    ) {
-        Status::Done => Ok(report_hindrance(alloc, folder, journal, is_there, errors)),
+    );
+    match end.status {
+        Status::Done => {
+            let status = report_hindrance(alloc, folder, journal, is_there, errors);
+            Ok(strict_status(strict, end.has_edits, status))
+        }
         failed => Ok(failed),
     }
 }

@@ -68,7 +68,7 @@ fn place_of_option<S: AsStr>(words: &[S]) -> Option<usize>
         .position(|word| is_journal_option(word.as_str()))
 }
 
-/// The same, by the texts of the words.
+/// Returns the place of the first word whose text is the option.
 pub(crate) fn option_at<S: AsStr>(words: &[S]) -> Option<usize>
     ensures { result ≡ spec.option_at (map S.text words.now) }
 {

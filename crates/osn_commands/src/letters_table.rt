@@ -52,7 +52,8 @@ fn letters_of_opened<D: Folder, W: Sink, E: Sink, T: Sink + Drop>(
     }
 }
 
-/// Opens the file of a table, and does that. If it can't be opened, standard error reports why.
+/// Opens the file of a table, and answers its letters. If the file can't be opened, standard error
+/// reports why.
 fn letters_of_file<D: Folder, W: Sink, E: Sink, T: Sink + Drop>(
     alloc: Global,
     limits: Limits,

@@ -8,6 +8,7 @@
 #![tactic(auto)]
 
 mod check;
+mod check_faults;
 mod command_words;
 mod completion_script;
 mod diff;
@@ -41,7 +42,7 @@ pub use edition::WholeEdition;
 pub use in_folder::{plan_in_folder, text_in_folder};
 pub use kept_journal::publish_in_folder;
 pub use letters_table::table_in_folder;
-pub use plan::plan_command;
+pub use plan::{PlanEnd, plan_command};
 pub use program::run;
 pub use publish::publish_command;
 pub use publish_edits::NeedsRewrite;

@@ -21,6 +21,15 @@ use osn_report::{CommandFault, Status, print, report_at, report_line};
 use osn_request::Version;
 use std::alloc::{AllocError, Global};
 
+/// How a plan ended.
+#[derive(Clone, Copy, Debug, PartialEq, Eq)]
+pub struct PlanEnd {
+    /// The status. If it is `Done`, all was printed.
+    pub status: Status,
+    /// Whether the plan has edits.
+    pub has_edits: bool,
+}
+
 /// Returns the lines of a plan, which would be the next edition of the object.
 fn plan_text(
     alloc: Global,
@@ -98,7 +107,7 @@ fn print_plan<W: Sink, E: Sink>(
     target: &Register,
     output: &mut W,
     errors: &mut E,
-) -> Status
+) -> PlanEnd
     ensures { spec.PrintsUnlessLater
         (later_than request.entry.edition (length object.old.batches))
         object.old request.entry.journal.now request.entry.text.now target.now
@@ -110,13 +119,23 @@ fn print_plan<W: Sink, E: Sink>(
     let editions = object.batches().len();
     if let Some(edition) = later_than(request.edition, editions) {
         let lines = later_lines(alloc, request.text, request.journal, edition, editions);
-        return report_line(errors, Status::Refused, lines);
+        return PlanEnd {
+            status: report_line(errors, Status::Refused, lines),
+            has_edits: false,
+        };
     }
     match plan(alloc, object.register(), target) {
-        Ok(edits) => print_edits(
-            alloc, request, is_there, version, object, target, edits, output, errors,
-        ),
-        Err(fault) => report_plan_fault(alloc, errors, request.text, &fault),
+        Ok(edits) => {
+            let has_edits = !edits.is_empty();
+            let status = print_edits(
+                alloc, request, is_there, version, object, target, edits, output, errors,
+            );
+            PlanEnd { status, has_edits }
+        }
+        Err(fault) => PlanEnd {
+            status: report_plan_fault(alloc, errors, request.text, &fault),
+            has_edits: false,
+        },
     }
 }
 
@@ -132,7 +151,7 @@ fn plan_text_file<T: Source, W: Sink, E: Sink>(
     text: &mut T,
     output: &mut W,
     errors: &mut E,
-) -> Status
+) -> PlanEnd
     ensures { spec.PrintsPlanOf limits object.old path.now text_path.now
         (input_of T.remaining T.has_failed text.old text.new)
         (spec.edits_line path.now text_path.now is_there version object.old)
@@ -152,7 +171,10 @@ fn plan_text_file<T: Source, W: Sink, E: Sink>(
                 alloc, request, is_there, version, object, target, output, errors,
             )
         }
-        Err(fault) => report_text_file(alloc, errors, text_path, &fault),
+        Err(fault) => PlanEnd {
+            status: report_text_file(alloc, errors, text_path, &fault),
+            has_edits: false,
+        },
     }
 }
 
@@ -191,7 +213,7 @@ pub fn plan_command<J: Source, T: Source, W: Sink, E: Sink>(
     text: &mut T,
     output: &mut W,
     errors: &mut E,
-) -> Status
+) -> PlanEnd
     ensures { spec.PrintsPlan limits path.now
         (input_if J.remaining J.has_failed journal.old journal.new) text_path.now
         (input_of T.remaining T.has_failed text.old text.new)
@@ -212,6 +234,9 @@ pub fn plan_command<J: Source, T: Source, W: Sink, E: Sink>(
             output,
             errors,
         ),
-        Err(fault) => report_at(alloc, errors, path, CommandFault::File(fault)),
+        Err(fault) => PlanEnd {
+            status: report_at(alloc, errors, path, CommandFault::File(fault)),
+            has_edits: false,
+        },
     }
 }

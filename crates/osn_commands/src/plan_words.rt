@@ -63,7 +63,7 @@ fn edits_word(edits: usize) -> &'static str
 const ADVICE: &str = ": publish what is pending with serve --keep and the line \
 {\"op\":\"publish\"}, or remove the lines after the last publish from the journal\n";
 
-/// Returns the line on a journal with this many pending edits, which are so called.
+/// Returns the line on a journal with this many pending edits, which this word names.
 #[tactic(auto, unfolding(crate::specs::PlanWords::pending_text))]
 fn pending_text(
     alloc: Global,

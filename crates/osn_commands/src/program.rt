@@ -224,7 +224,7 @@ where
             edition,
             page,
         } => page_in_folder(
-            alloc, limits, folder, journal, edition, page, output, errors,
+            alloc, limits, folder, journal, edition, page, input, output, errors,
         ),
         CommandWords::Audit {
             journal,
@@ -265,8 +265,14 @@ where
             let status = check_in_folder(alloc, limits, folder, text, output, errors);
             result_at(text, status)
         }
-        CommandWords::Plan { journal, text } => {
-            let status = plan_in_folder(alloc, limits, folder, journal, text, output, errors);
+        CommandWords::Plan {
+            journal,
+            text,
+            strict,
+        } => {
+            let status = plan_in_folder(
+                alloc, limits, folder, journal, text, strict, output, errors,
+            );
             result_at(journal, status)
         }
         CommandWords::Publish {

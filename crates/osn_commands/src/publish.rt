@@ -138,10 +138,10 @@ fn publish_held<K: KeptFile, W: Sink, E: Sink>(
 /// and on the disk. They are appended together. If nothing is to change, the file is left as it is.
 ///
 /// If the file contains no object, or one with pending edits, or an edit is refused, the file is
-/// left as it is. So is a journal of the first version, and one whose editions after that of the
-/// text changed what the edits change, unless the request allows that. If the file can't be
-/// changed, it is cut back to what it contained. Standard error reports why, and the status says
-/// so.
+/// left as it is. A journal of the first version is left as it is too. The same is true of a
+/// journal whose editions after that of the text changed what the edits change, unless the request
+/// allows that. If the file can't be changed, it is cut back to what it contained. Standard error
+/// reports why, and the status says so.
 ///
 /// # Errors
 ///

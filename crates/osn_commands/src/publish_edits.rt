@@ -123,7 +123,7 @@ pub struct NeedsRewrite {
     pub bytes: Vec<u8>,
     /// The edition, and the rewritten journal.
     pub edition: WholeEdition,
-    /// The text on a last line that was not finished, if that is so.
+    /// The text on the last line, if that was not finished.
     pub cut: Option<String>,
 }
 

@@ -118,7 +118,8 @@ pub(crate) fn behind(edition: Option<u64>, batches: &[Batch], edits: &[Edit]) ->
     }
 }
 
-/// Returns the same, but only if the publish may not do that.
+/// Returns the edition of a text, if these edits of its plan change again what a later edition
+/// changed, and the publish is not onto the newest edition.
 pub(crate) fn hindering_edition(
     request: PublishRequest<'_>,
     batches: &[Batch],

@@ -2,12 +2,11 @@
 ghost use Rattle.std.specs.Prelude.{◌≡◌, IfErr, IfOk, string_bytes};
 ghost use Rattle.osn_lines.specs.Streams.{input_of, output_of};
 ghost use Rattle.osn_commands.specs.TextFile as spec;
-ghost use Rattle.osn_register_text.specs.Words.{text_fault_text};
 
 use osn_folder::OpenFailed;
 use osn_lines::{Escaped, ReadAllFault, Sink, Source, read_all};
 use osn_register::Limits;
-use osn_register_text::{RegisterText, TextFault, parse_text};
+use osn_register_text::{RegisterText, TextFault, fault_help, parse_text};
 use osn_report::{Status, report_line, report_no_memory, report_open_failure};
 use std::alloc::{AllocError, Global};
 use std::str;
@@ -74,16 +73,16 @@ fn text_line(alloc: Global, path: &str, message: &str) -> Result<String, AllocEr
     format!(in alloc; "oldstyle: {}: {message}\n", Escaped(path))
 }
 
-/// Returns the line on a fault of the text of this path.
-fn fault_line(alloc: Global, path: &str, fault: &TextFault) -> Result<String, AllocError>
-    ensures { IfOk result (λ line.
-        string_bytes line ≡ spec.text_line path.now (text_fault_text fault.now)) }
+/// Returns the line on a fault of the text of this path, and the one below it, if there is one.
+fn fault_lines(alloc: Global, path: &str, fault: &TextFault) -> Result<String, AllocError>
+    ensures { IfOk result (λ lines. string_bytes lines ≡ spec.fault_lines path.now fault.now) }
 {
-    format!(in alloc; "oldstyle: {}: {fault}\n", Escaped(path))
+    let help = fault_help(alloc, fault)?;
+    format!(in alloc; "oldstyle: {}: {fault}\n{help}", Escaped(path))
 }
 
 /// Reports on standard error the fault in the text of this path. Returns the status.
-fn report_text_fault<E: Sink>(
+pub(crate) fn report_text_fault<E: Sink>(
     alloc: Global,
     errors: &mut E,
     path: &str,
@@ -95,7 +94,7 @@ fn report_text_fault<E: Sink>(
     match fault {
         TextFault::NoMemory => report_no_memory(errors),
         TextFault::Toml(_) | TextFault::Key(_) => {
-            report_line(errors, Status::Refused, fault_line(alloc, path, fault))
+            report_line(errors, Status::Refused, fault_lines(alloc, path, fault))
         }
     }
 }

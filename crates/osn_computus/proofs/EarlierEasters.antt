@@ -36,7 +36,7 @@ same_spring c months y n year high =
     (day_with_spring c months y n (newest_year y year) high)
     (omega (arith, march_1-within c y year))
 
--- and so is the moon
+-- the paschal moon of a year of the first rules is one day by both rules
 same_moon : (rule : Rule) (y n : ℕ) → IsYear first_rules y → n < 29 → HasMoonAt rule y n
     → paschal_moon first_rules rule y ≡ Some (march_1 (calendar_of rule) y + 21 + n)
 unfolding paschal_moon
@@ -82,7 +82,7 @@ easter_of_both rule y year =
       within = omega arith;
     }
 
--- so both versions have the same
+-- both versions have the same Easter for a year of the first rules
 pub same_easter : (rule : Rule) (y : ℕ) → IsYear first_rules y
     → easter_of first_rules rule y ≡ easter_of newest_rules rule y
 same_easter rule y year = let kept = easter_of_both rule y year in kept.first ∙ sym kept.newest

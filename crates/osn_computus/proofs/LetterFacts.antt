@@ -224,7 +224,7 @@ has_letters_is Julian months = refl
 has_letters_is Gregorian months = refl
 has_letters_is Swedish months = absurd (months refl)
 
--- so the letters of the definition, day by day through the year, are these
+-- the letters of the definition, day by day through the year, are the Sunday letters
 pub letters_are : (c : Calendar) → c ≢ Swedish → (y : ℕ) (letters : Letters) → IsYear newest_rules y
     → AreSundayLetters newest_rules c y letters → letters_of newest_rules c y ≡ Some letters
 unfolding letters_of
@@ -271,7 +271,7 @@ february c months y year =
       before_march = omega (arith, same, length);
     }
 
--- so a search for it finds it
+-- a search for 1 February finds it
 pub february_found : (c : Calendar) (months : c ≢ Swedish) (y : ℕ) (year : IsYear newest_rules y)
     (day : Option ℕ) → option_to_list day ≡ days_with_date newest_rules c (date (pos y) 2 1)
     → day ≡ Some (february c months y year).day

@@ -53,7 +53,7 @@ spring c months y n low high =
           grind (arith, nat_tests)
     ]
 
--- those of the years that have figures are on the line
+-- the days of March and April in years that have figures are on the line
 pub spring_on_line : (c : Calendar) (y n : ℕ) → IsYear newest_rules y → n < 61
     → IsDay newest_rules (march_1 c y + n + 1)
 spring_on_line c y n year high =
@@ -99,13 +99,13 @@ abbrev pub HasMoonAt : Rule → ℕ → ℕ → Type 0
 HasMoonAt Julian y n = julian_full_moon (golden_number y) ≡ Some (after_march_1 (20 + n))
 HasMoonAt Gregorian y n = gregorian_new_moon (gregorian_epact y) ≡ Some (after_march_1 (7 + n))
 
--- as it does within 28 days
+-- the rule's table has the moon of each year within 28 days after 21 March
 pub moon_of : (rule : Rule) (y : ℕ) → (n : ℕ) × (n < 29) × HasMoonAt rule y n
 moon_of Julian y = let table = julian_row y in (julian_days (y % 19), table.1, table.0)
 moon_of Gregorian y =
     let table = gregorian_row y in (gregorian_days (gregorian_epact y), table.1, table.0)
 
--- so the moon is on the line, that many days after 21 March
+-- the moon is on the line, as many days after 21 March as the table says
 pub moon_is : (rule : Rule) (y n : ℕ) → IsYear newest_rules y → n < 29 → HasMoonAt rule y n
     → paschal_moon newest_rules rule y ≡ Some (march_1 (calendar_of rule) y + 21 + n)
 unfolding paschal_moon
@@ -122,7 +122,7 @@ moon_is Gregorian y n year low table =
 pub some_same : (a b : ℕ) (o : Option ℕ) → o ≡ Some a → o ≡ Some b → a ≡ b
 some_same a b o p q = cc
 
--- and it is on 18 April or earlier, well before the end of the line
+-- the moon is on 18 April or earlier, well before the end of the line
 pub moon_bounds : (rule : Rule) (y moon : ℕ) → IsYear newest_rules y
     → paschal_moon newest_rules rule y ≡ Some moon
     → (march_1 (calendar_of rule) y + 21 ≤ moon) × (moon < march_1 (calendar_of rule) y + 50) ×
@@ -180,7 +180,7 @@ one_of None n days e is = let clash : [] ≡ n ∷ [] = e ∙ is in absurd cc
 one_of (Some d) n days e is = let same : d ∷ [] ≡ n ∷ [] = e
     ∙ is in let here : d ≡ n = cc in ap Some here
 
--- so a search for a day of March or April finds it
+-- a search for a day of March or April finds it
 pub spring_found : (c : Calendar) → c ≢ Swedish → (y n : ℕ) → IsYear newest_rules y → n < 61
     → (day : Option ℕ) → option_to_list day
     ≡ days_with_date newest_rules c (date_in y (after_march_1 n))

@@ -16,7 +16,7 @@ every : ℕ → (ℕ → Bool) → Bool
 every zero test = true
 every (suc n) test = test n && every n test
 
--- so at each of them
+-- a test that passes at each number below n passes at one of them
 every_at : (test : ℕ → Bool) (n k : ℕ) → every n test ≡ true → k < n → test k ≡ true
 unfolding every
 every_at test zero k h lt = absurd (omega arith)

@@ -140,7 +140,7 @@ march_on_chain c months (suc y) =
     rw more (rw (march_1-suc c (y + 1) (omega arith))
     (march_to_march c months (pos (y + 1)) (march_1 c (y + 1)) (march_on_chain c months y)))
 
--- and the last one is 232 days at least before the last day of the line
+-- 1 March of each year that has figures is 232 days at least before the last day of the line
 pub march_1-bound : (c : Calendar) (y : ℕ) → 1 ≤ y → y ≤ newest_rules.last_year
     → (57 ≤ march_1 c y) × (march_1 c y + 365 * (newest_rules.last_year - y) + 233
     ≤ newest_rules.high)

@@ -53,13 +53,13 @@ is_leap_day d = (d.month == 2) && (d.day == 29)
 abbrev pub letter_after : Date → Letter → Letter
 letter_after d l = if is_new_year d then A else (if is_leap_day d then l else next_letter l)
 
--- they are stated for the Julian and the Gregorian calendar
+-- whether the letters are stated for the calendar: they are for the Julian and the Gregorian one
 abbrev pub has_letters : Calendar → Bool
 has_letters Julian = true
 has_letters Gregorian = true
 has_letters Swedish = false
 
--- the letter of the day that many days after 1 January
+-- the letter of the day this many days after 1 January
 abbrev pub letter_in_january : ℕ → Letter
 letter_in_january zero = A
 letter_in_january (suc n) = next_letter (letter_in_january n)
@@ -68,8 +68,8 @@ letter_in_january (suc n) = next_letter (letter_in_january n)
 abbrev pub first_letter : Calendar → Letter
 first_letter c = letter_in_january ((first_date c).day - 1)
 
--- the letter of the day that many days after day 1, and on 29 February, which has none, that of the
--- day before
+-- the letter of the day this many days after day 1. On 29 February, which has none, it is that of
+-- the day before
 unfoldable pub letter_at : Calendar → ℕ → Letter
 letter_at c zero = first_letter c
 letter_at c (suc n) = letter_after (chain c (suc n)) (letter_at c n)

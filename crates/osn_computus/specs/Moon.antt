@@ -19,7 +19,7 @@ march d = record { month = 3; day = d }
 abbrev pub april : ℕ → MonthDay
 april d = record { month = 4; day = d }
 
--- the day that many days after 1 March, up to 30 April
+-- the day this many days after 1 March, up to 30 April
 abbrev pub after_march_1 : ℕ → MonthDay
 after_march_1 n = if nat_lt n 31 then march (n + 1) else april (n - 30)
 

@@ -1,4 +1,4 @@
--- The edits of batches in order: what one batch more gives, and the edits without the last ones.
+-- The edits of batches in order: what one more batch gives, and the edits without the last ones.
 use Rattle.std.proofs.Common.{◌≡◌, ℕ, suc, ◌+◌, ◌-◌, ◌<◌, List, [], ◌∷◌, ◌++◌, length}
 use Rattle.std.proofs.Common.{take, slice_get, unwrap_or, Some, refl, sym, ap}
 use Rattle.std.proofs.Common.{◌∙◌, arith, append_assoc, append-nil, length-append}

@@ -39,7 +39,7 @@ pub lawful_in_draft : (p : Rules) (s : ObjectState) (e : Edit) → stage_refusal
     refusal p s.limits (draft_territories p s) e ≡ None
 lawful_in_draft p s e none = (or_else-none (refusal p s.limits (draft_territories p s) e) _ none).0
 
--- with the edit it is that of the object with the edit
+-- the draft with one more edit is that of the object with the edit
 pub draft_with : (p : Rules) (s : ObjectState) (e : Edit) → stage_refusal p s e ≡ None →
     effect (draft_territories p s) e ≡ draft_territories p (with_pending s e)
 draft_with p s e none =
@@ -50,12 +50,12 @@ draft_with p s e none =
 pub edits_with : (s : ObjectState) (e : Edit) → edits_in (with_pending s e) ≡ edits_in s + 1
 edits_with s e = omega (arith, length-append s.pending (e ∷ []))
 
--- it is the register of the next edition
+-- the register of the draft is that of the next edition
 pub draft_register : (p : Rules) (s : ObjectState) →
     draft_territories p s ≡ territories_of p s.limits (s.batches ++ s.pending ∷ [])
 draft_register p s = ap (λ es. applied_all p s.limits [] es) (sym (joined-push s.batches s.pending))
 
--- once that is published, it is the register of all edits still
+-- once the next edition is published, the register of the draft is still that of all edits
 pub draft_published : (p : Rules) (s : ObjectState) →
     draft_territories p s ≡ draft_territories p (with_edition s)
 draft_published p s = draft_register p s
@@ -77,7 +77,7 @@ edit_refused d bs e h =
     (draft_territories newest_rules (object_of d bs)) e)
     (cond (nat_lt n limits.edits) None (Some JournalFull))) h.edits
 
--- and so is an edition
+-- an edition is refused by the draft as by the object
 pub edition_refused : (d : DraftState) (bs : List (List Edit)) → IsDraftOf d bs →
     edition_refusal d ≡ publish_refusal (object_of d bs)
 edition_refused d bs h = ap (λ n. cond (length d.pending == 0) (Some NothingPending)
@@ -103,7 +103,7 @@ has_edits d none =
     let room : nat_lt d.editions limits.editions ≡ true = test_passed _ _ allowed.1 in
     (grind (arith, nat_tests), grind (arith, nat_tests))
 
--- with an edit it is the draft of the object with the edit
+-- the draft with an edit is that of the object with the edit
 pub edit_staged : (d : DraftState) (bs : List (List Edit)) (e : Edit) → IsDraftOf d bs →
     edit_refusal d e ≡ None → IsDraftOf (draft_with_edit d e) bs
 edit_staged d bs e h lawful =
@@ -115,7 +115,7 @@ edit_staged d bs e h lawful =
       editions = h.editions;
     }
 
--- and with an edition that of the object with the edition
+-- the draft with an edition is that of the object with the edition
 pub edition_made : (d : DraftState) (bs : List (List Edit)) → IsDraftOf d bs →
     IsDraftOf (draft_with_edition d) (bs ++ d.pending ∷ [])
 edition_made d bs h =

@@ -63,7 +63,7 @@ begin_rises : (floor : ℕ) (xs ys : List Reply) → NeverFalls floor (editions 
 begin_rises floor [] ys h = tt
 begin_rises floor (x ∷ xs) ys h = (h.0, begin_rises x.edition xs ys h.1)
 
--- from the first state on
+-- from the first state on, the replies to a reader begin those that the sequential object gives it
 pub outs_begin : (p : Rules) (limits : Limits) (readers : ℕ) (steps : List Step) (r : ℕ) →
     let outs = outs_of p (first_core limits readers) steps in
     Begin (replies_to r outs) (replies_to r (outs_to p (opened limits) (history steps outs)))

@@ -1,4 +1,4 @@
--- What staging, publishing and absorbing leave of how two registers keep the object's state.
+-- How two registers still keep the object's state after an edit is staged, published or taken in.
 use Rattle.std.proofs.Common.{◌≡◌, ℕ, ◌+◌, ◌-◌, ◌<◌, ◌≤◌, inl, inr, List, [], ◌∷◌, ◌++◌, length}
 use Rattle.std.proofs.Common.{get_or, take, None, refl, sym, ap, subst, ◌∙◌, arith, append_assoc}
 use Rattle.std.proofs.Common.{append-nil, length-append}
@@ -93,7 +93,7 @@ pub record IsNext (bs : List (List Edit)) (lag : ℕ) (e : Edit) : Type 0 where
   pub is : get_or (joined bs) (length (joined bs) - lag) e ≡ e
   pub more : length (joined bs) - lag + 1 ≡ length (joined bs) - (lag - 1)
 
--- it is that of the last batch
+-- the next edit that the standby lacks is in its place in the last batch
 next_of_last : (all front last : List Edit) (lag : ℕ) (e : Edit) → all ≡ front ++ last → 0 < lag →
     lag ≤ length last → e ≡ get_or last (length last - lag) e →
     (length all - lag < length all) × (get_or all (length all - lag) e ≡ e)
@@ -110,7 +110,7 @@ next_of_last all front last lag e is some within at =
       omega (arith, count),
     )
 
--- as it is read: in a slice of the batches
+-- the next edit that the standby lacks, as it is read in a slice of the batches
 pub next_read : (bs cs : List (List Edit)) (lag : ℕ) (e : Edit) → 0 < lag →
     lag ≤ length (last_batch bs) → cs ≡ bs →
     e ≡ get_or (last_batch cs) (length (last_batch cs) - lag) e → IsNext bs lag e
@@ -128,7 +128,7 @@ published_lawful : (d : DraftState) (bs : List (List Edit)) (lag : ℕ) (other :
 published_lawful d bs lag other h =
     AreLawful-front newest_rules d.register.limits [] (joined bs) d.pending h.sound.lawful
 
--- it is lawful there
+-- the next edit is lawful in the standby
 pub lawful_next : (d : DraftState) (bs : List (List Edit)) (lag : ℕ) (other : RegisterModel)
     (e : Edit) → AreInStep d bs lag other → IsNext bs lag e →
     refusal newest_rules other.limits other.territories e ≡ None
@@ -137,7 +137,7 @@ lawful_next d bs lag other e h at =
     ∙ lawful_at newest_rules d.register.limits [] (joined bs) (length (joined bs) - lag) e at.within
     at.is (published_lawful d bs lag other h)
 
--- the standby has taken it
+-- the standby has taken in the next edit
 pub one_absorbed : (d : DraftState) (bs : List (List Edit)) (lag : ℕ) (other after : RegisterModel)
     (e : Edit) → AreInStep d bs lag other → IsNext bs lag e →
     after ≡ record other { territories = effect other.territories e } →

@@ -36,7 +36,7 @@ Knows looks n r (Some (Answered s k)) = Unit {0}
 abbrev pub AllKnown : Looks → ℕ → List ReaderState → Type 0
 AllKnown looks n readers = (r : ℕ) → Knows looks n r (reader_at readers r)
 
--- of a reader that did not look, a look of another one changes nothing
+-- a look of one reader changes nothing of what is known of another
 still_known : (looks : Looks) (n a r : ℕ) (q : Query) (at : Option ReaderState) → (a ≡ r → ⊥) →
     Knows looks n r at → Knows (λ other. if a == other then Some q else looks other) n r at
 still_known looks n a r q None ne h = tt
@@ -122,7 +122,7 @@ leave_known looks n a (Marked q s) h = h
 leave_known looks n a (Entered q s k) h = h
 leave_known looks n a (Answered s k) h = tt
 
--- with more editions
+-- what is known of a reader stays true with more editions
 more_known_at : (looks : Looks) (n m r : ℕ) (at : Option ReaderState) → n ≤ m →
     Knows looks n r at → Knows looks m r at
 more_known_at looks n m r None more h = tt

@@ -34,7 +34,7 @@ AreLawful-push p limits territories (d ∷ es) e lawful none = (
       (applied-lawful p limits territories d lawful.0) none),
 )
 
--- of edits that are lawful in turn the first ones are
+-- the first of edits that are lawful in turn are lawful in turn
 pub AreLawful-front : (p : Rules) (limits : Limits) (territories : List EntryModel)
     (es fs : List Edit) →
     AreLawful p limits territories (es ++ fs) → AreLawful p limits territories es
@@ -42,7 +42,8 @@ AreLawful-front p limits territories [] fs lawful = tt
 AreLawful-front p limits territories (e ∷ es) fs lawful =
     (lawful.0, AreLawful-front p limits (effect territories e) es fs lawful.1)
 
--- and so are those after them
+-- of edits that are lawful in turn, those after the first ones are lawful once the first ones are
+-- applied
 pub AreLawful-after : (p : Rules) (limits : Limits) (territories : List EntryModel)
     (es fs : List Edit)
     → AreLawful p limits territories (es ++ fs) →
@@ -64,7 +65,7 @@ lawful_at p limits territories es i e within is lawful =
     drop_more es i e within ∙ ap (λ x. x ∷ drop (i + 1) es) is in
     (subst (AreLawful p limits (applied_all p limits territories (take i es))) left behind).0
 
--- with it, they lead to its effect on what those before it lead to
+-- edits up to the one at a place lead to its effect on what those before it lead to
 pub applied_at : (p : Rules) (limits : Limits) (territories : List EntryModel) (es : List Edit)
     (i : ℕ) (e : Edit) → i < length es → get_or es i e ≡ e → AreLawful p limits territories es →
     effect (applied_all p limits territories (take i es)) e

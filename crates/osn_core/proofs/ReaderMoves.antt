@@ -24,7 +24,7 @@ test_same a b e = grind (arith, nat_tests)
 pub test_other : (a b : ℕ) → (a ≡ b → ⊥) → (a == b) ≡ false
 test_other a b ne = grind (arith, nat_tests)
 
--- from a reader on that is not 0
+-- the state of a reader whose number is not 0 is at its place in the list
 at_place : (readers : List ReaderState) (r : ℕ) →
     reader_at readers (suc r) ≡ slice_get readers r
 at_place readers r =

@@ -62,7 +62,7 @@ module _ (live : ℕ) (phase : Phase) (n : ℕ) where
   leave_placed (Entered q s k) h = h
   leave_placed (Answered s k) h = tt
 
--- whoever is in a side is in one of the two
+-- a reader that is in a side is in one of the two
 pub in_two : (live : ℕ) (phase : Phase) (n s k : ℕ) → live < 2 → IsIn live phase n s k → s < 2
 in_two live phase n s k two h = elim h [
   | inl (side, all) ↦ omega (arith, two, side)
@@ -156,7 +156,7 @@ draining_is s lag Draining k h is all =
     (ap (λ n. without_last n (joined s.batches)) h.1 ∙ without_batch s.batches k all)
 draining_is s lag Claimed k h is all = cc
 
--- whoever is in a side sees in it the editions that it entered with
+-- a reader that is in a side sees in it the editions that it entered with
 seen_in : (c : CoreState) (side s k : ℕ) → IsCore c →
     IsIn c.control.side c.control.phase (length c.object.batches) s k → s ≡ side →
     side_territories newest_rules c side ≡ edition_territories newest_rules c.object k

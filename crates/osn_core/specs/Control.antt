@@ -29,7 +29,7 @@ first_control readers = record { side = 0; phase = Ready; lag = 0; readers = all
 abbrev pub reader_at : List ReaderState → ℕ → Option ReaderState
 reader_at readers reader = if reader == 0 then None else slice_get readers (reader - 1)
 
--- there is no reader 0
+-- the readers with this state of the reader of a number. There is no reader 0
 abbrev pub set_reader : List ReaderState → ℕ → ReaderState → List ReaderState
 set_reader readers reader at = if reader == 0 then readers else slice_set readers (reader - 1) at
 
@@ -38,7 +38,7 @@ pub record Move : Type 0 where
   pub out : Out
   pub at : ReaderState
 
--- the step is not enabled there
+-- what a step gives a reader for which it is not enabled
 abbrev pub stays : ReaderState → Move
 stays at = record { out = Says.NotNow; at = at }
 
@@ -47,12 +47,13 @@ abbrev pub look : ℕ → Query → ReaderState → Move
 look live query Idle = record { out = Says.Moved; at = Noted query live }
 look live query at = stays at
 
--- one that has noted marks the side that it noted
+-- a reader that has noted a side marks it
 abbrev pub pin : ReaderState → Move
 pin (Noted query side) = record { out = Says.Moved; at = Marked query side }
 pin at = stays at
 
--- it enters a side that is live, with the number of editions then. Otherwise it notes the live side
+-- a reader that has marked a side enters it if it is live, with the number of editions then.
+-- Otherwise it notes the live side
 abbrev pub entering : Bool → ℕ → ℕ → Query → ℕ → Move
 entering true live editions query side = record {
   out = Says.Entered;
@@ -64,7 +65,7 @@ abbrev pub check : ℕ → ℕ → ReaderState → Move
 check live editions (Marked query side) = entering (side == live) live editions query side
 check live editions at = stays at
 
--- one that was answered is idle then
+-- a reader that was answered becomes idle
 abbrev pub leave : ReaderState → Move
 leave (Answered side edition) = record { out = Says.Moved; at = Idle }
 leave at = stays at

@@ -38,7 +38,7 @@ edition_refusal d =
     if length d.pending == 0 then Some NothingPending
     else (if nat_lt d.editions d.register.limits.editions then None else Some EditionsFull)
 
--- one edit more that is pending
+-- the draft with one more pending edit
 abbrev pub draft_with_edit : DraftState → Edit → DraftState
 draft_with_edit d e = record {
   register = record d.register { territories = effect d.register.territories e };
@@ -47,7 +47,7 @@ draft_with_edit d e = record {
   editions = d.editions;
 }
 
--- the pending edits as the next edition
+-- the draft once its pending edits are the next edition
 abbrev pub draft_with_edition : DraftState → DraftState
 draft_with_edition d = record d { pending = []; editions = d.editions + 1 }
 

@@ -47,13 +47,13 @@ abbrev pub reply_in : EditionModel → Query → Reply
 reply_in edition query =
     record { edition = edition.number; answer = answer newest_rules edition.territories query }
 
--- what is kept of an edition
+-- the model of an edition, which is what a page is made of
 abbrev pub edition_model : Edition → EditionModel
 edition_model (Newest s) = newest_edition s
 edition_model (Numbered register number) =
     record { territories = register.territories; number = number; pending = 0 }
 
--- why there is none
+-- why the object has no edition of this number
 abbrev pub IsEditionFault : Option ℕ → ObjectState → EditionFault → Type 0
 IsEditionFault number s (TooLate late newest) =
     (number ≡ Some late) × (newest ≡ length s.batches) × (edition_of number s ≡ None)

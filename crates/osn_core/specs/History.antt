@@ -32,7 +32,7 @@ state_after p s (Stages edit) = stage_after p s edit
 state_after p s Publishes = publish_after s
 state_after p s (Asks reader query) = s
 
--- what it answers the calls, run on them in order
+-- what the sequential object answers these calls, run on them in order
 abbrev pub outs_to : Rules → ObjectState → List Call → List Out
 outs_to p s [] = []
 outs_to p s (call ∷ calls) = out_to p s call ∷ outs_to p (state_after p s call) calls
@@ -72,7 +72,7 @@ calls_of looks (step ∷ steps) (out ∷ outs) =
 abbrev pub history : List Step → List Out → List Call
 history steps outs = calls_of no_looks steps outs
 
--- the outs to the editor, in order
+-- whether an out is one to the editor, and the outs to the editor, in order
 abbrev pub is_editors : Out → Bool
 is_editors (Staged n) = true
 is_editors (Published n) = true

@@ -16,12 +16,13 @@ use Rattle.osn_core.specs.Machine.{CoreState}
 abbrev pub published_but_last : Rules → ObjectState → ℕ → List EntryModel
 published_but_last p s lag = applied_all p s.limits [] (without_last lag (joined s.batches))
 
--- in Ready the standby has all edits, published and pending; else it lacks the lag
+-- the territories of the standby. In Ready it has all edits, published and pending. Otherwise it
+-- lacks the last published edits, as many as the lag
 abbrev pub standby_territories : Rules → ObjectState → ℕ → Phase → List EntryModel
 standby_territories p s lag Ready = draft_territories p s
 standby_territories p s lag phase = published_but_last p s lag
 
--- what a side shows
+-- the territories that a side shows
 abbrev pub side_territories : Rules → CoreState → ℕ → List EntryModel
 side_territories p c side =
     if side == c.control.side then territories_of p c.object.limits c.object.batches
@@ -31,7 +32,7 @@ side_territories p c side =
 abbrev pub edition_territories : Rules → ObjectState → ℕ → List EntryModel
 edition_territories p s edition = territories_of p s.limits (take edition s.batches)
 
--- whoever is in a side, entered or answered, sees in it the editions that it entered with
+-- a reader that is in a side, entered or answered, sees in it the editions that it entered with
 abbrev pub IsSeenBy : Rules → ObjectState → ℕ → List EntryModel → Option ReaderState → Type 0
 IsSeenBy p s side territories (Some (Entered query entered edition)) =
     entered ≡ side → territories ≡ edition_territories p s edition

@@ -61,11 +61,11 @@ publish_refusal s =
     if length s.pending == 0 then Some NothingPending
     else (if nat_lt (length s.batches) s.limits.editions then None else Some EditionsFull)
 
--- one edit more that is pending
+-- the object with one more pending edit
 abbrev pub with_pending : ObjectState → Edit → ObjectState
 with_pending s e = record s { pending = s.pending ++ e ∷ [] }
 
--- the pending edits as the next edition
+-- the object once its pending edits are the next edition
 abbrev pub with_edition : ObjectState → ObjectState
 with_edition s = record s { batches = s.batches ++ s.pending ∷ []; pending = [] }
 

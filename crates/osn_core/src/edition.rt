@@ -40,9 +40,9 @@ impl From<AllocError> for EditionFault {
 /// An edition of a journal, which pages are printed of.
 #[derive(Drop)]
 pub enum Edition {
-    /// The newest one, with what is pending.
+    /// The newest edition, with what is pending.
     Newest(Object),
-    /// The one of a number, and nothing that came later.
+    /// The edition of a number, and nothing that came later.
     Numbered {
         /// What was published by then.
         register: Register,

@@ -1,9 +1,10 @@
-//! The sequential object over the register, an edition of it that is looked at, and the machine
-//! that readers and one editor step over two copies of it. What the crate promises to those above:
-//! over every list of steps, the editor and the readers get what the sequential object gives them,
-//! and each query is answered as at the place where its reader entered. An edition that is asked
-//! for by its number has the register of the first batches, as many as that number, and no pending
-//! edit; without a number it is the newest one. A number beyond the newest edition is refused.
+//! The sequential object over the register, an edition of it, and the machine over two copies of
+//! the register, whose steps are those of readers and one editor. What the crate promises to those
+//! above: over every list of steps, the editor and the readers get what the sequential object gives
+//! them, and each query is answered as at the place where its reader entered. An edition that is
+//! asked for by its number has the register of the first batches, as many as that number, and no
+//! pending edit; without a number it is the newest one. A number beyond the newest edition is
+//! refused.
 #![tactic(auto)]
 
 mod batch;

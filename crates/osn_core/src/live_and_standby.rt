@@ -22,7 +22,7 @@ use std::marker::Model;
 #[derive(Drop)]
 pub struct LiveAndStandby {
     draft: Draft,
-    /// The one that is not the draft's.
+    /// The register that is not the draft's.
     other: Register,
     /// How many edits of the last batch the standby lacks.
     lag: usize,
@@ -65,7 +65,7 @@ impl LiveAndStandby {
         }
     }
 
-    /// Returns the register of all edits except those that it lacks.
+    /// Returns the register of all edits except those that the standby lacks.
     pub fn standby(&self) -> &Register
         ensures territories { result.now.territories ≡ lagging_territories newest_rules self.now }
         ensures limits { result.now.limits ≡ self.now.object.limits }
@@ -133,7 +133,8 @@ impl LiveAndStandby {
         Ok(self.draft.admit(edit)?)
     }
 
-    /// Makes the standby the draft's register. If that is still the live one, both are equal.
+    /// Makes the standby the register of the draft. If the draft still has the live register, both
+    /// are equal.
     fn take_standby(&mut self)
         requires { self.old.lag ≡ 0 }
         ensures { self.new ≡ self.old }

@@ -83,7 +83,7 @@ impl Core {
         }
     }
 
-    /// Takes a step. One that finds no memory changes nothing, and may be tried again.
+    /// Takes a step. A step that finds no memory changes nothing, and may be tried again.
     ///
     /// # Errors
     ///

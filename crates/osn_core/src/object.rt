@@ -148,7 +148,7 @@ impl Object {
         requires { stage_refusal newest_rules self.old edit ≡ None }
         ensures ok { OnOk result (self.new ≡ with_pending self.old edit) }
         ensures count { IfOk result (λ n. n ≡ length self.new.pending) }
-        // Each edit that is given has one that may be.
+        // If the edit gives a source, it is one that may be given.
         ensures source { OnOk result (HasLawfulSource edit) }
         ensures err { OnErr result (self.new ≡ self.old) }
     {

@@ -3,10 +3,10 @@
 /// How far the standby is with the last batch.
 #[derive(Drop, Clone, Copy)]
 pub enum Phase {
-    /// It has all edits, published and pending.
+    /// The standby has all edits, published and pending.
     Ready,
-    /// It lacks the last batch, and readers may still be in it.
+    /// The standby lacks the last batch, and readers may still be in it.
     Draining,
-    /// No reader is in it, and it takes in the last batch.
+    /// No reader is in the standby, and it takes in the last batch.
     Claimed,
 }

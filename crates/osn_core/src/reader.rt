@@ -10,25 +10,25 @@ use std::alloc::AllocError;
 /// The state of a reader. A side is 0 or 1.
 #[derive(Drop)]
 pub enum ReaderState {
-    /// It has no open query, and marks no side.
+    /// The reader has no open query, and marks no side.
     Idle,
-    /// It has looked for this while this side was live.
+    /// The reader has noted this query, and this side, which was live then.
     Noted {
         query: Query,
         side: u8,
     },
-    /// It marks this side, and has not seen yet whether it is still live.
+    /// The reader marks this side, and has not seen yet whether it is still live.
     Marked {
         query: Query,
         side: u8,
     },
-    /// It is in this side, which has these editions, and waits for its answer.
+    /// The reader is in this side, which has these editions, and waits for its answer.
     Entered {
         query: Query,
         side: u8,
         edition: u32,
     },
-    /// It was answered, and is still in this side.
+    /// The reader was answered, and is still in this side.
     Answered {
         side: u8,
         edition: u32,

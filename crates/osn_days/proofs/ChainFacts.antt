@@ -192,7 +192,7 @@ chain_rises c m n lt =
     let at : suc (n - suc m) + m ≡ n = omega arith in
     rw at at (chain_rises_by c m (n - suc m))
 
--- so two days have two dates
+-- two days have two dates
 pub chain_apart : (c : Calendar) (m n : ℕ) → m < n ⊎ (n < m) → chain c m ≡ chain c n → ⊥
 chain_apart c m n (inl lt) e = omega (arith, ints, chain_rises c m n lt, ap key e)
 chain_apart c m n (inr gt) e = omega (arith, ints, chain_rises c n m gt, ap key e)
@@ -216,7 +216,7 @@ days_one p c date d on is =
     filter_one (λ e. same_date (date_of c e) date) 1 p.high d on.0 (omega arith) is
     (λ e low high apart. date_apart c date d e on.0 low is apart)
 
--- or none
+-- there are no days with a date that no day has
 pub days_none : (p : Rules) (c : Calendar) (date : Date)
     → ((d : ℕ) → IsDay p d → same_date (date_of c d) date ≡ false) → days_with_date p c date ≡ []
 unfolding days_with_date line

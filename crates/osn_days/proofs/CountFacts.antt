@@ -157,7 +157,7 @@ date_of_count c count k d n s low e =
     let place : n - 1 ≡ found.0 = omega (arith, count_chain c count k found.0, ap count found.1) in
     rw place found.1)
 
--- so that is the day with the date
+-- the day that the count of a real date gives is the one day with the date
 pub days_of_count : (p : Rules) (c : Calendar) (count : Date → ℕ) → IsCount c count
     → (d : Date) (n : ℕ) → IsReal c d → IsDay p n → count d + 1 ≡ n + count (first_date c)
     → n ∷ [] ≡ days_with_date p c d

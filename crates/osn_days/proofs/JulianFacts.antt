@@ -25,12 +25,12 @@ julian_count d =
     cond (nat_lt 2 d.month) (march_count (unsigned_abs d.year) d.month d.day)
     (march_count (unsigned_abs d.year - 1) (d.month + 12) d.day)
 
--- that of a date from March on
+-- the count of a date from March on
 pub julian_count-late : (d : Date) → 2 < d.month
     → julian_count d ≡ march_count (unsigned_abs d.year) d.month d.day
 julian_count-late d h = grind (arith, nat_tests)
 
--- and that of one before March, in the year before
+-- the count of a date before March, which is in the year before
 pub julian_count-early : (d : Date) → d.month ≤ 2
     → julian_count d ≡ march_count (unsigned_abs d.year - 1) (d.month + 12) d.day
 julian_count-early d h = grind (arith, nat_tests)

@@ -1,5 +1,5 @@
--- For the crates above: what the dates of the line are, and what it means that a date is that of a
--- day.
+-- What the crates above use of the line: what the dates of its days are, and what it means that a
+-- date is that of a day.
 use Rattle.std.proofs.Common.{◌≡◌, ℕ, [], ◌∷◌, ◌+◌, ◌-◌, ◌≤◌, sym, ◌∙◌, arith, refl, inl, inr, pos}
 use Rattle.std.proofs.Common.{◌≤ℤ◌}
 use Rattle.std.proofs.lemmas.Bool.{cases_order}
@@ -92,7 +92,7 @@ day_with_date p c d n e =
     let found = filter_is (λ m. same_date (date_of c m) d) 1 p.high n (sym e) in
     ((omega arith, omega arith), same_date_is (date_of c n) d found.2)
 
--- and the date of a day is that of this day alone
+-- the date of a day is that of this day alone
 pub day_of_date : (p : Rules) (c : Calendar) (n : ℕ) → IsDay p n
     → n ∷ [] ≡ days_with_date p c (date_of c n)
 day_of_date p c n on = sym (days_one p c (date_of c n) n on (same_date_self (date_of c n)))

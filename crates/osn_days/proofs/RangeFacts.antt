@@ -59,7 +59,7 @@ filter_all f a (suc n) all =
     rw (all a (omega arith) (omega arith))
     (ap (λ l. a ∷ l) (filter_all f (a + 1) n (λ d low high. all d (omega arith) (omega arith))))
 
--- the same for two parts of the row
+-- a filter of a row of numbers is that of its two parts
 pub filter_two : (f : ℕ → Bool) (a e m : ℕ) (xs ys : List ℕ) → a ≤ m → m ≤ e →
     filter f (range_with_len a (m - a)) ≡ xs → filter f (range_with_len m (e - m)) ≡ ys →
     filter f (range_with_len a (e - a)) ≡ xs ++ ys
@@ -242,7 +242,7 @@ any_after : (q : ℕ → Bool) (a : ℕ) (ds : List ℕ) (here : Bool) → list_
 any_after q a ds true found = or_right (q a) (list_any q ds) found
 any_after q a ds false found = found
 
--- and a number that passes both is found
+-- a number that passes both tests is found
 pub any_from : (q f : ℕ → Bool) (a n d : ℕ) → a ≤ d → d < a + n → f d ≡ true → q d ≡ true →
     list_any q (filter f (range_with_len a n)) ≡ true
 any_from q f a zero d low high passes tested = absurd (omega arith)
@@ -255,7 +255,7 @@ any_from q f a (suc n) d low high passes tested =
       | inr (inr gt) ↦ absurd (omega arith)
     ]
 
--- the same among all numbers of the row
+-- among all numbers of the row, a number that passes is found
 pub some_in_row : (q : ℕ → Bool) (a n d : ℕ) → a ≤ d → d < a + n → q d ≡ true →
     list_any q (range_with_len a n) ≡ true
 some_in_row q a n d low high tested =
@@ -340,7 +340,8 @@ find_other test a (suc n) (suc m) d found within =
     (find test (range_with_len (a + 1) m))
     (λ later. find_other test (a + 1) n m d later (omega arith)) found
 
--- the same over the line
+-- searches through the line of days: the first day that passes is found, also in a shorter line
+-- that has it
 
 pub find_on_line : (p : Rules) (test : ℕ → Bool) (d : ℕ) → IsDay p d → test d ≡ true →
     ((e : ℕ) → 1 ≤ e → e < d → test e ≡ false) → find test (line p) ≡ Some d

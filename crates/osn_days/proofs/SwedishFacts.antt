@@ -108,7 +108,7 @@ from_february_29 n is =
     ∙ ap (next Swedish) is in
     (leap, chain-suc Swedish (suc n) ∙ ap (next Swedish) leap)
 
--- then 30 February and 1 March
+-- after 29 February 1712 come 30 February and 1 March
 turn : (chain Swedish 624999 ≡ february 1712 30) × (chain Swedish 625000 ≡ march_1 1712)
 turn = from_february_29 624998 (ahead 4382 (omega arith) ∙ february_29)
 
@@ -118,7 +118,7 @@ after (suc k) =
     let here : suc k + 625000 ≡ suc (k + 625000) = omega arith in
     rw here (step_alike (k + 625000) (k + 625000) (after k) (omega arith) (omega arith))
 
--- the same of days
+-- the Swedish date of each day, by the Julian date of a day
 pub swedish_before : (d : ℕ) → d ≤ 620616 → date_of Swedish d ≡ date_of Julian d
 swedish_before d high = before (d - 1) (omega arith)
 

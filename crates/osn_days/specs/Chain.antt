@@ -59,7 +59,7 @@ first_date Julian = record { year = pos 1; month = 1; day = 3 }
 first_date Gregorian = record { year = pos 1; month = 1; day = 1 }
 first_date Swedish = record { year = pos 1; month = 1; day = 3 }
 
--- the date that many days after day 1
+-- the date this many days after day 1
 unfoldable pub chain : Calendar → ℕ → Date
 chain c zero = first_date c
 chain c (suc n) = next c (chain c n)

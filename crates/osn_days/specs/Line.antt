@@ -8,7 +8,7 @@ use Rattle.osn_days.specs.Rules.{Rules}
 abbrev pub IsDay : Rules → ℕ → Type 0
 IsDay p d = (1 ≤ d) × (d ≤ p.high)
 
--- the same of a signed number
+-- the line has the day of a signed number
 abbrev pub IsOnLine : Rules → ℤ → Type 0
 IsOnLine p d = (pos 1 ≤ℤ d) × (d ≤ℤ pos p.high)
 
@@ -28,6 +28,6 @@ julian_day d = d + 1721425
 abbrev pub IsYear : Rules → ℕ → Type 0
 IsYear p y = (1 ≤ y) × (y ≤ p.last_year)
 
--- the same of a signed number
+-- the year of a signed number has figures
 abbrev pub IsYearNumber : Rules → ℤ → Type 0
 IsYearNumber p y = (pos 1 ≤ℤ y) × (y ≤ℤ pos p.last_year)

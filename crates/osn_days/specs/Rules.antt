@@ -11,7 +11,8 @@ pub record Rules : Type 0 where
   pub last_label_year : ℕ
   -- the words of `style` in a line
   pub style_words : List (List ℕ)
-  -- an edit is tested for a style that goes with the Julian calendar and rule alone
+  -- whether an edit is refused if its style requires the Julian calendar and rule, and its regime
+  -- has others
   pub tests_style : Bool
 
 -- the rules of the first version, which stay for good

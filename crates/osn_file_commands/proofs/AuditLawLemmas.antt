@@ -72,7 +72,7 @@ written_by : (a b : Bool) → (not a && b) ≡ true → b ≡ true
 written_by true b h = absurd (cc)
 written_by false b h = h
 
--- from a lower floor too no number falls
+-- numbers that never fall from a floor on never fall from a lower floor on
 lower : (a b : ℕ) (ns : List ℕ) → a ≤ b → NeverFalls b ns → NeverFalls a ns
 lower a b [] order h = tt
 lower a b (n ∷ ns) order h = (omega (arith, order, h.0), h.1)

@@ -22,7 +22,7 @@ lines_read object s version last ls same newest none =
     ∙ (ap (λ v. in_turn (after_object s) 1 (Some v) last ls) newest
     ∙ ap (λ l. in_turn (after_object s) 1 (Some newest_version) l ls) none)
 
--- they all agree, and were counted
+-- all replies agree, and they were counted
 pub all_agreed : (object s : ObjectState) (version : Version) (last made : List ℕ) (n : ℕ)
     (input : Option (List ℕ)) → object ≡ s → version ≡ newest_version → last ≡ no_replies
     → IfSome input (λ bytes.
@@ -39,7 +39,7 @@ count_too : (n : ℕ) (r : Result (List ℕ) (ℕ × LineFault)) → IsSameFault
 count_too n (Ok last) = tt
 count_too n (Err f) = refl
 
--- they are refused by one as by the other
+-- lines that are read in turn are refused by the fault of `agreed_lines`
 pub refused_too : (object s : ObjectState) (version : Version) (last : List ℕ)
     (ls : List (List ℕ)) → object ≡ s → version ≡ newest_version → last ≡ no_replies
     → IsSameFault (in_turn (after_object object) 1 (Some version) last ls)

@@ -92,7 +92,7 @@ after_entry s last e =
     >>= λ edition. agreed e.reply (line_due s e)
     >>= λ reply. Ok (slice_set last (e.reader - 1) e.edition)
 
--- the same for the object of a line
+-- the editions of the readers' last replies with that of a line's object, or the fault of the line
 abbrev pub after_object : ObjectState → Version → List ℕ → Data → Result (List ℕ) LineFault
 after_object s version last d = on_read (entry_in d >>= after_entry s last) Ok
 

@@ -111,7 +111,7 @@ module _ {A : Type 0} (rule : Rule A) (old new : Option (List ℕ)) (n : ℕ) wh
         spared;
   }
 
-  -- and those are all that ended before the last bytes
+  -- no line of those that were taken is refused, and those are all that ended before the last bytes
   pub spares_most : HasKeptUp old new n
       → IfSome old (λ bytes. IfErr (rule (lines bytes)) (λ e. n < e.0))
       → AcceptsRead rule old new 65536

@@ -142,7 +142,7 @@ module _ (p : Rules) {limits greater : Limits} (more : AreGreater limits greater
       (λ d. read_under (command_in version d) (after_command p (smaller s))
       (after_command p (larger s)) made (λ c. command_under s made c lawful)) h
 
-  -- what a line makes is the same, and so is what those after it make of that
+  -- the object of a line, and of the lines after it, is the same under both limits
   then_same : (n : ℕ) (r q : Result ObjectState LineFault)
       (next : ObjectState → Result ObjectState (ℕ × LineFault)) (s : ObjectState)
       → r ≡ Ok (smaller s) → q ≡ Ok (larger s)

@@ -72,7 +72,8 @@ lawful_front p limits territories [] fs h = tt
 lawful_front p limits territories (e ∷ es) fs h =
     (h.0, lawful_front p limits (effect territories e) es fs h.1)
 
--- and so are the others after them
+-- of edits that are lawful in turn, those after the first ones are lawful once the first ones are
+-- applied
 pub lawful_rest : (limits : Limits) (territories : List EntryModel) (es fs : List Edit)
     → AreLawful newest_rules limits territories (es ++ fs)
     → AreLawful newest_rules limits (applied_all newest_rules limits territories es) fs

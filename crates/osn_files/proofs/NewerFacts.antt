@@ -156,7 +156,7 @@ applied-both p q limits territories (e ∷ es) h k =
     ∙ (applied-both p q limits (effect territories e) es h.1 k.1
     ∙ sym (ap (λ ls. applied_all q limits ls es) (applied-lawful q limits territories e k.0)))
 
--- so do edits that are lawful under the rules of the shorter line
+-- edits that are lawful under the rules of the shorter line are applied alike under both rules
 pub applied_passes : (p q : Rules) (limits : Limits) (territories : List EntryModel)
     (es : List Edit) → IsLonger p q → HaveFixed es → AreLawful p limits territories es
     → applied_all p limits territories es ≡ applied_all q limits territories es

@@ -35,7 +35,7 @@ use Rattle.osn_files.specs.Commands.{command_by, command_in}
 abbrev pub IsFixed : Regime → Type 0
 IsFixed r = is_from_easter r.style ≡ false
 
--- so does that of an edit's regime, if the edit has one
+-- the year of an edit's regime begins on the same date each year, if the edit has a regime
 abbrev pub HasFixed : Edit → Type 0
 HasFixed (AddLand code name regime source) = IsFixed regime
 HasFixed (AddChange code day regime source) = IsFixed regime
@@ -44,7 +44,7 @@ HasFixed (DropChange code day) = Unit {0}
 HasFixed (AddException code year day source) = Unit {0}
 HasFixed (DropException code year) = Unit {0}
 
--- and that of each of some edits
+-- the year of each edit's regime begins on the same date each year, if the edit has a regime
 abbrev pub HaveFixed : List Edit → Type 0
 HaveFixed [] = Unit {0}
 HaveFixed (e ∷ es) = HasFixed e × HaveFixed es

@@ -80,7 +80,7 @@ abbrev version_read : {A : Type 0} → Result (Option Version × A) LineFault �
 version_read (Ok t) = t.0
 version_read (Err f) = None
 
--- of a line that is a head
+-- the version after a line that is a head
 head_says : {A : Type 0} (line : List ℕ) (a b : A) (new : Option Version)
     (step : Version → A → Data → Result A LineFault)
     → on_read (object_of line) (after_line step None a) ≡ Ok (new, b)
@@ -103,7 +103,7 @@ head_says {A = A} line a b new step =
     version_of_head (Some v) h = subst (KnownBy (Ok v)) (ap version_read h) refl
     version_of_head None h = absurd (cc)
 
--- of one after a head
+-- the version after a line that follows a head
 is_same : {A : Type 0} (line : List ℕ) (a b : A) (version : Version) (new : Option Version)
     (step : Version → A → Data → Result A LineFault)
     → on_read (object_of line) (after_line step (Some version) a) ≡ Ok (new, b) → Some version ≡ new

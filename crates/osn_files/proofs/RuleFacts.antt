@@ -74,7 +74,7 @@ joined-append [] cs = refl
 joined-append (b ∷ bs) cs =
     ap (λ es. b ++ es) (joined-append bs cs) ∙ sym (append_assoc b (joined bs) (joined cs))
 
--- and so is that of each of its editions
+-- the register of each of its editions is the same one under both rules
 same_edition : (limits : Limits) (s : ObjectState) → IsOld limits s → (edition : ℕ)
     → IsSameRegister limits (joined (take edition s.batches))
 same_edition limits s old edition =

@@ -39,7 +39,8 @@ pub record Fits (d : Data) (room : ℕ) : Type 0 where
   pub numbers : tree.HasNumbers (outline d)
   pub shallow : tree.depth (outline d) ≤ 0
 
--- the same of the members of an object, with a comma before them or not
+-- what the text of an object's members needs as a line, with a comma before them or not: the
+-- conditions are those of a value
 pub record Fit (ms : Members) (room : ℕ) : Type 0 where
   pub short : (later : Bool) → length (members_text later ms) ≤ room
   pub utf8 : (later : Bool) → IsUtf8 (members_text later ms)

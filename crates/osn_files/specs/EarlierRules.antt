@@ -22,7 +22,7 @@ IsSameRegister limits es = folded first_rules limits es ≡ folded newest_rules 
 -- Lines that say the first version, and that the first rules load as an object, are loaded as the
 -- same object by the newest rules. Its batches and its pending edits are the same ones. The
 -- register of each of its editions, which is that of its first batches, is the same one under both
--- rules. So is that of all its edits, the pending ones included.
+-- rules. The register of all its edits, the pending ones included, is the same one too.
 unfoldable pub KeepsEditions : Limits → List (List ℕ) → Type 0
 KeepsEditions limits lines =
     IsOfFirstVersion lines → (object : ObjectState) → load first_rules limits lines ≡ Ok object

@@ -22,7 +22,7 @@ use Rattle.osn_request.specs.declared.version.Version.TheVariants.{Fourth}
 use Rattle.osn_request.specs.Version.{plain_version}
 use Rattle.osn_files.specs.Version.{head_data}
 
--- what an edit of this op asks for that changes the regime of a territory from a day on
+-- the members of an edit that begins or alters a regime on a day, whose operation is `op`
 abbrev pub change_data : List ℕ → List ℕ → ℤ → Regime → Option (List ℕ) → Data
 change_data op code day regime source = object (
     member (codes "calendar") (string (calendar_word regime.calendar))

@@ -41,7 +41,7 @@ saved_beside path place one two backup text (Some k) (Some p) (Some m) (Some n) 
           (subst (λ x. OthersOfFileStaySure x m n) f others);
     })
 
--- it was not, by this fault
+-- the text was not saved, by this fault
 pub left_beside : (path place one two backup given text : List ℕ) (fault : SaveFault)
     (k p m a n : Option Known)
     → one ≡ place → two ≡ place → given ≡ backup → Changes (IsPlaceOf path place) k p

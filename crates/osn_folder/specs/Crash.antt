@@ -9,18 +9,20 @@ use Rattle.osn_folder.specs.declared.fault.SaveFault.TheVariants as saves
 
 -- ---- of calls
 
--- what a crash may leave at this path is as it was, and so is what one might have left before
+-- what a crash may leave at this path is unchanged, and what an earlier crash might have left there
 abbrev pub LeavesSafe : List ℕ → Known → Known → Type 0
 LeavesSafe path k n =
     (n.may_leave path ≡ k.may_leave path) × (n.might_have_left path ≡ k.might_have_left path)
 
--- so it is at each path, and nothing of it was written
+-- what a crash may leave is unchanged at each path, and what an earlier crash might have left. The
+-- files whose bytes are all on the disk are the same ones
 abbrev pub LeavesAllSafe : Known → Known → Type 0
 LeavesAllSafe k n =
     (n.may_leave ≡ k.may_leave) × (n.might_have_left ≡ k.might_have_left)
     × (n.is_whole ≡ k.is_whole)
 
--- so it is at each path except this one
+-- at each path except this one, what a crash may leave is unchanged, and what an earlier crash
+-- might have left
 abbrev pub LeavesOthersSafe : List ℕ → Known → Known → Type 0
 LeavesOthersSafe path k n = (other : List ℕ) → other ≢ path → LeavesSafe other k n
 
@@ -53,21 +55,22 @@ StaysSure path k n =
     IsSure path k → (n.at path ≡ k.at path) × IsSure path n
     × (n.might_have_left path ≡ k.might_have_left path)
 
--- so it is at each path of a file
+-- at each path of a file, what a crash was sure to leave is there still
 abbrev pub AllStaySure : Known → Known → Type 0
 AllStaySure k n = (other : List ℕ) → k.at other ≢ None → StaysSure other k n
 
--- except at this one
+-- at each path of a file except this one, what a crash was sure to leave is there still
 abbrev pub OthersStaySure : List ℕ → Known → Known → Type 0
 OthersStaySure path k n =
     (other : List ℕ) → other ≢ path → k.at other ≢ None → StaysSure other k n
 
--- except at these two
+-- at each path of a file except these two, what a crash was sure to leave is there still
 abbrev pub OthersOfTwoStaySure : List ℕ → List ℕ → Known → Known → Type 0
 OthersOfTwoStaySure from to k n = (other : List ℕ) → other ≢ from → other ≢ to
     → k.at other ≢ None → StaysSure other k n
 
--- except at this one, if it is a file
+-- if there is a file at this path or nothing, what a crash was sure to leave is there still at each
+-- other path of a file
 abbrev pub OthersOfFileStaySure : List ℕ → Known → Known → Type 0
 OthersOfFileStaySure path k n = k.paths.is_stream path ≡ false → OthersStaySure path k n
 
@@ -84,8 +87,8 @@ abbrev pub IsSafelySavedAt : List ℕ → List ℕ → Known → Known → Type 
 IsSafelySavedAt place text k n =
     k.paths.is_stream place ≡ false → LeavesText place text k n
 
--- the same if the save failed by this fault: a crash may leave the text only if it is there and its
--- name is not synced
+-- what a crash may leave at this place if the save failed by this fault. It may leave the text only
+-- if the text is there and its name is not synced
 abbrev pub IsSafelyLeft : List ℕ → List ℕ → SaveFault → Known → Known → Type 0
 IsSafelyLeft place text saves.NoMemory k n = LeavesSafe place k n
 IsSafelyLeft place text (saves.WriteFault cause) k n = LeavesSafe place k n
@@ -98,7 +101,8 @@ abbrev pub IsSafelyLeftAt : List ℕ → List ℕ → SaveFault → Known → Kn
 IsSafelyLeftAt place text fault k n =
     k.paths.is_stream place ≡ false → IsSafelyLeft place text fault k n
 
--- the same of the place that a path leads to
+-- what a crash may leave at the place that a path leads to, once the text was saved there, or the
+-- save failed
 abbrev pub IsSafelySaved : List ℕ → List ℕ → Known → Known → Type 0
 IsSafelySaved path text k n = IsSafelySavedAt (k.paths.place path) text k n
 
@@ -112,7 +116,7 @@ abbrev pub SavesSafely : List ℕ → Option (List ℕ) → List ℕ → Option 
 SavesSafely path loaded_bytes text old new =
     Changes (Saves path loaded_bytes text) old new × Changes (IsSafelySaved path text) old new
 
--- it was not, by this fault, and a crash left the old file or the text, whole
+-- the text was not saved, by this fault, and a crash left the old file or the text, whole
 abbrev pub CannotSaveSafely : List ℕ → Option (List ℕ) → List ℕ → SaveFault → Option Known
     → Option Known → Type 0
 CannotSaveSafely path loaded_bytes text fault old new =
@@ -158,13 +162,14 @@ pub record LeavesBesideAt (place text : List ℕ) (fault : SaveFault) (k n : Kno
       StaysSure backup session_state after
   pub ended : GivesUp backup fault after n
 
--- it isn't sure that the text was saved: the old file could not be put at another path, and nothing
--- was changed; or it was
+-- it isn't sure that the text was saved. The old file could not be put at another path, and nothing
+-- was changed; or it was put there, and the save failed
 abbrev pub CannotSaveBesideAt : List ℕ → List ℕ → SaveFault → Known → Known → Type 0
 CannotSaveBesideAt place text fault k n =
     (LeavesAll fault k n × LeavesSafe place k n) ⊎ LeavesBesideAt place text fault k n
 
--- the same of the place that a path leads to
+-- the text was saved at the place that a path leads to, with the old file at another path; or this
+-- is not sure
 abbrev pub SavesBeside : List ℕ → List ℕ → List ℕ → Known → Known → Type 0
 SavesBeside path backup text k n = SavesBesideAt (k.paths.place path) backup text k n
 

@@ -80,7 +80,7 @@ Opens paths k n =
     (n.opened ≡ k.opened ++ paths) × (n.at ≡ k.at)
     × (n.paths ≡ k.paths) × (n.has_failed ≡ k.has_failed)
 
--- those of these paths that are opened if the first one without a file is the last
+-- the paths of these that are opened, if the first one without a file is the last
 abbrev pub tried : (List ℕ → Option (List ℕ)) → List (List ℕ) → List (List ℕ)
 tried at [] = []
 tried at (path ∷ paths) = path ∷ (if is_some (at path) then tried at paths else [])
@@ -119,13 +119,13 @@ abbrev pub path_if : Option (List ℕ) → List (List ℕ)
 path_if None = []
 path_if (Some path) = path ∷ []
 
--- the file of such a path, and none if there is no path
+-- the file of a path that may be given, and none if no path is given
 abbrev pub IsFileIf : Option Known → Option (List ℕ) → Option (Option (List ℕ)) → Type 0
 IsFileIf known None found = found ≡ None
 IsFileIf known (Some path) found =
     (file : Option (List ℕ)) × (found ≡ Some file) × IsFileOf known path file
 
--- a read of such a file may have failed
+-- a read of some file of this kind may have failed
 module _ {S : Type 0} where
   abbrev pub MayFail : (S → Bool) → Bool → Type 0
   MayFail has_failed failed = failed ≡ true → (file : S) × (has_failed file ≡ true)
@@ -177,7 +177,7 @@ abbrev pub Locks : List ℕ → Known → Known → Type 0
 Locks path k n =
     Stays k n × (k.paths.is_stream path ≡ false → k.paths.is_held path ≡ false)
 
--- it is not locked: another run has it, or the system failed
+-- the file of this path is not locked: another run has it, or the system failed
 abbrev pub CannotLock : List ℕ → KeepFault → Known → Known → Type 0
 CannotLock path Held k n = Stays k n × (k.paths.is_held path ≡ true)
 CannotLock path (NotOpened cause) k n = Fails k n

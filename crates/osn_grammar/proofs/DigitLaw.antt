@@ -140,7 +140,7 @@ sign_before false true rest_says = token_adds Doubt refl rest_says
 sign_before true false rest_says = token_adds About refl rest_says
 sign_before true true rest_says = token_adds AboutAndDoubt refl rest_says
 
--- the same sign again says no more
+-- a sign that was found already, found again, changes nothing
 sign_added : {ps ts : List Token} (a u : Bool) → Say ps ts None None a u false
     → Say (sign_tokens a u ++ ps) ts None None a u false
 sign_added false false rest_says = rest_says

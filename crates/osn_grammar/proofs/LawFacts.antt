@@ -36,7 +36,7 @@ decimal_value n small = (decimal_is_IsNumeral n (omega (arith, small))).1
 
 -- ---- the digits of the later of two years
 
--- they are those of a number, the last digits of the later year
+-- the last digits of the later year are those of a number
 pub record IsLaterNumber (e l : ℕ) : Type 0 where
   pub number : ℕ
   pub is : decimal number ≡ later_digits (decimal e) (decimal l)
@@ -146,7 +146,7 @@ bare least n high some = record {
 pub from_hundred : (n : ℕ) → n ≤ 10000 → 100 ≤ n → IsLongNumber 3 n (decimal n)
 from_hundred n high hundred = bare 3 n high (three_digits n high hundred)
 
--- the same with the zeros that bring it to four digits
+-- a number below 100 has four digits with the zeros before it
 below_ten : (n : ℕ) → n ≤ 10000 → n < 10 → IsLongNumber 4 n (zeros_before n ++ decimal n)
 below_ten n high low = rw (lt-ltb n 10 low) (record {
   digits = decimal_digits n (omega (arith, high));

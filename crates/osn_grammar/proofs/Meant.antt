@@ -60,7 +60,7 @@ in_map f (y ∷ xs) x within =
       | inr rest ↦ later_in (f y) (map f xs) (f x) (in_map f xs x rest)
     ]
 
--- those that pass and those that don't are all of them
+-- the items that pass a test and those that don't are all items
 in_either : {X : Type 0} (q : X → Bool) (xs : List X) (x : X) (b : Bool) → q x ≡ b
     → Contains xs x → Contains (filter q xs ++ filter (λ y. not (q y)) xs) x
 in_either q xs x true is within =

@@ -61,7 +61,7 @@ range_refused false whole beginning last wrong =
     bind_err last (λ end. first_date whole beginning end >>= (λ start.
     Ok (from_to beginning start end))) wrong
 
--- and so it is after a dash
+-- a range after a dash is refused whose last date is
 dashed_refused : (belongs none : Bool) (whole : Result PartialDate DateFault)
     (beginning : Beginning) (last : Result PartialDate DateFault) → is_err last ≡ true
     → is_err (if belongs then Err faults.Malformed

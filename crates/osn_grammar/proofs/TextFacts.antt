@@ -205,7 +205,7 @@ pub record Closes (text : List ℕ) (tokens : List Token) : Type 0 where
   pub ends : Ends text
   pub is : tokens_after [] text ≡ tokens
 
--- so no single letter comes next
+-- a text that begins with no letter begins with no single letter
 pub no_letter_alone : (text : List ℕ) → next_is is_letter (first_of text) ≡ false
     → is_letter_alone text ≡ false
 no_letter_alone [] none = refl

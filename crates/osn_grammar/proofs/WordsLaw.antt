@@ -265,7 +265,7 @@ opened_said true rest = record {
   says = token_adds Bracket refl rest.says;
 }
 
--- none of its years is written with three digits
+-- a year that may be written isn't one of three digits
 year_whole : (y : Year) → is_writable_year y ≡ true → y.has_three_digits ≡ false
 year_whole y ok = is_not y.has_three_digits (both (nat_le y.first 10000) (not y.has_three_digits)
     ok).1

@@ -147,8 +147,8 @@ abbrev pub later_of : Year → Year
 later_of y =
     record { first = y.first + 1; is_double = false; has_three_digits = y.has_three_digits }
 
--- so one year for both dates is sure if it is double and one of them is from 1 January to 24 March.
--- No other date has a double year
+-- one year for both dates is sure if it is double, and one of them is from 1 January to 24 March;
+-- or if it is not double, and neither of them is from those days
 abbrev pub if_settled : Bool → Result Year DateFault → Option Year
 if_settled early (Err fault) = None
 if_settled early (Ok y) =
@@ -194,8 +194,8 @@ abbrev pub reckoned_day : Year → MonthDay → Reckoning → ReckonedDay
 reckoned_day y d r = record { date = date.Day y d.month d.day; reckoning = r }
 
 -- 16/26 Febr. 1690 has one year that is not double, though the place may have begun it on 25 March.
--- So it is the first date by the old calendar, in the place's own year. Whichever year that is, the
--- two dates have to be one day of it
+-- It is taken as the first date by the old calendar, in the place's own year. Whichever year that
+-- is, the two dates have to be one day of it
 abbrev pub either : Bool → Bool → ReckonedDay → DateFault → Result ReckonedDay DateFault
 either own next day fault =
     if own && next then Ok day
@@ -208,8 +208,8 @@ in_own_year p dates y =
     (reckoned_day y dates.old OldStyle)
     (two_days p y.first dates.old dates.new)
 
--- both dates are of that year: the first one is from 1 January to 24 March, and the second one is
--- in its month or a later one
+-- both dates are of the year that is written: the first one is from 1 January to 24 March, and the
+-- second one is in its month or a later one
 abbrev pub are_of_one_year : TwoDates → Bool
 are_of_one_year dates = is_early dates.old && nat_le dates.old.month dates.new.month
 

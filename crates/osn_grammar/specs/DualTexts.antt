@@ -28,8 +28,8 @@ pub record IsWritten (dated : Label) (january_year : ℤ) (named : Option Weekda
   pub later : date.is_double ≡ true → pos (date.year + 1) ≡ january_year
   pub weekday : date.weekday ≡ named
 
--- so is the dual text of each day of the line, under each regime, from the year 100 on: a shorter
--- year must have its zeros to be read
+-- as a law: the dual text of each day of the line, under each regime, is read as the label of the
+-- day, from the year 100 on. A shorter year must have its zeros to be read
 unfoldable pub AreDualTextsWritten : Rules → Type 0
 AreDualTextsWritten p =
     (r : Regime) (d : ℕ) → IsDay p d → pos 100 ≤ℤ (local_label p r d).year
@@ -39,7 +39,8 @@ AreDualTextsWritten p =
 abbrev pub weekday_of : ℕ → Weekday
 weekday_of d = weekday_numbered (weekday d)
 
--- so is the dual text with the name of the day's weekday before it
+-- as a law: the dual text with the name of the day's weekday before it is read as that label with
+-- that weekday
 unfoldable pub AreNamedDaysWritten : Rules → Type 0
 AreNamedDaysWritten p =
     (r : Regime) (d : ℕ) → IsDay p d → pos 100 ≤ℤ (local_label p r d).year
@@ -52,8 +53,8 @@ Means p t d text =
     (w : WrittenDate) (given : Option Weekday) → written_date text ≡ Ok w
     → Contains (meaning p t w given) (dated_on p t d)
 
--- so does the dual text of each day in the territory from the year 100 on, with the name of its
--- weekday before it or without
+-- as a law: the dual text of each day in the territory means that day, from the year 100 on, with
+-- the name of its weekday before it or without
 unfoldable pub AreDualTextsMeant : Rules → TerritoryModel → Type 0
 AreDualTextsMeant p t =
     (d : ℕ) → IsDay p d → pos 100 ≤ℤ (local_label p (regime_at t d) d).year

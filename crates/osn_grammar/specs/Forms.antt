@@ -60,7 +60,7 @@ after_name a m (Number b ∷ []) = around_month a m b
 after_name a m (Number y ∷ Slash ∷ Number l ∷ []) = day_of_month (two y l) m a
 after_name a m _ = Err faults.Malformed
 
--- and 1731 11 February, 11-Feb-1731, 11/Feb/1731, 1731/2 February 11
+-- the forms of after_name, and 1731 11 February, 11-Feb-1731, 11/Feb/1731 and 1731/2 February 11
 abbrev pub after_number : Numeral → List Token → Result PartialDate DateFault
 after_number a (Month m ∷ rest) = after_name a m rest
 after_number a (Number d ∷ Month m ∷ []) = year_and_day a d m

@@ -66,7 +66,7 @@ pub record IsSignRead (o : DateOrder) (a b : Date) (approximate uncertain : Bool
   pub not_before : read_date o (signed a approximate uncertain ++ codes "/..")
       ≡ Ok (with_sign (extent.NotBefore (day_of_date a)) approximate uncertain)
 
--- as a law: so it is for all such dates and each sign
+-- as a law: all dates of four digits are read in these forms, with each sign
 unfoldable pub AreDigitsRead : Type 0
 AreDigitsRead =
     (o : DateOrder) (a b : Date) (approximate uncertain : Bool) → HasFourDigits a

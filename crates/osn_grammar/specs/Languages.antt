@@ -214,7 +214,7 @@ pub record AreOtherWordsKnown : Type 0 where
       (codes "the of on in de del di le den der die dies anno date style feira")
       (times 16 token.Filler)
 
--- the same in the other languages
+-- the words of the other languages are known
 pub record AreOtherLanguagesKnown : Type 0 where
   pub to : Reads (codes "til") (times 1 token.To)
   pub or : Reads (codes "ou oder eller") (times 3 token.Or)

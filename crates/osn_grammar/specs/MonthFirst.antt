@@ -17,7 +17,7 @@ has_month_first (Month m ∷ Number first ∷ token ∷ Number last ∷ years) =
     joins_days token && (not (is_long first) && not (is_long last))
 has_month_first _ = false
 
--- the same with the month after the days: 3-10 May 1640
+-- these parts with the month after the days: 3-10 May 1640
 abbrev pub month_moved : List Token → List Token
 month_moved (month ∷ first ∷ token ∷ last ∷ years) = first ∷ token ∷ last ∷ month ∷ years
 month_moved _ = []

@@ -53,7 +53,8 @@ abbrev pub part_of_years : Portion → Years → Years
 part_of_years p years = years_cut p (years.last - years.first) years.first years.last
 
 -- a part of a month is some of its days by their numbers: 1 to 10, 11 to 20, 21 to the last one,
--- and 1 to 15, 16 to the last one. The last day of February differs, so it is that of the month
+-- and 1 to 15, 16 to the last one. The last day of February differs from year to year, so that a
+-- part which ends with it ends with the month
 abbrev pub day_in : Year → ℕ → ℕ → PartialDate
 day_in year month d = date.Day year month d
 

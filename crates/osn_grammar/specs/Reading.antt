@@ -52,7 +52,7 @@ abbrev pub weekday_after : Option Weekday → List Token → Result (Option Week
 weekday_after found [] = Ok found
 weekday_after found (p ∷ rest) = with_weekday found p >>= (λ next. weekday_after next rest)
 
--- the same of the calendar
+-- the calendar of some parts, after the one that was named before them, if any
 abbrev pub with_reckoning : Option Reckoning → Token → Result (Option Reckoning) DateFault
 with_reckoning (Some v) (token.Reckoning r) = Err faults.Malformed
 with_reckoning None (token.Reckoning r) = Ok (Some r)
@@ -200,7 +200,7 @@ is_open_end (token.Number y ∷ token.Dash ∷ []) = lacks_digit y
 is_open_end (token.Number y ∷ token.Open ∷ []) = lacks_digit y
 is_open_end _ = false
 
--- the last two parts are so
+-- the last two parts are a year of three digits with a dash or two full stops after it
 abbrev pub ends_open : List Token → Bool
 ends_open tokens = nat_le 2 (length tokens) && is_open_end (drop (length tokens - 2) tokens)
 

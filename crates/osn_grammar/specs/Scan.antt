@@ -26,8 +26,7 @@ is_dash c = c == 45 || (is_from_to 8208 8209 c || (is_from_to 8211 8212 c || c =
 abbrev pub is_blank : ℕ → Bool
 is_blank c = c == 32 || (c == 9 || (c == 160 || (c == 8201 || c == 8239)))
 
--- a letter: of ASCII, `_`, `@` and `#`, or any other character beyond it except such a dash or
--- blank
+-- a letter: of ASCII, `_`, `@` and `#`, or any other character beyond ASCII except a dash or blank
 abbrev pub is_letter : ℕ → Bool
 is_letter c =
     is_from_to 64 90 c
@@ -143,8 +142,8 @@ abbrev pub is_letter_next : List ℕ → Bool
 is_letter_next [] = false
 is_letter_next (c ∷ rest) = is_letter c
 
--- a full stop between two single letters is ignored: `O.S.` is `OS`. So is a colon between the name
--- of a month and a letter: `Feb:ry` is `Febry`
+-- a full stop between two single letters is ignored: `O.S.` is `OS`. A colon between the name of a
+-- month and a letter is ignored too: `Feb:ry` is `Febry`
 abbrev pub is_passed_over : List ℕ → ℕ → List ℕ → Bool
 is_passed_over word c rest =
     if c == 46 then is_letter_alone rest && (length word == 1 && is_name word)

@@ -52,7 +52,7 @@ pub record IsSetRead (o : DateOrder) (approximate uncertain : Bool) (days : List
   pub dates : members (set_text approximate uncertain days)
       ≡ map (member approximate uncertain) days
 
--- as a law: so it is for two or more of them and each sign
+-- as a law: two or more dates or ranges of days in digits are read as a set of them, with each sign
 unfoldable pub AreSetsRead : Type 0
 AreSetsRead =
     (o : DateOrder) (approximate uncertain : Bool) (first next : Days) (rest : List Days)

@@ -113,7 +113,7 @@ by_order order.Unknown a b year = Err faults.DayOrMonth
 by_order order.DayMonth a b year = day_in_digits (one year) b a
 by_order order.MonthDay a b year = day_in_digits (one year) a b
 
--- they end with the year if that is long and the first one is not
+-- three numbers end with the year if the last one is long and the first one is not
 abbrev pub in_order : DateOrder → Numeral → Numeral → Numeral → Result PartialDate DateFault
 in_order order a b c =
     if is_long c && not (is_long a) then by_order order a b c else day_in_digits (one a) b c
@@ -129,7 +129,7 @@ order_of order.Unknown a b =
     else (if nat_lt 12 b then order.MonthDay else order.DayMonth)
 order_of order a b = order
 
--- with dashes, slashes or blanks such an order is found
+-- three numbers with dashes, slashes or blanks between them, whose order is found if it can be
 abbrev pub three_numbers : DateOrder → Numeral → Numeral → Numeral → Result PartialDate DateFault
 three_numbers order a b c = in_order (order_of order a.value b.value) a b c
 

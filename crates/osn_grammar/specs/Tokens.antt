@@ -31,7 +31,7 @@ value_of word =
     Some (digits_value 10 word)
     else None
 
--- such a number, with the count of its digits
+-- the number of 1 to 9 digits and nothing else, with the count of its digits
 abbrev pub numeral_of : List ℕ → Option Numeral
 numeral_of word =
     option_map (λ n. record { value = n; digits = length word }) (value_of word)

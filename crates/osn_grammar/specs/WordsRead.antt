@@ -17,7 +17,7 @@ use Rattle.osn_written.specs.DateInWords.{words_of}
 abbrev pub is_writable_year : Year → Bool
 is_writable_year y = nat_le y.first 10000 && not y.has_three_digits
 
--- a date of such a year whose month is 1 to 12 and whose day is 1 to 31
+-- a date of a year that may be written in words, whose month is 1 to 12 and whose day is 1 to 31
 abbrev pub is_writable_date : PartialDate → Bool
 is_writable_date (date.Day y month day) =
     is_writable_year y && (is_between 1 12 month && is_between 1 31 day)
@@ -39,7 +39,8 @@ is_writable_extent (extent.Feast feast year) = false
 abbrev pub is_writable : AnyDate → Bool
 is_writable w = is_writable_extent w.extent
 
--- as a law: the words of such a date are read as that date, in each order of day and month
+-- as a law: the words of a date that may be written in words are read as that date, in each order
+-- of day and month
 unfoldable pub AreWordsRead : Type 0
 AreWordsRead =
     (o : DateOrder) (w : AnyDate) → is_writable w ≡ true → read_date o (words_of w)

@@ -62,7 +62,8 @@ years_on first more =
     if first.digits == 4 && nat_le first.value 9999 then Some (years_from first.value more)
     else None
 
--- that of `années 1500` may be a century, too
+-- the decade from a year that ends with one zero. The year of `années 1500`, which ends with two,
+-- may begin a century too
 abbrev pub decade_from : Numeral → Option Years
 decade_from first =
     if first.value % 10 == 0 && not (first.value % 100 == 0) then years_on first 9 else None

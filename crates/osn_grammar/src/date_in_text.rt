@@ -55,7 +55,8 @@ pub fn parse_day(alloc: Global, text: &str) -> Result<Result<WrittenDate, DateFa
     // as a law: the dual text of each day of the line, under each regime, is a date with the label
     // of the day, from the year 100 on. It is a double one if the day has both years
     ensures dual { AreDualTextsWritten newest_rules }
-    // as a law: so it is with the day's weekday before it, which is then the date's
+    // as a law: the dual text with the name of the day's weekday before it is read as that date,
+    // and the weekday is the date's
     ensures named { AreNamedDaysWritten newest_rules }
     // as a law: in each territory the dual text of each day means that day
     ensures meant { (t : TerritoryModel) → AreDualTextsMeant newest_rules t }

@@ -53,7 +53,7 @@ fn days(year: Year, month: u8, tens: u8) -> Option<Extent>
     }
 }
 
-/// Returns the same in a year.
+/// Returns the months of a year that begin with a digit, if the year is read.
 fn months_of(year: Result<Year, DateFault>, tens: u8) -> Option<Extent>
     ensures { result ≡ spec.months_of year tens }
 {
@@ -63,7 +63,8 @@ fn months_of(year: Result<Year, DateFault>, tens: u8) -> Option<Extent>
     }
 }
 
-/// Returns the same of a month of a year.
+/// Returns the days of a month of a year whose numbers begin with this tens digit, if the year is
+/// read.
 fn days_of(year: Result<Year, DateFault>, month: u32, tens: u8) -> Option<Extent>
     ensures { result ≡ spec.days_of year month tens }
 {

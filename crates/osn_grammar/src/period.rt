@@ -106,7 +106,8 @@ fn part_of(portion: Portion, whole: &[Token]) -> Option<Extent>
     }
 }
 
-/// Returns the same without a dash before the whole, as in `mid-1675`, or the word `third`.
+/// Returns the part of a month, a year, a decade or a century. Before the whole may be a dash, as
+/// in `mid-1675`, or the word `third`.
 fn part_after(portion: Portion, rest: &[Token]) -> Option<Extent>
     ensures { result ≡ spec.part_after portion rest.now }
 {

@@ -34,7 +34,7 @@ struct ReckonedExtent {
     is_part: bool,
 }
 
-/// Returns what is said by a usual form.
+/// Returns the extent of a date that is written in a usual form, with the calendar that it names.
 fn plain(extent: Extent, reckoning: Option<Reckoning>) -> ReckonedExtent
     ensures { result ≡ spec.reckoned reckoning extent }
 {
@@ -189,7 +189,7 @@ fn is_open_end(timed: &[Token]) -> bool
     }
 }
 
-/// Returns whether parts end with such a year.
+/// Returns whether parts end with a year of three digits and a dash or two full stops after it.
 fn ends_open(timed: &[Token]) -> bool
     ensures { result ≡ spec.ends_open timed.now }
 {

@@ -278,7 +278,7 @@ fn are_alike(word: &str, next: char) -> bool
     }
 }
 
-/// Returns whether the next character is so.
+/// Returns whether there is a next character that is alike with the word so far.
 fn is_alike_next(word: &str, rest: &[char]) -> bool
     ensures { result ≡ spec.is_alike_next word.now rest.now }
 {

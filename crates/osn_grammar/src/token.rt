@@ -206,7 +206,7 @@ fn is_roman(byte: u8) -> bool
     matches!(byte, b'i' | b'j' | b'v' | b'x' | b'l' | b'c' | b'd' | b'm')
 }
 
-/// Returns whether each byte is such a letter.
+/// Returns whether each byte is a small letter of Roman numerals.
 fn are_roman(word: &[u8]) -> bool
     ensures { result ≡ list_all spec.is_roman word.now }
 {

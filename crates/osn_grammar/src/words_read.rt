@@ -39,7 +39,8 @@ fn is_writable_date(date: PartialDate) -> bool
 #[tactic(auto, using(crate::proofs::WordsLaw::words_law))]
 pub fn is_writable(date: AnyDate) -> bool
     ensures value { result ≡ spec.is_writable date }
-    // as a law: the words of such a date are read as that date, in each order of day and month
+    // as a law: the words of a date for which this is true are read as that date, in each order of
+    // day and month
     ensures words { AreWordsRead }
 {
     match date.extent {

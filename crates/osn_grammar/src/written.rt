@@ -5,7 +5,7 @@ use osn_written::AnyDate;
 /// What a text says.
 #[derive(Clone, Copy, Debug, PartialEq, Eq)]
 pub enum Written {
-    /// That it is undated, as `n.d.` does, or nothing.
+    /// The date is missing: the text says so, as `n.d.` does, or is empty.
     NoDate,
     Date(AnyDate),
     /// One of several dates, such as `[1543-04-11,1544-04-11]`: those of `members_of`.

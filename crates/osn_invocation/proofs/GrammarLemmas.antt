@@ -41,7 +41,7 @@ next_argument first old new arg arguments i d lt added is has free =
     rw (fold_more with_argument (app_of first) arguments i d lt)
     (one_more_arg old new arg _ _ added (has free) is)
 
--- and a program with one more of the commands of a list of rows
+-- a program with one more of the commands of a list of rows
 pub next_command : (first old new command : Command) (rows : List CommandRow) (i : ℕ)
     (d : CommandRow) → i < length rows → AddsSubcommand old command new
     → IsCommand (command_of_row (get_or rows i d)) command
@@ -54,12 +54,12 @@ next_command first old new command rows i d lt added is has free =
       fold-append with_command (app_of first) (map command_of_row (take i rows)) _,
     ) (one_more_command old new command _ _ added (has free) is)
 
--- of this command line the matches are known
+-- the matches of this command line are known
 pub is_exact : is_simple command_line ≡ true
 unfolding clap_on_literals
 is_exact = refl
 
--- and so are the faults
+-- the faults of this command line are known
 pub is_checked : is_simple_and_free command_line ≡ true
 unfolding clap_on_literals
 is_checked = refl

@@ -14,7 +14,7 @@ all_named : (given : List Row)
 unfolding clap_on_literals
 all_named given = refl
 
--- so what a name of the command line asks for is not nothing
+-- each name of the command line asks for a command
 pub is_named : (name : Text) (given : List Row) → Contains command_names name
     → command_named name given ≡ None → ⊥
 is_named name given has none =

@@ -61,7 +61,7 @@ values_named command id =
     else (if is_weekday command id then weekdays
     else (if is_month command id then months else codes " TEXT")))))))
 
--- that, or no text for an argument that takes no value
+-- the values of an argument, or no text for an argument that takes no value
 abbrev pub values_of : Text → Rule → Text
 values_of command rule =
     if takes_value (action_of rule) then values_named command rule.id else []
@@ -86,7 +86,7 @@ name_row command = codes "_oldstyle_row " ++ (command ++ codes "\n")
 unfoldable pub command_rows : Shape → Text
 command_rows command = name_row command.name ++ flat_map (row_of command.name) command.rules
 
--- those of the program's own arguments, and those of each command
+-- the rows of the program's own arguments, and those of each command
 unfoldable pub grammar_rows : App → Text
 grammar_rows grammar =
     flat_map (row_of grammar.top.name) grammar.top.rules ++ flat_map command_rows grammar.subs

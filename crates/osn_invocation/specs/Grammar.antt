@@ -106,16 +106,17 @@ day_grammar = command_with (codes "day") (journal_arg ∷ required_arg (codes "c
     ∷ required_arg (codes "date") ∷ json_option ∷ edition_option ∷ journal_option
     ∷ limits_option ∷ [])
 
--- `month JOURNAL CODE YEAR MONTH [--edition N] [--journal FILE] [--limits LIMITS]`
+-- `month JOURNAL CODE YEAR MONTH [--json] [--edition N] [--journal FILE] [--limits LIMITS]`
 abbrev pub month_grammar : App
 month_grammar = command_with (codes "month") (journal_arg ∷ required_arg (codes "code")
-    ∷ required_arg (codes "year") ∷ required_arg (codes "month") ∷ edition_option
+    ∷ required_arg (codes "year") ∷ required_arg (codes "month") ∷ json_option ∷ edition_option
     ∷ journal_option ∷ limits_option ∷ [])
 
--- `year JOURNAL CODE YEAR [--edition N] [--journal FILE] [--limits LIMITS]`
+-- `year JOURNAL CODE YEAR [--json] [--edition N] [--journal FILE] [--limits LIMITS]`
 abbrev pub year_grammar : App
 year_grammar = command_with (codes "year") (journal_arg ∷ required_arg (codes "code")
-    ∷ required_arg (codes "year") ∷ edition_option ∷ journal_option ∷ limits_option ∷ [])
+    ∷ required_arg (codes "year") ∷ json_option ∷ edition_option ∷ journal_option
+    ∷ limits_option ∷ [])
 
 -- `territory JOURNAL [CODE] [--json] [--edition N] [--journal FILE] [--limits LIMITS]`
 abbrev pub territory_grammar : App
@@ -124,7 +125,7 @@ territory_grammar = command_with (codes "territory") (journal_arg ∷ optional_a
 
 -- `letters JOURNAL [TABLE] [--place NAME] [--in PLACE] [--date NAME] [--year NAME] [--month NAME]
 -- [--day NAME] [--weekday NAME] [--places FILE] [--separator NAME] [--order ORDER] [--strict]
--- [--summary] [--replace] [--edition N] [--journal FILE] [--limits LIMITS]`
+-- [--summary] [--replace] [--keep-going] [--edition N] [--journal FILE] [--limits LIMITS]`
 abbrev pub letters_grammar : App
 letters_grammar = command_with (codes "letters") (journal_arg ∷ optional_arg (codes "table")
     ∷ value_option (codes "place") ∷ value_option (codes "in")
@@ -133,16 +134,17 @@ letters_grammar = command_with (codes "letters") (journal_arg ∷ optional_arg (
     ∷ value_option (codes "places")
     ∷ value_option (codes "separator") ∷ value_option (codes "order")
     ∷ flag_option (codes "strict") ∷ flag_option (codes "summary") ∷ flag_option (codes "replace")
-    ∷ edition_option
+    ∷ flag_option (codes "keep-going") ∷ edition_option
     ∷ journal_option ∷ limits_option ∷ [])
 
 -- `serve [--journal FILE] [--save FILE] [--keep FILE] [--upgrade] [--follow FILE] [--readers N]
--- [--read-only] [--stop-at-refusal] [--limits LIMITS]`
+-- [--read-only] [--stop-at-refusal] [--explain] [--strict-members] [--limits LIMITS]`
 abbrev pub serve_grammar : App
 serve_grammar = command_with (codes "serve") (value_option (codes "journal")
     ∷ value_option (codes "save") ∷ value_option (codes "keep") ∷ flag_option (codes "upgrade")
     ∷ value_option (codes "follow") ∷ readers_option ∷ flag_option (codes "read-only")
-    ∷ flag_option (codes "stop-at-refusal") ∷ limits_option ∷ [])
+    ∷ flag_option (codes "stop-at-refusal") ∷ flag_option (codes "explain")
+    ∷ flag_option (codes "strict-members") ∷ limits_option ∷ [])
 
 -- `text JOURNAL [CODE] [--edition N] [--journal FILE] [--limits LIMITS]`
 abbrev pub text_grammar : App
@@ -153,10 +155,10 @@ text_grammar = command_with (codes "text") (journal_arg ∷ optional_arg (codes 
 abbrev pub check_grammar : App
 check_grammar = command_with (codes "check") (required_arg (codes "text") ∷ limits_option ∷ [])
 
--- `plan JOURNAL TEXT [--journal FILE] [--limits LIMITS]`
+-- `plan JOURNAL TEXT [--strict] [--journal FILE] [--limits LIMITS]`
 abbrev pub plan_grammar : App
-plan_grammar = command_with (codes "plan")
-    (journal_arg ∷ required_arg (codes "text") ∷ journal_option ∷ limits_option ∷ [])
+plan_grammar = command_with (codes "plan") (journal_arg ∷ required_arg (codes "text")
+    ∷ flag_option (codes "strict") ∷ journal_option ∷ limits_option ∷ [])
 
 -- `publish JOURNAL TEXT [--onto-newest] [--journal FILE] [--limits LIMITS]`
 abbrev pub publish_grammar : App
@@ -221,7 +223,7 @@ date_commands =
     read_grammar ∷ convert_grammar ∷ day_grammar ∷ month_grammar ∷ year_grammar
     ∷ territory_grammar ∷ []
 
--- those for tables, the service and the register as a text
+-- the commands for tables, the service and the register as a text
 abbrev pub table_commands : List App
 table_commands =
     letters_grammar ∷ serve_grammar ∷ text_grammar ∷ check_grammar ∷ plan_grammar

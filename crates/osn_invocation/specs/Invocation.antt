@@ -27,23 +27,26 @@ use Rattle.osn_invocation.specs.declared.invocation.PageRequest.TheVariants as p
 -- three numbers. It says whether a date without a day is a refusal. A day is by a code and a date
 -- or day number, a month by a code, a year and the month, and a year by a code and the year. The
 -- periods are those of a code's territory, or the page lists all territories. The last word of
--- readings, days and territories is whether the answer is printed as a line of JSON
+-- each, except an almanac, is whether the answer is printed in JSON
 pub data PageRequestModel : Type 0 where
   almanac_words : Text → ℕ → PageRequestModel
   reading_words : Text → Text → Option Text → Option Text → Bool → Bool → PageRequestModel
   day_words : Text → Text → Bool → PageRequestModel
-  month_words : Text → Text → Text → PageRequestModel
-  year_words : Text → Text → PageRequestModel
+  month_words : Text → Text → Text → Bool → PageRequestModel
+  year_words : Text → Text → Bool → PageRequestModel
   territory_words : Option Text → Bool → PageRequestModel
 
 -- what the service is asked for besides files: whether a journal that is kept is first upgraded,
--- how many readers ask, whether edits and publishes are refused, and whether the first line that is
--- refused is the last to be answered
+-- how many readers ask, whether edits and publishes are refused, whether the first line that is
+-- refused is the last to be answered, whether a reply says for people why a line is refused, and
+-- whether a member that a request doesn't have is refused
 pub record ServiceModel : Type 0 where
   pub upgrade : Bool
   pub readers : ℕ
   pub read_only : Bool
   pub stop_at_refusal : Bool
+  pub explains : Bool
+  pub strict_members : Bool
 
 -- the names of the columns that say the date, if they are named: that of whole dates, and those of
 -- years, months and days
@@ -57,7 +60,8 @@ pub record DateModel : Type 0 where
 -- rows, if these are named; the names of the columns of the date and of weekdays, if they are
 -- named; the file of the table of places, the separator of fields and the order of a date's three
 -- numbers, if these are named; the edition, if one is named; whether a remark is a refusal; whether
--- the number of rows with each remark is printed at the end; and whether added columns are replaced
+-- the number of rows with each remark is printed at the end; whether added columns are replaced;
+-- and whether the table goes on after a record that has a flaw
 pub record LettersModel : Type 0 where
   pub place : Option Text
   pub place_of_all : Option Text
@@ -70,6 +74,7 @@ pub record LettersModel : Type 0 where
   pub strict : Bool
   pub summary : Bool
   pub replace : Bool
+  pub keep_going : Bool
 
 -- what a command is asked for. The service has a journal, where to save it, where to keep it, which
 -- one it follows, and the rest. A replay has readers and a schedule, a desk a script and questions.
@@ -77,9 +82,9 @@ pub record LettersModel : Type 0 where
 -- and a transcript. A conversion has a calendar and a date. Letters have a journal, the file of the
 -- table if one is named, and the rest, and completions have a shell. The text of a register has a
 -- journal, the edition if one is named, and the code of its one territory if one is named. A plan
--- and the edition that it makes have a journal and a text, a check has a text, and the list of
--- editions has a journal. A difference has a journal and the words of two editions. Files are named
--- by their paths
+-- has a journal, a text and whether edits are a refusal, the edition that it makes a journal, a
+-- text and whether later editions don't hinder it, a check a text, and the list of editions a
+-- journal. A difference has a journal and the words of two editions. Files are named by their paths
 pub data CommandModel : Type 0 where
   serving : Option Text → Option Text → Option Text → Option Text → ServiceModel → CommandModel
   replaying : ℕ → Text → CommandModel
@@ -93,7 +98,7 @@ pub data CommandModel : Type 0 where
   comparing : Text → Text → Text → CommandModel
   writing_text : Text → Option Text → Option Text → CommandModel
   checking : Text → CommandModel
-  planning : Text → Text → CommandModel
+  planning : Text → Text → Bool → CommandModel
   publishing : Text → Text → Bool → CommandModel
 
 -- what a command line asks for: a command, and what its limits are said to be, if anything
@@ -133,6 +138,8 @@ serve_command given = serving (first_of (codes "journal") given) (first_of (code
       readers = number_of 8 (codes "readers") given;
       read_only = is_given (codes "read-only") given;
       stop_at_refusal = is_given (codes "stop-at-refusal") given;
+      explains = is_given (codes "explain") given;
+      strict_members = is_given (codes "strict-members") given;
     })
 
 abbrev pub replay_command : List Row → CommandModel
@@ -170,7 +177,9 @@ abbrev pub check_command : List Row → CommandModel
 check_command given = checking (text_of (codes "text") given)
 
 abbrev pub plan_command : List Row → CommandModel
-plan_command given = planning (text_of (codes "journal") given) (text_of (codes "text") given)
+plan_command given =
+    planning (text_of (codes "journal") given) (text_of (codes "text") given)
+    (is_given (codes "strict") given)
 
 abbrev pub publish_command : List Row → CommandModel
 publish_command given =
@@ -200,6 +209,7 @@ letters_command given = reading_letters (text_of (codes "journal") given)
       strict = is_given (codes "strict") given;
       summary = is_given (codes "summary") given;
       replace = is_given (codes "replace") given;
+      keep_going = is_given (codes "keep-going") given;
     })
 
 -- a command that prints a page of a journal
@@ -223,10 +233,11 @@ day_page given = day_words (text_of (codes "code") given) (text_of (codes "date"
 
 abbrev pub month_page : List Row → PageRequestModel
 month_page given = month_words (text_of (codes "code") given) (text_of (codes "year") given)
-    (text_of (codes "month") given)
+    (text_of (codes "month") given) (is_given (codes "json") given)
 
 abbrev pub year_page : List Row → PageRequestModel
 year_page given = year_words (text_of (codes "code") given) (text_of (codes "year") given)
+    (is_given (codes "json") given)
 
 abbrev pub territory_page : List Row → PageRequestModel
 territory_page given =
@@ -243,7 +254,7 @@ page_named name given =
     else (if bytes_eq name (codes "territory") then Some (page_command given (territory_page given))
     else None)))))
 
--- that, or what a command of the register's text asks for
+-- what a command of the register's text asks for, or one that prints a page
 abbrev pub text_or_page : Text → List Row → Option CommandModel
 text_or_page name given =
     if bytes_eq name (codes "editions") then Some (editions_command given)
@@ -290,14 +301,14 @@ abbrev pub invocation_in : List Text → InvocationModel
 invocation_in args =
     invocation_by (matches_of command_line args) (subcommand_of command_line args)
 
--- the same of what was read, by the texts that its references point to
+-- what a page request asks for, by the texts that its references point to
 abbrev pub page_request : PageRequest → PageRequestModel
 page_request (pages.Almanac code year) = almanac_words code.now year
 page_request (pages.Read code date weekday order strict json) = reading_words code.now date.now
     (option_map (λ name. name.now) weekday) (option_map (λ word. word.now) order) strict json
 page_request (pages.Day code date json) = day_words code.now date.now json
-page_request (pages.Month code year month) = month_words code.now year.now month.now
-page_request (pages.Year code year) = year_words code.now year.now
+page_request (pages.Month code year month json) = month_words code.now year.now month.now json
+page_request (pages.Year code year json) = year_words code.now year.now json
 page_request (pages.Territory code json) = territory_words (option_map (λ code. code.now) code) json
 
 abbrev pub service_model : ServeOptions → ServiceModel
@@ -306,6 +317,8 @@ service_model given = record {
   readers = given.readers;
   read_only = given.read_only;
   stop_at_refusal = given.stop_at_refusal;
+  explains = given.explains;
+  strict_members = given.strict_members;
 }
 
 abbrev pub date_model : DateOptions → DateModel
@@ -329,6 +342,7 @@ letters_model given = record {
   strict = given.strict;
   summary = given.summary;
   replace = given.replace;
+  keep_going = given.keep_going;
 }
 
 abbrev pub command_model : CommandWords → CommandModel
@@ -351,7 +365,7 @@ command_model (commands.Text journal edition code) =
     writing_text journal.now (option_map (λ word. word.now) edition)
     (option_map (λ code. code.now) code)
 command_model (Check text) = checking text.now
-command_model (Plan journal text) = planning journal.now text.now
+command_model (Plan journal text strict) = planning journal.now text.now strict
 command_model (Publish journal text onto_newest) = publishing journal.now text.now onto_newest
 
 abbrev pub model_of : Invocation → InvocationModel

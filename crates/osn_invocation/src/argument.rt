@@ -23,7 +23,7 @@ pub(crate) enum Argument {
     Flag(&'static str, &'static str),
     /// The option `--readers N`, 1 to 64.
     Readers(&'static str),
-    /// The same, but required.
+    /// The option `--readers N`, 1 to 64, which is required.
     RequiredReaders(&'static str),
 }
 

@@ -95,6 +95,10 @@ and remark.",
                 "replace",
                 "Replaces the twelve added columns, if a table that was read before ends with them",
             ),
+            Flag(
+                "keep-going",
+                "Goes on after a record that can't be read, whose row gets a remark and no day",
+            ),
             EDITION,
             DEFAULT_JOURNAL,
             LIMITS,
@@ -145,6 +149,14 @@ batch of edits is published whole or not at all.",
                 "stop-at-refusal",
                 "Ends after the first line that is refused, and saves nothing then",
             ),
+            Flag(
+                "explain",
+                "Adds a message to each reply that refuses a line: what was wrong, what is allowed",
+            ),
+            Flag(
+                "strict-members",
+                "Refuses a line with a member that its request doesn't have, by 34 BadField",
+            ),
             LIMITS,
         ],
     },
@@ -171,8 +183,9 @@ edition that it was made from.",
         examples: "Example:
   ./oldstyle check territories.toml
 
-TEXT has the form that the command text prints. It is only read. If it has a fault, the status
-is 1. The command plan says whether a journal accepts what TEXT says.",
+TEXT has the form that the command text prints. It is only read. If it has faults, that of each
+territory is reported, and the status is 1. The command plan says whether a journal accepts what
+TEXT says.",
         arguments: &[TEXT, LIMITS],
     },
     CommandRow {
@@ -183,7 +196,13 @@ is 1. The command plan says whether a journal accepts what TEXT says.",
 
 TEXT has the form that the command text prints. Each edit is a line, with its day as the territory
 dates it. A territory that TEXT does not name stays as it is. The journal is only read.",
-        arguments: &[JOURNAL, TEXT, DEFAULT_JOURNAL, LIMITS],
+        arguments: &[
+            JOURNAL,
+            TEXT,
+            Flag("strict", "Ends with status 1 if there are edits"),
+            DEFAULT_JOURNAL,
+            LIMITS,
+        ],
     },
     CommandRow {
         name: "publish",

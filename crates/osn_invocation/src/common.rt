@@ -38,6 +38,12 @@ pub(crate) const JSON: Argument = Flag(
     "Prints the answer as a line of JSON, as the service writes it",
 );
 
+/// The option `--json` of a command that prints several answers.
+pub(crate) const JSON_LINES: Argument = Flag(
+    "json",
+    "Prints the answers as lines of JSON, as the service writes them",
+);
+
 /// The option `--journal` of a command that has no default journal.
 pub(crate) const JOURNAL_OPTION: Argument = Journal("The file of the journal, in place of JOURNAL");
 

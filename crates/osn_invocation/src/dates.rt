@@ -2,9 +2,9 @@
 
 use crate::argument::Argument::{Flag, Optional, Required, Valued};
 use crate::commands::CommandRow;
-use crate::common::{DEFAULT_JOURNAL, EDITION, JOURNAL, JSON, LIMITS, ORDER, PLACE};
+use crate::common::{DEFAULT_JOURNAL, EDITION, JOURNAL, JSON, JSON_LINES, LIMITS, ORDER, PLACE};
 
-/// These commands, in the order in which help lists them.
+/// The commands on dates, in the order in which help lists them.
 pub(crate) const DATES: [CommandRow; 6] = [
     CommandRow {
         name: "read",
@@ -21,7 +21,11 @@ document, or both years are given. It may be a month, a year, a range or a bound
         arguments: &[
             JOURNAL,
             PLACE,
-            Required("date", "DATE", "The date, as in the document"),
+            Required(
+                "date",
+                "DATE",
+                "The date, as in the document; or - if each line of standard input is one",
+            ),
             Valued(
                 "weekday",
                 "DAY",
@@ -99,6 +103,7 @@ A month that is partly at the beginning and partly at the end of the year has tw
                 "MONTH",
                 "The month, 1 to 12 or its name, such as Sept",
             ),
+            JSON,
             EDITION,
             DEFAULT_JOURNAL,
             LIMITS,
@@ -120,6 +125,7 @@ of the year from 1 January, as the page says.",
                 "YEAR",
                 "The year as the territory counted it, 1 to 9999",
             ),
+            JSON_LINES,
             EDITION,
             DEFAULT_JOURNAL,
             LIMITS,

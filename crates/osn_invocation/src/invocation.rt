@@ -42,6 +42,10 @@ pub struct ServeOptions<'a> {
     pub read_only: bool,
     /// Whether the first line that is refused is the last to be answered.
     pub stop_at_refusal: bool,
+    /// Whether a reply that reports a refusal or a fault has a message for people.
+    pub explains: bool,
+    /// Whether a member that a request doesn't have is refused.
+    pub strict_members: bool,
 }
 
 /// A page of what a journal published, by its arguments.
@@ -86,6 +90,8 @@ pub enum PageRequest<'a> {
         year: &'a str,
         /// The month, by its number or its name.
         month: &'a str,
+        /// Whether the answer is printed as a line of JSON.
+        json: bool,
     },
     /// A year as a territory counted it.
     Year {
@@ -93,6 +99,8 @@ pub enum PageRequest<'a> {
         code: &'a str,
         /// The year as the territory counted it.
         year: &'a str,
+        /// Whether the answers are printed as lines of JSON.
+        json: bool,
     },
     /// The periods of a territory, or all territories.
     Territory {
@@ -188,6 +196,8 @@ pub enum CommandWords<'a> {
         journal: &'a str,
         /// The file of the text.
         text: &'a str,
+        /// Whether edits are a refusal.
+        strict: bool,
     },
     /// To publish those edits as one edition.
     Publish {
@@ -319,6 +329,8 @@ fn serve_of<'a>(matches: &ArgMatches<'a>) -> CommandWords<'a>
         readers: number_of(matches, "readers", READERS),
         read_only: is_given(matches, "read-only"),
         stop_at_refusal: is_given(matches, "stop-at-refusal"),
+        explains: is_given(matches, "explain"),
+        strict_members: is_given(matches, "strict-members"),
     })
 }
 

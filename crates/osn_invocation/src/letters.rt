@@ -48,6 +48,8 @@ pub struct LettersOptions<'a> {
     pub summary: bool,
     /// Whether the added columns of a table that was read before are replaced.
     pub replace: bool,
+    /// Whether the table goes on after a record that has a flaw.
+    pub keep_going: bool,
 }
 
 /// Returns the names of the columns that say the date.
@@ -81,6 +83,7 @@ pub(crate) fn letters_of<'a>(matches: &ArgMatches<'a>) -> CommandWords<'a>
             strict: is_given(matches, "strict"),
             summary: is_given(matches, "summary"),
             replace: is_given(matches, "replace"),
+            keep_going: is_given(matches, "keep-going"),
         },
     }
 }

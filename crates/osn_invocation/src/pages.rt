@@ -65,6 +65,7 @@ pub(crate) fn month_of<'a>(matches: &ArgMatches<'a>) -> PageRequest<'a>
         code: text_of(matches, "code"),
         year: text_of(matches, "year"),
         month: text_of(matches, "month"),
+        json: is_given(matches, "json"),
     }
 }
 
@@ -75,6 +76,7 @@ pub(crate) fn year_of<'a>(matches: &ArgMatches<'a>) -> PageRequest<'a>
     PageRequest::Year {
         code: text_of(matches, "code"),
         year: text_of(matches, "year"),
+        json: is_given(matches, "json"),
     }
 }
 

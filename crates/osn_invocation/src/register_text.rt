@@ -57,6 +57,7 @@ pub(crate) fn plan_of<'a>(matches: &ArgMatches<'a>) -> CommandWords<'a>
     CommandWords::Plan {
         journal: text_of(matches, "journal"),
         text: text_of(matches, "text"),
+        strict: is_given(matches, "strict"),
     }
 }
 

@@ -201,7 +201,7 @@ IsFollowing-none rules initial f journal requests lines = record {
   spared = λ stop. All-nil (λ outcome. is_refused outcome ≡ false);
 }
 
--- it has ended after rounds, however it did
+-- the follower has ended after rounds, however it did
 pub Follows-after : (rules : ServeRules) (limits : Limits)
     (before mid after : Option (List Arrival))
     (o : Output) (old : Option (List ℕ)) (f : Follower) (arrivals next : List Arrival)

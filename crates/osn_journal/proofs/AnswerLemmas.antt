@@ -26,7 +26,8 @@ use Rattle.osn_service.specs.Refusals.{IsFirstRefused as IsFirst, NoneRefused}
 use Rattle.osn_service.specs.Served as served
 use Rattle.osn_service.specs.Served.{after_lines, outputs}
 use Rattle.osn_service.specs.Serves.{RefusesNone, Serves, ServesStore, ServesToRefusal}
-use Rattle.osn_service.specs.Session.{allowed_request, line_after, line_outcome, state_after}
+use Rattle.osn_service.specs.Session.{after_unless, allowed_request, line_after, line_outcome}
+use Rattle.osn_service.specs.Session.{refused_member, state_after}
 use Rattle.osn_service.specs.Faults.{MatchServed}
 use Rattle.osn_service.specs.declared.fault.ServeFault.{ServeFault}
 use Rattle.osn_service.specs.declared.fault.ServeFault.TheVariants.{NoMemory, ReadFault, WriteFault}
@@ -47,12 +48,18 @@ leaves takes_sources s (Ok Publish) = refl
 leaves takes_sources s (Ok (Ask reader query)) = refl
 leaves takes_sources s (Err fault) = refl
 
+unless_same : (refused : Option (List ℕ)) (s t : ObjectState) → t ≡ s
+    → after_unless refused s t ≡ s
+unless_same None s t h = h
+unless_same (Some name) s t h = refl
+
 module _ (rules : ServeRules) (s : ObjectState) (reads : rules.read_only ≡ true) where
   stays : (line : List ℕ) → line_after rules s line ≡ s
   stays line =
       let asked = request newest_version rules.readers line in
-      ap (λ b. state_after s (allowed_request b rules.takes_sources asked)) reads
-      ∙ leaves rules.takes_sources s asked
+      unless_same (refused_member rules line) s _
+      (ap (λ b. state_after s (allowed_request b rules.takes_sources asked)) reads
+      ∙ leaves rules.takes_sources s asked)
 
   stays_all : (ls : List (List ℕ)) → after_lines rules s ls ≡ s
   stays_all [] = refl

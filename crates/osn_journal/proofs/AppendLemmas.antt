@@ -27,7 +27,7 @@ appended_or_failed line (Ok done) old new ok err disk fault =
 appended_or_failed line (Err why) old new ok err disk fault =
     record { bytes = err.0; journal = err.1; disk = disk; reason = fault }
 
--- it was appended, and then the file was synced or not
+-- a line was appended, and then the file was synced or not
 pub synced_or_failed : {A : Type 0} (line : List ℕ) (r : Result A KeptFileFault)
     (a b c : FileState) → IsAppended line a b → c.contents ≡ b.contents
     → OnOk r (c.synced ≡ c.contents) → OnErr r (c.synced ≡ b.synced)

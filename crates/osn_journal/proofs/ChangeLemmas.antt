@@ -41,7 +41,7 @@ HasEdits-before version s (Stage e) h =
 HasEdits-before version s Publish h =
     subst (All (HasEdit version)) (append-nil _ ∙ joined-push s.batches s.pending) h
 
--- and the edit that was staged
+-- a version that has the edits of an object has the edit that was staged last
 HasEdit-last : (version : Version) (s : ObjectState) (e : Edit)
     → HasEdits version (with_pending s e) → HasEdit version e
 HasEdit-last version s e h =

@@ -47,7 +47,7 @@ appends : (change : Change) (line : List ℕ) (old new : FileState) → HasLine 
 appends (Stage e) line old new h = h.journal
 appends Publish line old new h = h.journal
 
--- and the file has not failed
+-- whichever the change, the file has not failed
 stays_sound : (change : Change) (line : List ℕ) (old new : FileState)
     → HasLine change line old new → new.fault ≡ old.fault
 stays_sound (Stage e) line old new h = h.sound

@@ -82,7 +82,7 @@ by_lines n version s t (l ∷ ls) h =
     line_first (Ok u) first more h = then s u t first (more u h)
     line_first (Err f) first more h = absurd (cc)
 
--- those after lines that have a head
+-- lines after those that have a head keep the batches
 by_file : (limits : Limits) (s t : ObjectState) (xs ys : List (List ℕ))
     → specs.object_of limits xs ≡ Ok s → specs.object_of limits (xs ++ ys) ≡ Ok t → BeginsWith s t
 by_file limits s t [] ys h k =

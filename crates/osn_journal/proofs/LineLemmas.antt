@@ -1,7 +1,7 @@
 -- Lines that have ended, and lines that are too long.
 use Rattle.std.proofs.Common.{◌≡◌, ◌∙◌, ◌+◌, ◌<◌, ◌≤◌, ◌==◌, ◌⊎◌, ℕ, zero, suc, Bool, true, false}
 use Rattle.std.proofs.Common.{List, [], ◌∷◌, ◌++◌, length, take, drop, cond, refl, sym, ap, subst}
-use Rattle.std.proofs.Common.{arith}
+use Rattle.std.proofs.Common.{arith, if◌then◌else◌, None, Result}
 use Rattle.std.proofs.Common.{inl, inr, append-nil, append_assoc, length-append, map, Err}
 use Rattle.std.proofs.Math.Seq.{take-append-add, drop-append-add}
 use Rattle.std.proofs.lemmas.Bool.{eqb-true, lt-ltb}
@@ -11,10 +11,15 @@ use Rattle.osn_lines.specs.LastLineFeed.{with_byte, ended_length, ended_bytes, u
 use Rattle.osn_lines.specs.Lines.{lines, onto_first, longest_line}
 use Rattle.osn_lines.proofs.EndedLemmas.{ended-before, ended-within}
 use Rattle.osn_request.specs.Version.{newest_version}
+use Rattle.osn_request.specs.declared.wire_fault.WireFault.{WireFault}
 use Rattle.osn_request.specs.declared.wire_fault.WireFault.TheVariants.{LineTooLong}
 use Rattle.osn_request.specs.Field.{◌>>=◌}
 use Rattle.osn_request.specs.Request.{object_in, request_of, value_of}
-use Rattle.osn_service.specs.Session.{allowed_request, line_outcome, outcome_of}
+use Rattle.osn_request.specs.Unknown.{unknown_in}
+use Rattle.serde_json.specs.Data.{Data}
+use Rattle.osn_service.specs.Outcome.{explained_if}
+use Rattle.osn_service.specs.Session.{allowed_request, line_outcome, outcome_of, outcome_unless}
+use Rattle.osn_service.specs.declared.outcome.Outcome.{Outcome}
 use Rattle.osn_service.specs.declared.rules.ServeRules.{ServeRules}
 use Rattle.osn_journal.specs.declared.line_front.LineFront.{LineFront}
 use Rattle.osn_journal.specs.FollowerInside.{HasNoLine, IsFrontOf, GivesSameLines}
@@ -90,13 +95,18 @@ unended-feed bytes rest =
 abbrev IsLong : List ℕ → Type 0
 IsLong line = longest_line < length line
 
+-- the reply to a line by its object
+abbrev outcome_by : ServeRules → ObjectState → Result Data WireFault → Outcome
+outcome_by rules s object = explained_if rules.explains
+    (outcome_unless (if rules.strict_members then unknown_in object else None)
+    (outcome_of s (allowed_request rules.read_only rules.takes_sources
+    (object >>= request_of newest_version rules.readers))))
+
 too_long : (rules : ServeRules) (s : ObjectState) (line : List ℕ) → IsLong line
     → line_outcome rules s line
-    ≡ outcome_of s (allowed_request rules.read_only rules.takes_sources (Err LineTooLong))
+    ≡ outcome_by rules s (Err LineTooLong)
 too_long rules s line long =
-    ap (λ t. outcome_of s (allowed_request rules.read_only rules.takes_sources
-    (cond t (Err LineTooLong) (object_in (value_of line)) >>= request_of newest_version
-    rules.readers)))
+    ap (λ t. outcome_by rules s (cond t (Err LineTooLong) (object_in (value_of line))))
     (lt-ltb longest_line (length line) long)
 
 -- two such lines get the same reply

@@ -57,7 +57,7 @@ module _ {K : Type 0} (contents synced : K → Option (List ℕ))
     }
     Makes-changed (Err why) h = tt
 
-    -- it was not made, or not kept
+    -- a change was not made, or not kept
     pub Faults-changed : {A : Type 0} (result : Result A (StoreFault KeptFileFault))
         → Keeping change (object_of old) (object_of new) (file_at old) (file_at new) result
         → IfErr result (λ why. MatchStoreFault why

@@ -24,7 +24,7 @@ has_none : (version : Version) (source : Option (List ℕ)) → source ≡ None
 has_none version None none = tt
 has_none version (Some text) none = absurd (false≢true (sym (ap is_some none)))
 
--- and the plain version has no other
+-- the plain version has no other source than none
 is_none : (source : Option (List ℕ)) → HasSource plain_version source → source ≡ None
 is_none None has = refl
 is_none (Some text) has = absurd (false≢true has)

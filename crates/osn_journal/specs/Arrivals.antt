@@ -14,7 +14,7 @@ abbrev pub arrival_of : List ℕ → Arrival
 arrival_of [] = Ended
 arrival_of (b ∷ bs) = Requests (b ∷ bs)
 
--- these have arrived after what had, if that is known
+-- the arrivals now are those before and then these, if those before are known
 abbrev pub Arrive : Option (List Arrival) → Option (List Arrival) → List Arrival → Type 0
 Arrive None new more = ⊤
 Arrive (Some before) new more = new ≡ Some (before ++ more)

@@ -12,7 +12,8 @@ pub record BeginsWith (s t : ObjectState) : Type 0 where
   pub later : List (List Edit)
   pub batches : t.batches ≡ s.batches ++ later
 
--- so it is with what a file of whole lines shows, and what it shows once it has gained more
+-- As a law: a journal of whole lines that has grown shows the editions that it showed before, and
+-- perhaps more.
 unfoldable pub DoEditionsNeverFall : Type 0
 DoEditionsNeverFall =
     (limits : Limits) (file more : List ℕ) (s t : ObjectState) → IsOfWholeLines file
@@ -26,9 +27,9 @@ pub record IsBetween (limits : Limits) (left : List ℕ) (s t : ObjectState) : T
   pub keeps : BeginsWith s object
   pub no_more : BeginsWith object t
 
--- so it is with what was synced of a journal, which is of whole lines, and what has been appended
--- since: if a crash of the machine leaves a prefix of that, its whole lines are loaded, and show
--- each edition that was synced
+-- As a law: a crash of the machine keeps each edition of a journal that was synced. The synced part
+-- has whole lines, and lines were appended since. If the crash leaves a prefix of them that has
+-- whole lines, the journal is loaded, and shows each edition that was synced.
 unfoldable pub DoSyncedEditionsStay : Type 0
 DoSyncedEditionsStay =
     (limits : Limits) (synced front rest : List ℕ) (s t : ObjectState) → IsOfWholeLines synced

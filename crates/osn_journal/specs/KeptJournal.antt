@@ -78,7 +78,7 @@ pub record FileState : Type 0 where
   pub synced : Option (List ℕ)
   pub fault : Option KeptFileFault
 
--- the same of a file, by its ghosts
+-- what is known of a kept file, by its ghosts
 abbrev pub file_of : {K : Type 0} → (K → Option (List ℕ)) → (K → Option (List ℕ))
     → (K → Option KeptFileFault) → K → FileState
 file_of contents synced fault file = record {

@@ -19,7 +19,7 @@ module _ {K : Type 0} (contents synced : K → Option (List ℕ))
       (file_of contents synced fault initial.keeper.now)
       (file_of contents synced fault now.keeper.now)
 
-  -- it was kept until the object was `before`, and failed then
+  -- the file was kept until the object was `before`, and failed then
   abbrev pub HasLost : KeptObject K → ObjectState → KeptObject K → KeptFileFault → Type 0
   HasLost initial before now why =
       KeepsUntil initial.object.now before now.object.now

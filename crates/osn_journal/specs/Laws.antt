@@ -36,6 +36,6 @@ pub record JournalLaws : Type 0 where
   pub written : (version : Version) (s : ObjectState) → IsSound newest_rules s
       → HasEdits version s → IsJournalOf version s.limits s (journal_text_of version s)
 
--- so does every journal
+-- as a law: every journal grows by lines
 unfoldable pub DoesEachJournalGrowByLines : Type 0
 DoesEachJournalGrowByLines = JournalLaws

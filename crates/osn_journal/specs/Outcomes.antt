@@ -1,6 +1,6 @@
 -- The outcomes of a follower: at each look at the file, the lines that have come whole since the
 -- look before are answered from the journal that the file then contains.
-use Rattle.std.specs.Prelude.{ℕ, true, Bool, List, [], ◌∷◌, ◌++◌, map}
+use Rattle.std.specs.Prelude.{ℕ, true, List, [], ◌∷◌, ◌++◌, map}
 use Rattle.std.specs.Prelude.{Result, Ok, Err}
 use Rattle.std.specs.List.{flat_map}
 use Rattle.osn_days.specs.Rules.{newest_rules}
@@ -41,13 +41,8 @@ journal_object limits file = object_of limits (lines file)
 -- ---- the outcomes
 
 -- the rules of a follower: no line changes anything
-abbrev pub following : ℕ → Bool → ServeRules
-following readers stop = record {
-  readers = readers;
-  read_only = true;
-  takes_sources = true;
-  stop_at_refusal = stop;
-}
+abbrev pub following : ServeRules → ServeRules
+following rules = record rules { read_only = true }
 
 -- the outcomes of the lines of a text, by an object
 abbrev pub outcomes : ServeRules → ObjectState → List ℕ → List Outcome

@@ -72,7 +72,8 @@ RefusesLine old new_bytes fault =
     (file : List ℕ) → IsJournalOf old.limits file old
     → IsRefused old.limits (file ++ new_bytes) fault
 
--- they were not: there was no memory, or one of them is refused, or nothing was found
+-- the lines that were found were not loaded: there was no memory, or one of them is refused, or
+-- nothing was found
 abbrev pub LoadsNot : FollowedJournal → Option (List Arrival) → Option (List Arrival)
     → FollowerFault → Type 0
 LoadsNot old before after fault = MatchFollower fault
@@ -113,7 +114,7 @@ ArrivesInPart before after =
     ⊎ ((bytes : List ℕ) × (Arrive before after (arrival_of bytes ∷ [])
     ⊎ ((new_bytes : List ℕ) × Arrive before after (arrival_of bytes ∷ Gained new_bytes ∷ []))))
 
--- it was not
+-- no lines came, by this fault
 abbrev pub ComesNot : Follower → Option (List Arrival) → Option (List Arrival) → FollowerFault
     → Type 0
 ComesNot old before after fault = MatchFollower fault

@@ -204,7 +204,7 @@ fn answer_next<A: Arrivals, W: Sink>(
 }
 
 /// Answers request lines up to their end from a journal that another run keeps, and returns how
-/// many. Readers are counted from 1, and no line changes anything.
+/// many. Readers are counted from 1, and no line changes anything, whatever the rules say.
 ///
 /// After each read of the input, and before it answers a line of that, the follower looks at the
 /// file once. It takes in the whole lines that the look gives. So each line is answered from the
@@ -225,12 +225,11 @@ fn answer_next<A: Arrivals, W: Sink>(
 pub fn follow<A: Arrivals, W: Sink>(
     alloc: Global,
     limits: Limits,
-    readers: u32,
-    stop_at_refusal: bool,
+    rules: ServeRules,
     arrivals: &mut A,
     sink: &mut W,
 ) -> Result<Served, EndedEarly<FollowerFault>>
-    ensures follows { Follows (following readers stop_at_refusal) limits (A.arrived arrivals.old)
+    ensures follows { Follows (following rules) limits (A.arrived arrivals.old)
         (A.arrived arrivals.new)
         (output_of W.contents W.has_failed W.holds_back sink.old sink.new) result }
     // as a law: what a file shows once it has gained more begins with what it showed
@@ -238,11 +237,9 @@ pub fn follow<A: Arrivals, W: Sink>(
     // as a law: whatever a crash leaves of it shows no fewer than what was synced
     ensures stay { DoSyncedEditionsStay }
 {
-    let rules = ServeRules {
-        readers,
+    let query_rules = ServeRules {
         read_only: true,
-        takes_sources: true,
-        stop_at_refusal,
+        ..rules
     };
     let Ok(mut buffer) = read_buffer(alloc) else {
         return Err(EndedEarly {
@@ -258,7 +255,7 @@ pub fn follow<A: Arrivals, W: Sink>(
     for _call in 0..u32::MAX {
         if let Some(served) = answer_next(
             alloc,
-            rules,
+            query_rules,
             &mut follower,
             arrivals,
             sink,

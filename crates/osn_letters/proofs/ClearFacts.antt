@@ -12,8 +12,8 @@ use Rattle.osn_letters.specs.declared.fault.LettersFault.TheVariants.{TooLong, T
 use Rattle.osn_letters.specs.declared.separator.Separator.{Separator}
 use Rattle.osn_letters.specs.Law.{AreSound}
 use Rattle.osn_letters.specs.Records.{Reading, PlacedRecord, after, at_start, ended}
-use Rattle.osn_letters.specs.Records.{faulty, is_between, is_full, is_open, is_stray, last_record}
-use Rattle.osn_letters.specs.Records.{moved, next_line, read_byte, reading_after}
+use Rattle.osn_letters.specs.Records.{faulty, is_between, is_full, is_open, is_refused, is_stray}
+use Rattle.osn_letters.specs.Records.{last_record, moved, next_line, read_byte, reading_after}
 use Rattle.osn_letters.specs.Records.{records_from}
 use Rattle.osn_letters.specs.Separators.{separator_at, separator_byte}
 use Rattle.osn_letters.proofs.LaterFacts.{between_ends}
@@ -23,11 +23,21 @@ is_clear st.InComment = true
 is_clear s = is_between s
 
 pub record IsClear (r : Reading) : Type 0 where
-  pub clear : is_clear r.state ≡ true → (r.fields ≡ []) × (r.field ≡ [])
+  pub clear : is_clear r.state ≡ true → (r.fields ≡ []) × (r.field ≡ []) × (r.has_stray ≡ false)
   pub between : is_between r.state ≡ true → (r.size ≡ 0) × (r.first_line ≡ r.line)
 
-pub clear_start : (named : Option Separator) → IsClear (at_start named)
-clear_start named = record { clear = λ _. (refl, refl); between = λ _. (refl, refl) }
+pub clear_start : (k : Bool) (named : Option Separator) → IsClear (at_start k named)
+clear_start k named = record { clear = λ _. (refl, refl, refl); between = λ _. (refl, refl) }
+
+clear_stray : (s t : State) → is_clear s ≡ true → is_stray s t ≡ false
+clear_stray st.StartRecord t h = refl
+clear_stray st.AfterCr t h = refl
+clear_stray st.StartField t h = absurd (cc h)
+clear_stray st.InField t h = absurd (cc h)
+clear_stray st.InQuoted t h = absurd (cc h)
+clear_stray st.AfterQuote t h = absurd (cc h)
+clear_stray st.InEscape t h = absurd (cc h)
+clear_stray st.InComment t h = refl
 
 -- what is between two records after a byte has ended one, or was between two
 abbrev Clears : Bool → State × Action → Type 0
@@ -51,7 +61,8 @@ field_clears was false true feed h = inl refl
 field_clears was false false true h = inl refl
 field_clears was false false false h = absurd (cc h)
 
--- or a quote
+-- a byte at the beginning of a field, by whether it is a quote, a separator, a carriage return or a
+-- line feed
 abbrev begin_step : Bool → Bool → Bool → Bool → State × Action
 begin_step quote comma return feed =
     if quote then (st.InQuoted, act.Skip) else field_step comma return feed
@@ -111,10 +122,14 @@ IsClear-moved r b s h clears = record {
       (λ e. (
         ap (λ a. if is_end a then [] else fields_after a r.fields r.field) e,
         ap (λ a. field_after a b r.field) e,
+        ap (λ a. if is_end a then false else r.has_stray || is_stray r.state s.0) e,
       ))
       (λ k. (
         ap (λ a. if is_end a then [] else fields_after a r.fields r.field) k.0 ∙ (h.clear k.1).0,
         ap (λ a. field_after a b r.field) k.0 ∙ (h.clear k.1).1,
+        ap (λ a. if is_end a then false else r.has_stray || is_stray r.state s.0) k.0
+            ∙ ap (λ t. t || is_stray r.state s.0) (h.clear k.1).2
+            ∙ clear_stray r.state s.0 k.1,
       ))
       (clears clear);
   between = λ between. (
@@ -206,7 +221,8 @@ records_after r [] ys between sound =
     sym (ap (λ l. l ++ records_from r ys) (between_last r between))
 records_after r (b ∷ xs) ys between sound =
     let s = read_byte r.separator r.state b in
-    pick_after (is_full r s.0) (is_stray r.state s.0) (is_end s.1) (TooLong r.first_line)
+    pick_after (is_full r s.0) (is_refused r (is_stray r.state s.0)) (is_end s.1)
+    (TooLong r.first_line)
     (TextAfterQuote r.first_line) r (ended r s.1) (records_from (after r b) xs)
     (records_from (after r b) (xs ++ ys)) (records_from (reading_after (after r b) xs) ys)
     (λ k. records_after (after r b) xs ys between k) sound

@@ -80,7 +80,7 @@ byte_counted s t u bytes i b low is x y =
 
 -- ---- all that is read
 
--- of what was read and of more, as it will be of more
+-- the tally of what was read and of more is the tally to come of more
 abbrev pub CountsRead : (List ℕ → TallyModel) → (List ℕ → TallyModel) → List ℕ → Type 0
 CountsRead all rest read = (more : List ℕ) → all (read ++ more) ≡ rest more
 

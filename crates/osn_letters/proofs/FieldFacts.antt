@@ -31,7 +31,7 @@ pub text_is : {E : Type 0} (More : E → Type 0) (bytes : List ℕ) (r : Result 
 text_is More bytes (Ok s) h = rw (is_utf8-from_IsUtf8 bytes h.1) (ap Some h.0)
 text_is More bytes (Err e) h = no_text bytes (is_utf8 bytes) refl h.0
 
--- of days, if there are any
+-- the fields of what a date means are those of its days, if there are any
 some_meant : (edition : ℕ) (w : AnyDate) (day : WrittenDate) (given : Option Weekday)
     (reason : NoDay) (beside : List (Bool × Remark)) (days : List DatedDay) → (days ≡ [] → ⊥)
     → fields_of_days edition w days (remarks_on_days day given days ++ beside)

@@ -10,7 +10,8 @@ use Rattle.osn_letters.specs.declared.fault.LettersFault.TheVariants.{TooLong, T
 use Rattle.osn_letters.specs.declared.separator.Separator.{Separator}
 use Rattle.osn_letters.specs.Law.{AreSound}
 use Rattle.osn_letters.specs.Records.{Reading, PlacedRecord, after, ended, faulty, is_between}
-use Rattle.osn_letters.specs.Records.{is_full, is_stray, moved, read_byte, reading_after}
+use Rattle.osn_letters.specs.Records.{is_full, is_refused, is_stray, moved, read_byte}
+use Rattle.osn_letters.specs.Records.{reading_after}
 use Rattle.osn_letters.specs.Records.{records_from}
 use Rattle.osn_letters.specs.Separators.{or_comma, separator_after}
 use Rattle.osn_letters.proofs.ClearFacts.{between_last}
@@ -56,6 +57,6 @@ pub record_found : (r : Reading) (bytes : List ℕ)
 record_found r [] between sound some = absurd (some (between_last r between))
 record_found r (b ∷ bytes) between sound some =
     let s = read_byte r.separator r.state b in
-    found_by r b bytes s.0 s.1 (is_full r s.0) (is_stray r.state s.0) (TooLong r.first_line)
-    (TextAfterQuote r.first_line) (records_from (after r b) bytes)
+    found_by r b bytes s.0 s.1 (is_full r s.0) (is_refused r (is_stray r.state s.0))
+    (TooLong r.first_line) (TextAfterQuote r.first_line) (records_from (after r b) bytes)
     (record_found (after r b) bytes between) sound some

@@ -1,25 +1,26 @@
 -- What is written of records and of more after them.
-use Rattle.std.proofs.Common.{◌≡◌, ◌∙◌, ℕ, ◌+◌, ◌==◌, Bool, true, false, List, [], ◌∷◌, ◌++◌}
-use Rattle.std.proofs.Common.{Option, None, Result, Ok, Err, refl, sym, ap, if◌then◌else◌}
+use Rattle.std.proofs.Common.{◌≡◌, ◌∙◌, ℕ, ◌+◌, Bool, true, false, List, [], ◌∷◌, ◌++◌}
+use Rattle.std.proofs.Common.{Option, Some, None, Result, Ok, Err, refl, sym, ap, if◌then◌else◌}
 use Rattle.std.proofs.Common.{length, map, append_assoc}
 use Rattle.std.specs.Prelude.{option_map, is_ok}
 use Rattle.osn_letters.specs.declared.columns.Columns.{Columns}
 use Rattle.osn_letters.specs.declared.fault.LettersFault.{LettersFault}
 use Rattle.osn_letters.specs.declared.fault.LettersFault.TheVariants.{BadRecord}
+use Rattle.osn_letters.specs.declared.record_flaw.RecordFlaw.{RecordFlaw}
 use Rattle.osn_letters.specs.declared.separator.Separator.{Separator}
 use Rattle.osn_letters.specs.Columns.{columns_of, own_header}
 use Rattle.osn_letters.specs.Faults.{later_fault}
 use Rattle.osn_letters.specs.Law.{AreSound}
 use Rattle.osn_letters.specs.Records.{PlacedRecord}
 use Rattle.osn_letters.specs.Table.{TableBasis, Heading, Written, text_before, ended_by, header_at}
-use Rattle.osn_letters.specs.Table.{header_by, header_text, letter_text, row_by, rows_written}
-use Rattle.osn_letters.specs.Table.{table_written}
+use Rattle.osn_letters.specs.Table.{flawed_text, header_by, header_text, letter_text, row_by}
+use Rattle.osn_letters.specs.Table.{row_flaw, row_of, rows_written, table_written}
 use Rattle.osn_letters.proofs.LaterFacts.{later_fields, later_record}
 
 abbrev pub with_text : List ℕ → Option LettersFault → Written
 with_text text fault = record { text = text; fault = fault }
 
--- the same, with a fault as many lines later
+-- what is written, with its fault this many lines later
 abbrev pub later : ℕ → Written → Written
 later n w = with_text w.text (option_map (later_fault n) w.fault)
 
@@ -34,23 +35,31 @@ row_later : (n line count width : ℕ) (text : List ℕ) (more : Written) (same 
 row_later n line count width text more true = refl
 row_later n line count width text more false = refl
 
-fields_later : (s : TableBasis) (heading : Heading) (n line : ℕ)
+by_later : (s : TableBasis) (heading : Heading) (n line : ℕ) (fields : List (List ℕ))
+    (flaw : Option RecordFlaw) (more : Written)
+    → row_of s heading (line + n) fields flaw (later n more)
+    ≡ later n (row_of s heading line fields flaw more)
+by_later s heading n line fields None more = refl
+by_later s heading n line fields (Some flaw) more =
+    row_later n line (length fields) heading.width (flawed_text s heading flaw fields) more
+    s.keeps_going
+
+fields_later : (s : TableBasis) (heading : Heading) (n line : ℕ) (flaw : Option RecordFlaw)
     (fields : Result (List (List ℕ)) LettersFault) (more : Written)
-    → row_by s heading (line + n) (later_fields n fields) (later n more)
-    ≡ later n (row_by s heading line fields more)
-fields_later s heading n line (Err fault) more = refl
-fields_later s heading n line (Ok fields) more =
-    row_later n line (length fields) heading.width
-    (letter_text s heading.separator heading.columns fields) more
-    (length fields == heading.width)
+    → row_by s heading (line + n) flaw (later_fields n fields) (later n more)
+    ≡ later n (row_by s heading line flaw fields more)
+fields_later s heading n line flaw (Err fault) more = refl
+fields_later s heading n line flaw (Ok fields) more =
+    by_later s heading n line fields (row_flaw heading.width flaw fields) more
 
 pub rows_later : (s : TableBasis) (heading : Heading) (n : ℕ) (records : List PlacedRecord)
     → rows_written s heading (map (later_record n) records)
     ≡ later n (rows_written s heading records)
 rows_later s heading n [] = refl
 rows_later s heading n (r ∷ rest) =
-    ap (row_by s heading (r.line + n) (later_fields n r.fields)) (rows_later s heading n rest)
-    ∙ fields_later s heading n r.line r.fields (rows_written s heading rest)
+    ap (row_by s heading (r.line + n) r.flaw (later_fields n r.fields))
+    (rows_later s heading n rest)
+    ∙ fields_later s heading n r.line r.flaw r.fields (rows_written s heading rest)
 
 -- a table goes on after one that has no fault
 abbrev GoesOn : Written → Written → Written → Type 0
@@ -64,22 +73,37 @@ row_goes line count width text first more all true goes whole =
     ap (text_before text) (goes whole) ∙ text_before_twice text first.text more
 row_goes line count width text first more all false goes whole = absurd (cc whole)
 
-fields_go : (s : TableBasis) (heading : Heading) (line : ℕ)
+going_on : (text : List ℕ) (first more all : Written) → GoesOn first more all
+    → GoesOn (text_before text first) more (text_before text all)
+going_on text first more all goes whole =
+    ap (text_before text) (goes whole) ∙ text_before_twice text first.text more
+
+by_goes : (s : TableBasis) (heading : Heading) (line : ℕ) (fields : List (List ℕ))
+    (flaw : Option RecordFlaw) (first more all : Written) → GoesOn first more all
+    → GoesOn (row_of s heading line fields flaw first) more
+    (row_of s heading line fields flaw all)
+by_goes s heading line fields None first more all goes whole =
+    going_on (letter_text s heading.separator heading.columns fields) first more all goes whole
+by_goes s heading line fields (Some flaw) first more all goes whole =
+    row_goes line (length fields) heading.width (flawed_text s heading flaw fields) first more all
+    s.keeps_going goes whole
+
+fields_go : (s : TableBasis) (heading : Heading) (line : ℕ) (flaw : Option RecordFlaw)
     (fields : Result (List (List ℕ)) LettersFault) (first more all : Written)
     → GoesOn first more all
-    → GoesOn (row_by s heading line fields first) more (row_by s heading line fields all)
-fields_go s heading line (Err fault) first more all goes whole = absurd (cc whole)
-fields_go s heading line (Ok fields) first more all goes whole =
-    row_goes line (length fields) heading.width
-    (letter_text s heading.separator heading.columns fields) first more all
-    (length fields == heading.width) goes whole
+    → GoesOn (row_by s heading line flaw fields first) more
+    (row_by s heading line flaw fields all)
+fields_go s heading line flaw (Err fault) first more all goes whole = absurd (cc whole)
+fields_go s heading line flaw (Ok fields) first more all goes whole =
+    by_goes s heading line fields (row_flaw heading.width flaw fields) first more all goes whole
 
 pub rows_go : (s : TableBasis) (heading : Heading) (xs ys : List PlacedRecord)
     → GoesOn (rows_written s heading xs) (rows_written s heading ys)
     (rows_written s heading (xs ++ ys))
 rows_go s heading [] ys whole = refl
 rows_go s heading (r ∷ xs) ys whole =
-    fields_go s heading r.line r.fields (rows_written s heading xs) (rows_written s heading ys)
+    fields_go s heading r.line r.flaw r.fields (rows_written s heading xs)
+    (rows_written s heading ys)
     (rows_written s heading (xs ++ ys)) (rows_go s heading xs ys) whole
 
 row_sound : (line count width : ℕ) (text : List ℕ) (more : Written) (same : Bool)
@@ -88,23 +112,28 @@ row_sound : (line count width : ℕ) (text : List ℕ) (more : Written) (same : 
 row_sound line count width text more true whole = whole
 row_sound line count width text more false whole = absurd (cc whole)
 
-fields_sound : (s : TableBasis) (heading : Heading) (line : ℕ)
+by_sound : (s : TableBasis) (heading : Heading) (line : ℕ) (fields : List (List ℕ))
+    (flaw : Option RecordFlaw) (more : Written)
+    → (row_of s heading line fields flaw more).fault ≡ None → more.fault ≡ None
+by_sound s heading line fields None more whole = whole
+by_sound s heading line fields (Some flaw) more whole =
+    row_sound line (length fields) heading.width (flawed_text s heading flaw fields) more
+    s.keeps_going whole
+
+fields_sound : (s : TableBasis) (heading : Heading) (line : ℕ) (flaw : Option RecordFlaw)
     (fields : Result (List (List ℕ)) LettersFault) (more : Written)
-    → (row_by s heading line fields more).fault ≡ None → (is_ok fields ≡ true) × (more.fault ≡ None)
-fields_sound s heading line (Err fault) more whole = absurd (cc whole)
-fields_sound s heading line (Ok fields) more whole = (
-  refl,
-  row_sound line (length fields) heading.width
-      (letter_text s heading.separator heading.columns fields) more
-      (length fields == heading.width) whole,
-)
+    → (row_by s heading line flaw fields more).fault ≡ None
+    → (is_ok fields ≡ true) × (more.fault ≡ None)
+fields_sound s heading line flaw (Err fault) more whole = absurd (cc whole)
+fields_sound s heading line flaw (Ok fields) more whole =
+    (refl, by_sound s heading line fields (row_flaw heading.width flaw fields) more whole)
 
 -- without a fault no record has one
 pub rows_sound : (s : TableBasis) (heading : Heading) (xs : List PlacedRecord)
     → (rows_written s heading xs).fault ≡ None → AreSound xs
 rows_sound s heading [] whole = tt
 rows_sound s heading (r ∷ xs) whole =
-    let h = fields_sound s heading r.line r.fields (rows_written s heading xs) whole in
+    let h = fields_sound s heading r.line r.flaw r.fields (rows_written s heading xs) whole in
     (h.0, rows_sound s heading xs h.1)
 
 -- ---- a table without a fault has a header, after which its rows go on

@@ -2,7 +2,7 @@
 -- except for the numbers of their lines.
 use Rattle.std.proofs.Common.{◌≡◌, ◌∙◌, ℕ, ◌+◌, ◌&&◌, Bool, true, false, not, List, [], ◌∷◌}
 use Rattle.std.proofs.Common.{Result, Ok, Err, refl, sym, ap, subst, if◌then◌else◌, arith, nat_lt}
-use Rattle.std.proofs.Common.{map}
+use Rattle.std.proofs.Common.{map, Option, None, ◌||◌}
 use Rattle.csv.specs.declared.parser.State.{State}
 use Rattle.csv.specs.declared.parser.State.TheVariants as st
 use Rattle.csv.specs.declared.parser.Action.{Action}
@@ -11,29 +11,38 @@ use Rattle.csv.specs.Machine.{is_end, fields_after, field_after, ends_at_end}
 use Rattle.osn_letters.specs.declared.fault.LettersFault.{LettersFault}
 use Rattle.osn_letters.specs.declared.fault.LettersFault.TheVariants.{TooLong, OpenQuote}
 use Rattle.osn_letters.specs.declared.fault.LettersFault.TheVariants.{TextAfterQuote}
+use Rattle.osn_letters.specs.declared.record_flaw.RecordFlaw.{RecordFlaw}
 use Rattle.osn_letters.specs.declared.separator.Separator.{Separator}
 use Rattle.osn_letters.specs.Faults.{later_fault}
 use Rattle.osn_letters.specs.Separators.{or_comma, separator_after}
 use Rattle.osn_letters.specs.Records.{Reading, PlacedRecord, after, ended, ends_line, faulty}
-use Rattle.osn_letters.specs.Records.{is_between, is_full, is_open, is_stray, longest_record, moved}
-use Rattle.osn_letters.specs.Records.{next_line, read_byte, reading_after, records_by, records_from}
+use Rattle.osn_letters.specs.Records.{flaw_by, flaw_of, is_between, is_full, is_open, is_refused}
+use Rattle.osn_letters.specs.Records.{is_stray, most_bytes, moved, next_line, read_byte}
+use Rattle.osn_letters.specs.Records.{reading_after, records_by, records_from}
 
-abbrev placed : ℕ → Separator → Result (List (List ℕ)) LettersFault → PlacedRecord
-placed line separator fields = record { line = line; separator = separator; fields = fields }
+abbrev placed : ℕ → Separator → Option RecordFlaw → Result (List (List ℕ)) LettersFault
+    → PlacedRecord
+placed line separator flaw fields = record {
+  line = line;
+  separator = separator;
+  flaw = flaw;
+  fields = fields;
+}
 
 abbrev pub later_fields : ℕ → Result (List (List ℕ)) LettersFault
     → Result (List (List ℕ)) LettersFault
 later_fields n (Ok fields) = Ok fields
 later_fields n (Err fault) = Err (later_fault n fault)
 
--- the same record as many lines later
+-- a record, this many lines later
 abbrev pub later_record : ℕ → PlacedRecord → PlacedRecord
-later_record n r = placed (r.line + n) r.separator (later_fields n r.fields)
+later_record n r = placed (r.line + n) r.separator r.flaw (later_fields n r.fields)
 
 -- ---- one reading and another that is as many lines later
 
 -- every byte is read alike, and the current records are the same
 pub record IsLater (n : ℕ) (r q : Reading) : Type 0 where
+  pub keeps : q.keeps_going ≡ r.keeps_going
   pub steps : (b : ℕ) → read_byte q.separator q.state b ≡ read_byte r.separator r.state b
   pub separator : q.separator ≡ r.separator
   pub strays : (s : State) → is_stray q.state s ≡ is_stray r.state s
@@ -45,6 +54,7 @@ pub record IsLater (n : ℕ) (r q : Reading) : Type 0 where
   pub line : q.line ≡ r.line + n
   pub returned : q.returned ≡ r.returned
   pub first_line : q.first_line ≡ r.first_line + n
+  pub stray : q.has_stray ≡ r.has_stray
 
 later_line : (n k m : ℕ) (t : Bool) → k ≡ m + n
     → (if t then k + 1 else k) ≡ (if t then m + 1 else m) + n
@@ -64,6 +74,7 @@ IsLater-moved n r q b s h =
     ∙ later_line n q.line r.line (ends_line r.returned b) h.line in
     let separator = ap (λ f. separator_after f b s.1) h.separator in
     record {
+      keeps = h.keeps;
       steps = λ c. ap (λ f. read_byte f s.0 c) separator;
       separator = separator;
       strays = λ c. refl;
@@ -78,6 +89,9 @@ IsLater-moved n r q b s h =
       returned = refl;
       first_line = later_begun n (next_line q.returned q.line b) (next_line r.returned r.line b)
           q.first_line r.first_line (is_between s.0) line h.first_line;
+      stray =
+          ap (λ t. if is_end s.1 then false else t || is_stray q.state s.0) h.stray
+          ∙ ap (λ t. if is_end s.1 then false else r.has_stray || t) (h.strays s.0);
     }
 
 IsLater-after : (n : ℕ) (r q : Reading) (b : ℕ) → IsLater n r q
@@ -130,20 +144,27 @@ fault_later : (n : ℕ) (r q : Reading) (f : ℕ → LettersFault)
     → ((line : ℕ) → f (line + n) ≡ later_fault n (f line)) → IsLater n r q
     → faulty q (f q.first_line) ≡ later_record n (faulty r (f r.first_line))
 fault_later n r q f later h =
-    ap (λ k. placed k (or_comma q.separator) (Err (f k))) h.first_line
-    ∙ ap (λ x. placed (r.first_line + n) (or_comma x) (Err (f (r.first_line + n)))) h.separator
-    ∙ ap (λ x. placed (r.first_line + n) (or_comma r.separator) (Err x)) (later r.first_line)
+    ap (λ k. placed k (or_comma q.separator) None (Err (f k))) h.first_line
+    ∙ ap (λ x. placed (r.first_line + n) (or_comma x) None (Err (f (r.first_line + n)))) h.separator
+    ∙ ap (λ x. placed (r.first_line + n) (or_comma r.separator) None (Err x)) (later r.first_line)
+
+flaw_later : (n : ℕ) (r q : Reading) → IsLater n r q → flaw_of q ≡ flaw_of r
+flaw_later n r q h =
+    ap (λ t. flaw_by t q.size q.has_stray) h.opened
+    ∙ ap (λ k. flaw_by (is_open r.state) k q.has_stray) h.size
+    ∙ ap (flaw_by (is_open r.state) r.size) h.stray
 
 ended_later : (n : ℕ) (r q : Reading) (a : Action) → IsLater n r q
     → ended q a ≡ later_record n (ended r a)
 ended_later n r q a h =
-    ap (λ k. placed k (or_comma q.separator) (Ok (fields_after a q.fields q.field))) h.first_line
-    ∙ ap (λ x. placed (r.first_line + n) (or_comma x) (Ok (fields_after a q.fields q.field)))
-    h.separator
-    ∙ ap (λ x. placed (r.first_line + n) (or_comma r.separator) (Ok (fields_after a x q.field)))
-    h.fields
-    ∙ ap (λ x. placed (r.first_line + n) (or_comma r.separator) (Ok (fields_after a r.fields x)))
-    h.field
+    let later = placed (r.first_line + n) (or_comma r.separator) in
+    ap (λ k. placed k (or_comma q.separator) (flaw_of q) (Ok (fields_after a q.fields q.field)))
+    h.first_line
+    ∙ ap (λ x. placed (r.first_line + n) (or_comma x) (flaw_of q)
+    (Ok (fields_after a q.fields q.field))) h.separator
+    ∙ ap (λ x. later x (Ok (fields_after a q.fields q.field))) (flaw_later n r q h)
+    ∙ ap (λ x. later (flaw_of r) (Ok (fields_after a x q.field))) h.fields
+    ∙ ap (λ x. later (flaw_of r) (Ok (fields_after a r.fields x))) h.field
 
 by_later : (n : ℕ) (r q : Reading) (s : State × Action) (more : List PlacedRecord)
     → IsLater n r q
@@ -152,11 +173,14 @@ by_later n r q s more h =
     let next = map (later_record n) more in
     let stray = faulty q (TextAfterQuote q.first_line) ∷ [] in
     let last : List PlacedRecord = if is_end s.1 then ended q s.1 ∷ next else next in
-    ap (λ k. if (not (is_between s.0) && not (nat_lt k longest_record)) then
-    faulty q (TooLong q.first_line) ∷ [] else if is_stray q.state s.0 then stray else last) h.size
-    ∙ (ap (λ t. if is_full r s.0 then faulty q (TooLong q.first_line) ∷ [] else if t then stray
-    else last) (h.strays s.0)
-    ∙ pick_later n (is_full r s.0) (is_stray r.state s.0) (is_end s.1)
+    let long = faulty q (TooLong q.first_line) ∷ [] in
+    ap (λ k. if (not (is_between s.0) && not (nat_lt k (most_bytes q.keeps_going))) then long
+    else if is_refused q (is_stray q.state s.0) then stray else last) h.size
+    ∙ (ap (λ t. if (not (is_between s.0) && not (nat_lt r.size (most_bytes t))) then long
+    else if (is_stray q.state s.0 && not t) then stray else last) h.keeps
+    ∙ ap (λ t. if is_full r s.0 then long else if is_refused r t then stray else last)
+    (h.strays s.0)
+    ∙ pick_later n (is_full r s.0) (is_refused r (is_stray r.state s.0)) (is_end s.1)
     (faulty r (TooLong r.first_line)) (faulty r (TextAfterQuote r.first_line)) (ended r s.1)
     (faulty q (TooLong q.first_line)) (faulty q (TextAfterQuote q.first_line)) (ended q s.1) more
     (fault_later n r q TooLong (λ line. refl) h)
@@ -166,12 +190,15 @@ pub records_later : (n : ℕ) (r q : Reading) (bytes : List ℕ) → IsLater n r
     → records_from q bytes ≡ map (later_record n) (records_from r bytes)
 records_later n r q [] h =
     let last = ended q act.EndRecord in
-    ap (λ t. if t then faulty q (OpenQuote q.first_line) ∷ []
-    else if ends_at_end q.state then last ∷ [] else []) h.opened
-    ∙ ap (λ t. if is_open r.state then faulty q (OpenQuote q.first_line) ∷ []
-    else if t then last ∷ [] else [])
+    let unclosed = faulty q (OpenQuote q.first_line) ∷ [] in
+    ap (λ t. if is_refused q t then unclosed else if ends_at_end q.state then last ∷ [] else [])
+    h.opened
+    ∙ ap (λ t. if (is_open r.state && not t) then unclosed
+    else if ends_at_end q.state then last ∷ [] else []) h.keeps
+    ∙ ap (λ t. if is_refused r (is_open r.state) then unclosed else if t then last ∷ [] else [])
     (between_ends q.state ∙ ap not h.between ∙ sym (between_ends r.state))
-    ∙ last_later n (is_open r.state) (ends_at_end r.state) (faulty r (OpenQuote r.first_line))
+    ∙ last_later n (is_refused r (is_open r.state)) (ends_at_end r.state)
+    (faulty r (OpenQuote r.first_line))
     (ended r act.EndRecord) (faulty q (OpenQuote q.first_line)) last
     (fault_later n r q OpenQuote (λ line. refl) h) (ended_later n r q act.EndRecord h)
 records_later n r q (b ∷ bytes) h =

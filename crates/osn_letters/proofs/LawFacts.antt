@@ -15,7 +15,8 @@ use Rattle.osn_letters.specs.declared.fault.LettersFault.TheVariants.{TextAfterQ
 use Rattle.osn_letters.specs.declared.separator.Separator.{Separator}
 use Rattle.osn_letters.specs.Law.{AreKitRecords, AreSound, all_fields}
 use Rattle.osn_letters.specs.Records.{Reading, PlacedRecord, after, at_start, is_full, is_open}
-use Rattle.osn_letters.specs.Records.{is_stray, moved, faulty, ended, read_byte, reading_after}
+use Rattle.osn_letters.specs.Records.{is_refused, is_stray, moved, faulty, ended, read_byte}
+use Rattle.osn_letters.specs.Records.{reading_after}
 use Rattle.osn_letters.specs.Records.{records_from, separator_in}
 use Rattle.osn_letters.specs.Separators.{config_by, or_comma}
 use Rattle.osn_letters.proofs.SeparatorFacts.{found_stays, settled}
@@ -26,7 +27,8 @@ ReadsRows c None rows = rows ≡ []
 ReadsRows c (Some p) rows =
     (rest : List (List (List ℕ))) × (rows ≡ p.0 ∷ rest) × AreRecords c p.1 p.2 rest
 
--- the same of a reading, within a record or between two
+-- what the kit reads next from a reading, within a record or between two: nothing, or the first of
+-- these rows
 abbrev Reads : Config → Reading → List ℕ → List (List (List ℕ)) → Type 0
 Reads c r bytes rows = ReadsRows c (next_record c r.state r.fields r.field bytes) rows
 
@@ -91,8 +93,8 @@ records_read : (final : Separator) (r : Reading) (bytes : List ℕ)
     → Reads (config_by final) r bytes (all_fields (records_from r bytes))
 unfolding next_record
 records_read final r [] is sound =
-    end_read (config_by final) r (OpenQuote r.first_line) (is_open r.state) (ends_at_end r.state)
-    sound
+    end_read (config_by final) r (OpenQuote r.first_line) (is_refused r (is_open r.state))
+    (ends_at_end r.state) sound
 records_read final r (b ∷ bytes) is sound =
     let c = config_by final in
     let s = read_byte r.separator r.state b in
@@ -101,16 +103,16 @@ records_read final r (b ∷ bytes) is sound =
     (λ x found. is ∙ ap or_comma (found_stays (after r b) bytes x found)) in
     subst (λ o. ReadsRows c o (all_fields (records_from r (b ∷ bytes))))
     (sym (next_after c r b bytes ∙ ap (next_by c r b bytes) (sym same)))
-    (byte_read c r b bytes s.0 s.1 (is_full r s.0) (is_stray r.state s.0) (TooLong r.first_line)
-    (TextAfterQuote r.first_line) (records_from (after r b) bytes)
+    (byte_read c r b bytes s.0 s.1 (is_full r s.0) (is_refused r (is_stray r.state s.0))
+    (TooLong r.first_line) (TextAfterQuote r.first_line) (records_from (after r b) bytes)
     (records_read final (after r b) bytes is) sound)
 
 -- the law
 pub kit_records : AreKitRecords
 unfolding AreKitRecords
-kit_records named text sound =
+kit_records keeps_going named text sound =
     let bytes = strip_bom text in
-    let final = separator_in named text in
+    let final = separator_in keeps_going named text in
+    let start = at_start keeps_going named in
     all_read (config_by final) (next_record (config_by final) StartRecord [] [] bytes) StartRecord
-    bytes refl (all_fields (records_from (at_start named) bytes))
-    (records_read final (at_start named) bytes refl sound)
+    bytes refl (all_fields (records_from start bytes)) (records_read final start bytes refl sound)

@@ -12,6 +12,7 @@ use Rattle.std.proofs.lemmas.List.{take-append-drop, take-take, drop-take}
 use Rattle.osn_letters.specs.declared.fault.LettersFault.{LettersFault}
 use Rattle.osn_letters.specs.declared.fault.LettersFault.TheVariants.{NoMemory}
 use Rattle.osn_letters.specs.declared.letters.Letters.{Letters}
+use Rattle.osn_letters.specs.declared.parser.EndedRecord.{EndedRecord}
 use Rattle.osn_letters.specs.declared.parser.RecordParser.{RecordParser}
 use Rattle.osn_letters.specs.declared.separator.Separator.{Separator}
 use Rattle.osn_letters.specs.declared.table.Table.{Table}
@@ -33,7 +34,7 @@ use Rattle.osn_letters.specs.Table.{EndsEarly, IsLong, IsWhole, whole}
 use Rattle.osn_letters.specs.Table.{TableBasis, Heading, Written, text_before, ended_by}
 use Rattle.osn_letters.specs.Table.{written_from}
 use Rattle.osn_letters.specs.Faults.{is_of_table, is_of_stream}
-use Rattle.osn_letters.specs.TableInside.{heading_of, written_of, RefusesRecord}
+use Rattle.osn_letters.specs.TableInside.{heading_of, taken_record, written_of, RefusesRecord}
 use Rattle.osn_letters.specs.WriterInside.{waiting}
 
 -- the fault that a `?` passes on
@@ -107,17 +108,16 @@ end_refused s fault refuses =
     ))
 
 -- the record that a byte ended was not taken
-pub record_refused : (s : Letters) (table : Table) (q : RecordParser) (b line : ℕ)
+pub record_refused : (s : Letters) (table : Table) (q : RecordParser) (b : ℕ) (e : EndedRecord)
     (separator : Separator) (fault : LettersFault) → separator ≡ or_comma q.separator
-    → Takes s.parser q b (Some line)
-    → RefusesRecord s.table table
-    (record { line = line; separator = separator; fields = Ok (fields_of q.fields) }) fault
+    → Takes s.parser q b (Some e)
+    → RefusesRecord s.table table (taken_record e.line separator e.flaw (fields_of q.fields)) fault
     → (more : List ℕ)
     → Stops (waiting s.table.out) (waiting table.out) (text_after s (b ∷ more)) fault
-record_refused s table q b line separator fault same takes refused more =
-    let refuses : RefusesRecord s.table table (record_in q line) fault =
+record_refused s table q b e separator fault same takes refused more =
+    let refuses : RefusesRecord s.table table (record_in q e.line e.flaw) fault =
     subst (λ x. RefusesRecord s.table table
-    (record { line = line; separator = x; fields = Ok (fields_of q.fields) }) fault) same refused in
+    (taken_record e.line x e.flaw (fields_of q.fields)) fault) same refused in
     stops_here (waiting s.table.out) (waiting table.out) (text_after s (b ∷ more)) fault refuses.0
     (λ other.
     let rest = records_from (after (reading_of s.parser) b) more in
@@ -216,7 +216,7 @@ part_then s t u piece part i n is x y =
     subst (TakesBytes s u) (ap (λ l. take i piece ++ take n l) is ∙ take_then i n piece)
     (bytes_then s t u (take i piece) (take n part) x y)
 
--- they were not all taken, so the piece was not
+-- the last bytes of a piece were not all taken, and so the piece was not
 pub part_stops : (s t u : Letters) (piece part : List ℕ) (i : ℕ) (fault : LettersFault)
     → part ≡ drop i piece → TakesBytes s t (take i piece) → StopsAt t u part fault
     → StopsAt s u piece fault
@@ -287,7 +287,7 @@ piece_waits s t bytes (Ok x) none takes stops more =
 piece_waits s t bytes (Err fault) none takes stops more =
     subst (λ a. Stops a (waiting t.table.out) (text_from s (bytes ++ more)) fault) none (stops more)
 
--- the same at the end of the text
+-- at the end of the text, what waits begins what is written, if nothing waited before
 pub end_waits : {T : Type 0} (s t : Letters) (r : Result T LettersFault)
     → waiting s.table.out ≡ []
     → OnOk r (Wrote (waiting s.table.out) (waiting t.table.out) (text_from s []) whole)
@@ -304,7 +304,7 @@ known_waits : {T : Type 0} (out : List ℕ) (r : Result T LettersFault) (w : Wri
 known_waits out (Ok x) w known waits = waits
 known_waits out (Err fault) w known waits = (ended_by fault, waits.wrote known)
 
--- so what is written is as long as what waits
+-- what is written is at least as long as what waits, if that is known
 pub waits_long : {T : Type 0} (out : List ℕ) (r : Result T LettersFault) (w : Written)
     → is_known r ≡ true → Waits out r w → 4294967295 ≤ length out → IsLong w
 waits_long out r w known waits long =
@@ -353,7 +353,7 @@ all_early c d out (Err fault) known appended =
       ended = λ fault_is. refl;
     }
 
--- it is not known what waits, and nothing was written
+-- nothing was written, and it is not known what waits
 pub unknown_early : {T : Type 0} (c : Option (List ℕ)) (out : List ℕ) (r : Result T LettersFault)
     → is_known r ≡ false
     → IfErr r (λ fault. (w : Written) → Waits out r w → EndsEarly c c w fault)

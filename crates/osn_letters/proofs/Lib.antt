@@ -4,6 +4,7 @@ pub mod ColumnFacts
 pub mod FoundFacts
 pub mod GoesFacts
 pub mod FieldFacts
+pub mod FlawFacts
 pub mod JoinFacts
 pub mod LastFacts
 pub mod CountFacts

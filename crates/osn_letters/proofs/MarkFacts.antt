@@ -14,61 +14,63 @@ mark_within x y z true e rest more = refl
 mark_within x y z false e rest more = refl
 
 -- the mark's first byte ends no record, nor do the first two
-first_mark : (named : Option Separator)
-    → is_between (reading_after (at_start named) (239 ∷ [])).state ≡ false
+first_mark : (k : Bool) (named : Option Separator)
+    → is_between (reading_after (at_start k named) (239 ∷ [])).state ≡ false
 unfolding read_byte
-first_mark None = refl
-first_mark (Some Comma) = refl
-first_mark (Some Semicolon) = refl
-first_mark (Some Tab) = refl
+first_mark k None = refl
+first_mark k (Some Comma) = refl
+first_mark k (Some Semicolon) = refl
+first_mark k (Some Tab) = refl
 
-second_mark : (named : Option Separator)
-    → is_between (reading_after (at_start named) (239 ∷ 187 ∷ [])).state ≡ false
+second_mark : (k : Bool) (named : Option Separator)
+    → is_between (reading_after (at_start k named) (239 ∷ 187 ∷ [])).state ≡ false
 unfolding read_byte
-second_mark None = refl
-second_mark (Some Comma) = refl
-second_mark (Some Semicolon) = refl
-second_mark (Some Tab) = refl
+second_mark k None = refl
+second_mark k (Some Comma) = refl
+second_mark k (Some Semicolon) = refl
+second_mark k (Some Tab) = refl
 
-first_inside : (named : Option Separator) (x : ℕ) → (x == 239) ≡ true
-    → is_between (reading_after (at_start named) (x ∷ [])).state ≡ false
-first_inside named x e =
-    ap (λ b. is_between (reading_after (at_start named) (b ∷ [])).state) ((Decides-eqb x 239).0 e)
-    ∙ first_mark named
+first_inside : (k : Bool) (named : Option Separator) (x : ℕ) → (x == 239) ≡ true
+    → is_between (reading_after (at_start k named) (x ∷ [])).state ≡ false
+first_inside k named x e =
+    ap (λ b. is_between (reading_after (at_start k named) (b ∷ [])).state) ((Decides-eqb x 239).0 e)
+    ∙ first_mark k named
 
-second_inside : (named : Option Separator) (x y : ℕ) → (x == 239) ≡ true → (y == 187) ≡ true
-    → is_between (reading_after (at_start named) (x ∷ y ∷ [])).state ≡ false
-second_inside named x y e k =
-    ap (λ b. is_between (reading_after (at_start named) (b ∷ y ∷ [])).state)
+second_inside : (k : Bool) (named : Option Separator) (x y : ℕ) → (x == 239) ≡ true
+    → (y == 187) ≡ true
+    → is_between (reading_after (at_start k named) (x ∷ y ∷ [])).state ≡ false
+second_inside k named x y e h =
+    ap (λ b. is_between (reading_after (at_start k named) (b ∷ y ∷ [])).state)
     ((Decides-eqb x 239).0 e)
-    ∙ ap (λ b. is_between (reading_after (at_start named) (239 ∷ b ∷ [])).state)
-    ((Decides-eqb y 187).0 k)
-    ∙ second_mark named
+    ∙ ap (λ b. is_between (reading_after (at_start k named) (239 ∷ b ∷ [])).state)
+    ((Decides-eqb y 187).0 h)
+    ∙ second_mark k named
 
-no_first : (named : Option Separator) (x y z : ℕ) (t : Bool) → (x == 239) ≡ t
-    → is_between (reading_after (at_start named) (x ∷ [])).state ≡ true → is_bom x y z ≡ false
-no_first named x y z true e between = absurd (cc (sym between ∙ first_inside named x e))
-no_first named x y z false e between = ap (λ t. (t && (y == 187)) && (z == 191)) e
+no_first : (k : Bool) (named : Option Separator) (x y z : ℕ) (t : Bool) → (x == 239) ≡ t
+    → is_between (reading_after (at_start k named) (x ∷ [])).state ≡ true → is_bom x y z ≡ false
+no_first k named x y z true e between = absurd (cc (sym between ∙ first_inside k named x e))
+no_first k named x y z false e between = ap (λ t. (t && (y == 187)) && (z == 191)) e
 
-no_second : (named : Option Separator) (x y z : ℕ) (t u : Bool) → (x == 239) ≡ t → (y == 187) ≡ u
-    → is_between (reading_after (at_start named) (x ∷ y ∷ [])).state ≡ true
+no_second : (k : Bool) (named : Option Separator) (x y z : ℕ) (t u : Bool) → (x == 239) ≡ t
+    → (y == 187) ≡ u
+    → is_between (reading_after (at_start k named) (x ∷ y ∷ [])).state ≡ true
     → is_bom x y z ≡ false
-no_second named x y z true true e k between =
-    absurd (cc (sym between ∙ second_inside named x y e k))
-no_second named x y z true false e k between =
-    ap (λ t. (t && (y == 187)) && (z == 191)) e ∙ ap (λ t. t && (z == 191)) k
-no_second named x y z false u e k between = ap (λ t. (t && (y == 187)) && (z == 191)) e
+no_second k named x y z true true e h between =
+    absurd (cc (sym between ∙ second_inside k named x y e h))
+no_second k named x y z true false e h between =
+    ap (λ t. (t && (y == 187)) && (z == 191)) e ∙ ap (λ t. t && (z == 191)) h
+no_second k named x y z false u e h between = ap (λ t. (t && (y == 187)) && (z == 191)) e
 
-pub strip_after : (named : Option Separator) (b : ℕ) (text more : List ℕ)
-    → is_between (reading_after (at_start named) (strip_bom (b ∷ text))).state ≡ true
+pub strip_after : (k : Bool) (named : Option Separator) (b : ℕ) (text more : List ℕ)
+    → is_between (reading_after (at_start k named) (strip_bom (b ∷ text))).state ≡ true
     → strip_bom ((b ∷ text) ++ more) ≡ strip_bom (b ∷ text) ++ more
 unfolding strip_bom
-strip_after named x [] [] between = refl
-strip_after named x [] (y ∷ []) between = refl
-strip_after named x [] (y ∷ z ∷ more) between =
-    ap (λ t. if t then more else x ∷ y ∷ z ∷ more) (no_first named x y z (x == 239) refl between)
-strip_after named x (y ∷ []) [] between = refl
-strip_after named x (y ∷ []) (z ∷ more) between =
+strip_after k named x [] [] between = refl
+strip_after k named x [] (y ∷ []) between = refl
+strip_after k named x [] (y ∷ z ∷ more) between =
+    ap (λ t. if t then more else x ∷ y ∷ z ∷ more) (no_first k named x y z (x == 239) refl between)
+strip_after k named x (y ∷ []) [] between = refl
+strip_after k named x (y ∷ []) (z ∷ more) between =
     ap (λ t. if t then more else x ∷ y ∷ z ∷ more)
-    (no_second named x y z (x == 239) (y == 187) refl refl between)
-strip_after named x (y ∷ z ∷ rest) more between = mark_within x y z (is_bom x y z) refl rest more
+    (no_second k named x y z (x == 239) (y == 187) refl refl between)
+strip_after k named x (y ∷ z ∷ rest) more between = mark_within x y z (is_bom x y z) refl rest more

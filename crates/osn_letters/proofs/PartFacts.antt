@@ -1,4 +1,4 @@
--- That a table may be cut between its records.
+-- A table may be cut between its records.
 use Rattle.std.proofs.Common.{◌≡◌, ◌∙◌, ℕ, ◌+◌, ◌-◌, true, List, [], ◌∷◌, ◌++◌, None, refl}
 use Rattle.std.proofs.Common.{sym, ap, subst, arith, length, drop, append_assoc}
 use Rattle.std.specs.Prelude.{option_map}
@@ -34,7 +34,7 @@ no_text s whole = absurd (cc whole)
 whole_strip : (s : TableBasis) (text more : List ℕ) → IsWholeTable s text
     → strip_bom (text ++ more) ≡ strip_bom text ++ more
 whole_strip s [] more h = absurd (no_text s h.whole)
-whole_strip s (b ∷ text) more h = strip_after s.separator b text more h.ends
+whole_strip s (b ∷ text) more h = strip_after s.keeps_going s.separator b text more h.ends
 
 -- ---- the parts after a header
 
@@ -47,13 +47,14 @@ record Heads (s : TableBasis) (header : List ℕ) : Type 0 where
   goes : (part : List ℕ) → letters_written s (header ++ part)
       ≡ text_before (letters_written s header).text
       (rows_written s heading (records_from reading part))
-  reading_is : (part : List ℕ) → reading_after (at_start s.separator) (strip_bom (header ++ part))
+  reading_is : (part : List ℕ) → reading_after (at_start s.keeps_going s.separator)
+      (strip_bom (header ++ part))
       ≡ reading_after reading part
 
 header_heads : (s : TableBasis) (header : List ℕ) → IsWholeTable s header → Heads s header
 header_heads s header h =
-    let table = table_goes s (records_of s.separator header) h.whole in
-    let start = at_start s.separator in
+    let table = table_goes s (records_of s.keeps_going s.separator header) h.whole in
+    let start = at_start s.keeps_going s.separator in
     let reading = reading_after start (strip_bom header) in
     let found =
     record_found start (strip_bom header) h.ends table.sound
@@ -64,7 +65,9 @@ header_heads s header h =
       separator = found.0;
       between =
           record {
-            clear = IsClear-after_all start (strip_bom header) (clear_start s.separator);
+            clear =
+                IsClear-after_all start (strip_bom header)
+                (clear_start s.keeps_going s.separator);
             between = h.ends;
             separator_is = found.1;
           };
@@ -120,7 +123,7 @@ first_written : (s : TableBasis) (heading : Heading) (x : Separator) (r : Readin
 first_written s heading x r b bytes h =
     ap (rows_written s heading) (first_records r b bytes h.clear h.between)
 
--- the same from any later reading between two records
+-- a part is written before what follows it, from any later reading between two records
 seam_goes : (s : TableBasis) (heading : Heading) (x : Separator) (r q : Reading)
     (part more : List ℕ) → IsBetweenRecords x r → IsBetweenRecords x q → IsPast r q
     → IsPart s heading r part
@@ -231,7 +234,7 @@ lines_after : (s : TableBasis) (header : List ℕ) (h : Heads s header) (part : 
     → (reading_after h.reading part).line ≡ 1 + lines_in (header ++ part)
 lines_after s header h part =
     ap (λ r. r.line) (sym (h.reading_is part))
-    ∙ line_after (at_start s.separator) (strip_bom (header ++ part))
+    ∙ line_after (at_start s.keeps_going s.separator) (strip_bom (header ++ part))
 
 -- the law
 table_cut : MayEachTableBeCut

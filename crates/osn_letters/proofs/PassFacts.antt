@@ -25,7 +25,7 @@ given_ok : {T : Type 0} {P : Type 0} (r : Result T LettersFault) → is_ok r ≡
 given_ok (Ok x) ok h = h
 given_ok (Err fault) ok h = absurd (cc ok)
 
--- the same letters, whose table goes on with another writer
+-- letters with another writer of their table
 abbrev with_writer : Letters → RowWriter → Letters
 with_writer t out = record t { table = record t.table { out = out } }
 

@@ -111,7 +111,7 @@ pub unread_fault : (text : List ℕ) (fault : PlacesFault)
 unread_fault text faults.ReadFault unless_unmade =
     let is = unless_unmade (λ e. absurd (cc e)) in
     subst (λ r. IfErr r (λ fault. is_read_fault fault ≡ false)) is
-    (unread_all [] (records_of None text)).other
+    (unread_all [] (records_of false None text)).other
 unread_fault text faults.NoHeader unless_unmade = refl
 unread_fault text (faults.LacksColumn column line found) unless_unmade = refl
 unread_fault text (faults.BadRecord line fields width) unless_unmade = refl

@@ -2,7 +2,7 @@
 -- long. So what was written of what was read is all that is written of some text.
 use Rattle.std.proofs.Common.{◌≡◌, ◌<◌, ◌∙◌, ℕ, zero, suc, ◌+◌, ◌-◌, ◌==◌, Bool, true, false}
 use Rattle.std.proofs.Common.{List, [], ◌∷◌, ◌++◌, length, Option, Some, None, refl, sym, ap, subst}
-use Rattle.std.proofs.Common.{arith, nat_lt, append-nil}
+use Rattle.std.proofs.Common.{arith, nat_lt, append-nil, not, ◌&&◌, ◌≤◌}
 use Rattle.std.specs.Io.KnownBytes.{Appends, Consumes}
 use Rattle.csv.specs.declared.parser.Action.{Action}
 use Rattle.csv.specs.declared.parser.State.{State}
@@ -15,7 +15,7 @@ use Rattle.osn_letters.specs.declared.start.ByteOrderMark.TheVariants.{Past}
 use Rattle.osn_letters.specs.declared.separator.Separator.{Separator}
 use Rattle.osn_letters.specs.LettersInside.{text_from, text_after}
 use Rattle.osn_letters.specs.Records.{Reading, PlacedRecord, after, is_between, moved}
-use Rattle.osn_letters.specs.Records.{faulty, is_stray, longest_record, read_byte, records_by}
+use Rattle.osn_letters.specs.Records.{faulty, is_stray, most_bytes, read_byte, records_by}
 use Rattle.osn_letters.specs.Records.{records_from}
 use Rattle.osn_letters.specs.declared.fault.LettersFault.{LettersFault}
 use Rattle.osn_letters.specs.declared.fault.LettersFault.TheVariants.{TooLong, TextAfterQuote}
@@ -64,7 +64,8 @@ fault_quiet b (Some heading) r fault = refl
 -- one plain byte: the record has a fault, or it grows
 quiet_step : (t : TableBasis) (heading : Option Heading) (r : Reading) (b : ℕ) (s : State × Action)
     → is_between s.0 ≡ false → is_end s.1 ≡ false → (low stray : Bool)
-    → nat_lt r.size longest_record ≡ low → is_stray r.state s.0 ≡ stray → (more : List PlacedRecord)
+    → nat_lt r.size (most_bytes r.keeps_going) ≡ low
+    → (is_stray r.state s.0 && not r.keeps_going) ≡ stray → (more : List PlacedRecord)
     → (low ≡ true → (moved r b s).size ≡ r.size + 1 → (written_from t heading more).text ≡ [])
     → (written_from t heading (records_by r s more)).text ≡ []
 quiet_step t heading r b s inside going true false is clear more quiet =
@@ -74,17 +75,27 @@ quiet_step t heading r b s inside going true true is clear more quiet =
 quiet_step t heading r b s inside going false stray is clear more quiet =
     rw (inside, is) (fault_quiet t heading r (TooLong r.first_line))
 
+most_within : (k : Bool) → most_bytes k ≤ 16777216
+most_within true = omega arith
+most_within false = omega arith
+
 quiet : (t : TableBasis) (heading : Option Heading) (r : Reading) (bytes : List ℕ) → ArePlain bytes
-    → 65536 - r.size < length bytes → (written_from t heading (records_from r bytes)).text ≡ []
+    → 16777216 - r.size < length bytes → (written_from t heading (records_from r bytes)).text ≡ []
 quiet t heading r [] plain long = absurd (omega (arith, long))
 quiet t heading r (b ∷ bytes) (first, plain) long =
     let s = read_byte r.separator r.state b in
     let step = plain_step r.separator r.state b first in
-    quiet_step t heading r b s step.0 step.1 (nat_lt r.size longest_record)
-    (is_stray r.state s.0) refl refl
+    quiet_step t heading r b s step.0 step.1 (nat_lt r.size (most_bytes r.keeps_going))
+    (is_stray r.state s.0 && not r.keeps_going) refl refl
     (records_from (after r b) bytes)
     (λ low grows. quiet t heading (after r b) bytes plain
-    (omega (arith, long, grows, ltb-true r.size longest_record low)))
+    (omega (
+      arith,
+      long,
+      grows,
+      ltb-true r.size (most_bytes r.keeps_going) low,
+      most_within r.keeps_going,
+    )))
 
 -- a run of plain bytes
 unfoldable run : ℕ → List ℕ
@@ -102,7 +113,7 @@ run_long zero = refl
 run_long (suc n) = rw (run_long n) refl
 
 -- after what is held back as well
-held_quiet : (s : Letters) (bytes : List ℕ) → ArePlain bytes → 65536 < length bytes
+held_quiet : (s : Letters) (bytes : List ℕ) → ArePlain bytes → 16777216 < length bytes
     → (start : ByteOrderMark) → (text_after s (held start ++ bytes)).text ≡ []
 held_quiet s bytes plain long Nothing =
     quiet (source_of s.table) (heading_of s.table) (reading_of s.parser) bytes plain
@@ -124,7 +135,7 @@ goes_on OneByte = refl
 goes_on TwoBytes = refl
 goes_on Past = refl
 
-run_quiet : (s : Letters) (n : ℕ) → 65536 < n → (text_from s (97 ∷ run n)).text ≡ []
+run_quiet : (s : Letters) (n : ℕ) → 16777216 < n → (text_from s (97 ∷ run n)).text ≡ []
 run_quiet s n high =
     ap (λ bytes. (text_after s bytes).text) (unmarked_held s.start 97 (goes_on s.start) (run n))
     ∙ held_quiet s (97 ∷ run n) ((refl, refl, refl, refl), run_plain n)
@@ -135,7 +146,7 @@ pub read_settled : (all : List ℕ → Written) (s : Letters) (input left c d : 
     (read : List ℕ) → Consumes input left read → PassesRead all (text_from s) c d read
     → EndsRead input left c d all
 read_settled all s input left c d read consumed passes =
-    let more = 97 ∷ run 65537 in
+    let more = 97 ∷ run 16777217 in
     let passed = passes more in
     record {
       read = read;
@@ -144,7 +155,7 @@ read_settled all s input left c d read consumed passes =
       appended =
           subst (Appends c d)
           (sym (ap (λ w. w.text) passed.begins
-          ∙ ap (λ t. passed.text ++ t) (run_quiet s 65537 (omega arith))
+          ∙ ap (λ t. passed.text ++ t) (run_quiet s 16777217 (omega arith))
           ∙ append-nil passed.text))
           passed.appended;
     }

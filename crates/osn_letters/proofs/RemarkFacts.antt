@@ -1,7 +1,7 @@
 -- No row has two remarks with the same words, so the tally of a table counts its rows.
 use Rattle.std.proofs.Common.{◌≡◌, ℕ, Bool, true, false, ◌||◌, if◌then◌else◌, List, [], ◌∷◌}
 use Rattle.std.proofs.Common.{◌++◌, map, refl, subst, Option, Some, None, Result, Ok, Err, IfSome}
-use Rattle.std.proofs.Common.{get_or, option_map}
+use Rattle.std.proofs.Common.{get_or, option_map, length}
 use Rattle.std.specs.Str.{bytes_eq}
 use Rattle.osn_days.specs.declared.weekday.Weekday.{Weekday}
 use Rattle.osn_days.specs.Rules.{Rules}
@@ -27,14 +27,15 @@ use Rattle.osn_letters.specs.declared.columns.Columns.{Columns}
 use Rattle.osn_letters.specs.declared.fault.LettersFault.{LettersFault}
 use Rattle.osn_letters.specs.declared.no_place.NoPlace.{NoPlace}
 use Rattle.osn_letters.specs.declared.no_place.NoPlace.TheVariants as no_place
+use Rattle.osn_letters.specs.declared.record_flaw.RecordFlaw.{RecordFlaw}
 use Rattle.osn_letters.specs.declared.remark.Remark.{Remark}
 use Rattle.osn_letters.specs.declared.remark.Remark.TheVariants as remark
-use Rattle.osn_letters.specs.declared.separator.Separator.{Separator}
 use Rattle.osn_letters.specs.Columns.{columns_of, own_header, place_in}
 use Rattle.osn_letters.specs.DateParts.{date_in}
 use Rattle.osn_letters.specs.Fields.{fields_of_either}
 use Rattle.osn_letters.specs.Fields.{fields_of_found, fields_of_meaning, fields_of_reading}
 use Rattle.osn_letters.specs.Fields.{fields_of_found_set, fields_of_members, place_remark}
+use Rattle.osn_letters.specs.Fields.{place_remark_beside}
 use Rattle.osn_letters.specs.Remarks.{remarks_beside_set}
 use Rattle.osn_letters.specs.RowFields.{members_in}
 use Rattle.osn_written.specs.declared.set.AbsentMember.{AbsentMember}
@@ -42,11 +43,12 @@ use Rattle.osn_written.specs.SetsMeant.{set_meant}
 use Rattle.osn_letters.specs.Records.{PlacedRecord, records_of}
 use Rattle.osn_letters.specs.Remarks.{are_on_weekday, remark_words, remarks_beside}
 use Rattle.osn_letters.specs.Remarks.{remarks_on_days, applying}
-use Rattle.osn_letters.specs.RowFields.{is_malformed_weekday, date_of_field, territory_in}
+use Rattle.osn_letters.specs.RowFields.{is_malformed_weekday, is_text, date_of_field, territory_in}
 use Rattle.osn_letters.specs.RowFields.{weekday_in}
 use Rattle.osn_letters.specs.RowRemarks.{IsTallyOf, first_remarks, header_remarks}
-use Rattle.osn_letters.specs.RowRemarks.{letters_remarks, rows_remarks, table_remarks}
-use Rattle.osn_letters.specs.Table.{TableBasis, letter_of}
+use Rattle.osn_letters.specs.RowRemarks.{letters_remarks, remarks_by, remarks_of, rows_remarks}
+use Rattle.osn_letters.specs.RowRemarks.{table_remarks}
+use Rattle.osn_letters.specs.Table.{TableBasis, letter_of, row_flaw}
 use Rattle.osn_letters.specs.TableInside.{letters_tally}
 use Rattle.osn_letters.specs.Tally.{IsTally, TallyModel, has_words}
 use Rattle.osn_letters.specs.TallyInside.{no_rows}
@@ -97,6 +99,7 @@ place_apart : (reason : NoPlace) (b : Beside)
     → AreApart (remarks_in ((true, remark.NoPlace reason) ∷ beside b))
 place_apart no_place.Unknown b = (refl, beside_apart b)
 place_apart no_place.Ambiguous b = (refl, beside_apart b)
+place_apart no_place.NotUtf8 b = (refl, beside_apart b)
 
 absence_apart : (applies : Bool) (reason : NoDay) (b : Beside)
     → AreApart (remarks_in ((applies, remark.NoDay reason) ∷ beside b))
@@ -161,6 +164,23 @@ date_apart a l m no_place.Ambiguous faults.NamedCalendar = (refl, (refl, (refl, 
 date_apart a l m no_place.Ambiguous faults.OpenPart = (refl, (refl, (refl, tt)))
 date_apart a l m no_place.Ambiguous faults.Feast = (refl, (refl, (refl, tt)))
 date_apart a l m no_place.Ambiguous faults.RomanNumeral = (refl, (refl, (refl, tt)))
+date_apart a l m no_place.NotUtf8 faults.Malformed = (refl, (refl, (refl, tt)))
+date_apart a l m no_place.NotUtf8 faults.LaterYear = (refl, (refl, (refl, tt)))
+date_apart a l m no_place.NotUtf8 faults.Year = (refl, (refl, (refl, tt)))
+date_apart a l m no_place.NotUtf8 faults.Month = (refl, (refl, (refl, tt)))
+date_apart a l m no_place.NotUtf8 faults.Day = (refl, (refl, (refl, tt)))
+date_apart a l m no_place.NotUtf8 faults.NoDate = (refl, (refl, (refl, tt)))
+date_apart a l m no_place.NotUtf8 faults.NotOneDay = (refl, (refl, (refl, tt)))
+date_apart a l m no_place.NotUtf8 faults.Qualifier = (refl, (refl, (refl, tt)))
+date_apart a l m no_place.NotUtf8 faults.ShortYear = (refl, (refl, (refl, tt)))
+date_apart a l m no_place.NotUtf8 faults.OpenYear = (refl, (refl, (refl, tt)))
+date_apart a l m no_place.NotUtf8 faults.DayOrMonth = (refl, (refl, (refl, tt)))
+date_apart a l m no_place.NotUtf8 faults.BothCalendars = (refl, (refl, (refl, tt)))
+date_apart a l m no_place.NotUtf8 (faults.TwoDays old new written) = (refl, (refl, (refl, tt)))
+date_apart a l m no_place.NotUtf8 faults.NamedCalendar = (refl, (refl, (refl, tt)))
+date_apart a l m no_place.NotUtf8 faults.OpenPart = (refl, (refl, (refl, tt)))
+date_apart a l m no_place.NotUtf8 faults.Feast = (refl, (refl, (refl, tt)))
+date_apart a l m no_place.NotUtf8 faults.RomanNumeral = (refl, (refl, (refl, tt)))
 
 fault_apart : (t : Result TerritoryModel NoPlace) (malformed : Bool) (fault : DateFault)
     → AreApart (applying ((true, remark.NotRead fault) ∷ place_remark t
@@ -172,6 +192,22 @@ fault_apart (Ok t) malformed fault =
 fault_apart (Err reason) malformed fault =
     apart_those ((true, remark.NotRead fault) ∷ place_remark (Err reason)
     ∷ (malformed, remark.MalformedWeekday) ∷ []) (date_apart true true malformed reason fault)
+
+text_apart : (t : Result TerritoryModel NoPlace) (malformed : Bool)
+    → AreApart (applying ((true, remark.NotUtf8) ∷ place_remark_beside t
+    ∷ (malformed, remark.MalformedWeekday) ∷ []))
+text_apart (Ok t) malformed =
+    apart_those ((true, remark.NotUtf8) ∷ place_remark_beside (Ok t)
+    ∷ (malformed, remark.MalformedWeekday) ∷ []) (refl, (refl, (refl, tt)))
+text_apart (Err no_place.Unknown) malformed =
+    apart_those ((true, remark.NotUtf8) ∷ place_remark_beside (Err no_place.Unknown)
+    ∷ (malformed, remark.MalformedWeekday) ∷ []) (refl, (refl, (refl, tt)))
+text_apart (Err no_place.Ambiguous) malformed =
+    apart_those ((true, remark.NotUtf8) ∷ place_remark_beside (Err no_place.Ambiguous)
+    ∷ (malformed, remark.MalformedWeekday) ∷ []) (refl, (refl, (refl, tt)))
+text_apart (Err no_place.NotUtf8) malformed =
+    apart_those ((true, remark.NotUtf8) ∷ place_remark_beside (Err no_place.NotUtf8)
+    ∷ (malformed, remark.MalformedWeekday) ∷ []) (refl, (refl, (refl, tt)))
 
 -- ---- of a date in its territory
 
@@ -243,6 +279,7 @@ no_place_apart : (reason : NoPlace) (b : Option Weekday × Bool)
     → AreApart (remarks_in ((true, remark.NoPlace reason) ∷ beside_set b))
 no_place_apart no_place.Unknown b = (refl, set_apart b)
 no_place_apart no_place.Ambiguous b = (refl, set_apart b)
+no_place_apart no_place.NotUtf8 b = (refl, set_apart b)
 
 members_apart : (p : Rules) (edition : ℕ) (t : Result TerritoryModel NoPlace) (ws : List AnyDate)
     (b : Option Weekday × Bool)
@@ -252,20 +289,21 @@ members_apart p edition (Err reason) ws b =
     apart_those ((true, remark.NoPlace reason) ∷ beside_set b) (no_place_apart reason b)
 
 reading_apart : (p : Rules) (edition : ℕ) (t : Result TerritoryModel NoPlace)
-    (named : Option (List ℕ)) (ws : List AnyDate) (r : Result Written DateFault)
-    → AreApart (fields_of_reading p edition t named ws r).remarks
-reading_apart p edition (Ok t) named ws (Ok (written.Date w)) =
+    (named : Option (List ℕ)) (ws : List AnyDate) (is_read : Bool) (r : Result Written DateFault)
+    → AreApart (fields_of_reading p edition t named ws is_read r).remarks
+reading_apart p edition (Ok t) named ws is_read (Ok (written.Date w)) =
     either_apart p edition t (reckoned t w.reckoning) w (weekday_in named)
     (w, weekday_in named, is_by_other_calendar p t w, is_malformed_weekday named) (one_day w)
-reading_apart p edition (Err reason) named ws (Ok (written.Date w)) =
+reading_apart p edition (Err reason) named ws is_read (Ok (written.Date w)) =
     let b : Beside = (w, weekday_in named, false, is_malformed_weekday named) in
     apart_those ((true, remark.NoPlace reason) ∷ beside b) (place_apart reason b)
-reading_apart p edition t named ws (Ok written.Set) =
+reading_apart p edition t named ws is_read (Ok written.Set) =
     members_apart p edition t ws (weekday_in named, is_malformed_weekday named)
-reading_apart p edition t named ws (Ok written.NoDate) =
+reading_apart p edition t named ws is_read (Ok written.NoDate) =
     fault_apart t (is_malformed_weekday named) faults.NoDate
-reading_apart p edition t named ws (Err fault) =
+reading_apart p edition t named ws true (Err fault) =
     fault_apart t (is_malformed_weekday named) fault
+reading_apart p edition t named ws false (Err fault) = text_apart t (is_malformed_weekday named)
 
 -- ---- of the rows of a table
 
@@ -275,35 +313,37 @@ row_apart s columns record_fields =
     reading_apart s.rules s.edition
     (territory_in s.territories s.places (place_in s.names columns record_fields))
     (option_map (λ n. get_or record_fields n []) columns.weekday)
-    (members_in (date_in columns.date record_fields))
+    (members_in (date_in columns.date record_fields)) (is_text (date_in columns.date record_fields))
     (date_of_field s.order (date_in columns.date record_fields))
 
-abbrev AreRowsApart : TableBasis → Columns → List PlacedRecord → Type 0
-AreRowsApart s columns records = AreAllApart (rows_remarks s columns records)
+flaw_apart : (s : TableBasis) (columns : Columns) (record_fields : List (List ℕ))
+    (flaw : Option RecordFlaw) → AreApart (remarks_of s columns record_fields flaw)
+flaw_apart s columns record_fields None = row_apart s columns record_fields
+flaw_apart s columns record_fields (Some flaw) = (refl, tt)
 
-more_apart : (s : TableBasis) (columns : Columns) (line : ℕ) (separator : Separator)
-    (r : Result (List (List ℕ)) LettersFault) (rest : List PlacedRecord)
-    → AreRowsApart s columns rest
-    → AreRowsApart s columns (record { line = line; separator = separator; fields = r } ∷ rest)
-more_apart s columns line separator (Ok record_fields) rest apart =
-    (row_apart s columns record_fields, apart)
-more_apart s columns line separator (Err fault) rest apart = apart
+more_apart : (s : TableBasis) (columns : Columns) (width : ℕ) (flaw : Option RecordFlaw)
+    (r : Result (List (List ℕ)) LettersFault) (more : List (List Remark)) → AreAllApart more
+    → AreAllApart (remarks_by s columns width flaw r more)
+more_apart s columns width flaw (Ok record_fields) more apart =
+    (flaw_apart s columns record_fields (row_flaw width flaw record_fields), apart)
+more_apart s columns width flaw (Err fault) more apart = apart
 
-rows_apart : (s : TableBasis) (columns : Columns) (records : List PlacedRecord)
-    → AreRowsApart s columns records
-rows_apart s columns [] = tt
-rows_apart s columns (r ∷ rest) =
-    more_apart s columns r.line r.separator r.fields rest (rows_apart s columns rest)
+rows_apart : (s : TableBasis) (columns : Columns) (width : ℕ) (records : List PlacedRecord)
+    → AreAllApart (rows_remarks s columns width records)
+rows_apart s columns width [] = tt
+rows_apart s columns width (r ∷ rest) =
+    more_apart s columns width r.flaw r.fields (rows_remarks s columns width rest)
+    (rows_apart s columns width rest)
 
-header_apart : (s : TableBasis) (r : Result Columns LettersFault) (rest : List PlacedRecord)
-    → AreAllApart (header_remarks s r rest)
-header_apart s (Ok columns) rest = rows_apart s columns rest
-header_apart s (Err fault) rest = tt
+header_apart : (s : TableBasis) (r : Result Columns LettersFault) (width : ℕ)
+    (rest : List PlacedRecord) → AreAllApart (header_remarks s r width rest)
+header_apart s (Ok columns) width rest = rows_apart s columns width rest
+header_apart s (Err fault) width rest = tt
 
 first_apart : (s : TableBasis) (line : ℕ) (r : Result (List (List ℕ)) LettersFault)
     (rest : List PlacedRecord) → AreAllApart (first_remarks s line r rest)
 first_apart s line (Ok header) rest =
-    header_apart s (columns_of s.names line (own_header s.names header)) rest
+    header_apart s (columns_of s.names line (own_header s.names header)) (length header) rest
 first_apart s line (Err fault) rest = tt
 
 table_apart : (s : TableBasis) (records : List PlacedRecord) → AreAllApart (table_remarks s records)
@@ -320,4 +360,4 @@ tally_of_rows s None tally is = tt
 tally_of_rows s (Some text) tally is =
     subst (IsTally (letters_remarks s text)) is
     (rows_tallied [] (letters_remarks s text) no_rows
-    (table_apart s (records_of s.separator text)) none_tallied)
+    (table_apart s (records_of s.keeps_going s.separator text)) none_tallied)

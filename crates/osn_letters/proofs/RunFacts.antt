@@ -9,7 +9,7 @@ use Rattle.csv.specs.declared.parser.State.TheVariants as st
 use Rattle.csv.specs.declared.parser.Action.{Action}
 use Rattle.csv.specs.declared.parser.Action.TheVariants as act
 use Rattle.osn_letters.specs.declared.separator.Separator.{Separator}
-use Rattle.osn_letters.specs.Records.{Reading, PlacedRecord, is_between, is_stray, longest_record}
+use Rattle.osn_letters.specs.Records.{Reading, PlacedRecord, is_between, is_stray, most_bytes}
 use Rattle.osn_letters.specs.Records.{moved, read_byte, records_by, records_from}
 use Rattle.osn_letters.specs.Runs.{EndsRun, JoinField, joined, joins}
 use Rattle.osn_letters.specs.Separators.{separator_after, separator_byte}
@@ -67,29 +67,33 @@ both true true h = (refl, refl)
 both true false h = absurd (cc h)
 both false y h = absurd (cc h)
 
-moved_is : (r : Reading) (b : ℕ) → is_between r.state ≡ false
+or_none : (t : Bool) → (t || false) ≡ t
+or_none true = refl
+or_none false = refl
+
+moved_is : (r : Reading) (b : ℕ) → is_between r.state ≡ false → is_stray r.state r.state ≡ false
     → separator_after r.separator b act.Copy ≡ r.separator → r.returned ≡ false
     → (b == 13) ≡ false → (b == 10) ≡ false
     → moved r b (r.state, act.Copy) ≡ joined r (b ∷ [])
-moved_is r b between found returned return feed =
-    simp (between, found, returned, return, feed) refl
+moved_is r b between stray found returned return feed =
+    simp (between, stray, found, returned, return, feed, or_none) refl
 
 passed_on : (r : Reading) → is_between r.state ≡ false → is_stray r.state r.state ≡ false
-    → nat_lt r.size longest_record ≡ true → (more : List PlacedRecord)
+    → nat_lt r.size (most_bytes r.keeps_going) ≡ true → (more : List PlacedRecord)
     → records_by r (r.state, act.Copy) more ≡ more
 passed_on r between stray room more = simp (between, stray, room) refl
 
 -- a byte that only joins the current field
 one_joins : (r : Reading) (x : Separator) (end b : ℕ) → r.separator ≡ Some x
     → r.returned ≡ false → EndsRun x r.state end → joins end b ≡ true
-    → nat_lt r.size longest_record ≡ true → (bytes : List ℕ)
+    → nat_lt r.size (most_bytes r.keeps_going) ≡ true → (bytes : List ℕ)
     → records_from r (b ∷ bytes) ≡ records_from (joined r (b ∷ [])) bytes
 one_joins r x end b found returned ends h room bytes =
     let lines = parts (b == end) (b == 13) (b == 10) h in
     let read : read_byte r.separator r.state b ≡ (r.state, act.Copy) =
     ap (λ f. read_byte f r.state b) found ∙ ends.stays b h in
     let same : moved r b (r.state, act.Copy) ≡ joined r (b ∷ []) =
-    moved_is r b ends.between
+    moved_is r b ends.between ends.stray
     (ap (λ f. separator_after f b act.Copy) found ∙ sym found) returned lines.0 lines.1 in
     ap (λ s. records_by r s (records_from (moved r b s) bytes)) read
     ∙ (passed_on r ends.between ends.stray room
@@ -98,8 +102,8 @@ one_joins r x end b found returned ends h room bytes =
 
 -- ---- all of them
 
-room_for : (size n : ℕ) → suc n ≤ longest_record - size → nat_lt size longest_record ≡ true
-room_for size n room = grind (arith, room)
+room_for : (most size n : ℕ) → suc n ≤ most - size → nat_lt size most ≡ true
+room_for most size n room = grind (arith, room)
 
 joined_none : (r : Reading) → joined r [] ≡ r
 joined_none r =
@@ -119,12 +123,13 @@ none_joins r more = ap (λ q. records_from q more) (sym (joined_none r))
 -- all of them, if the record has room for them
 pub run_joins : (run : List ℕ) (r : Reading) (x : Separator) (end : ℕ) → r.separator ≡ Some x
     → r.returned ≡ false → EndsRun x r.state end → list_all (joins end) run ≡ true
-    → length run ≤ longest_record - r.size → JoinField r run
+    → length run ≤ most_bytes r.keeps_going - r.size → JoinField r run
 run_joins [] r x end found returned ends h room = none_joins r
 run_joins (b ∷ run) r x end found returned ends h room =
     λ more.
     let pair = both (joins end b) (list_all (joins end) run) h in
-    one_joins r x end b found returned ends pair.0 (room_for r.size (length run) room) (run ++ more)
+    one_joins r x end b found returned ends pair.0
+    (room_for (most_bytes r.keeps_going) r.size (length run) room) (run ++ more)
     ∙ (run_joins run (joined r (b ∷ [])) x end found returned ends pair.1 (omega (arith, room))
     more
     ∙ ap (λ q. records_from q more) (joined_then r b run))

@@ -10,8 +10,8 @@ use Rattle.csv.specs.Machine.{carriage_return, field_after, fields_after, is_end
 use Rattle.osn_letters.specs.declared.fault.LettersFault.TheVariants.{TooLong, TextAfterQuote}
 use Rattle.osn_letters.specs.declared.separator.Separator.{Separator}
 use Rattle.osn_letters.specs.Records.{Reading, PlacedRecord, after, ended, ends_line, faulty}
-use Rattle.osn_letters.specs.Records.{is_between, is_full, is_stray, line_ends, longest_record}
-use Rattle.osn_letters.specs.Records.{moved, read_byte, reading_after, records_from}
+use Rattle.osn_letters.specs.Records.{is_between, is_full, is_refused, is_stray, line_ends}
+use Rattle.osn_letters.specs.Records.{most_bytes, moved, read_byte, reading_after, records_from}
 use Rattle.osn_letters.specs.Separators.{separator_after, separator_at, separator_byte}
 use Rattle.osn_letters.proofs.ClearFacts.{IsClear, between_clear, between_step, between_stray}
 use Rattle.osn_letters.proofs.LaterFacts.{IsLater}
@@ -31,13 +31,14 @@ line_after r (b ∷ bytes) =
     line_after (after r b) bytes
     ∙ end_more r.line (line_ends (b == carriage_return) bytes) (ends_line r.returned b)
 
--- one reading is at the line of another or after it, and so after a line feed
+-- one reading is at the line of another or after it, and so after a line feed. Both are of one kind
 pub record IsPast (r q : Reading) : Type 0 where
+  pub keeps : q.keeps_going ≡ r.keeps_going
   pub line : r.line ≤ q.line
   pub feed : r.line + (if q.returned then 1 else 0) ≤ q.line + (if r.returned then 1 else 0)
 
 pub IsPast-itself : (r : Reading) → IsPast r r
-IsPast-itself r = record { line = omega arith; feed = omega arith }
+IsPast-itself r = record { keeps = refl; line = omega arith; feed = omega arith }
 
 past_step : (line : ℕ) (before return feed : Bool)
     → (line ≤ (if return || (feed && not before) then line + 1 else line))
@@ -56,9 +57,13 @@ IsPast-after_all r q [] h = h
 IsPast-after_all r q (b ∷ bytes) h =
     let step = past_step q.line q.returned (b == carriage_return) (b == line_feed) in
     IsPast-after_all r (after q b) bytes
-    (record { line = omega (arith, h.line, step.0); feed = omega (arith, h.feed, step.1) })
+    (record {
+      keeps = h.keeps;
+      line = omega (arith, h.line, step.0);
+      feed = omega (arith, h.feed, step.1);
+    })
 
--- the same after one byte more
+-- of two readings, the one that is further on is so after one byte more
 past_both : (i j : ℕ) (t u return feed : Bool) → i ≤ j
     → i + (if u then 1 else 0) ≤ j + (if t then 1 else 0)
     → (if return || (feed && not t) then i + 1 else i)
@@ -123,17 +128,24 @@ and_false : (t : Bool) → (t && false) ≡ false
 and_false true = refl
 and_false false = refl
 
--- so it ends no record
+most_room : (k : Bool) → nat_lt 0 (most_bytes k) ≡ true
+most_room true = refl
+most_room false = refl
+
+-- the first byte after a record ends no record
 pub first_records : (r : Reading) (b : ℕ) (bytes : List ℕ) → IsClear r
     → is_between r.state ≡ true
     → records_from r (b ∷ bytes) ≡ records_from (after r b) bytes
 first_records r b bytes clear between =
     let s = read_byte r.separator r.state b in
-    pick_none (is_full r s.0) (is_stray r.state s.0) (is_end s.1) (faulty r (TooLong r.first_line))
-    (faulty r (TextAfterQuote r.first_line)) (ended r s.1) (records_from (after r b) bytes)
-    (ap (λ k. not (is_between s.0) && not (nat_lt k longest_record)) (clear.between between).0
+    pick_none (is_full r s.0) (is_refused r (is_stray r.state s.0)) (is_end s.1)
+    (faulty r (TooLong r.first_line)) (faulty r (TextAfterQuote r.first_line)) (ended r s.1)
+    (records_from (after r b) bytes)
+    (ap (λ k. not (is_between s.0) && not (nat_lt k (most_bytes r.keeps_going)))
+    (clear.between between).0
+    ∙ ap (λ t. not (is_between s.0) && not t) (most_room r.keeps_going)
     ∙ and_false (not (is_between s.0)))
-    (between_stray r.state between s.0)
+    (ap (is_refused r) (between_stray r.state between s.0))
     (ap (λ x. is_end x.1) (first_is r b between)
     ∙ start_ends (b == 34) (splits r.separator b) (b == 13) (b == 10))
 
@@ -156,11 +168,11 @@ pub record IsBetweenRecords (x : Separator) (r : Reading) : Type 0 where
   pub between : is_between r.state ≡ true
   pub separator_is : r.separator ≡ Some x
 
--- from the first byte on, one is as many lines later
+-- of two readings between records, one is as many lines later from the first byte on
 first_later : (x : Separator) (r q : Reading) (b n : ℕ) → IsBetweenRecords x r
-    → IsBetweenRecords x q
+    → IsBetweenRecords x q → q.keeps_going ≡ r.keeps_going
     → (after q b).line ≡ (after r b).line + n → IsLater n (after r b) (after q b)
-first_later x r q b n h k line =
+first_later x r q b n h k keeps line =
     let s = read_byte r.separator r.state b in
     let separator = k.separator_is ∙ sym h.separator_is in
     let steps : read_byte q.separator q.state b ≡ s =
@@ -178,6 +190,7 @@ first_later x r q b n h k line =
     ap (λ y. is_between y.0) (first_is r b h.between)
     ∙ start_lines (b == 34) (splits r.separator b) (b == 13) (b == 10) in
     subst (λ y. IsLater n (moved r b s) (moved q b y)) (sym steps) (record {
+      keeps = keeps;
       steps = λ c. ap (λ f. read_byte f s.0 c) found;
       separator = found;
       strays = λ c. refl;
@@ -193,6 +206,11 @@ first_later x r q b n h k line =
       first_line = begun_later n q.line r.line q.first_line r.first_line (is_between s.0)
           (b == 13) (b == 10)
           q.returned r.returned lines line there.1 here.1;
+      stray =
+          ap (λ t. if is_end s.1 then false else t || is_stray q.state s.0)
+          (then_.2 ∙ sym first.2)
+          ∙ ap (λ t. if is_end s.1 then false else r.has_stray || t)
+          (between_stray q.state k.between s.0 ∙ sym (between_stray r.state h.between s.0));
     })
 
 -- how many lines
@@ -208,4 +226,4 @@ seam_later x r q b h k past =
     past_both r.line q.line r.returned q.returned (b == carriage_return) (b == line_feed)
     past.line past.feed in
     let n = (after q b).line - (after r b).line in
-    record { more = n; later = first_later x r q b n h k (omega (arith, low)) }
+    record { more = n; later = first_later x r q b n h k past.keeps (omega (arith, low)) }

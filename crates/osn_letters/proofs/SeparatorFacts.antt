@@ -43,7 +43,7 @@ no_separator b h Comma = (none_of (b == 44) (b == 59) (b == 9) h).0
 no_separator b h Semicolon = (none_of (b == 44) (b == 59) (b == 9) h).1
 no_separator b h Tab = (none_of (b == 44) (b == 59) (b == 9) h).2
 
--- it is read by one separator as by another
+-- a byte that is not a separator is read alike by each separator
 other_step : (b : ℕ) → separator_of b ≡ None → (p q : Separator) (s : State)
     → step (config_by p) s b ≡ step (config_by q) s b
 other_step b h p q st.StartRecord = rw (no_separator b h p, no_separator b h q) refl

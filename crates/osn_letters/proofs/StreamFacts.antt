@@ -122,7 +122,7 @@ pub both_ways : {T E : Type 0} (P : Type 0) (Q : E → Type 0) (r : Result T E) 
 both_ways P Q (Ok x) ok err = ok
 both_ways P Q (Err e) ok err = err
 
--- the same of a fault that a `?` passes on
+-- a fact of a fault that a `?` passes on
 pub ends_by_fault : {T E : Type 0} (P : Type 0) (Q : E → Type 0) (r : Result T E) (fault : E)
     → IsErrAnd r (λ e. e ≡ fault) → Q fault → MatchResult r (λ _. P) Q
 ends_by_fault {T} {E} P Q r fault made h =

@@ -16,7 +16,7 @@ pub written_as : (w : WriterBuilder) (new old : List ℕ) (a b : List (List ℕ)
     → new ≡ old ++ row_text w a → new ≡ old ++ row_text w b
 written_as w new old a b e is = is ∙ ap (λ fs. old ++ row_text w fs) e
 
--- the same after the writer got another separator
+-- a record that is written as what it is, after the writer got another separator
 pub written_by : {T E : Type 0} (r : Result T E) (x y : Separator) (new middle old : List ℕ)
     (a b : List (List ℕ)) → x ≡ y → middle ≡ old → a ≡ b
     → OnOk r (new ≡ middle ++ row_text (writer_by x) a)

@@ -103,7 +103,7 @@ abbrev pub column_in : ℕ → List (List ℕ) → Column → List ℕ → Resul
 column_in line header column name =
     ok_or (column_named name header) (lacks line header column name)
 
--- the same of a column that may not be named
+-- the index of a column that may not be named, in a header on that line
 abbrev pub part_column_in : ℕ → List (List ℕ) → Column → Option (List ℕ)
     → Result (Option ℕ) LettersFault
 part_column_in line header column None = Ok None

@@ -17,7 +17,7 @@ sign_of uncertain approximate =
     if uncertain then (if approximate then codes "%" else codes "?")
     else (if approximate then codes "~" else [])
 
--- that of a date
+-- the sign of a date
 abbrev pub sign : AnyDate → List ℕ
 sign w = sign_of w.is_uncertain w.is_approximate
 

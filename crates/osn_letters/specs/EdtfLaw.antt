@@ -1,4 +1,4 @@
--- That the texts which are written of several days or runs are read as sets of them.
+-- The texts that are written of several days or runs are read as sets of them.
 use Rattle.std.specs.Prelude.{◌≡◌, ℕ, ◌==◌, Bool, if◌then◌else◌, List, ◌∷◌, map, Some}
 use Rattle.std.specs.Prelude.{None, Ok}
 use Rattle.std.specs.List.{All}
@@ -34,7 +34,7 @@ pub record IsReadAs (o : DateOrder) (approximate uncertain : Bool) (text : List 
 abbrev pub IsRunOf : Rules → Run → Type 0
 IsRunOf p r = IsDay p r.first × IsDay p r.last
 
--- as a law: so is the text of two or more runs
+-- as a law: the EDTF text of two or more runs is read as the days of these runs
 unfoldable pub AreRunsRead : Rules → Type 0
 AreRunsRead p =
     (o : DateOrder) (approximate uncertain : Bool) (first next : Run) (rest : List Run)

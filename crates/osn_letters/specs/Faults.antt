@@ -1,4 +1,4 @@
--- Whose faults end a table of letters: the table's own, those of a stream, or NoMemory.
+-- The faults that end a table of letters are the table's own, those of a stream, or NoMemory.
 use Rattle.std.specs.Prelude.{◌≡◌, ◌⊎◌, ℕ, ◌+◌, Bool, true, false, ◌||◌}
 use Rattle.osn_letters.specs.declared.fault.LettersFault.{LettersFault}
 use Rattle.osn_letters.specs.declared.fault.LettersFault.TheVariants.{NoHeader, LacksColumn}
@@ -39,7 +39,7 @@ abbrev pub EndsStream : Bool → Bool → Bool → Type 0 → Type 0
 EndsStream true old new Long = (new ≡ true) ⊎ Long
 EndsStream false old new Long = new ≡ old
 
--- the same fault as many lines later
+-- a fault with its line this many lines later; one without a line is as it was
 abbrev pub later_fault : ℕ → LettersFault → LettersFault
 later_fault n (BadRecord line fields width) = BadRecord (line + n) fields width
 later_fault n (TooLong line) = TooLong (line + n)

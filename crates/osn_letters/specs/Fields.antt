@@ -1,6 +1,7 @@
 -- The twelve fields that are put after a letter's row: which days its date means in its place. This
 -- project's profile.
 use Rattle.std.specs.Prelude.{ℕ, Bool, true, false, List, [], ◌∷◌, ◌++◌, map, codes}
+use Rattle.std.specs.Prelude.{if◌then◌else◌}
 use Rattle.std.specs.Prelude.{Option, Some, None, Result, Ok, Err, string_bytes}
 use Rattle.std.specs.Fmt.{decimal}
 use Rattle.std.specs.List.{join_by}
@@ -41,7 +42,7 @@ use Rattle.osn_letters.specs.declared.day_field.DayField.{DayField}
 use Rattle.osn_letters.specs.declared.day_field.DayField.TheVariants as field
 use Rattle.osn_letters.specs.declared.letter.LetterFields.{LetterFields}
 use Rattle.osn_letters.specs.declared.no_place.NoPlace.{NoPlace}
-use Rattle.osn_letters.specs.declared.no_place.NoPlace.TheVariants.{Unknown}
+use Rattle.osn_letters.specs.declared.no_place.NoPlace.TheVariants.{Unknown, NotUtf8}
 use Rattle.osn_letters.specs.declared.remark.Remark.{Remark}
 use Rattle.osn_letters.specs.declared.remark.Remark.TheVariants as remark
 use Rattle.osn_letters.specs.declared.span.Span.{Span}
@@ -49,7 +50,7 @@ use Rattle.osn_letters.specs.Edtf.{edtf_of_days, edtf_of_runs, edtf_of_span, sig
 use Rattle.osn_letters.specs.PlaceEntries.{PlaceEntry}
 use Rattle.osn_letters.specs.Remarks.{remark_text, remarks_beside, remarks_beside_set}
 use Rattle.osn_letters.specs.Remarks.{remarks_on_days, applying}
-use Rattle.osn_letters.specs.RowFields.{date_of_field, is_malformed_weekday, members_in}
+use Rattle.osn_letters.specs.RowFields.{date_of_field, is_malformed_weekday, is_text, members_in}
 use Rattle.osn_letters.specs.RowFields.{territory_in, weekday_in}
 use Rattle.osn_letters.specs.Span.{no_span, span_of_days, span_of_runs, span_of_set}
 
@@ -64,7 +65,7 @@ day_text field.Dual dated = dated_text dated
 day_text field.Weekday dated = weekday_name (weekday_numbered (weekday dated.day))
 day_text field.JulianDayNumber dated = decimal (julian_day dated.day)
 
--- the same of all days
+-- what a field says of all days
 abbrev pub days_text : List DatedDay → DayField → List ℕ
 days_text days f = join_by (day_text f) (codes "; ") days
 
@@ -105,7 +106,7 @@ pub record FieldsAndRemarks : Type 0 where
   pub fields : List (List ℕ)
   pub remarks : List Remark
 
--- the same of what a call makes
+-- the fields and remarks that a call of the code makes
 abbrev pub fields_and_remarks : LetterFields → FieldsAndRemarks
 fields_and_remarks made = record {
   fields =
@@ -128,23 +129,23 @@ summary edition kind span = record { span = span; kind = kind; edition = edition
 abbrev pub summary_of : ℕ → AnyDate → Span → Summary
 summary_of edition w span = summary edition (Some (kind_of w.extent)) span
 
--- of a row that has no day
+-- the fields and remarks of a row that has no day
 abbrev pub fields_of_none : ℕ → Option Kind → List (Bool × Remark) → FieldsAndRemarks
 fields_of_none edition kind remarks =
     fields_with (summary edition kind no_span) [] [] (applying remarks)
 
--- of a date that means no day
+-- the fields and remarks of a date that means no day
 abbrev pub fields_of_absence : ℕ → AnyDate → NoDay → List (Bool × Remark) → FieldsAndRemarks
 fields_of_absence edition w reason beside =
     fields_of_none edition (Some (kind_of w.extent)) ((true, remark.NoDay reason) ∷ beside)
 
--- of days
+-- the fields and remarks of a date that means these days
 abbrev pub fields_of_days : ℕ → AnyDate → List DatedDay → List (Bool × Remark) → FieldsAndRemarks
 fields_of_days edition w days remarks =
     fields_with (summary_of edition w (span_of_days days)) days (edtf_of_days (sign w) days)
     (applying remarks)
 
--- of runs
+-- the fields and remarks of a date that means these runs
 abbrev pub fields_of_runs : ℕ → AnyDate → List Run → List (Bool × Remark) → FieldsAndRemarks
 fields_of_runs edition w runs remarks =
     let span = span_of_runs w.extent runs in
@@ -153,7 +154,7 @@ fields_of_runs edition w runs remarks =
 
 -- ---- the date, in its territory
 
--- of the days that a date means which is one day
+-- the fields and remarks of a date that is one day, by the days that it means
 abbrev pub fields_of_meaning : ℕ → AnyDate → WrittenDate → Option Weekday → NoDay
     → List (Bool × Remark) → List DatedDay → FieldsAndRemarks
 fields_of_meaning edition w day weekday_beside reason beside [] =
@@ -162,15 +163,16 @@ fields_of_meaning edition w day weekday_beside reason beside (first ∷ rest) =
     fields_of_days edition w (first ∷ rest)
     (remarks_on_days day weekday_beside (first ∷ rest) ++ beside)
 
--- of a date that is one day, by the reckoning of a territory, each day as the place dated it
+-- the fields and remarks of a date that is one day, by the reckoning of a territory, each day as
+-- the place dated it
 abbrev pub fields_of_one_day : Rules → ℕ → TerritoryModel → TerritoryModel → AnyDate
     → WrittenDate → Option Weekday → List (Bool × Remark) → FieldsAndRemarks
 fields_of_one_day p edition own t w day weekday_beside beside =
     fields_of_meaning edition w day weekday_beside (Absent (absence p t day)) beside
     (dated_by p own (meaning p t day weekday_beside))
 
--- of a date that is not one day. It is said if the place counted one of its days not double, and if
--- a range with one year ends in the next one
+-- the fields and remarks of a date that is not one day. A remark says if the place counted one of
+-- its days not double, and if a range with one year ends in the next one
 abbrev pub fields_of_found : ℕ → AnyDate → Bool → Bool → List (Bool × Remark)
     → Result (List Run) NoDay → FieldsAndRemarks
 fields_of_found edition w single later beside (Ok runs) =
@@ -185,7 +187,7 @@ fields_of_many_days p edition own t w beside =
     fields_of_found edition w (is_extent_not_counted_double p own t w.extent)
     (ends_in_next_year p t w.extent) beside (extent_meant p t w.extent)
 
--- of either
+-- the fields and remarks of a date that is one day or not
 abbrev pub fields_of_either : Rules → ℕ → TerritoryModel → TerritoryModel → AnyDate
     → Option Weekday → List (Bool × Remark) → Option WrittenDate → FieldsAndRemarks
 fields_of_either p edition own t w weekday_beside beside (Some day) =
@@ -193,7 +195,8 @@ fields_of_either p edition own t w weekday_beside beside (Some day) =
 fields_of_either p edition own t w weekday_beside beside None =
     fields_of_many_days p edition own t w beside
 
--- by the reckoning of a territory, in a place of its own reckoning, with the field of the weekday
+-- the fields and remarks of a date by the reckoning of a territory, in a place of its own
+-- reckoning, with the field of the weekday
 abbrev pub fields_by : Rules → ℕ → TerritoryModel → TerritoryModel → Bool → AnyDate
     → Option (List ℕ) → FieldsAndRemarks
 fields_by p edition own t is_other w weekday_field =
@@ -201,14 +204,14 @@ fields_by p edition own t is_other w weekday_field =
     (remarks_beside w (weekday_in weekday_field) is_other (is_malformed_weekday weekday_field))
     (one_day w)
 
--- in its territory, by the calendar that it names
+-- the fields and remarks of a date in its territory, by the calendar that it names
 abbrev pub fields_in : Rules → ℕ → TerritoryModel → AnyDate → Option (List ℕ) → FieldsAndRemarks
 fields_in p edition t w weekday_field =
     fields_by p edition t (reckoned t w.reckoning) (is_by_other_calendar p t w) w weekday_field
 
 -- ---- a set of dates
 
--- of its runs
+-- the fields and remarks of a set that means these runs
 abbrev pub fields_of_set_runs : ℕ → List AnyDate → List Run → List (Bool × Remark)
     → FieldsAndRemarks
 fields_of_set_runs edition ws runs beside =
@@ -216,7 +219,7 @@ fields_of_set_runs edition ws runs beside =
     (edtf_of_runs (sign_of (is_set_uncertain ws) (is_set_approximate ws)) runs)
     (applying beside)
 
--- if there is no day, for that reason
+-- the fields and remarks of a set that means no day, for that reason
 abbrev pub fields_of_no_set : ℕ → Remark → List (Bool × Remark) → FieldsAndRemarks
 fields_of_no_set edition reason beside =
     fields_of_none edition (Some kinds.Set) ((true, reason) ∷ beside)
@@ -227,7 +230,7 @@ fields_of_found_set edition ws beside (Ok runs) = fields_of_set_runs edition ws 
 fields_of_found_set edition ws beside (Err absent) =
     fields_of_no_set edition (remark.NoDay absent.reason) beside
 
--- in its place, if that is known
+-- the fields and remarks of a set in its place, if that is known
 abbrev pub fields_of_members : Rules → ℕ → Result TerritoryModel NoPlace → List AnyDate
     → List (Bool × Remark) → FieldsAndRemarks
 fields_of_members p edition (Ok t) ws beside =
@@ -235,7 +238,7 @@ fields_of_members p edition (Ok t) ws beside =
 fields_of_members p edition (Err reason) ws beside =
     fields_of_no_set edition (remark.NoPlace reason) beside
 
--- with the field of the weekday
+-- the fields and remarks of a set, with the field of the weekday
 abbrev pub fields_of_set : Rules → ℕ → Result TerritoryModel NoPlace → List AnyDate
     → Option (List ℕ) → FieldsAndRemarks
 fields_of_set p edition t ws weekday_field =
@@ -244,14 +247,14 @@ fields_of_set p edition t ws weekday_field =
 
 -- ---- the whole
 
--- of a date whose place is not known, for that reason
+-- the fields and remarks of a date whose place is not known, for that reason
 abbrev pub fields_without_place : ℕ → NoPlace → AnyDate → Option (List ℕ) → FieldsAndRemarks
 fields_without_place edition reason w weekday_field =
     fields_of_none edition (Some (kind_of w.extent))
     ((true, remark.NoPlace reason)
     ∷ remarks_beside w (weekday_in weekday_field) false (is_malformed_weekday weekday_field))
 
--- of a date in its place, if that is known
+-- the fields and remarks of a date in its place, if that is known
 abbrev pub fields_of_date : Rules → ℕ → Result TerritoryModel NoPlace → AnyDate → Option (List ℕ)
     → FieldsAndRemarks
 fields_of_date p edition (Ok t) w weekday_field = fields_in p edition t w weekday_field
@@ -273,17 +276,33 @@ fields_without_date edition fault place weekday_field =
     ∷ (is_malformed_weekday weekday_field, remark.MalformedWeekday)
     ∷ [])
 
--- of what the field of the date says, which may be a set of these dates
+-- what is said of the place beside a date that is not UTF-8: that of the place is not said again
+abbrev pub place_remark_beside : Result TerritoryModel NoPlace → Bool × Remark
+place_remark_beside (Err NotUtf8) = (false, remark.NoPlace Unknown)
+place_remark_beside other = place_remark other
+
+-- if the date is not UTF-8
+abbrev pub fields_without_text : ℕ → Result TerritoryModel NoPlace → Option (List ℕ)
+    → FieldsAndRemarks
+fields_without_text edition t weekday_field =
+    fields_of_none edition None
+    ((true, remark.NotUtf8)
+    ∷ place_remark_beside t
+    ∷ (is_malformed_weekday weekday_field, remark.MalformedWeekday)
+    ∷ [])
+
+-- of what the field of the date says, which may be a set of these dates, or no text
 abbrev pub fields_of_reading : Rules → ℕ → Result TerritoryModel NoPlace → Option (List ℕ)
-    → List AnyDate → Result Written DateFault → FieldsAndRemarks
-fields_of_reading p edition t weekday_field ws (Ok (written.Date w)) =
+    → List AnyDate → Bool → Result Written DateFault → FieldsAndRemarks
+fields_of_reading p edition t weekday_field ws is_read (Ok (written.Date w)) =
     fields_of_date p edition t w weekday_field
-fields_of_reading p edition t weekday_field ws (Ok written.Set) =
+fields_of_reading p edition t weekday_field ws is_read (Ok written.Set) =
     fields_of_set p edition t ws weekday_field
-fields_of_reading p edition t weekday_field ws (Ok written.NoDate) =
+fields_of_reading p edition t weekday_field ws is_read (Ok written.NoDate) =
     fields_without_date edition NoDate (place_remark t) weekday_field
-fields_of_reading p edition t weekday_field ws (Err fault) =
-    fields_without_date edition fault (place_remark t) weekday_field
+fields_of_reading p edition t weekday_field ws is_read (Err fault) =
+    if is_read then fields_without_date edition fault (place_remark t) weekday_field
+    else fields_without_text edition t weekday_field
 
 -- the twelve fields for a place, a date and perhaps a weekday, by the territories of an edition and
 -- a table of places
@@ -291,5 +310,4 @@ abbrev pub row_fields : Rules → List EntryModel → ℕ → DateOrder → List
     → List ℕ → Option (List ℕ) → FieldsAndRemarks
 row_fields p territories edition order places place date weekday_field =
     fields_of_reading p edition (territory_in territories places place) weekday_field
-    (members_in date)
-    (date_of_field order date)
+    (members_in date) (is_text date) (date_of_field order date)

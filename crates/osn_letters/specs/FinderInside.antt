@@ -10,14 +10,14 @@ use Rattle.osn_letters.specs.declared.no_place.NoPlace.{NoPlace}
 use Rattle.osn_letters.specs.declared.no_place.NoPlace.TheVariants.{Unknown}
 
 module _ {Y S : Type 0} where
-  -- under a key
+  -- the territory that a map has under a key, or why it has none
   abbrev pub found_under : HashMap (String Y) (Result (Bor TerritoryModel) NoPlace) S → List ℕ
       → Result TerritoryModel NoPlace
   found_under called key =
       result_map_both (λ t. t.now) (λ reason. reason)
       (unwrap_or (get_by_text called key) (Err Unknown))
 
-  -- for a text in capital or small letters
+  -- the territory that a map has for a text in capital or small letters
   abbrev pub found_in : HashMap (String Y) (Result (Bor TerritoryModel) NoPlace) S → List ℕ
       → Result TerritoryModel NoPlace
   found_in called text = found_under called (str_to_ascii_lowercase text)

@@ -1,5 +1,5 @@
--- That the records of a text are those that the kit reads.
-use Rattle.std.specs.Prelude.{◌≡◌, ℕ, true, List, [], ◌∷◌, Option, Result, Ok, Err, is_ok}
+-- The records of a text are those that the kit reads.
+use Rattle.std.specs.Prelude.{◌≡◌, ℕ, Bool, true, List, [], ◌∷◌, Option, Result, Ok, Err, is_ok}
 use Rattle.csv.specs.declared.parser.State.TheVariants.{StartRecord}
 use Rattle.csv.specs.Reading.{AreRecords, strip_bom}
 use Rattle.osn_letters.specs.declared.fault.LettersFault.{LettersFault}
@@ -27,6 +27,7 @@ AreSound (r ∷ rest) = (is_ok r.fields ≡ true) × AreSound rest
 -- except for the separator
 unfoldable pub AreKitRecords : Type 0
 AreKitRecords =
-    (named : Option Separator) (text : List ℕ) → AreSound (records_of named text)
-    → AreRecords (config_by (separator_in named text)) StartRecord (strip_bom text)
-    (all_fields (records_of named text))
+    (keeps_going : Bool) (named : Option Separator) (text : List ℕ)
+    → AreSound (records_of keeps_going named text)
+    → AreRecords (config_by (separator_in keeps_going named text)) StartRecord (strip_bom text)
+    (all_fields (records_of keeps_going named text))

@@ -24,7 +24,8 @@ pub record IsReady (s : Letters) : Type 0 where
 abbrev pub text_after : Letters → List ℕ → Written
 text_after s bytes = written_of s.table (records_from (reading_of s.parser) bytes)
 
--- the same of bytes that may go on with a byte order mark
+-- what is written of more bytes, from which a byte order mark at the beginning of the text is
+-- removed
 abbrev pub text_from : Letters → List ℕ → Written
 text_from s bytes = text_after s (unmarked s.start bytes)
 
@@ -41,7 +42,8 @@ TakesBytes old new bytes = (more : List ℕ) →
     Wrote (waiting old.table.out) (waiting new.table.out)
     (text_from old (bytes ++ more)) (text_from new more)
 
--- the same of bytes after the beginning
+-- bytes after the beginning were taken: what is written of them and of more is what waits, and what
+-- is written then of more
 abbrev pub TakesAfter : Letters → Letters → List ℕ → Type 0
 TakesAfter old new bytes = (more : List ℕ) →
     Wrote (waiting old.table.out) (waiting new.table.out)
@@ -58,7 +60,7 @@ abbrev pub StopsAt : Letters → Letters → List ℕ → LettersFault → Type 
 StopsAt old new bytes fault = (more : List ℕ) →
     Stops (waiting old.table.out) (waiting new.table.out) (text_from old (bytes ++ more)) fault
 
--- the same of bytes after the beginning
+-- some bytes after the beginning were not all taken, by that fault
 abbrev pub StopsAfter : Letters → Letters → List ℕ → LettersFault → Type 0
 StopsAfter old new bytes fault = (more : List ℕ) →
     Stops (waiting old.table.out) (waiting new.table.out) (text_after old (bytes ++ more)) fault
@@ -111,7 +113,8 @@ SinkEnds before now old bytes fault =
 abbrev pub tally_after : Letters → List ℕ → TallyModel
 tally_after s bytes = tally_of s.table (records_from (reading_of s.parser) bytes)
 
--- the same of bytes that may go on with a byte order mark
+-- the tally of the rows so far and of those of more bytes, from which a byte order mark at the
+-- beginning of the text is removed
 abbrev pub tally_from : Letters → List ℕ → TallyModel
 tally_from s bytes = tally_after s (unmarked s.start bytes)
 

@@ -10,7 +10,7 @@ use Rattle.osn_letters.specs.Table.{TableBasis, letters_written}
 -- the text ends between two records: it is empty, or ends with a line end that is not in quotes
 abbrev pub EndsBetweenRecords : TableBasis → List ℕ → Type 0
 EndsBetweenRecords s text =
-    is_between (reading_after (at_start s.separator) (strip_bom text)).state ≡ true
+    is_between (reading_after (at_start s.keeps_going s.separator) (strip_bom text)).state ≡ true
 
 -- the text ends between two records, and its table is written whole
 pub record IsWholeTable (s : TableBasis) (text : List ℕ) : Type 0 where
@@ -40,7 +40,8 @@ pub record IsWrittenInParts (s : TableBasis) (header : List ℕ) (parts : List (
   pub fault : (letters_written s (header ++ (concat parts ++ last))).fault
       ≡ option_map (later_fault more) (letters_written s (header ++ last)).fault
 
--- so is every table that is cut between its records, if no part before the last one has a fault
+-- Every table that is cut between its records is written in parts, if no part before the last one
+-- has a fault.
 unfoldable pub MayEachTableBeCut : Type 0
 MayEachTableBeCut =
     (s : TableBasis) (header : List ℕ) (parts : List (List ℕ)) (last : List ℕ)

@@ -1,6 +1,6 @@
 -- The table of places, which says the code of the territory for what the rows of a table of letters
 -- call a place. This project's profile.
-use Rattle.std.specs.Prelude.{ℕ, ◌==◌, if◌then◌else◌, List, [], ◌∷◌, ◌++◌, length, get_or}
+use Rattle.std.specs.Prelude.{ℕ, ◌==◌, false, if◌then◌else◌, List, [], ◌∷◌, ◌++◌, length, get_or}
 use Rattle.std.specs.Prelude.{Option, Some, None, ok_or, Result, Ok, Err}
 use Rattle.std.specs.Str.{bytes_eq, str_to_ascii_uppercase}
 use Rattle.std.specs.Str.Lossy.{utf8_lossy}
@@ -29,7 +29,7 @@ abbrev pub column_in : ℕ → List (List ℕ) → PlacesColumn → Result ℕ P
 column_in line header column =
     ok_or (column_named (column_name column) header) (lacks line header column)
 
--- both columns, and how many fields there are
+-- the columns of the place and of the code, and how many fields there are
 abbrev pub columns_in : ℕ → List (List ℕ) → Result PlaceColumns PlacesFault
 columns_in line header =
     column_in line header column.Place
@@ -85,4 +85,4 @@ entries_of entries (r ∷ rest) =
 
 -- the entries of a text of CSV, or its first fault
 abbrev pub places_in : List ℕ → Result (List PlaceEntry) PlacesFault
-places_in text = entries_of [] (records_of None text)
+places_in text = entries_of [] (records_of false None text)

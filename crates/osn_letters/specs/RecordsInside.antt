@@ -12,6 +12,8 @@ use Rattle.osn_letters.specs.declared.parser_state.Effect.TheVariants as effect
 use Rattle.osn_letters.specs.declared.parser.RecordParser.{RecordParser}
 use Rattle.osn_letters.specs.declared.fault.LettersFault.{LettersFault}
 use Rattle.osn_letters.specs.declared.fault.LettersFault.TheVariants.{NoMemory}
+use Rattle.osn_letters.specs.declared.parser.EndedRecord.{EndedRecord}
+use Rattle.osn_letters.specs.declared.record_flaw.RecordFlaw.{RecordFlaw}
 use Rattle.osn_letters.specs.Faults.{is_of_stream}
 use Rattle.osn_letters.specs.Records.{Reading, PlacedRecord, read_byte, after, records_by, faulty}
 use Rattle.osn_letters.specs.Records.{last_record, records_from}
@@ -35,6 +37,7 @@ action_of effect.EndRecord = act.EndRecord
 -- the state of the reading of a parser
 abbrev pub reading_of : RecordParser → Reading
 reading_of p = record {
+  keeps_going = p.keeps_going;
   state = state_of p.state;
   separator = p.separator;
   fields = fields_of p.fields;
@@ -43,38 +46,40 @@ reading_of p = record {
   line = p.line;
   returned = p.returned;
   first_line = p.first_line;
+  has_stray = p.has_stray;
 }
 
--- the same, once the record that ended is taken
+-- a reading whose ended record was taken, so that it has no field
 abbrev pub cleared : Reading → Reading
 cleared r = record r { fields = [] }
 
--- the record in a parser, with the line on which it begins
-abbrev pub record_in : RecordParser → ℕ → PlacedRecord
-record_in p line = record {
+-- the record in a parser, with the line on which it begins and its flaw
+abbrev pub record_in : RecordParser → ℕ → Option RecordFlaw → PlacedRecord
+record_in p line flaw = record {
   line = line;
   separator = or_comma p.separator;
+  flaw = flaw;
   fields = Ok (fields_of p.fields);
 }
 
--- the same, if a record ended
-abbrev pub records_given : RecordParser → Option ℕ → List PlacedRecord
+-- the record in a parser if one ended, or no record
+abbrev pub records_given : RecordParser → Option EndedRecord → List PlacedRecord
 records_given p None = []
-records_given p (Some line) = record_in p line ∷ []
+records_given p (Some e) = record_in p e.line e.flaw ∷ []
 
 -- how a parser reads a byte
 abbrev pub read_by : RecordParser → ℕ → State × Action
 read_by p b = read_byte p.separator (state_of p.state) b
 
--- a byte was taken, and ended no record, or one that begins on the line
-abbrev pub Takes : RecordParser → RecordParser → ℕ → Option ℕ → Type 0
+-- a byte was taken, and ended no record, or one that begins on a line and may have a flaw
+abbrev pub Takes : RecordParser → RecordParser → ℕ → Option EndedRecord → Type 0
 Takes p q b None =
     ((more : List PlacedRecord) → records_by (reading_of p) (read_by p b) more
     ≡ more)
     × (reading_of q ≡ after (reading_of p) b)
-Takes p q b (Some line) =
+Takes p q b (Some e) =
     ((more : List PlacedRecord) → records_by (reading_of p) (read_by p b) more
-    ≡ record_in q line ∷ more)
+    ≡ record_in q e.line e.flaw ∷ more)
     × (cleared (reading_of q) ≡ after (reading_of p) b)
 
 -- bytes were taken, and ended no record
@@ -89,7 +94,8 @@ RefusesByte p b fault = (is_of_stream fault ≡ false)
     → (more : List PlacedRecord) → records_by (reading_of p) (read_by p b) more
     ≡ faulty (reading_of p) fault ∷ [])
 
--- the same of the end of the text
+-- the end of the text was not taken, since the current record has that fault, or because memory ran
+-- out
 abbrev pub RefusesEnd : RecordParser → LettersFault → Type 0
 RefusesEnd p fault = (is_of_stream fault ≡ false)
     × ((fault ≢ NoMemory) → last_record (reading_of p) ≡ faulty (reading_of p) fault ∷ [])

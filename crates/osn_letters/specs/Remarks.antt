@@ -12,6 +12,8 @@ use Rattle.osn_written.specs.PlainDay.{one_day}
 use Rattle.osn_written.specs.Words.{fault_words, no_day_words}
 use Rattle.osn_letters.specs.declared.no_place.NoPlace.{NoPlace}
 use Rattle.osn_letters.specs.declared.no_place.NoPlace.TheVariants as no_place
+use Rattle.osn_letters.specs.declared.record_flaw.RecordFlaw.{RecordFlaw}
+use Rattle.osn_letters.specs.declared.record_flaw.RecordFlaw.TheVariants as flaws
 use Rattle.osn_letters.specs.declared.remark.Remark.{Remark}
 use Rattle.osn_letters.specs.declared.remark.Remark.TheVariants as remark
 
@@ -19,9 +21,19 @@ use Rattle.osn_letters.specs.declared.remark.Remark.TheVariants as remark
 abbrev pub place_words : NoPlace → List ℕ
 place_words no_place.Unknown = codes "unknown place"
 place_words no_place.Ambiguous = codes "ambiguous place"
+place_words no_place.NotUtf8 = codes "not UTF-8"
+
+-- what is wrong with a record, in words
+abbrev pub flaw_words : RecordFlaw → List ℕ
+flaw_words flaws.FieldCount = codes "another number of fields"
+flaw_words flaws.TooLong = codes "more than 65536 bytes"
+flaw_words flaws.OpenQuote = codes "quote not closed"
+flaw_words flaws.TextAfterQuote = codes "text after a closing quote"
 
 -- a remark in words
 abbrev pub remark_words : Remark → List ℕ
+remark_words (remark.OfRecord flaw) = flaw_words flaw
+remark_words remark.NotUtf8 = codes "not UTF-8"
 remark_words (remark.NotRead fault) = fault_words fault
 remark_words (remark.NoPlace reason) = place_words reason
 remark_words (remark.NoDay reason) = no_day_words reason
@@ -76,7 +88,7 @@ remarks_beside w weekday is_by_other_calendar is_malformed =
     ∷ (is_malformed, remark.MalformedWeekday)
     ∷ []
 
--- of a set of dates
+-- the remarks beside the days of a set of dates
 abbrev pub remarks_beside_set : Option Weekday → Bool → List (Bool × Remark)
 remarks_beside_set weekday is_malformed =
     (is_some weekday, remark.WeekdayNotCompared) ∷ (is_malformed, remark.MalformedWeekday) ∷ []

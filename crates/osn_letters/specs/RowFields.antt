@@ -1,6 +1,7 @@
 -- What the fields of a row say: the date, the territory and the weekday. This project's profile.
 use Rattle.std.specs.Prelude.{ℕ, ◌-◌, Bool, false, not, ◌&&◌, ◌==◌, if◌then◌else◌, List, [], length}
-use Rattle.std.specs.Prelude.{take, drop, Option, Some, None, is_none, ok_or, Result, Ok, Err}
+use Rattle.std.specs.Prelude.{take, drop, Option, Some, None, is_none, is_some, ok_or, Result}
+use Rattle.std.specs.Prelude.{Ok, Err}
 use Rattle.std.specs.Char.{is_ascii_whitespace}
 use Rattle.std.specs.List.{prefix_len, suffix_len}
 use Rattle.std.specs.Option.{option_and_then}
@@ -14,7 +15,7 @@ use Rattle.osn_territory.specs.Territory.{TerritoryModel}
 use Rattle.osn_letters.specs.PlaceEntries.{PlaceEntry, code_of}
 use Rattle.osn_letters.specs.TerritoryNames.{only_called}
 use Rattle.osn_letters.specs.declared.no_place.NoPlace.{NoPlace}
-use Rattle.osn_letters.specs.declared.no_place.NoPlace.TheVariants.{Unknown}
+use Rattle.osn_letters.specs.declared.no_place.NoPlace.TheVariants.{Unknown, NotUtf8}
 use Rattle.osn_register.specs.Code.{is_code}
 use Rattle.osn_register.specs.Plain.{EntryModel, territory_of}
 use Rattle.osn_written.specs.declared.written_date.DateFault.{DateFault}
@@ -36,6 +37,10 @@ trimmed bytes = without_trailing (without_leading bytes)
 -- the text that a field has without the white space around it, if it is a text
 abbrev pub text_in_field : List ℕ → Option (List ℕ)
 text_in_field bytes = if is_utf8 (trimmed bytes) then Some (trimmed bytes) else None
+
+-- a field is a text
+abbrev pub is_text : List ℕ → Bool
+is_text bytes = is_some (text_in_field bytes)
 
 -- what the text of a field says of a date, or why it says nothing of one
 abbrev pub date_of_text : DateOrder → Option (List ℕ) → Result Written DateFault
@@ -81,7 +86,7 @@ territory_by territories text (Some code) = territory_listed territories code
 -- the territory of the text of a field, if that is a text
 abbrev pub territory_of_place : List EntryModel → List PlaceEntry → Option (List ℕ)
     → Result TerritoryModel NoPlace
-territory_of_place territories places None = Err Unknown
+territory_of_place territories places None = Err NotUtf8
 territory_of_place territories places (Some text) =
     territory_by territories text (code_of text places)
 

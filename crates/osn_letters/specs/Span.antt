@@ -11,7 +11,7 @@ use Rattle.osn_letters.specs.declared.span.Span.{Span}
 abbrev pub span : Option ℕ → Option ℕ → Span
 span earliest latest = record { earliest = earliest; latest = latest }
 
--- that of no day
+-- the span of no day
 abbrev pub no_span : Span
 no_span = span None None
 
@@ -28,11 +28,11 @@ span_of_days days = span (earliest days) (latest days)
 
 -- ---- of runs in order
 
--- of a set
+-- the span of a set
 abbrev pub span_of_set : List Run → Span
 span_of_set runs = span (first_of runs) (last_of runs)
 
--- a bound is open at one end
+-- the span of a date that is not one day. A bound is open at one end
 abbrev pub span_of_runs : Extent → List Run → Span
 span_of_runs (extent.On date) runs = span (first_of runs) (last_of runs)
 span_of_runs (extent.FromTo a b) runs = span (first_of runs) (last_of runs)

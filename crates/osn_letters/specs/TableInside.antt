@@ -7,6 +7,7 @@ use Rattle.osn_letters.specs.declared.table.Rows.{Rows}
 use Rattle.osn_letters.specs.declared.table.Table.{Table}
 use Rattle.osn_letters.specs.declared.fault.LettersFault.{LettersFault}
 use Rattle.osn_letters.specs.declared.fault.LettersFault.TheVariants.{NoMemory}
+use Rattle.osn_letters.specs.declared.record_flaw.RecordFlaw.{RecordFlaw}
 use Rattle.osn_letters.specs.Faults.{is_of_stream}
 use Rattle.osn_letters.specs.Records.{PlacedRecord}
 use Rattle.osn_letters.specs.Table.{TableBasis, basis, Heading, Written, written_from, text_before}
@@ -36,6 +37,15 @@ heading_of t = heading_by t.out.separator t.rows
 abbrev pub written_of : Table → List PlacedRecord → Written
 written_of t records = written_from (source_of t) (heading_of t) records
 
+-- a record with these fields
+abbrev pub taken_record : ℕ → Separator → Option RecordFlaw → List (List ℕ) → PlacedRecord
+taken_record line separator flaw record_fields = record {
+  line = line;
+  separator = separator;
+  flaw = flaw;
+  fields = Ok record_fields;
+}
+
 -- of these records, a text was written, and the table goes on
 pub record TakesRecords (old new : Table) (taken : List PlacedRecord) : Type 0 where
   pub text : List ℕ
@@ -52,23 +62,23 @@ RefusesRecord old new r fault = (is_of_stream fault ≡ false)
     → (waiting new.out ≡ waiting old.out)
     × ((more : List PlacedRecord) → written_of old (r ∷ more) ≡ ended_by fault))
 
--- the same of a record after the header, whatever separated its fields
-abbrev pub TakesRow : Table → Table → ℕ → List (List ℕ) → Type 0
-TakesRow old new line record_fields = (separator : Separator) →
-    TakesRecords old new
-    (record { line = line; separator = separator; fields = Ok record_fields } ∷ [])
+-- a record after the header was taken, or was not by that fault, whatever separated its fields
+abbrev pub TakesRow : Table → Table → ℕ → Option RecordFlaw → List (List ℕ) → Type 0
+TakesRow old new line flaw record_fields = (separator : Separator) →
+    TakesRecords old new (taken_record line separator flaw record_fields ∷ [])
 
-abbrev pub RefusesRow : Table → Table → ℕ → List (List ℕ) → LettersFault → Type 0
-RefusesRow old new line record_fields fault = (separator : Separator) →
-    RefusesRecord old new
-    (record { line = line; separator = separator; fields = Ok record_fields }) fault
+abbrev pub RefusesRow : Table → Table → ℕ → Option RecordFlaw → List (List ℕ) → LettersFault
+    → Type 0
+RefusesRow old new line flaw record_fields fault = (separator : Separator) →
+    RefusesRecord old new (taken_record line separator flaw record_fields) fault
 
 -- ---- remarks
 
 -- the tally of the rows so far and of those of more records
 abbrev pub tally_with : TableBasis → Option Rows → TallyModel → List PlacedRecord → TallyModel
 tally_with s None tally records = with_rows tally (table_remarks s records)
-tally_with s (Some rows) tally records = with_rows tally (rows_remarks s rows.columns records)
+tally_with s (Some rows) tally records =
+    with_rows tally (rows_remarks s rows.columns rows.width records)
 
 abbrev pub tally_of : Table → List PlacedRecord → TallyModel
 tally_of t records = tally_with (source_of t) t.rows t.tally records
@@ -77,10 +87,10 @@ tally_of t records = tally_with (source_of t) t.rows t.tally records
 abbrev pub CountsRecord : Table → Table → PlacedRecord → Type 0
 CountsRecord old new r = (more : List PlacedRecord) → tally_of old (r ∷ more) ≡ tally_of new more
 
--- the same of a record after the header, whatever separated its fields
-abbrev pub CountsRow : Table → Table → ℕ → List (List ℕ) → Type 0
-CountsRow old new line record_fields = (separator : Separator) → CountsRecord old new
-    (record { line = line; separator = separator; fields = Ok record_fields })
+-- a record after the header was taken, and it is counted, whatever separated its fields
+abbrev pub CountsRow : Table → Table → ℕ → Option RecordFlaw → List (List ℕ) → Type 0
+CountsRow old new line flaw record_fields = (separator : Separator) →
+    CountsRecord old new (taken_record line separator flaw record_fields)
 
 -- the tally of a whole text
 abbrev pub letters_tally : TableBasis → List ℕ → TallyModel

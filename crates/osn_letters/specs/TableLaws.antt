@@ -3,7 +3,7 @@ use Rattle.osn_letters.specs.Law.{AreKitRecords}
 use Rattle.osn_letters.specs.Parts.{MayEachTableBeCut}
 
 pub record AreTableLaws : Type 0 where
-  -- its records are those that the kit reads, if no record has a fault
+  -- the records of a table are those that the kit reads, if no record has a fault
   pub kit : AreKitRecords
-  -- it may be cut between its records and written in parts, each after the header
+  -- a table may be cut between its records and written in parts, each after the header
   pub cut : MayEachTableBeCut

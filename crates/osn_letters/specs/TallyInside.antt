@@ -25,7 +25,7 @@ abbrev pub with_words : List (List ℕ × ℕ) → List ℕ → List (List ℕ �
 with_words counts words =
     insert_entry (slice_cmp nat_cmp) counts words (up_to_most (count_before counts words + 1))
 
--- the same for each of these remarks
+-- the counts, with one more for the words of each of these remarks
 abbrev pub with_remarks : List (List ℕ × ℕ) → List Remark → List (List ℕ × ℕ)
 with_remarks counts [] = counts
 with_remarks counts (r ∷ rest) = with_remarks (with_words counts (remark_words r)) rest

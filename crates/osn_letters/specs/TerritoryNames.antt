@@ -4,7 +4,7 @@ use Rattle.std.specs.Str.{str_eq_ignore_ascii_case}
 use Rattle.osn_register.specs.Plain.{EntryModel}
 use Rattle.osn_territory.specs.Territory.{TerritoryModel}
 use Rattle.osn_letters.specs.declared.no_place.NoPlace.{NoPlace}
-use Rattle.osn_letters.specs.declared.no_place.NoPlace.TheVariants.{Unknown, Ambiguous}
+use Rattle.osn_letters.specs.declared.no_place.NoPlace.TheVariants.{Unknown, Ambiguous, NotUtf8}
 
 -- a territory has the text as its code or its name, in capital or small letters
 abbrev pub is_called : List ℕ → EntryModel → Bool
@@ -27,3 +27,4 @@ with_territory false found t = found
 with_territory true (Ok other) t = Err Ambiguous
 with_territory true (Err Unknown) t = Ok t
 with_territory true (Err Ambiguous) t = Err Ambiguous
+with_territory true (Err NotUtf8) t = Err NotUtf8

@@ -31,7 +31,7 @@ pub enum AddedColumn {
     Remark,
 }
 
-/// These columns in their order.
+/// The columns that are added to a table, in their order.
 pub(crate) const ADDED_COLUMNS: [AddedColumn; 12] = [
     AddedColumn::Days,
     AddedColumn::Gregorian,

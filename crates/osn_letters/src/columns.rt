@@ -170,7 +170,7 @@ fn names_text(alloc: Global, header: &ByteRecord) -> Result<Vec<u8>, AllocError>
     Ok(names)
 }
 
-/// Returns the same as a text. Bytes that aren't UTF-8 are replaced.
+/// Returns the names of a header as a text. Bytes that aren't UTF-8 are replaced.
 pub(crate) fn names_found(alloc: Global, header: &ByteRecord) -> Result<Text, AllocError>
     ensures { IfOk result (λ found. found ≡ utf8_lossy (spec.names_text (fields_of header.now))) }
 {

@@ -1,12 +1,14 @@
 //! The text of rows.
-ghost use Rattle.std.specs.Prelude.{◌≡◌, ◌++◌, [], map, take, IfOk, OnOk};
+ghost use Rattle.std.specs.Prelude.{◌≡◌, ◌++◌, ◌-◌, [], map, take, IfOk, OnOk};
 ghost use Rattle.csv.specs.Records.{fields_of, partial_of};
 ghost use Rattle.csv.specs.Writing.{row_text};
 ghost use Rattle.osn_letters.specs.AddedColumns.{added_name};
 ghost use Rattle.osn_letters.specs.Separators.{writer_by};
+ghost use Rattle.osn_letters.specs.Table.{fields_from};
 ghost use Rattle.osn_letters.specs.WriterInside as inside;
 
 use crate::added_column::AddedColumn;
+use crate::columns::field_at;
 use crate::separator::Separator;
 use csv::{ByteRecord, Writer, WriterBuilder};
 use std::alloc::{AllocError, Global};
@@ -89,6 +91,24 @@ pub(crate) fn keep_fields(row: &mut ByteRecord, count: usize)
     ensures partial { partial_of row.new ≡ [] }
 {
     row.truncate(count);
+}
+
+/// Appends the fields of another record from one index to another. One that it lacks is empty.
+pub(crate) fn push_fields(
+    row: &mut ByteRecord,
+    from: &ByteRecord,
+    start: usize,
+    end: usize,
+) -> Result<(), AllocError>
+    requires { partial_of row.old ≡ [] }
+    ensures fields { OnOk result (fields_of row.new
+        ≡ fields_of row.old ++ fields_from (fields_of from.now) start (end - start)) }
+    ensures partial { OnOk result (partial_of row.new ≡ []) }
+{
+    for index in start..end {
+        row.push_field(field_at(from, index))?;
+    }
+    Ok(())
 }
 
 /// Appends fields with the names of these columns.

@@ -9,9 +9,10 @@ ghost use Rattle.osn_letters.specs.Fields as spec;
 use crate::added_fields::Summary;
 use crate::edtf::{edtf_of_days, edtf_of_span, sign};
 use crate::no_place::NoPlace;
+use crate::place_remark::{place_remark, place_remark_beside};
 use crate::places::Places;
 use crate::remark::{PossibleRemark, Remark, applying, remarks_beside, remarks_on_days};
-use crate::row_field::{date_of_field, is_malformed_weekday, weekday_in};
+use crate::row_field::{date_of_field, is_malformed_weekday, is_text, weekday_in};
 use crate::set::fields_of_set;
 use crate::span::{NO_SPAN, span_of_days, span_of_runs};
 use crate::territory_finder::TerritoryFinder;
@@ -301,17 +302,6 @@ fn fields_of_date(
     }
 }
 
-/// Returns what is said of the place.
-fn place_remark(territory: Result<&Territory, NoPlace>) -> PossibleRemark
-    ensures { result ≡ spec.place_remark
-        (result_map_both (λ t. t.now) (λ reason. reason) territory.entry) }
-{
-    match territory {
-        Ok(_) => (false, Remark::NoPlace(NoPlace::Unknown)),
-        Err(reason) => (true, Remark::NoPlace(reason)),
-    }
-}
-
 /// Returns the fields if no date is read, with what is said of the place and the field of the
 /// weekday.
 fn fields_without_date(
@@ -326,6 +316,26 @@ fn fields_without_date(
         place (option_map (λ w. w.now) weekday_field.entry)) }
 {
     let reasons = [(true, Remark::NotRead(fault)), place];
+    let beside = [(
+        is_malformed_weekday(weekday_field),
+        Remark::MalformedWeekday,
+    )];
+    fields_of_none(alloc, edition, None, &reasons, &beside)
+}
+
+/// Returns the fields if the date is not UTF-8, with the field of the weekday.
+fn fields_without_text(
+    alloc: Global,
+    edition: usize,
+    territory: Result<&Territory, NoPlace>,
+    weekday_field: Option<&[u8]>,
+) -> Result<LetterFields, AllocError>
+    ensures { IfOk result (λ fields. spec.fields_and_remarks fields
+        ≡ spec.fields_without_text edition
+        (result_map_both (λ t. t.now) (λ reason. reason) territory.entry)
+        (option_map (λ w. w.now) weekday_field.entry)) }
+{
+    let reasons = [(true, Remark::NotUtf8), place_remark_beside(territory)];
     let beside = [(
         is_malformed_weekday(weekday_field),
         Remark::MalformedWeekday,
@@ -374,6 +384,7 @@ pub fn row_fields(
             let place = place_remark(territory);
             fields_without_date(alloc, edition, DateFault::NoDate, place, weekday)
         }
+        Err(_) if !is_text(date) => fields_without_text(alloc, edition, territory, weekday),
         Err(fault) => {
             fields_without_date(alloc, edition, fault, place_remark(territory), weekday)
         }

@@ -51,7 +51,7 @@ impl<'a> Letters<'a> {
         let territories = TerritoryFinder::new(alloc, register)?;
         Ok(Letters {
             start: ByteOrderMark::Nothing,
-            parser: RecordParser::new(alloc, settings.separator),
+            parser: RecordParser::new(alloc, settings.keeps_going, settings.separator),
             table: Table {
                 alloc,
                 territories,
@@ -80,11 +80,11 @@ impl Letters<'_> {
         ensures counts { OnOk result (inside.CountsAfter self.old self.new (byte ∷ [])) }
         ensures stops { IfErr result (inside.StopsAfter self.old self.new (byte ∷ [])) }
     {
-        let Some(line) = self.parser.take(byte)? else {
+        let Some(ended) = self.parser.take(byte)? else {
             return Ok(());
         };
         let separator = self.parser.separator();
-        self.table.take(&mut self.parser.fields, line, separator)?;
+        self.table.take(&mut self.parser.fields, ended, separator)?;
         self.parser.clear();
         Ok(())
     }
@@ -205,9 +205,9 @@ impl Letters<'_> {
         ensures stops { IfErr result (inside.Stops (waiting self.old.table.out)
             (waiting self.new.table.out) (inside.text_after self.old [])) }
     {
-        if let Some(line) = self.parser.finish()? {
+        if let Some(ended) = self.parser.finish()? {
             let separator = self.parser.separator();
-            self.table.take(&mut self.parser.fields, line, separator)?;
+            self.table.take(&mut self.parser.fields, ended, separator)?;
         }
         Ok(())
     }

@@ -9,6 +9,8 @@ pub enum NoPlace {
     Unknown,
     /// Several territories have that code or that name.
     Ambiguous,
+    /// The place is not UTF-8.
+    NotUtf8,
 }
 
 impl NoPlace {
@@ -19,6 +21,7 @@ impl NoPlace {
         match self {
             NoPlace::Unknown => "unknown place",
             NoPlace::Ambiguous => "ambiguous place",
+            NoPlace::NotUtf8 => "not UTF-8",
         }
     }
 }

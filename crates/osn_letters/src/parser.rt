@@ -1,7 +1,7 @@
 //! The records of a text of CSV, as its bytes come.
 ghost use Rattle.std.specs.Prelude.{◌≡◌, ◌+◌, ◌-◌, ◌++◌, ◌<◌, ◌≤◌, ◌^◌, ◌∷◌, [], false, IfOk};
 ghost use Rattle.std.specs.Prelude.{IfErr, OnOk};
-ghost use Rattle.std.specs.Prelude.{if◌then◌else◌, ◌==◌, length, take, true};
+ghost use Rattle.std.specs.Prelude.{if◌then◌else◌, ◌==◌, ◌||◌, length, take, true};
 ghost use Rattle.std.specs.List.{list_all};
 ghost use Rattle.csv.specs.Machine.{carriage_return, fields_after, field_after};
 ghost use Rattle.csv.specs.Records.{fields_of, partial_of};
@@ -13,12 +13,17 @@ ghost use Rattle.osn_letters.specs.Separators as separators;
 
 use crate::fault::LettersFault;
 use crate::parser_state::{Effect, ParserState, Step};
+use crate::record_flaw::RecordFlaw;
 use crate::separator::{Separator, or_comma, separator_after};
 use csv::ByteRecord;
 use std::alloc::{AllocError, Global};
 
 /// The most bytes that a record may have in the text, without its line end.
 const LONGEST_RECORD: usize = 65_536;
+
+/// The most bytes that a record may have in the text if the records after a longer one are read
+/// too.
+const LONGEST_KEPT: usize = 16_777_216;
 
 /// Returns how many bytes there are before the first that is `end` or ends a line, but no more than
 /// `most`.
@@ -37,9 +42,18 @@ fn run_len(bytes: &[u8], end: u8, most: usize) -> usize
     most
 }
 
-/// The state of the reading of a text, and what was read of the current record.
+/// A record that ended: the line on which it begins, and its flaw, if it has one.
+#[derive(Clone, Copy)]
+pub(crate) struct EndedRecord {
+    pub(crate) line: u64,
+    pub(crate) flaw: Option<RecordFlaw>,
+}
+
+/// The state of the reading of a text, and what was read of the current record. Records that have a
+/// flaw may be read too.
 #[derive(Drop)]
 pub(crate) struct RecordParser {
+    pub(crate) keeps_going: bool,
     pub(crate) state: ParserState,
     pub(crate) separator: Option<Separator>,
     pub(crate) fields: ByteRecord,
@@ -48,15 +62,17 @@ pub(crate) struct RecordParser {
     pub(crate) line: u64,
     pub(crate) returned: bool,
     pub(crate) first_line: u64,
+    pub(crate) has_stray: bool,
 }
 
 impl RecordParser {
     /// Returns the state at the beginning of a text, with the separator that was named, if any.
-    pub(crate) fn new(alloc: Global, named: Option<Separator>) -> RecordParser
-        ensures reading { reading_of result ≡ spec.at_start named }
+    pub(crate) fn new(alloc: Global, keeps_going: bool, named: Option<Separator>) -> RecordParser
+        ensures reading { reading_of result ≡ spec.at_start keeps_going named }
         ensures partial { partial_of result.fields ≡ [] }
     {
         RecordParser {
+            keeps_going,
             state: ParserState::StartRecord,
             separator: named,
             fields: ByteRecord::new(alloc),
@@ -65,6 +81,7 @@ impl RecordParser {
             line: 1,
             returned: false,
             first_line: 1,
+            has_stray: false,
         }
     }
 
@@ -81,6 +98,8 @@ impl RecordParser {
         ensures line { self.new.line ≡ self.old.line }
         ensures returned { self.new.returned ≡ self.old.returned }
         ensures first_line { self.new.first_line ≡ self.old.first_line }
+        ensures keeps_going { self.new.keeps_going ≡ self.old.keeps_going }
+        ensures has_stray { self.new.has_stray ≡ self.old.has_stray }
     {
         self.fields.push_field(&self.field)?;
         self.field.clear();
@@ -101,6 +120,8 @@ impl RecordParser {
         ensures line { self.new.line ≡ self.old.line }
         ensures returned { self.new.returned ≡ self.old.returned }
         ensures first_line { self.new.first_line ≡ self.old.first_line }
+        ensures keeps_going { self.new.keeps_going ≡ self.old.keeps_going }
+        ensures has_stray { self.new.has_stray ≡ self.old.has_stray }
     {
         match effect {
             Effect::Skip => Ok(()),
@@ -109,11 +130,22 @@ impl RecordParser {
         }
     }
 
+    /// Returns the most bytes that the current record may have.
+    fn most_bytes(&self) -> usize
+        ensures { result ≡ spec.most_bytes self.now.keeps_going }
+    {
+        if self.keeps_going {
+            LONGEST_KEPT
+        } else {
+            LONGEST_RECORD
+        }
+    }
+
     /// Returns whether the current record has no room for a byte that leads to a state.
     fn is_full(&self, state: ParserState) -> bool
         ensures { result ≡ spec.is_full (reading_of self.now) (state_of state) }
     {
-        !state.is_between() && self.size >= LONGEST_RECORD
+        !state.is_between() && self.size >= self.most_bytes()
     }
 
     /// Returns whether a byte ends a line.
@@ -130,6 +162,46 @@ impl RecordParser {
         self.state == ParserState::AfterQuote && state == ParserState::InField
     }
 
+    /// Returns whether the current record is not read because of a flaw.
+    fn is_refused(&self, has_flaw: bool) -> bool
+        ensures { result ≡ spec.is_refused (reading_of self.now) has_flaw }
+    {
+        has_flaw && !self.keeps_going
+    }
+
+    /// Returns whether the current record has a text after a closing quote, or a byte is one.
+    fn has_stray_with(&self, is_stray: bool) -> bool
+        ensures { result ≡ self.now.has_stray || is_stray }
+    {
+        self.has_stray || is_stray
+    }
+
+    /// Returns the flaw of the current record, if it ends here and has one.
+    fn flaw(&self) -> Option<RecordFlaw>
+        ensures { result ≡ spec.flaw_of (reading_of self.now) }
+    {
+        if self.state.is_open() {
+            Some(RecordFlaw::OpenQuote)
+        } else if self.size > LONGEST_RECORD {
+            Some(RecordFlaw::TooLong)
+        } else if self.has_stray {
+            Some(RecordFlaw::TextAfterQuote)
+        } else {
+            None
+        }
+    }
+
+    /// Returns the current record, if it ends here.
+    fn ended_record(&self) -> EndedRecord
+        ensures line { result.line ≡ self.now.first_line }
+        ensures flaw { result.flaw ≡ spec.flaw_of (reading_of self.now) }
+    {
+        EndedRecord {
+            line: self.first_line,
+            flaw: self.flaw(),
+        }
+    }
+
     /// Counts a byte that leads to a state.
     fn advance(&mut self, state: ParserState, byte: u8)
         requires line { self.old.line + 1 < 2 ^ 64 }
@@ -144,6 +216,8 @@ impl RecordParser {
         ensures separator { self.new.separator ≡ self.old.separator }
         ensures fields { self.new.fields ≡ self.old.fields }
         ensures field { self.new.field ≡ self.old.field }
+        ensures keeps_going { self.new.keeps_going ≡ self.old.keeps_going }
+        ensures has_stray { self.new.has_stray ≡ self.old.has_stray }
     {
         if self.ends_line(byte) {
             self.line += 1;
@@ -162,7 +236,7 @@ impl RecordParser {
     /// do nothing else.
     fn count_joining(&self, bytes: &[u8]) -> usize
         ensures within { result ≤ length bytes.now }
-        ensures room { result ≤ spec.longest_record - self.now.size }
+        ensures room { result ≤ spec.most_bytes self.now.keeps_going - self.now.size }
         ensures joins { runs.JoinField (reading_of self.now) (take result bytes.now) }
     {
         let (Some(separator), false) = (self.separator, self.returned) else {
@@ -171,7 +245,7 @@ impl RecordParser {
         let Some(end) = self.state.run_end(separator) else {
             return 0;
         };
-        let room = LONGEST_RECORD.saturating_sub(self.size);
+        let room = self.most_bytes().saturating_sub(self.size);
         run_len(bytes, end, room)
     }
 
@@ -202,15 +276,16 @@ impl RecordParser {
         or_comma(self.separator)
     }
 
-    /// Takes the next byte. If the byte ends a record, returns the line on which that record
-    /// begins. The parser contains that record until it is cleared.
+    /// Takes the next byte. If the byte ends a record, returns where that record begins, and its
+    /// flaw. The parser contains that record until it is cleared.
     ///
     /// # Errors
     ///
     /// `TooLong` if the current record has no room for the byte. Otherwise `TextAfterQuote` if the
-    /// byte is a text after a closing quote. And `NoMemory`.
+    /// byte is a text after a closing quote, and records that have a flaw are not read. And
+    /// `NoMemory`.
     #[inline]
-    pub(crate) fn take(&mut self, byte: u8) -> Result<Option<u64>, LettersFault>
+    pub(crate) fn take(&mut self, byte: u8) -> Result<Option<EndedRecord>, LettersFault>
         requires partial { partial_of self.old.fields ≡ [] }
         requires line { self.old.line + 1 < 2 ^ 64 }
         ensures partial { OnOk result (partial_of self.new.fields ≡ []) }
@@ -225,18 +300,21 @@ impl RecordParser {
                 line: self.first_line,
             });
         }
-        if self.is_stray(state) {
+        let is_stray = self.is_stray(state);
+        if self.is_refused(is_stray) {
             return Err(LettersFault::TextAfterQuote {
                 line: self.first_line,
             });
         }
-        let first_line = self.first_line;
+        let ended = self.ended_record();
         self.apply(effect, byte)?;
         self.advance(state, byte);
         self.separator = separator_after(self.separator, byte, effect);
         if effect == Effect::EndRecord {
-            return Ok(Some(first_line));
+            self.has_stray = false;
+            return Ok(Some(ended));
         }
+        self.has_stray = self.has_stray_with(is_stray);
         Ok(None)
     }
 
@@ -248,13 +326,14 @@ impl RecordParser {
         self.fields.clear();
     }
 
-    /// Ends the text. If this ends a record, returns the line on which that record begins. The
+    /// Ends the text. If this ends a record, returns where that record begins, and its flaw. The
     /// parser then contains that record.
     ///
     /// # Errors
     ///
-    /// `OpenQuote` if a quote is still open, and `NoMemory`.
-    pub(crate) fn finish(&mut self) -> Result<Option<u64>, LettersFault>
+    /// `OpenQuote` if a quote is still open, and records that have a flaw are not read. And
+    /// `NoMemory`.
+    pub(crate) fn finish(&mut self) -> Result<Option<EndedRecord>, LettersFault>
         requires partial { partial_of self.old.fields ≡ [] }
         ensures ends { IfOk result (λ ended. spec.last_record (reading_of self.old)
             ≡ inside.records_given self.new ended) }
@@ -264,12 +343,13 @@ impl RecordParser {
         if self.state.is_between() {
             return Ok(None);
         }
-        if self.state == ParserState::InQuoted {
+        if self.is_refused(self.state.is_open()) {
             return Err(LettersFault::OpenQuote {
                 line: self.first_line,
             });
         }
+        let ended = self.ended_record();
         self.end_field()?;
-        Ok(Some(self.first_line))
+        Ok(Some(ended))
     }
 }

@@ -120,6 +120,13 @@ impl ParserState {
         }
     }
 
+    /// Returns whether a quote is open.
+    pub(crate) fn is_open(self) -> bool
+        ensures { result ≡ spec.is_open (state_of self) }
+    {
+        self == ParserState::InQuoted
+    }
+
     /// Returns whether it is between two records.
     pub(crate) fn is_between(self) -> bool
         ensures { result ≡ spec.is_between (state_of self) }

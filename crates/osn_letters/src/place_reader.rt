@@ -37,11 +37,11 @@ impl PlaceReader {
         ensures partial { partial_of result.parser.fields ≡ [] }
         ensures line { result.parser.line ≡ 1 }
         ensures entries { (text : List ℕ) → inside.found_from result text
-            ≡ spec.entries_of [] (records_from (at_start None) text) }
+            ≡ spec.entries_of [] (records_from (at_start false None) text) }
     {
         PlaceReader {
             alloc,
-            parser: RecordParser::new(alloc, None),
+            parser: RecordParser::new(alloc, false, None),
             columns: None,
             places: Places::new(alloc),
         }
@@ -105,8 +105,8 @@ impl PlaceReader {
         ensures refuses { IfErr result (λ fault. (more : List ℕ)
             → inside.RefusesBytes self.old (byte ∷ more) fault) }
     {
-        if let Some(line) = self.parser.take(byte)? {
-            self.take_record(line)?;
+        if let Some(ended) = self.parser.take(byte)? {
+            self.take_record(ended.line)?;
             self.parser.clear();
         }
         Ok(())
@@ -134,8 +134,8 @@ impl PlaceReader {
             (inside.found_from self.old [] ≡ inside.found_by self.new []) }
         ensures refuses { IfErr result (inside.RefusesBytes self.old []) }
     {
-        if let Some(line) = self.parser.finish()? {
-            self.take_record(line)?;
+        if let Some(ended) = self.parser.finish()? {
+            self.take_record(ended.line)?;
         }
         Ok(())
     }

@@ -6,6 +6,7 @@ ghost use Rattle.osn_written.specs.Meaning as meaning;
 ghost use Rattle.osn_letters.specs.Remarks as spec;
 
 use crate::no_place::NoPlace;
+use crate::record_flaw::RecordFlaw;
 use itertools::Itertools;
 use osn_days::Weekday;
 use osn_territory::DatedDay;
@@ -16,6 +17,10 @@ use std::fmt;
 /// What may be said of a letter.
 #[derive(Clone, Copy, Debug, PartialEq, Eq)]
 pub enum Remark {
+    /// Its record has a flaw, so its fields are not read.
+    OfRecord(RecordFlaw),
+    /// Its date is not UTF-8.
+    NotUtf8,
     /// Its date is not read.
     NotRead(DateFault),
     /// Its place is that of no territory, or may be that of several.
@@ -50,6 +55,8 @@ impl Remark {
         ensures { result.now ≡ spec.remark_words self }
     {
         match self {
+            Remark::OfRecord(flaw) => flaw.words(),
+            Remark::NotUtf8 => "not UTF-8",
             Remark::NotRead(fault) => fault.words(),
             Remark::NoPlace(reason) => reason.words(),
             Remark::NoDay(reason) => reason.words(),

@@ -22,6 +22,13 @@ pub(crate) fn text_in_field(bytes: &[u8]) -> Option<&str>
     str::from_utf8(trimmed(bytes)).ok()
 }
 
+/// Returns whether a field is a text.
+pub(crate) fn is_text(bytes: &[u8]) -> bool
+    ensures { result ≡ spec.is_text bytes.now }
+{
+    text_in_field(bytes).is_some()
+}
+
 /// Returns what a field says of a date, or why it says nothing of one.
 pub(crate) fn date_of_field(
     alloc: Global,

@@ -53,7 +53,7 @@ pub(crate) fn separator_at(separator: Option<Separator>, byte: u8) -> Separator
     or_comma(separator.or(Separator::of(byte)))
 }
 
-/// Returns the separator that was found after a byte that does that to the current record.
+/// Returns the separator that is found after a byte with this effect on the current record.
 pub(crate) fn separator_after(
     separator: Option<Separator>,
     byte: u8,

@@ -15,4 +15,6 @@ pub struct TableSettings<'a> {
     pub order: DateOrder,
     /// The codes of places, for those that are listed.
     pub places: Option<&'a Places>,
+    /// Whether the table goes on after a record that has a flaw.
+    pub keeps_going: bool,
 }

@@ -14,7 +14,7 @@ pub(crate) struct Span {
     pub(crate) latest: Option<Day>,
 }
 
-/// That of no day.
+/// The span of no day.
 pub(crate) const NO_SPAN: Span = Span {
     earliest: None,
     latest: None,

@@ -120,8 +120,12 @@ fn finish_and_write<W: Sink>(letters: &mut Letters<'_>, sink: &mut W) -> Result<
 ///
 /// What a read gives is written before the next read. In addition to the register and a map of its
 /// codes and names, memory contains one read of at most 65,536 bytes, what is written of them, and
-/// at most 65,536 bytes of a record that hasn't ended yet. `progress` counts each read that gave
-/// bytes.
+/// at most 65,536 bytes of a record that hasn't ended yet, or 16,777,216 if the settings keep
+/// going. `progress` counts each read that gave bytes.
+///
+/// If the settings keep going, a record that would be a fault as below has a row too, unless it has
+/// more than 16,777,216 bytes: its fields that the header names, no day and one remark, and then
+/// its further fields.
 ///
 /// If the whole table was written, the tally of its rows is returned.
 ///

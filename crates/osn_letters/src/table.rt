@@ -1,6 +1,6 @@
 //! The table that is written, record by record.
 ghost use Rattle.std.specs.Prelude.{◌≡◌, ◌∷◌, ◌++◌, [], true, get_or, IfErr, OnOk, Some, Ok};
-ghost use Rattle.std.specs.Prelude.{IfOk, None, option_map};
+ghost use Rattle.std.specs.Prelude.{IfOk, None, option_map, length, ◌-◌};
 ghost use Rattle.csv.specs.Records.{fields_of, partial_of};
 ghost use Rattle.osn_letters.specs.Faults.{is_of_table};
 ghost use Rattle.osn_letters.specs.Fields.{fields_and_remarks};
@@ -11,10 +11,13 @@ ghost use Rattle.osn_letters.specs.WriterInside.{IsBetweenRows, waiting};
 
 use crate::added_column::ADDED_COLUMNS;
 use crate::columns::{Columns, DateColumns, field_at, find_columns, own_width, place_in};
-use crate::csv_text::{RowWriter, keep_fields, push_names};
+use crate::csv_text::{RowWriter, keep_fields, push_fields, push_names};
 use crate::date_parts::parts_text;
 use crate::fault::LettersFault;
-use crate::letter::{LetterFields, row_fields};
+use crate::letter::{LetterFields, fields_of_none, row_fields};
+use crate::parser::EndedRecord;
+use crate::record_flaw::RecordFlaw;
+use crate::remark::Remark;
 use crate::separator::Separator;
 use crate::settings::TableSettings;
 use crate::tally::Tally;
@@ -44,12 +47,44 @@ pub(crate) struct Table<'a> {
     pub(crate) out: RowWriter,
 }
 
-/// Returns the weekday of a record, if there is such a column.
+/// Returns the weekday of a record, if the table has a column of weekdays.
 fn weekday_at(row: &ByteRecord, column: Option<usize>) -> Option<&[u8]>
     ensures { option_map (λ w. w.now) result
         ≡ option_map (λ n. get_or (fields_of row.now) n []) column }
 {
     column.map(|index| field_at(row, index))
+}
+
+/// Returns the row of a record that has a flaw, with its twelve fields. It has as many fields
+/// before these as the header has of its own. Further fields of the record are after these.
+fn flawed_row(
+    alloc: Global,
+    rows: Rows,
+    row: &ByteRecord,
+    fields: &LetterFields,
+) -> Result<ByteRecord, AllocError>
+    ensures { IfOk result (λ made. fields_of made
+        ≡ spec.fields_from (fields_of row.now) 0 rows.columns.own
+        ++ ((fields_and_remarks fields.now).fields
+        ++ spec.fields_from (fields_of row.now) rows.width
+        (length (fields_of row.now) - rows.width))) }
+{
+    let mut made = ByteRecord::new(alloc);
+    push_fields(&mut made, row, 0, rows.columns.own)?;
+    fields.push_to(alloc, &mut made)?;
+    push_fields(&mut made, row, rows.width, row.len())?;
+    Ok(made)
+}
+
+/// Returns the flaw of a record after the header, which has as many fields: its own, if it has one.
+fn row_flaw(width: usize, flaw: Option<RecordFlaw>, row: &ByteRecord) -> Option<RecordFlaw>
+    ensures { result ≡ spec.row_flaw width flaw (fields_of row.now) }
+{
+    match flaw {
+        Some(_) => flaw,
+        None if row.len() == width => None,
+        None => Some(RecordFlaw::FieldCount),
+    }
 }
 
 impl Table<'_> {
@@ -78,25 +113,24 @@ impl Table<'_> {
     fn take_header(
         &mut self,
         header: &mut ByteRecord,
-        line: u64,
+        ended: EndedRecord,
         separator: Separator,
     ) -> Result<(), LettersFault>
         requires partial { partial_of header.old ≡ [] }
         requires between { IsBetweenRows self.old.out }
         requires rows { self.old.rows ≡ None }
         ensures takes { OnOk result (inside.TakesRecords self.old self.new
-            (record { line = line; separator = separator; fields = Ok (fields_of header.old) }
-            ∷ [])) }
+            (inside.taken_record ended.line separator ended.flaw (fields_of header.old) ∷ [])) }
         ensures refuses { IfErr result (inside.RefusesRecord self.old self.new
-            (record { line = line; separator = separator; fields = Ok (fields_of header.old) })) }
+            (inside.taken_record ended.line separator ended.flaw (fields_of header.old))) }
         ensures counts { OnOk result (inside.CountsRecord self.old self.new
-            (record { line = line; separator = separator; fields = Ok (fields_of header.old) })) }
+            (inside.taken_record ended.line separator ended.flaw (fields_of header.old))) }
         ensures between { OnOk result (IsBetweenRows self.new.out) }
     {
         let width = header.len();
         let own = own_width(header, self.settings.names.replaces);
         keep_fields(header, own);
-        let columns = find_columns(self.alloc, header, self.settings.names, line)?;
+        let columns = find_columns(self.alloc, header, self.settings.names, ended.line)?;
         self.push_header(header, separator)?;
         self.rows = Some(Rows { columns, width });
         Ok(())
@@ -159,29 +193,65 @@ impl Table<'_> {
         self.out.write_row(row)
     }
 
+    /// Appends to the text that waits the row of a record that has a flaw, and counts it.
+    fn push_flawed(
+        &mut self,
+        rows: Rows,
+        row: &ByteRecord,
+        flaw: RecordFlaw,
+    ) -> Result<(), AllocError>
+        requires between { IsBetweenRows self.old.out }
+        ensures text { OnOk result (waiting self.new.out ≡ waiting self.old.out
+            ++ spec.flawed_text (inside.source_of self.old)
+            (record {
+              columns = rows.columns;
+              width = rows.width;
+              separator = self.old.out.separator;
+            }) flaw (fields_of row.now)) }
+        ensures separator { OnOk result (self.new.out.separator ≡ self.old.out.separator) }
+        ensures between { OnOk result (IsBetweenRows self.new.out) }
+        ensures source { inside.source_of self.new ≡ inside.source_of self.old }
+        ensures rows { self.new.rows ≡ self.old.rows }
+        ensures tally { OnOk result (self.new.tally ≡ with_row self.old.tally
+            (spec.flawed_letter (inside.source_of self.old) flaw).remarks) }
+    {
+        let reasons = [(true, Remark::OfRecord(flaw))];
+        let fields = fields_of_none(self.alloc, self.edition, None, &reasons, &[])?;
+        let made = flawed_row(self.alloc, rows, row, &fields)?;
+        self.tally.count(&fields.remarks)?;
+        self.out.write_row(&made)
+    }
+
     /// Takes a record after the header.
-    fn take_row(&mut self, rows: Rows, row: &mut ByteRecord, line: u64) -> Result<(), LettersFault>
+    fn take_row(
+        &mut self,
+        rows: Rows,
+        row: &mut ByteRecord,
+        ended: EndedRecord,
+    ) -> Result<(), LettersFault>
         requires partial { partial_of row.old ≡ [] }
         requires between { IsBetweenRows self.old.out }
         requires rows { self.old.rows ≡ Some rows }
-        ensures takes { OnOk result (inside.TakesRow self.old self.new line (fields_of row.old)) }
+        ensures takes { OnOk result
+            (inside.TakesRow self.old self.new ended.line ended.flaw (fields_of row.old)) }
         ensures refuses { IfErr result
-            (inside.RefusesRow self.old self.new line (fields_of row.old)) }
-        ensures counts { OnOk result (inside.CountsRow self.old self.new line (fields_of row.old)) }
+            (inside.RefusesRow self.old self.new ended.line ended.flaw (fields_of row.old)) }
+        ensures counts { OnOk result
+            (inside.CountsRow self.old self.new ended.line ended.flaw (fields_of row.old)) }
         ensures between { OnOk result (IsBetweenRows self.new.out) }
     {
-        if row.len() != rows.width {
-            return Err(LettersFault::BadRecord {
-                line,
+        match row_flaw(rows.width, ended.flaw, row) {
+            None => Ok(self.push_row(rows.columns, row)?),
+            Some(flaw) if self.settings.keeps_going => Ok(self.push_flawed(rows, row, flaw)?),
+            Some(_) => Err(LettersFault::BadRecord {
+                line: ended.line,
                 fields: row.len(),
                 width: rows.width,
-            });
+            }),
         }
-        self.push_row(rows.columns, row)?;
-        Ok(())
     }
 
-    /// Takes the next record, which begins on the line and has that separator.
+    /// Takes the next record, which ended and has that separator.
     ///
     /// # Errors
     ///
@@ -189,22 +259,22 @@ impl Table<'_> {
     pub(crate) fn take(
         &mut self,
         row: &mut ByteRecord,
-        line: u64,
+        ended: EndedRecord,
         separator: Separator,
     ) -> Result<(), LettersFault>
         requires partial { partial_of row.old ≡ [] }
         requires between { IsBetweenRows self.old.out }
         ensures takes { OnOk result (inside.TakesRecords self.old self.new
-            (record { line = line; separator = separator; fields = Ok (fields_of row.old) } ∷ [])) }
+            (inside.taken_record ended.line separator ended.flaw (fields_of row.old) ∷ [])) }
         ensures refuses { IfErr result (inside.RefusesRecord self.old self.new
-            (record { line = line; separator = separator; fields = Ok (fields_of row.old) })) }
+            (inside.taken_record ended.line separator ended.flaw (fields_of row.old))) }
         ensures counts { OnOk result (inside.CountsRecord self.old self.new
-            (record { line = line; separator = separator; fields = Ok (fields_of row.old) })) }
+            (inside.taken_record ended.line separator ended.flaw (fields_of row.old))) }
         ensures between { OnOk result (IsBetweenRows self.new.out) }
     {
         match self.rows {
-            None => self.take_header(row, line, separator),
-            Some(rows) => self.take_row(rows, row, line),
+            None => self.take_header(row, ended, separator),
+            Some(rows) => self.take_row(rows, row, ended),
         }
     }
 

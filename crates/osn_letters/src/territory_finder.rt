@@ -51,7 +51,8 @@ fn with_territory<'a>(found: NamedTerritory<'a>, territory: &'a Territory) -> Na
 {
     match found {
         Err(NoPlace::Unknown) => Ok(territory),
-        Ok(_) | Err(NoPlace::Ambiguous) => Err(NoPlace::Ambiguous),
+        Ok(_) => Err(NoPlace::Ambiguous),
+        Err(reason) => Err(reason),
     }
 }
 
@@ -194,7 +195,7 @@ impl<'a> TerritoryFinder<'a> {
             (unwrap_or (option_map (λ places. places.now) places.entry) []) place.now) }
     {
         let Some(text) = text_in_field(place) else {
-            return Ok(Err(NoPlace::Unknown));
+            return Ok(Err(NoPlace::NotUtf8));
         };
         match code_of(places, text) {
             Some(code) => Ok(self.of_listed(code)),

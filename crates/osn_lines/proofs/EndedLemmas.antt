@@ -68,7 +68,7 @@ with_byte-le b zero m low =
     ]
 with_byte-le b (suc n) m low = omega (arith, low)
 
--- they are no longer than all bytes
+-- the bytes of ended lines are no longer than all bytes
 pub ended-le : (xs : List ℕ) → ended_length xs ≤ length xs
 ended-le [] = zero-le
 ended-le (x ∷ xs) = with_byte-le x (ended_length xs) (length xs) (ended-le xs)

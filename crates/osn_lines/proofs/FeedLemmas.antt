@@ -10,7 +10,7 @@ record Ends (bytes : List ℕ) : Type 0 where
   is : lines bytes ≡ first ∷ rest
   more : (ys : List ℕ) → lines (bytes ++ ys) ≡ first ∷ rest ++ lines ys
 
--- so with one byte more before them, which is a line feed or not
+-- such bytes with one more byte before them, which is a line feed or not
 Ends-more : (b : ℕ) (bytes : List ℕ) (t : Bool) → (b == 10) ≡ t → Ends bytes → Ends (b ∷ bytes)
 Ends-more b bytes true e h =
     let cut : (ys : List ℕ) → lines (b ∷ ys) ≡ [] ∷ lines ys =

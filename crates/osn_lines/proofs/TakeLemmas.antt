@@ -190,7 +190,7 @@ IsTaken-then after s t u bytes given piece partial_line n m q Left h same next =
       rest = k.rest;
     }
 
--- and the taker stopped in it
+-- another piece was read, and the taker stopped in it
 pub IsStopped-then : {S W : Type 0} (after : S → List (List ℕ) → S → Type 0)
     (stopped : S → List (List ℕ) → Option (List ℕ) → S → W → Type 0) (s t u : S)
     (bytes given piece : List ℕ) (partial_line : UnendedLine) (n m q : ℕ) (why : W) →

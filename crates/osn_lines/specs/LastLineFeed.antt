@@ -12,7 +12,7 @@ abbrev pub ended_length : List ℕ → ℕ
 ended_length [] = 0
 ended_length (b ∷ bs) = with_byte b (ended_length bs)
 
--- these bytes
+-- the bytes up to the last line feed
 abbrev pub ended_bytes : List ℕ → List ℕ
 ended_bytes bytes = take (ended_length bytes) bytes
 

@@ -7,7 +7,7 @@ use Rattle.strsim.specs.Edits.{osa_table}
 abbrev pub edits : List ℕ → List ℕ → ℕ
 edits word name = (osa_table word name).last_row (length name)
 
--- that of a word and a name, capital and small letters being the same
+-- the edit distance of a word and a name, capital and small letters being the same
 abbrev pub distance : List ℕ → List ℕ → ℕ
 distance word name =
     edits (chars (str_to_ascii_lowercase word)) (chars (str_to_ascii_lowercase name))

@@ -1,15 +1,16 @@
 -- What is known of a stream that is read, and of one that is written, before and after.
 use Rattle.std.specs.Prelude.{ℕ, Bool, List, Option}
 
--- a source: the bytes it was to give, those left, and whether a read of it had failed and has now
+-- a source: the bytes that remained before and that remain now, and whether a read had failed
+-- before, and has failed now
 pub record Input : Type 0 where
   pub bytes : Option (List ℕ)
   pub rest : Option (List ℕ)
   pub unread_before : Bool
   pub unread : Bool
 
--- what a sink had and has now, whether a write of it had failed and has now, and whether bytes are
--- held back
+-- a sink: what it contained before and contains now, whether a write had failed before, and has
+-- failed now, and whether it holds bytes back
 pub record Output : Type 0 where
   pub old : Option (List ℕ)
   pub new : Option (List ℕ)
@@ -17,7 +18,7 @@ pub record Output : Type 0 where
   pub unwritten : Bool
   pub holds_back : Bool
 
--- the same of a source, by what it will give and whether it has failed
+-- what is known of a source, by its ghosts: the bytes that remain, and whether a read has failed
 abbrev pub input_of : {S : Type 0} → (S → Option (List ℕ)) → (S → Bool) → S → S → Input
 input_of remaining has_failed old new = record {
   bytes = remaining old;
@@ -26,7 +27,8 @@ input_of remaining has_failed old new = record {
   unread = has_failed new;
 }
 
--- and of a sink, by what it has, whether it has failed and whether it holds bytes back
+-- what is known of a sink, by its ghosts: what it contains, whether a write has failed, and whether
+-- it holds bytes back
 abbrev pub output_of : {S : Type 0} → (S → Option (List ℕ)) → (S → Bool) → (S → Bool) → S → S
     → Output
 output_of contents has_failed holds_back old new = record {

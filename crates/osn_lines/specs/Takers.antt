@@ -51,8 +51,8 @@ pub record StopsAfter {S W : Type 0} (after : S → List (List ℕ) → S → Ty
   pub first : IfSome input (λ bytes. take n (lines bytes) ≡ lines_taken)
   pub next : IfSome input (λ bytes. IfSome at (λ line. slice_get (lines bytes) n ≡ Some line))
 
--- of the bytes that were read n lines have ended: with one line feed more they would have n + 1
--- lines
+-- n lines have ended of the bytes that were read: with one line feed more the bytes would have n +
+-- 1 lines
 pub record HasRead (old new : Option (List ℕ)) (n : ℕ) : Type 0 where
   pub read : List ℕ
   pub consumed : Consumes old new read

@@ -12,7 +12,8 @@ use std::fmt;
 #[derive(Clone, Copy)]
 pub struct Escaped<'a>(pub &'a str);
 
-/// The same for a text that has lines: line feeds are written as they are.
+/// A text with lines that prints without acting on a terminal. Line feeds are written as they are,
+/// and other characters as in `Escaped`.
 #[derive(Clone, Copy)]
 pub struct EscapedLines<'a>(pub &'a str);
 

@@ -1,4 +1,4 @@
--- What is started, and what comes back, one by one.
+-- The readers that are started, and what they give back, one by one.
 use Rattle.std.proofs.Common.{◌≡◌, ◌∙◌, ◌⊎◌, ℕ, ◌≤◌, ◌+◌, List, [], ◌∷◌, ◌++◌, length, Option, None}
 use Rattle.std.proofs.Common.{Some, refl, ap, sym, subst, arith, add-one, append_assoc, append-nil}
 use Rattle.std.proofs.Common.{inl, inr, suc, Iter, Bor, Vec, Bool, Result, IfErr}

@@ -36,7 +36,7 @@ module _ {G : Type 0} where
     saw_each_end = each_more (saw_end gate who) n h.saw_each_end ended;
   }
 
-  -- what a promise says of its gate, its number and its list
+  -- what the promise of a reader says of its gate, its number and its list
   pub hears_at : (let_pass saw_end : G → ℕ → ℕ → Type 0) (p : Works G) (gate : G) (who : ℕ)
       (list : Vec Query Global) → p.2.value ≡ gate → p.3 ≡ who → p.1.value ≡ list →
       HearsOf let_pass saw_end p.2.value p.3 (length p.1.value.items) →

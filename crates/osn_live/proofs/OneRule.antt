@@ -33,7 +33,7 @@ set_keeps x views seat w h a j u e = ⊎_elim
     (λ (t : (j ≡ seat) × (w ≡ u)). subst (Agrees x) t.1 a)
     (λ (t : (j ≢ seat) × (get_elem? views j ≡ some u)). h j u t.1) (at_set views seat j w u e)
 
--- a reader that enters, and the editor that publishes
+-- the step of a reader that enters, and that of a publish
 pub finds : (seat : ℕ) (v : View) (x y : EditionState) → origin_of x ≡ origin_of y →
     TurnsAt Keeps seat v x y Finds
 finds seat v x y same views h at = (

@@ -1,4 +1,4 @@
--- Replies to one question more, and under more batches.
+-- Replies with one more question, and under more batches.
 use Rattle.std.proofs.Common.{◌≡◌, ◌∙◌, ℕ, ◌≤◌, List, [], ◌∷◌, ◌++◌, length, take, refl, ap, sym}
 use Rattle.std.proofs.Common.{subst, arith, le_refl, length-append, append-nil, inl, inr, Result}
 use Rattle.std.proofs.Common.{Ok, Err, IfOk, Vec}
@@ -24,7 +24,7 @@ take_begins : (k : ℕ) (xs ys : List (List Edit)) → k ≤ length xs → Begin
 take_begins k xs ys low b = subst (λ (l : List (List Edit)). take k xs ≡ take k l) b.is
     (sym (take-append-le k xs b.rest low))
 
--- under more batches
+-- replies under batches are replies under more batches
 pub replies_later : (p : Rules) (l : Limits) (xs ys : List (List Edit)) (floor : ℕ)
     (qs : List Query) (rs : List Reply) → Begins xs ys → AreReplies p l xs floor qs rs →
     AreReplies p l ys floor qs rs
@@ -57,7 +57,7 @@ no_rest : (ys rest : List (List Edit)) → length (ys ++ rest) ≤ length ys →
 no_rest ys [] le = refl
 no_rest ys (r ∷ rest) le = absurd (omega (arith, length-append ys (r ∷ rest), le))
 
--- of two lists, one of which begins the other, one that is no longer begins the other
+-- if one of two lists begins the other, the one that is no longer begins the other
 pub later_first : (xs ys zs : List (List Edit)) → IsLater xs ys zs → length xs ≤ length ys →
     Begins xs ys
 later_first xs ys zs (inl h) le = h.0

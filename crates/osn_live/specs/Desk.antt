@@ -31,13 +31,15 @@ AreAll p limits batches (qs ∷ lists) (rs ∷ all) =
 AreAll p limits batches [] (rs ∷ all) = ⊥
 AreAll p limits batches (qs ∷ lists) [] = ⊥
 
--- a gate let each item of a list of this many pass, and saw the end of each, in this one's name
+-- a gate let each item of a list pass, and saw the end of each. The list is that of `who`, and has
+-- this many items
 pub record HearsOf {G : Type 0} (let_pass saw_end : G → ℕ → ℕ → Type 0) (gate : G) (who items : ℕ)
     : Type 0 where
   pub let_each_pass : (place : ℕ) → place < items → let_pass gate who place
   pub saw_each_end : (place : ℕ) → place < items → saw_end gate who place
 
--- the items of each list of questions, whose readers are numbered from this number
+-- a gate let the items of each list of questions pass, and saw their ends. The readers of the lists
+-- are numbered from this number
 abbrev pub HearsOfLists : {G : Type 0} → (G → ℕ → ℕ → Type 0) → (G → ℕ → ℕ → Type 0) → G → ℕ
     → List (Vec Query Global) → Type 0
 HearsOfLists let_pass saw_end gate who [] = Unit {0}
@@ -45,7 +47,8 @@ HearsOfLists let_pass saw_end gate who (list ∷ lists) =
     HearsOf let_pass saw_end gate who (length list.items)
     × HearsOfLists let_pass saw_end gate (who + 1) lists
 
--- the items of all lists: the editor's, who is 0, and those of the readers, who are 1 upward
+-- a gate let the items of all lists pass, and saw their ends: those of the editor, who is 0, and
+-- those of the readers, who are 1 upward
 pub record HearsOfAll {G : Type 0} (let_pass saw_end : G → ℕ → ℕ → Type 0) (gate : G)
     (commands : ℕ) (lists : List (Vec Query Global)) : Type 0 where
   pub editor : HearsOf let_pass saw_end gate 0 commands

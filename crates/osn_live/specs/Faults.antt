@@ -7,7 +7,7 @@ use Rattle.osn_live.specs.declared.faults.PublishFault.TheVariants as Publish
 use Rattle.osn_live.specs.declared.faults.DeskFault.{DeskFault}
 use Rattle.osn_live.specs.declared.faults.DeskFault.TheVariants as Desk
 
--- the refusal of the sequential object that a fault of a publish is
+-- the refusal of the sequential object for a fault of a publish
 abbrev pub refusal_of : PublishFault → Refusal
 refusal_of Publish.NothingPending = Refused.NothingPending
 refusal_of Publish.EditionsFull = Refused.EditionsFull
@@ -31,7 +31,8 @@ desk_fault_name Desk.BadCount = codes "BadCount"
 desk_fault_name Desk.NoPlace = codes "NoPlace"
 desk_fault_name Desk.GateClosed = codes "GateClosed"
 
--- what a fault shows, of how many lists of questions and of how many editions in the end
+-- what a fault shows about a desk, which had this many lists of questions and in the end this many
+-- editions
 abbrev pub IsDeskFault : ℕ → ℕ → DeskFault → Type 0
 IsDeskFault lists published Desk.NoMemory = Unit {0}
 IsDeskFault lists published (Desk.HistoryBroken reader last editions) =
@@ -40,7 +41,7 @@ IsDeskFault lists published Desk.BadCount = IsBadCount lists
 IsDeskFault lists published Desk.NoPlace = Unit {0}
 IsDeskFault lists published Desk.GateClosed = Unit {0}
 
--- a gate that is known to let every item pass was closed to none
+-- the fault is GateClosed only if the gate is not known to let every item pass
 abbrev pub IsOfGate : Bool → DeskFault → Type 0
 IsOfGate passes Desk.NoMemory = Unit {0}
 IsOfGate passes (Desk.HistoryBroken reader last editions) = Unit {0}

@@ -16,7 +16,7 @@ use Rattle.osn_live.specs.declared.work.WorkResult.{WorkResult}
 use Rattle.osn_live.specs.declared.work.Works.{Works}
 use Rattle.osn_live.specs.declared.work_fault.WorkFault.{WorkFault}
 
--- what a fault shows once the count of lists was found good, as in IsDeskFault
+-- what a fault shows about a desk, as in IsDeskFault, once the count of lists was found good
 abbrev pub IsFaultAt : ℕ → ℕ → DeskFault → Type 0
 IsFaultAt lists published Desk.NoMemory = Unit {0}
 IsFaultAt lists published (Desk.HistoryBroken reader last editions) =
@@ -32,13 +32,13 @@ IsFaultOf who seen published replies fault =
     ((own : WorkFault) × (replies ≡ Err own) × (fault ≡ by_work own))
     ⊎ ((fault ≡ Desk.HistoryBroken who seen published) × (published < seen))
 
--- a reader of this origin at work on this list
+-- a reader of this origin works on this list
 pub record IsStarted {G : Type 0} (o : Origin) (h : PromisedHandle WorkResult (Works G))
     (list : Vec Query Global) : Type 0 where
   pub reader : h.promise.0.value.origin ≡ o
   pub list_is : h.promise.1.value ≡ list
 
--- one for each list, in its place
+-- a reader of this origin works on each list, in its place
 abbrev pub AreStarted : {G : Type 0} → Origin → List (PromisedHandle WorkResult (Works G)) →
     List (Vec Query Global) → Type 0
 AreStarted o [] [] = Unit {0}
@@ -46,21 +46,22 @@ AreStarted o (h ∷ hs) (l ∷ ls) = IsStarted o h l × AreStarted o hs ls
 AreStarted o [] (l ∷ ls) = ⊥
 AreStarted o (h ∷ hs) [] = ⊥
 
--- each works at this gate
+-- each reader works at this gate
 abbrev pub AreAt : {G : Type 0} → G → List (PromisedHandle WorkResult (Works G)) → Type 0
 AreAt gate handles = All (λ h. h.promise.2.value ≡ gate) handles
 
--- a fault of what works at one gate: one that is known to let every item pass was closed to none
+-- a fault of readers that all work at one gate: it is GateClosed only if that gate is not known to
+-- let every item pass
 pub record IsOfTheirGate {G : Type 0} (is_open : G → Bool)
     (handles : List (PromisedHandle WorkResult (Works G))) (f : DeskFault) : Type 0 where
   pub of : (gate : G) → AreAt gate handles → IsOfGate (is_open gate) f
 
--- they are numbered from this number, in their order
+-- the handles are numbered from this number, in their order
 abbrev pub AreNumbered : {G : Type 0} → ℕ → List (PromisedHandle WorkResult (Works G)) → Type 0
 AreNumbered who [] = Unit {0}
 AreNumbered who (h ∷ hs) = (h.promise.3 ≡ who) × AreNumbered (who + 1) hs
 
--- what works at one gate called it for the items of each list
+-- readers that all work at one gate called it for the items of each list
 pub record CallTheirGate {G : Type 0} (let_pass saw_end : G → ℕ → ℕ → Type 0)
     (handles : List (PromisedHandle WorkResult (Works G))) (lists : List (Vec Query Global)) : Type
     0
@@ -79,7 +80,8 @@ pub record HasSeen {G : Type 0} (Kept : Works G → WorkResult → Type 0)
   pub kept : Kept handle.promise work
   pub seen : length work.reader.seen ≡ last
 
--- so did the reader that a broken history names
+-- the reader that a broken history names brought back work whose last edition is the one that is
+-- named
 abbrev pub NamesReader : {G : Type 0} → (Works G → WorkResult → Type 0)
     → List (PromisedHandle WorkResult (Works G)) → DeskFault → Type 0
 NamesReader Kept handles Desk.NoMemory = Unit {0}

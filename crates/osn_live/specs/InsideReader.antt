@@ -18,7 +18,7 @@ reader_in r = record {
   seen = r.certificate.batches;
 }
 
--- its place is one of its own register
+-- the place of the reader belongs to the register that the reader is of
 abbrev pub IsPlaced : Inside → Type 0
 IsPlaced r = view r.place.place ≡ Some (origin_of (edition_of r.limits r.certificate))
 

@@ -9,11 +9,12 @@ use Rattle.osn_live.specs.Desk.{AreReplies, HearsOf}
 use Rattle.osn_live.specs.Faults.{IsOfGate}
 use Rattle.osn_live.specs.InsideFaults.{by_work}
 
--- a gate that is known to let every item pass was closed to none
+-- the fault is GateClosed only if the gate is not known to let every item pass
 abbrev pub IsOfPassing : Bool → WorkFault → Type 0
 IsOfPassing passes fault = IsOfGate passes (by_work fault)
 
--- the work of this reader on these questions, at a gate and in the name of this one
+-- what this reader gives back once it has worked on these questions, at a gate and under the number
+-- `who`
 pub record IsWork {G : Type 0} (is_open : G → Bool) (let_pass saw_end : G → ℕ → ℕ → Type 0)
     (at : G) (who : ℕ) (reader : ReaderState) (questions : List Query) (w : WorkResult) : Type 0
   where

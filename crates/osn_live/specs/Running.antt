@@ -37,7 +37,7 @@ abbrev pub note_of : Limits → CertificateState → NoteState
 note_of limits certificate =
     record { origin = origin_of (edition_of limits certificate); batches = certificate.batches }
 
--- a reader of this editor's that has seen nothing
+-- a reader of this editor that has seen nothing
 pub record IsNew (editor : EditorState) (r : ReaderState) : Type 0 where
   pub origin : r.origin ≡ editor.origin
   pub seen : r.seen ≡ []

@@ -69,8 +69,8 @@ impl Edition {
         }
     }
 
-    /// Returns the same edition once more. It takes no memory, but owners of a register are
-    /// counted.
+    /// Returns another owner of the same edition. The register is not copied. Its owners are
+    /// counted, and the call fails if they are too many.
     pub fn share(&self) -> Result<Edition, AllocError>
         ensures { IfOk result (λ edition. edition ≡ self.now) }
     {

@@ -4,13 +4,13 @@ ghost use Rattle.std.specs.Prelude.{◌≡◌, ℕ, Bool, true, false, ⊤};
 /// What the threads of a desk call around each item. `who` is 0 for the editor and 1 upward for the
 /// readers, and `index` the item's place in its list, from 0.
 pub trait Gate {
-    // Whether it is known to let every item pass.
+    // Whether the gate is known to let every item pass.
     ghost is_open: { Self → Bool } = { λ _. false };
 
-    // What is known of it once it let the item at this place in the list of this one pass.
+    // What is known of the gate once it let the item at this place in the list of `who` pass.
     ghost let_pass: { Self → ℕ → ℕ → Type 0 } = { λ _ _ _. ⊤ };
 
-    // What is known of it once it was called after this item.
+    // What is known of the gate once it was called after this item.
     ghost saw_end: { Self → ℕ → ℕ → Type 0 } = { λ _ _ _. ⊤ };
 
     /// Called before an item. If it returns false, the desk ends.

@@ -33,7 +33,7 @@ impl Rule<HistoryCell, u64> for HistoryRule {
     ghost moves = { λ ask before after answer. Unit {0} };
 }
 
-/// What one who adds a batch keeps of it: nothing.
+/// What the caller that adds a batch keeps of it: nothing.
 pub struct Nothing;
 
 impl Gain<HistoryCell, u64> for Nothing {
@@ -148,7 +148,7 @@ impl Certificate {
         self.count
     }
 
-    /// Returns the same certificate once more. It takes no memory.
+    /// Returns another certificate of the same batches. It takes no memory.
     pub fn again(&self) -> Certificate
         ensures { result ≡ self.now }
     {
@@ -158,7 +158,8 @@ impl Certificate {
         }
     }
 
-    /// Becomes the other one, if that is not shorter. Then this one is a beginning of it.
+    /// Becomes the other certificate, unless that one has fewer batches, and returns whether it
+    /// did. If it did, the batches of the other one begin with those that this one had.
     pub fn follow(&mut self, later: Certificate) -> bool
         requires { later.book ≡ self.old.book }
         ensures { MatchBool result
@@ -174,7 +175,7 @@ impl Certificate {
         true
     }
 
-    /// Becomes the longer one of the two, of which the other is a beginning.
+    /// Becomes the longer one of the two certificates. Its batches begin with those of the other.
     pub fn learn(&mut self, other: Certificate)
         requires { other.book ≡ self.old.book }
         ensures book { self.new.book ≡ self.old.book }

@@ -22,7 +22,8 @@ pub struct WorkResult {
     pub replies: Result<Vec<Reply>, WorkFault>,
 }
 
-/// What a reader is started with, in proofs alone: what it gives back is its work on that.
+/// What a reader is started with. It exists in proofs alone: what the reader gives back is its work
+/// on that.
 #[derive(Drop)]
 pub struct Works<G>(Snapshot<Reader>, Snapshot<Vec<Query>>, Snapshot<G>, u32);
 

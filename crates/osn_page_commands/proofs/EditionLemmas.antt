@@ -10,7 +10,7 @@ use Rattle.osn_core.specs.declared.edition.EditionFault.TheVariants.{TooLate, No
 
 module _ (number : Option ℕ) (s : ObjectState) (Does : EditionModel → Type 0) (o e : Output)
     (status : Status) where
-  -- it was done with the edition
+  -- the object has the edition, and the command was done with it
   pub on_edition : (edition : EditionModel) → edition_of number s ≡ Some edition → Does edition
       → OnEdition number s Does o e status
   on_edition edition is h = inr (rw is h)

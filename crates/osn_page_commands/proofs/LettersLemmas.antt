@@ -24,6 +24,7 @@ basis_by territories edition settings = record {
   separator = settings.separator;
   order = settings.order;
   places = settings.places;
+  keeps_going = settings.keeps_going;
 }
 
 abbrev table_by : List EntryModel → ℕ → SettingsModel → List ℕ → Written

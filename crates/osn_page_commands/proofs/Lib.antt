@@ -7,3 +7,4 @@ pub mod HintLemmas
 pub mod PlaceLemmas
 pub mod EditionLemmas
 pub mod EditionListLemmas
+pub mod LineLemmas

@@ -3,7 +3,7 @@ use Rattle.std.proofs.Common.{◌≡◌, Bool, List, ℕ, Option, Some, None, Ok
 use Rattle.std.proofs.Common.{inl, inr}
 use Rattle.osn_core.specs.Edition.{EditionModel}
 use Rattle.osn_invocation.specs.Invocation.{PageRequestModel}
-use Rattle.osn_lines.specs.Streams.{Output}
+use Rattle.osn_lines.specs.Streams.{Input, Output}
 use Rattle.osn_register.specs.Refusal.{IsRefusalOrNoMemory}
 use Rattle.osn_register.specs.declared.limits.Limits.{Limits}
 use Rattle.osn_register.specs.declared.refusal.Refusal.{Refusal}
@@ -16,7 +16,7 @@ use Rattle.osn_page_commands.specs.declared.place.Place.{Place}
 use Rattle.osn_page_commands.specs.declared.place.Place.TheVariants.{One, NotOne}
 use Rattle.osn_page_commands.specs.declared.page_request.Topic.{Topic}
 use Rattle.osn_page_commands.specs.declared.page_request.Topic.TheVariants.{Almanac, Year}
-use Rattle.osn_page_commands.specs.declared.page_request.Topic.TheVariants.{Territory, Set}
+use Rattle.osn_page_commands.specs.declared.page_request.Topic.TheVariants.{Territory, Set, Dates}
 use Rattle.osn_page_commands.specs.declared.page_request.Topic.TheVariants.{Territories}
 use Rattle.osn_report.specs.Folders.{Folders, ReadsOne}
 use Rattle.osn_report.specs.Messages.{EndsBy, ReportsIfMade}
@@ -33,9 +33,10 @@ unmade_same lacks status is = rw is refl
 lacks_text : (topic : Topic) (text : List ℕ) (o e : Output) (status : Status)
     → o.new ≡ o.old → EndsBy e NoMemory status → PrintsTopicText topic text o e status
 lacks_text (Almanac year) text o e status same message = inr (same, message)
-lacks_text (Year year) text o e status same message = inr (same, message)
+lacks_text (Year year is_json) text o e status same message = inr (same, message)
 lacks_text (Territory page form) text o e status same message = inr (same, message)
 lacks_text (Set given form) text o e status same message = inr (same, message)
+lacks_text (Dates rules) text o e status same message = inr (same, message)
 lacks_text (Territories is_json) text o e status same message = inr (same, message)
 
 module _ (s : EditionModel) (path code date : List ℕ) (topic : Topic) (o e : Output)
@@ -66,7 +67,7 @@ module _ (s : EditionModel) (path code date : List ℕ) (topic : Topic) (o e : O
         → PrintsPageOf s path code date topic o e status
     page_unmade = unmade_by (topic_refusal s.territories code topic) refl
 
-    -- it is refused
+    -- the page is refused
     pub page_refused : (refusal : Refusal) → (refusal ≡ refusals.NoMemory → ⊥) → o.new ≡ o.old
         → IsRefusalOrNoMemory (topic_refusal s.territories code topic) refusal
         → ReportsIfMade e statuses.Refused (refusal_line path code topic refusal) status
@@ -84,12 +85,12 @@ place_unknown s path word date topic (NotOne named) o e status = λ same message
 
 -- the page was printed that these words ask for
 pub page_printed : (limits : Limits) (path : List ℕ) (number : Option ℕ) (words : PageRequestModel)
-    (CanFail : Bool → Type 0) (d : Folders) (topic : Topic) (code date : List ℕ) (o e : Output)
-    (status : Status) → topic_of_words words ≡ Ok topic → code ≡ territory_word words
+    (CanFail : Bool → Type 0) (d : Folders) (topic : Topic) (code date : List ℕ) (i : Input)
+    (o e : Output) (status : Status) → topic_of_words words ≡ Ok topic → code ≡ territory_word words
     → date ≡ date_text_of words
     → ReadsOne path CanFail d
-    (λ file. PrintsTopic limits path number file code date topic o e status)
-    → RunsNumbered limits path number words CanFail d o e status
-page_printed limits path number words CanFail d topic code date o e status is same text h =
+    (λ file. PrintsTopic limits path number file code date topic i o e status)
+    → RunsNumbered limits path number words CanFail d i o e status
+page_printed limits path number words CanFail d topic code date i o e status is same text h =
     inr (rw is (subst₂ (λ c w. ReadsOne path CanFail d
-    (λ file. PrintsTopic limits path number file c w topic o e status)) same text h))
+    (λ file. PrintsTopic limits path number file c w topic i o e status)) same text h))

@@ -34,7 +34,7 @@ is_dated (Ok read) = true
 is_dated (Err faults.DayOrMonth) = true
 is_dated (Err fault) = false
 
--- the date before such a byte, if a colon is after it
+-- the first of these two parts of a text, if it is a date and a colon is in the second
 abbrev pub dated_part : Option (List ℕ × List ℕ) → Option (List ℕ)
 dated_part None = None
 dated_part (Some parts) =

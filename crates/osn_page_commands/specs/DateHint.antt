@@ -51,17 +51,18 @@ abbrev pub first_hint : List (List ℕ) → Option (List ℕ × List ℕ)
 first_hint [] = None
 first_hint (word ∷ words) = hint_or word (nearest_name word) (first_hint words)
 
--- the line on such a word
+-- the line on a word and the name that is nearest to it
 abbrev pub hint_line : Option (List ℕ × List ℕ) → List ℕ
 hint_line None = []
 hint_line (Some hint) = codes "help: "
     ++ (escaped hint.0 ++ (codes ": did you mean " ++ (hint.1 ++ codes "?\n")))
 
--- that of the words between the spaces of a text
+-- the line on the first word of a text that has a nearest name. Words are between spaces
 abbrev pub name_help : List ℕ → List ℕ
 name_help text = hint_line (first_hint (pieces 32 text))
 
--- that, or else what is missing or too much in a text that is almost a date
+-- the line of help on a word, or else on what is missing or too much in a text that is almost a
+-- date
 abbrev pub hint_or_form : Option (List ℕ × List ℕ) → List ℕ → List ℕ
 hint_or_form None text = form_help text
 hint_or_form (Some hint) text = hint_line (Some hint)
@@ -120,7 +121,7 @@ misuse_help misuse argument = []
 abbrev pub misuse_lines : Misuse → List ℕ → List ℕ
 misuse_lines misuse argument = misuse_line misuse argument ++ misuse_help misuse argument
 
--- those were written
+-- the lines on an argument of a place were written
 abbrev pub ReportsWord : Output → Misuse → List ℕ → Status → Type 0
 ReportsWord e misuse argument status =
     ReportsIfMade e statuses.Misused (misuse_lines misuse argument) status

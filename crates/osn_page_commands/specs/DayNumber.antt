@@ -36,7 +36,7 @@ is_day_word word = str_eq_ignore_ascii_case word (codes "day")
 abbrev pub is_julian_word : List ℕ → Bool
 is_julian_word word = str_eq_ignore_ascii_case word (codes "jdn")
 
--- the day of a number after such a word
+-- the day of a number after a word that says which number it is
 abbrev pub day_after : List ℕ → ℕ → Option (Result ℕ Misuse)
 day_after word number =
     if is_day_word word then Some (day_of_number number)

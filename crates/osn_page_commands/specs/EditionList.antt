@@ -25,7 +25,7 @@ abbrev pub new_code : List Edit → Edit → List ℕ
 new_code before edit =
     if list_any (same_code edit) before then [] else codes " " ++ code_of edit
 
--- those of edits, each code once, after these edits
+-- the codes of edits, each code once, after these edits
 abbrev pub codes_after : List Edit → List Edit → List ℕ
 codes_after before [] = []
 codes_after before (edit ∷ edits) =
@@ -45,8 +45,8 @@ abbrev pub edition_line : ℕ → ℕ → List Edit → List ℕ
 edition_line number line edits =
     edition_begin number line (length edits) ++ (codes_after [] edits ++ codes "\n")
 
--- the lines of the editions after a number, which the journal publishes on that line: each edit is
--- a line of the journal, and so is its publish
+-- the lines on the editions after the one of this number, whose publish is this line of the
+-- journal. Each edit has a line of the journal, and each publish has one
 abbrev pub editions_lines : ℕ → ℕ → List (List Edit) → List ℕ
 editions_lines number line [] = []
 editions_lines number line (batch ∷ batches) =
@@ -57,7 +57,8 @@ editions_lines number line (batch ∷ batches) =
 abbrev pub editions_page : ObjectState → List ℕ
 editions_page s = editions_lines 0 1 s.batches ++ pending_line (length s.pending)
 
--- for a journal of this path: it is refused; or it makes an object, and its editions were printed
+-- how `editions` ends over a journal of this path: the journal is refused; or it makes an object,
+-- and its editions were printed
 abbrev pub PrintsEditions : Limits → List ℕ → Input → Output → Output → Status → Type 0
 PrintsEditions limits path journal o e status =
     ((fault : FileFault) × MakesNoObject limits journal fault

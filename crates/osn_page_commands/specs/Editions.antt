@@ -21,7 +21,7 @@ word_line word = codes "oldstyle: "
     ++ (escaped word
     ++ codes ": an edition is a number, such as 3\n")
 
--- that was reported
+-- it was reported that a word is not the number of an edition
 abbrev pub ReportsEditionWord : List ℕ → Output → Status → Type 0
 ReportsEditionWord word e status = ReportsIfMade e statuses.Misused (word_line word) status
 
@@ -51,9 +51,9 @@ IsLate None newest o e status = ⊥
 IsLate (Some number) newest o e status =
     (o.new ≡ o.old) × ReportsIfMade e statuses.Refused (late_lines number newest) status
 
--- This was done with the edition of a number, or the newest one without a number; or the object has
--- no edition of the number. For a number, memory may run out first, which was reported, and nothing
--- was written.
+-- This was done with the edition of a number, or with the newest one if no number is given; or the
+-- object has no edition of the number. For a number, memory may run out first. Then that was
+-- reported, and nothing was written.
 abbrev pub OnEdition : Option ℕ → ObjectState → (EditionModel → Type 0) → Output → Output → Status
     → Type 0
 OnEdition number s Does o e status =

@@ -41,12 +41,14 @@ use Rattle.osn_report.specs.declared.status.Status.{Status}
 use Rattle.osn_report.specs.declared.status.Status.TheVariants as statuses
 
 -- how a table is read: the names of its columns, what separates its fields, if that is named, the
--- order of a date's three numbers, and the entries of places
+-- order of a date's three numbers, the entries of places, and whether the table goes on after a
+-- record that has a flaw
 pub record SettingsModel : Type 0 where
   pub names : NameTexts
   pub separator : Option Separator
   pub order : DateOrder
   pub places : List PlaceEntry
+  pub keeps_going : Bool
 
 -- what settings say of that
 abbrev pub settings_model : TableSettings → SettingsModel
@@ -55,6 +57,7 @@ settings_model settings = record {
   separator = settings.separator;
   order = settings.order;
   places = unwrap_or (option_map (λ places. places.now) settings.places) [];
+  keeps_going = settings.keeps_going;
 }
 
 -- ---- what is printed about a table that ends early
@@ -173,6 +176,7 @@ basis_of s settings = record {
   separator = settings.separator;
   order = settings.order;
   places = settings.places;
+  keeps_going = settings.keeps_going;
 }
 
 -- the table that is written of a text
@@ -242,7 +246,7 @@ WritesLetters path s settings rules i o e status =
     (place_fault_lines path settings.names.place_of_all reason s.territories) status)
 
 -- how the command ends: the journal of a path is refused, and nothing was written; or it makes an
--- object, and that was done by its edition that the rules ask for
+-- object, and the letters were written by its edition that the rules ask for
 abbrev pub PrintsLetters : Limits → List ℕ → Input → SettingsModel → TableRules → Input → Output
     → Output → Status → Type 0
 PrintsLetters limits path journal settings rules i o e status =

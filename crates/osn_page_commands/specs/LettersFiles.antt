@@ -80,8 +80,8 @@ RunsNumbered limits journal options number CanFail d i o e status = MatchResult
     CanFail d i o e status)
     (λ wrong. (d.after ≡ d.before) × (o.new ≡ o.old) × ReportsWord e wrong.0 wrong.1 status)
 
--- what the command has done: that, by the word of the edition, if there is one; or it is not the
--- number of an edition, which was reported, and no file was opened and nothing written
+-- what the command has done, by the word of the edition, if there is one. If it is not the number
+-- of an edition, this was reported, and no file was opened and nothing written
 abbrev pub RunsLetters : Limits → List ℕ → LettersModel → (Bool → Type 0) → Folders → Input → Output
     → Output → Status → Type 0
 RunsLetters limits journal options CanFail d i o e status = MatchResult

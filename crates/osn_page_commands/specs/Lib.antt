@@ -6,6 +6,8 @@ pub mod Pieces
 pub mod Place
 pub mod DateAdvice
 pub mod DateHint
+pub mod AnswerLine
+pub mod PageText
 pub mod Page
 pub mod Conversion
 pub mod PlaceOfAll
@@ -13,6 +15,5 @@ pub mod Letters
 pub mod Places
 pub mod TableWords
 pub mod LettersFiles
-pub mod AnswerLine
 pub mod Editions
 pub mod EditionList

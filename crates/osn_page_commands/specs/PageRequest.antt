@@ -30,7 +30,7 @@ use Rattle.osn_page_commands.specs.Order.{order_of_word}
 use Rattle.osn_page_commands.specs.declared.page_request.Form.{Form}
 use Rattle.osn_page_commands.specs.declared.page_request.Topic.{Topic}
 use Rattle.osn_page_commands.specs.declared.page_request.Topic.TheVariants.{Almanac, Year}
-use Rattle.osn_page_commands.specs.declared.page_request.Topic.TheVariants.{Territory, Set}
+use Rattle.osn_page_commands.specs.declared.page_request.Topic.TheVariants.{Territory, Set, Dates}
 use Rattle.osn_page_commands.specs.declared.page_request.Topic.TheVariants.{Territories}
 use Rattle.osn_report.specs.declared.misuse.Misuse.{Misuse}
 use Rattle.osn_report.specs.declared.misuse.Misuse.TheVariants as misuses
@@ -84,6 +84,13 @@ reading_of date_result name = do
   beside ← weekday_beside date.weekday weekday
   Ok (pages.Reading date beside)
 
+-- the page on what a date means, by the weekday that is given, if any
+abbrev pub reading_beside : Result AnyDate Misuse → Option Weekday → Result Page Misuse
+reading_beside date_result weekday = do
+  date ← date_result
+  beside ← weekday_beside date.weekday weekday
+  Ok (pages.Reading date beside)
+
 -- a page on a territory, as what is asked for
 abbrev pub territory_topic : Result Page Misuse → Form → Result Topic Misuse
 territory_topic page_result form = do
@@ -101,12 +108,26 @@ abbrev pub topic_of_read : Result Written DateFault → Option (List ℕ) → Fo
 topic_of_read (Ok say.Set) name form = topic_of_set name form
 topic_of_read date name form = territory_topic (reading_of (any_date_or_misuse date) name) form
 
--- the same for a text, and for the word of the order of its numbers, if there is one
+-- the page on what a text says, which is read by the word of the order of its numbers, if there is
+-- one
 abbrev pub topic_of_reading : List ℕ → Option (List ℕ) → Option (List ℕ) → Form
     → Result Topic Misuse
 topic_of_reading text name word form = do
   order ← order_of_word word
   topic_of_read (read_date order text) name form
+
+-- the dates of an input, a date a line, all by the same words
+abbrev pub topic_of_lines : Option (List ℕ) → Option (List ℕ) → Form → Result Topic Misuse
+topic_of_lines name word form = do
+  order ← order_of_word word
+  weekday ← weekday_of_word name
+  Ok (Dates (record { order = order; weekday = weekday; form = form }))
+
+-- a date, or `-` for those of the input
+abbrev pub topic_of_date : List ℕ → Option (List ℕ) → Option (List ℕ) → Form → Result Topic Misuse
+topic_of_date text name word form =
+    if bytes_eq text (codes "-") then topic_of_lines name word form
+    else topic_of_reading text name word form
 
 -- ---- a day
 
@@ -127,7 +148,7 @@ without_weekday day_result = do
   day ← day_result
   Ok (day, None)
 
--- by a date that was asked for in a calendar
+-- a day by a date that was asked for in a calendar, and the weekday that the date names
 abbrev pub day_and_weekday : Calendar → Result WrittenDate Misuse
     → Result (ℕ × Option Weekday) Misuse
 day_and_weekday calendar date_result = do
@@ -150,18 +171,18 @@ day_page_of None text = page_of_date (date_of_word text)
 
 -- ---- a conversion: its day, and the weekday that the date names, if any
 
--- for a number that may be either, this command asks which is meant
+-- the misuse as `convert` reports it: for a number that may be either, it asks which is meant
 abbrev pub on_conversion : Misuse → Misuse
 on_conversion (misuses.WhichDayNumber number) = misuses.WhichConversion number
 on_conversion misuse = misuse
 
--- by a number
+-- the day of a conversion by a number
 abbrev pub conversion_by_number : Option (Result ℕ Misuse) → Result (ℕ × Option Weekday) Misuse
 conversion_by_number None = Err misuses.DayNumber
 conversion_by_number (Some (Ok day)) = Ok (day, None)
 conversion_by_number (Some (Err misuse)) = Err (on_conversion misuse)
 
--- by a date in the calendar of a word
+-- the day of a conversion by a date in the calendar of a word
 abbrev pub day_by_date : List ℕ → List ℕ → Result (ℕ × Option Weekday) Misuse
 day_by_date word text = do
   calendar ← ok_or (calendar_named word) misuses.Calendar
@@ -203,10 +224,10 @@ year_numbered None = Err misuses.Year
 year_numbered (Some year) =
     if is_off_years newest_rules (pos year) then Err misuses.Year else Ok year
 
-abbrev pub year_topic_of : List ℕ → Result Topic Misuse
-year_topic_of text = do
+abbrev pub year_topic_of : List ℕ → Bool → Result Topic Misuse
+year_topic_of text is_json = do
   year ← year_numbered (number_of text)
-  Ok (Year year)
+  Ok (Year year is_json)
 
 -- ---- a page
 
@@ -217,12 +238,12 @@ form_of is_strict is_json = record { is_strict = is_strict; is_json = is_json }
 abbrev pub topic_of_words : PageRequestModel → Result Topic Misuse
 topic_of_words (almanac_words code year) = Ok (Almanac year)
 topic_of_words (reading_words code date weekday order strict json) =
-    topic_of_reading date weekday order (form_of strict json)
+    topic_of_date date weekday order (form_of strict json)
 topic_of_words (day_words code date json) =
     territory_topic (day_page_of (day_by_number date) date) (form_of false json)
-topic_of_words (month_words code year month) =
-    territory_topic (month_page_of year month) (form_of false false)
-topic_of_words (year_words code year) = year_topic_of year
+topic_of_words (month_words code year month json) =
+    territory_topic (month_page_of year month) (form_of false json)
+topic_of_words (year_words code year json) = year_topic_of year json
 topic_of_words (territory_words None json) = Ok (Territories json)
 topic_of_words (territory_words (Some code) json) =
     Ok (Territory pages.Periods (form_of false json))
@@ -236,8 +257,8 @@ abbrev pub takes_memory : PageRequestModel → Bool
 takes_memory (almanac_words code year) = false
 takes_memory (reading_words code date weekday order strict json) = true
 takes_memory (day_words code date json) = day_takes_memory (day_by_number date)
-takes_memory (month_words code year month) = month_takes_memory (number_of month)
-takes_memory (year_words code year) = false
+takes_memory (month_words code year month json) = month_takes_memory (number_of month)
+takes_memory (year_words code year json) = false
 takes_memory (territory_words code json) = false
 
 -- the text of the date that is named, if any
@@ -245,8 +266,8 @@ abbrev pub date_text_of : PageRequestModel → List ℕ
 date_text_of (reading_words code date weekday order strict json) = date
 date_text_of (almanac_words code year) = []
 date_text_of (day_words code date json) = []
-date_text_of (month_words code year month) = []
-date_text_of (year_words code year) = []
+date_text_of (month_words code year month json) = []
+date_text_of (year_words code year json) = []
 date_text_of (territory_words code json) = []
 
 -- the word that names the territory, if there is one
@@ -254,8 +275,8 @@ abbrev pub territory_word : PageRequestModel → List ℕ
 territory_word (almanac_words code year) = code
 territory_word (reading_words code date weekday order strict json) = code
 territory_word (day_words code date json) = code
-territory_word (month_words code year month) = code
-territory_word (year_words code year) = code
+territory_word (month_words code year month json) = code
+territory_word (year_words code year json) = code
 territory_word (territory_words None json) = []
 territory_word (territory_words (Some code) json) = code
 
@@ -270,8 +291,8 @@ abbrev pub wrong_word : PageRequestModel → Misuse → List ℕ
 wrong_word (reading_words code date weekday order strict json) misuse =
     wrong_word_of_reading date weekday order misuse
 wrong_word (day_words code date json) misuse = date
-wrong_word (month_words code year month) misuses.Month = month
-wrong_word (month_words code year month) misuse = year
-wrong_word (year_words code year) misuse = year
+wrong_word (month_words code year month json) misuses.Month = month
+wrong_word (month_words code year month json) misuse = year
+wrong_word (year_words code year json) misuse = year
 wrong_word (almanac_words code year) misuse = []
 wrong_word (territory_words code json) misuse = []

@@ -6,7 +6,7 @@ abbrev pub onto_first : ℕ → List (List ℕ) → List (List ℕ)
 onto_first b [] = (b ∷ []) ∷ []
 onto_first b (piece ∷ pieces) = (b ∷ piece) ∷ pieces
 
--- those between the bytes c of a text
+-- the pieces between the bytes c of a text
 abbrev pub pieces : ℕ → List ℕ → List (List ℕ)
 pieces c [] = [] ∷ []
 pieces c (b ∷ rest) = if b == c then [] ∷ pieces c rest else onto_first b (pieces c rest)

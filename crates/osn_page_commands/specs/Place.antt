@@ -19,7 +19,7 @@ abbrev pub is_called : List ℕ → Land → Bool
 is_called word territory =
     str_eq_ignore_ascii_case territory.code word || str_eq_ignore_ascii_case territory.name word
 
--- those that have it
+-- the territories that have the word as their code or their name
 abbrev pub territories_called : List ℕ → List EntryModel → List Land
 territories_called word territories = filter (is_called word) (map listed territories)
 

@@ -6,7 +6,7 @@ use Rattle.osn_letters.specs.Columns.{NameTexts}
 use Rattle.osn_letters.specs.PlaceEntries.{PlaceEntry}
 use Rattle.osn_letters.specs.RowFields.{territory_in}
 use Rattle.osn_letters.specs.declared.no_place.NoPlace.{NoPlace}
-use Rattle.osn_letters.specs.declared.no_place.NoPlace.TheVariants.{Unknown, Ambiguous}
+use Rattle.osn_letters.specs.declared.no_place.NoPlace.TheVariants.{Unknown, Ambiguous, NotUtf8}
 use Rattle.osn_page_commands.specs.Place.{place_lines, territories_called}
 use Rattle.osn_register.specs.Answer.{listed}
 use Rattle.osn_register.specs.Plain.{EntryModel}
@@ -21,6 +21,7 @@ place_fault territories places names =
 -- the territories that may be meant
 abbrev pub territories_meant : NoPlace → List ℕ → List EntryModel → List Land
 territories_meant Unknown place territories = []
+territories_meant NotUtf8 place territories = []
 territories_meant Ambiguous place territories = territories_called place territories
 
 -- the lines on a place without a territory, with the path of the journal

@@ -69,18 +69,23 @@ or_typed word (Err misuse) = Err (misuse, unwrap_or word [])
 
 -- what the words ask for besides the place, or the first that is wrong: of the date's columns, the
 -- separator's or the order's
-abbrev pub settings_with : (DateTexts → NameTexts) → Result DateTexts (Misuse × List ℕ)
+abbrev pub settings_with : Bool → (DateTexts → NameTexts) → Result DateTexts (Misuse × List ℕ)
     → Result (Option Separator) (Misuse × List ℕ) → Result DateOrder (Misuse × List ℕ)
     → Result SettingsModel (Misuse × List ℕ)
-settings_with names (Err wrong) separator order = Err wrong
-settings_with names (Ok dates) (Err wrong) order = Err wrong
-settings_with names (Ok dates) (Ok separator) (Err wrong) = Err wrong
-settings_with names (Ok dates) (Ok separator) (Ok order) =
-    Ok (record { names = names dates; separator = separator; order = order; places = [] })
+settings_with keeps_going names (Err wrong) separator order = Err wrong
+settings_with keeps_going names (Ok dates) (Err wrong) order = Err wrong
+settings_with keeps_going names (Ok dates) (Ok separator) (Err wrong) = Err wrong
+settings_with keeps_going names (Ok dates) (Ok separator) (Ok order) = Ok (record {
+  names = names dates;
+  separator = separator;
+  order = order;
+  places = [];
+  keeps_going = keeps_going;
+})
 
 abbrev pub settings_at : LettersModel → Option (List ℕ) → Result SettingsModel (Misuse × List ℕ)
 settings_at options place =
-    settings_with
+    settings_with options.keep_going
     (names_with options.replace place (unwrap_or options.place_of_all []) options.weekday)
     (dates_of_options options.date)
     (or_typed options.separator (separator_of_word options.separator))

@@ -218,7 +218,11 @@ fn push_help(
 }
 
 /// Returns the line on a word, as it was typed, and the one on what may be meant.
-fn misuse_lines(alloc: Global, misuse: Misuse, argument: &str) -> Result<String, AllocError>
+pub(crate) fn misuse_lines(
+    alloc: Global,
+    misuse: Misuse,
+    argument: &str,
+) -> Result<String, AllocError>
     ensures { IfOk result (λ lines. string_bytes lines ≡ spec.misuse_lines misuse argument.now) }
 {
     let mut lines = misuse_line(alloc, misuse, argument)?;

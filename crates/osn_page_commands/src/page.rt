@@ -7,95 +7,18 @@ ghost use Rattle.osn_register.specs.Refusal.{IsRefusalOrNoMemory};
 ghost use Rattle.osn_page_commands.specs.Page as spec;
 ghost use Rattle.osn_page_commands.specs.Place as places;
 
-use crate::answer_line::{page_line, query_line, set_line};
+use crate::dates::{dates_text, some_line_fails};
 use crate::page_request::Topic;
+use crate::page_text::{entry_text, lacks_day, lacks_set, set_text, territories_text, year_text};
 use crate::place::{Place, place_named};
 use crate::place_lines::place_lines;
 use crate::refusal_lines::refusal_line;
 use osn_core::Edition;
-use osn_days::Weekday;
 use osn_lines::Sink;
-use osn_pages::{
-    Page, Published, almanac_text, has_no_day, page_text, set_has_no_day, set_page_text,
-    territories_page, year_page_text,
-};
-use osn_register::{BorrowedQuery, Refusal, Register};
+use osn_pages::almanac_text;
+use osn_register::Refusal;
 use osn_report::{Status, print, print_or_report, report_line, report_no_memory};
-use std::alloc::{AllocError, Global};
-
-/// Returns the number of an edition, and how many edits are pending.
-fn heading_of(edition: &Edition) -> Published
-    ensures { result ≡ spec.heading_of (edition_model edition.now) }
-{
-    Published {
-        edition: edition.number(),
-        pending: edition.pending(),
-    }
-}
-
-/// Returns a page on the territory of a code, or the line of JSON of its answer. `date` is the text
-/// of its date.
-fn entry_text(
-    alloc: Global,
-    edition: &Edition,
-    code: &str,
-    date: &str,
-    page: Page,
-    is_json: bool,
-) -> Result<String, Refusal>
-    ensures lawful { OnOk result
-        (code_refusal (edition_model edition.now).territories code.now ≡ None) }
-    ensures text { IfOk result (λ text. string_bytes text
-        ≡ spec.entry_text (edition_model edition.now) code.now date.now page is_json) }
-    ensures refused { IfErr result
-        (IsRefusalOrNoMemory (code_refusal (edition_model edition.now).territories code.now)) }
-{
-    let register = edition.register();
-    if !is_json {
-        return page_text(alloc, register, code, heading_of(edition), page);
-    }
-    register.territory(code)?;
-    match page_line(alloc, edition, code, date, &page)? {
-        Some(line) => Ok(line),
-        None => page_text(alloc, register, code, heading_of(edition), page),
-    }
-}
-
-/// Returns the page on a set of dates, or the line of JSON of its answer.
-fn set_text(
-    alloc: Global,
-    edition: &Edition,
-    code: &str,
-    date: &str,
-    weekday: Option<Weekday>,
-    is_json: bool,
-) -> Result<String, Refusal>
-    ensures lawful { OnOk result
-        (code_refusal (edition_model edition.now).territories code.now ≡ None) }
-    ensures text { IfOk result (λ text. string_bytes text
-        ≡ spec.set_text (edition_model edition.now) code.now date.now weekday is_json) }
-    ensures refused { IfErr result
-        (IsRefusalOrNoMemory (code_refusal (edition_model edition.now).territories code.now)) }
-{
-    let register = edition.register();
-    if !is_json {
-        return set_page_text(alloc, register, code, heading_of(edition), date, weekday);
-    }
-    register.territory(code)?;
-    Ok(set_line(alloc, edition, code, date, weekday)?)
-}
-
-/// Returns the page of all territories, or the line of JSON of the answer.
-fn territories_text(alloc: Global, edition: &Edition, is_json: bool) -> Result<String, AllocError>
-    ensures { IfOk result (λ text.
-        string_bytes text ≡ spec.territories_text (edition_model edition.now) is_json) }
-{
-    if is_json {
-        query_line(alloc, edition, BorrowedQuery::Lands)
-    } else {
-        territories_page(alloc, edition.register(), heading_of(edition))
-    }
-}
+use std::alloc::Global;
 
 /// Returns what was asked for, of an edition. `date` is the text of its date.
 fn text_of(
@@ -116,7 +39,7 @@ fn text_of(
     let register = edition.register();
     match *topic {
         Topic::Almanac(year) => almanac_text(alloc, register, code, i64::from(year)),
-        Topic::Year(year) => year_page_text(alloc, register, code, heading_of(edition), year),
+        Topic::Year { year, is_json } => year_text(alloc, edition, code, date, year, is_json),
         Topic::Territory { page, form } => entry_text(
             alloc,
             edition,
@@ -128,37 +51,13 @@ fn text_of(
         Topic::Set { weekday, form } => {
             set_text(alloc, edition, code, date, weekday, form.is_json)
         }
+        Topic::Dates(rules) => dates_text(alloc, edition, code, rules, date),
         Topic::Territories { is_json } => Ok(territories_text(alloc, edition, is_json)?),
     }
 }
 
-/// Returns whether the date of a page means no day in the territory of the code. Other pages have
-/// no date.
-fn lacks_day(alloc: Global, register: &Register, code: &str, page: Page) -> Result<bool, Refusal>
-    ensures value { IfOk result
-        (λ lacks. lacks ≡ spec.lacks_day register.now.territories code.now page) }
-    ensures refused { IfErr result
-        (IsRefusalOrNoMemory (code_refusal register.now.territories code.now)) }
-{
-    let Page::Reading { date, .. } = page else {
-        return Ok(false);
-    };
-    let (_, territory) = register.territory(code)?;
-    Ok(has_no_day(alloc, territory, date)?)
-}
-
-/// Returns whether a date of a set means no day in the territory of the code.
-fn lacks_set(alloc: Global, register: &Register, code: &str, date: &str) -> Result<bool, Refusal>
-    ensures value { IfOk result (λ lacks.
-        lacks ≡ spec.lacks_set register.now.territories code.now date.now) }
-    ensures refused { IfErr result
-        (IsRefusalOrNoMemory (code_refusal register.now.territories code.now)) }
-{
-    let (_, territory) = register.territory(code)?;
-    Ok(set_has_no_day(alloc, territory, date)?)
-}
-
-/// Does the same if the arguments ask for a date.
+/// Returns whether a date that was asked for means no day in the territory of the code, if that is
+/// a refusal, or whether one of several lines is not a date.
 fn lacks_strict_day(
     alloc: Global,
     edition: &Edition,
@@ -179,6 +78,7 @@ fn lacks_strict_day(
         Topic::Set { form, .. } if form.is_strict => {
             lacks_set(alloc, edition.register(), code, date)
         }
+        Topic::Dates(rules) => some_line_fails(alloc, edition.register(), code, rules, date),
         _ => Ok(false),
     }
 }
@@ -237,8 +137,11 @@ fn print_text_of<W: Sink, E: Sink>(
 {
     match topic {
         Topic::Almanac(_) => print_or_report(Ok(text), output, errors),
-        Topic::Year(_) | Topic::Territory { .. } | Topic::Set { .. } | Topic::Territories { .. } =>
-            { print(Ok(text), output, errors) }
+        Topic::Year { .. }
+        | Topic::Territory { .. }
+        | Topic::Set { .. }
+        | Topic::Dates(_)
+        | Topic::Territories { .. } => print(Ok(text), output, errors),
     }
 }
 
@@ -321,7 +224,7 @@ pub(crate) fn print_page<W: Sink, E: Sink>(
         Topic::Almanac(_) | Topic::Territories { .. } => {
             print_page_of(alloc, edition, path, word, date, topic, output, errors)
         }
-        Topic::Year(_) | Topic::Territory { .. } | Topic::Set { .. } => {
+        Topic::Year { .. } | Topic::Territory { .. } | Topic::Set { .. } | Topic::Dates(_) => {
             print_page_named(alloc, edition, path, word, date, topic, output, errors)
         }
     }

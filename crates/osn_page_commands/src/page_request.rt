@@ -1,5 +1,5 @@
 //! What the arguments of a command ask for, if none of them is wrong.
-ghost use Rattle.std.specs.Prelude.{◌≡◌, option_map, true, IfOk, OnErr};
+ghost use Rattle.std.specs.Prelude.{◌≡◌, true, IfOk, OnErr};
 ghost use Rattle.osn_invocation.specs.Invocation.{page_request};
 ghost use Rattle.osn_written.specs.WrittenDate.{number_of as number_in};
 ghost use Rattle.osn_page_commands.specs.DayNumber.{day_by_number as day_in};
@@ -8,13 +8,13 @@ ghost use Rattle.osn_page_commands.specs.PageRequest as spec;
 
 use crate::day_number::{day_by_julian, day_by_number, is_julian_word};
 use crate::month_word::month_of_word;
-use crate::order::order_of_word;
+use crate::read_request::topic_of_date;
 use osn_days::{Calendar, Day, Keyword, Weekday, Year};
-use osn_grammar::{Written, parse_day, read_date};
+use osn_grammar::{DateOrder, parse_day};
 use osn_invocation::PageRequest;
 use osn_pages::{Page, day_of_written};
 use osn_report::Misuse;
-use osn_written::{AnyDate, DateFault, WrittenDate, number_of, weekday_named};
+use osn_written::{DateFault, WrittenDate, number_of};
 use std::alloc::{AllocError, Global};
 
 /// How the answer to a question about a territory is printed, and how the command ends.
@@ -26,13 +26,27 @@ pub(crate) struct Form {
     pub(crate) is_json: bool,
 }
 
+/// How each line of an input is read as a date, and printed.
+#[derive(Clone, Copy, Debug, PartialEq, Eq)]
+pub(crate) struct LineRules {
+    /// How a date of three numbers is read.
+    pub(crate) order: DateOrder,
+    /// The weekday that is given beside each date, if any.
+    pub(crate) weekday: Option<Weekday>,
+    pub(crate) form: Form,
+}
+
 /// The subject of a page.
 #[derive(Clone, Copy, Debug, PartialEq, Eq)]
 pub(crate) enum Topic {
     /// A year of a territory, as an almanac.
     Almanac(u32),
     /// A year as a territory counted it.
-    Year(Year),
+    Year {
+        year: Year,
+        /// Whether the answers are lines of JSON.
+        is_json: bool,
+    },
     /// What this page says about a territory.
     Territory {
         page: Page,
@@ -44,6 +58,8 @@ pub(crate) enum Topic {
         weekday: Option<Weekday>,
         form: Form,
     },
+    /// Which days each of several dates means, a date a line.
+    Dates(LineRules),
     /// All territories.
     Territories {
         /// Whether the answer is a line of JSON.
@@ -58,104 +74,6 @@ fn date_of_word(alloc: Global, text: &str) -> Result<Result<WrittenDate, Misuse>
     match parse_day(alloc, text)? {
         Ok(date) => Ok(Ok(date)),
         Err(fault) => Ok(Err(Misuse::Date(fault))),
-    }
-}
-
-/// Returns the date that was read from a text, which must contain one that is not a set.
-fn any_date_or_misuse(date: Result<Written, DateFault>) -> Result<AnyDate, Misuse>
-    ensures { result ≡ spec.any_date_or_misuse date }
-{
-    match date {
-        Ok(Written::Date(date)) => Ok(date),
-        Ok(Written::Set) => Err(Misuse::Date(DateFault::NotOneDay)),
-        Ok(Written::NoDate) => Err(Misuse::Date(DateFault::NoDate)),
-        Err(DateFault::DayOrMonth) => Err(Misuse::OpenOrder),
-        Err(fault) => Err(Misuse::Date(fault)),
-    }
-}
-
-/// Returns the weekday of a name, if there is a name.
-fn weekday_of_word(name: Option<&str>) -> Result<Option<Weekday>, Misuse>
-    ensures { result ≡ spec.weekday_of_word (option_map (λ name. name.now) name.entry) }
-{
-    match name {
-        None => Ok(None),
-        Some(name) => Ok(Some(weekday_named(name).ok_or(Misuse::Weekday)?)),
-    }
-}
-
-/// Returns the weekday that is given beside a date, unless the date names another one.
-fn weekday_beside(
-    date_weekday: Option<Weekday>,
-    weekday: Option<Weekday>,
-) -> Result<Option<Weekday>, Misuse>
-    ensures { result ≡ spec.weekday_beside date_weekday weekday }
-{
-    match (date_weekday, weekday) {
-        (Some(date_weekday), Some(weekday)) if date_weekday.name() != weekday.name() => {
-            Err(Misuse::OtherWeekday(date_weekday))
-        }
-        _ => Ok(weekday),
-    }
-}
-
-/// Returns the reading of a date that was asked for, by the weekday of that name, if there is a
-/// name.
-fn reading_of(date: Result<AnyDate, Misuse>, name: Option<&str>) -> Result<Page, Misuse>
-    ensures { result ≡ spec.reading_of date (option_map (λ name. name.now) name.entry) }
-{
-    let date = date?;
-    let weekday = weekday_of_word(name)?;
-    Ok(Page::Reading {
-        date,
-        weekday: weekday_beside(date.weekday, weekday)?,
-    })
-}
-
-/// Returns the page on a set of dates, by the weekday of that name, if there is a name.
-fn topic_of_set(name: Option<&str>, form: Form) -> Result<Topic, Misuse>
-    ensures { result ≡ spec.topic_of_set (option_map (λ name. name.now) name.entry) form }
-{
-    Ok(Topic::Set {
-        weekday: weekday_of_word(name)?,
-        form,
-    })
-}
-
-/// Returns the page on what was read from a text, by the weekday of that name, if there is a name.
-fn topic_of_read(
-    date: Result<Written, DateFault>,
-    name: Option<&str>,
-    form: Form,
-) -> Result<Topic, Misuse>
-    ensures { result
-        ≡ spec.topic_of_read date (option_map (λ name. name.now) name.entry) form }
-{
-    match date {
-        Ok(Written::Set) => topic_of_set(name, form),
-        _ => territory_topic(reading_of(any_date_or_misuse(date), name), form),
-    }
-}
-
-/// Returns the reading of a date that was asked for, by the word of the order of its numbers and by
-/// the weekday of that name, if there are any.
-fn topic_of_reading(
-    alloc: Global,
-    text: &str,
-    weekday: Option<&str>,
-    order: Option<&str>,
-    form: Form,
-) -> Result<Result<Topic, Misuse>, AllocError>
-    ensures { IfOk result (λ topic. topic ≡ spec.topic_of_reading text.now
-        (option_map (λ name. name.now) weekday.entry) (option_map (λ word. word.now) order.entry)
-        form) }
-{
-    match order_of_word(order) {
-        Ok(order) => {
-            let date = read_date(alloc, text, order)?;
-            Ok(topic_of_read(date, weekday, form))
-        }
-        Err(misuse) => Ok(Err(misuse)),
     }
 }
 
@@ -179,7 +97,7 @@ fn without_weekday(day: Result<Day, Misuse>) -> Result<DayAndWeekday, Misuse>
     Ok((day?, None))
 }
 
-/// Returns the same misuse, as `convert` reports it, which asks which number is meant.
+/// Returns a misuse as `convert` reports it, which asks which number is meant.
 fn on_conversion(misuse: Misuse) -> Misuse
     ensures { result ≡ spec.on_conversion misuse }
 {
@@ -295,14 +213,17 @@ fn year_numbered(number: Option<u32>) -> Result<Year, Misuse>
 }
 
 /// Returns the page on a year.
-fn year_topic_of(year: &str) -> Result<Topic, Misuse>
-    ensures { result ≡ spec.year_topic_of year.now }
+fn year_topic_of(year: &str, is_json: bool) -> Result<Topic, Misuse>
+    ensures { result ≡ spec.year_topic_of year.now is_json }
 {
-    Ok(Topic::Year(year_numbered(number_of(year))?))
+    Ok(Topic::Year {
+        year: year_numbered(number_of(year))?,
+        is_json,
+    })
 }
 
 /// Returns a page on a territory, as what is asked for.
-fn territory_topic(page: Result<Page, Misuse>, form: Form) -> Result<Topic, Misuse>
+pub(crate) fn territory_topic(page: Result<Page, Misuse>, form: Form) -> Result<Topic, Misuse>
     ensures { result ≡ spec.territory_topic page form }
 {
     Ok(Topic::Territory { page: page?, form })
@@ -332,72 +253,21 @@ pub(crate) fn topic_of_words(
             strict,
             json,
             ..
-        } => topic_of_reading(alloc, date, weekday, order, form_of(strict, json)),
+        } => topic_of_date(alloc, date, weekday, order, form_of(strict, json)),
         PageRequest::Day { date, json, .. } => {
             Ok(territory_topic(day_page_of(alloc, date)?, form_of(false, json)))
         }
-        PageRequest::Month { year, month, .. } => {
-            Ok(territory_topic(month_page_of(alloc, year, month)?, form_of(false, false)))
-        }
-        PageRequest::Year { year, .. } => Ok(year_topic_of(year)),
+        PageRequest::Month {
+            year,
+            month,
+            json,
+            ..
+        } => Ok(territory_topic(month_page_of(alloc, year, month)?, form_of(false, json))),
+        PageRequest::Year { year, json, .. } => Ok(year_topic_of(year, json)),
         PageRequest::Territory { code: None, json } => Ok(Ok(Topic::Territories { is_json: json })),
         PageRequest::Territory {
             code: Some(_),
             json,
         } => Ok(territory_topic(Ok(Page::Periods), form_of(false, json))),
-    }
-}
-
-/// Returns the text of the date that words name, or an empty text if they name no date.
-pub(crate) fn date_text_of<'a>(words: PageRequest<'a>) -> &'a str
-    ensures { result.now ≡ spec.date_text_of (page_request words.entry) }
-{
-    match words {
-        PageRequest::Read { date, .. } => date,
-        _ => "",
-    }
-}
-
-/// Returns the word that names the territory of a page, or an empty text if there is none.
-pub(crate) fn territory_word<'a>(words: PageRequest<'a>) -> &'a str
-    ensures { result.now ≡ spec.territory_word (page_request words.entry) }
-{
-    match words {
-        PageRequest::Almanac { code, .. }
-        | PageRequest::Read { code, .. }
-        | PageRequest::Day { code, .. }
-        | PageRequest::Month { code, .. }
-        | PageRequest::Year { code, .. }
-        | PageRequest::Territory {
-            code: Some(code),
-            ..
-        } => code,
-        PageRequest::Territory { code: None, .. } => "",
-    }
-}
-
-/// Returns the argument of a page that is wrong.
-pub(crate) fn wrong_word<'a>(words: PageRequest<'a>, misuse: Misuse) -> &'a str
-    ensures { result.now ≡ spec.wrong_word (page_request words.entry) misuse }
-{
-    match (words, misuse) {
-        (
-            PageRequest::Read {
-                weekday: Some(weekday),
-                ..
-            },
-            Misuse::Weekday | Misuse::OtherWeekday(_),
-        ) => weekday,
-        (
-            PageRequest::Read {
-                order: Some(order),
-                ..
-            },
-            Misuse::Order,
-        ) => order,
-        (PageRequest::Read { date, .. } | PageRequest::Day { date, .. }, _) => date,
-        (PageRequest::Month { month, .. }, Misuse::Month) => month,
-        (PageRequest::Month { year, .. } | PageRequest::Year { year, .. }, _) => year,
-        (PageRequest::Almanac { .. } | PageRequest::Territory { .. }, _) => "",
     }
 }

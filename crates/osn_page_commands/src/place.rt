@@ -142,7 +142,7 @@ fn is_similar(alloc: Global, word: &str, territory: &Land) -> Result<bool, Alloc
     )
 }
 
-/// Returns the same territory.
+/// Returns a territory equal to this one.
 fn copy_of(territory: &Land) -> Result<Land, AllocError>
     ensures { IfOk result (λ copy. copy ≡ territory.now) }
 {

@@ -41,7 +41,7 @@ fn territories_meant(
         ≡ spec.territories_meant reason place.now register.now.territories) }
 {
     match reason {
-        NoPlace::Unknown => Ok(Vec::new(alloc)),
+        NoPlace::Unknown | NoPlace::NotUtf8 => Ok(Vec::new(alloc)),
         NoPlace::Ambiguous => territories_called(register, place),
     }
 }

@@ -10,7 +10,7 @@ use std::alloc::{AllocError, Global};
 use std::fmt;
 use std::fmt::Write;
 
-/// That a word can't be a code.
+/// The words that a word can't be a code.
 #[derive(Clone, Copy)]
 struct NoCode<'a>(&'a str);
 
@@ -29,7 +29,7 @@ impl<'a> fmt::Display for NoCode<'a> {
     }
 }
 
-/// That the journal of a path has no territory of a code.
+/// The words that the journal of a path has no territory of a code.
 #[derive(Clone, Copy)]
 struct NoTerritory<'a> {
     path: &'a str,
@@ -121,7 +121,7 @@ pub(crate) fn refusal_line(
 {
     match *topic {
         Topic::Almanac(year) => almanac_lines(alloc, path, code, year, refusal),
-        Topic::Year(_) | Topic::Territory { .. } | Topic::Set { .. } => {
+        Topic::Year { .. } | Topic::Territory { .. } | Topic::Set { .. } | Topic::Dates(_) => {
             territory_refusal_line(alloc, path, code, refusal)
         }
         Topic::Territories { .. } => refusal_number_line(alloc, refusal.number(), refusal.name()),

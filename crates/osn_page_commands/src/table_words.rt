@@ -149,6 +149,7 @@ fn settings_at<'a>(
             separator,
             order,
             places: None,
+            keeps_going: options.keep_going,
         }),
     }
 }

@@ -93,7 +93,7 @@ change_line p period =
     ++ (style_word period.regime.style
     ++ (codes " style, " ++ (rule_word period.regime.rule ++ codes " rule\n")))))))))
 
--- that line and that of the source, if the change is one of the year
+-- the line of a change and that of its source, if the change is one of the year
 abbrev pub change_lines : Rules → Option SourcesModel → ℕ → Period → List ℕ
 change_lines p sources year period =
     if is_change_in year period then

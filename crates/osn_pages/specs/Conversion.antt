@@ -23,7 +23,7 @@ dates_text d =
     ++ (calendar_words Julian d
     ++ (codes " Julian    " ++ (calendar_words Swedish d ++ codes " Swedish"))))))
 
--- its numbers
+-- the numbers of a day: its own and its Julian day number
 unfoldable pub numbers_text : ℕ → List ℕ
 numbers_text d =
     codes "    day " ++ (decimal d ++ (codes "    JDN " ++ decimal (julian_day d)))

@@ -68,7 +68,7 @@ in_two_places n = replicate (2 - length (decimal n)) 32 ++ decimal n
 unfoldable pub cell : DatedDay → List ℕ
 cell x = in_two_places x.label.day
 
--- the same after another cell
+-- the day's number in its month, with a space before it, after another cell
 unfoldable pub next_cell : DatedDay → List ℕ
 next_cell x = codes " " ++ cell x
 

@@ -8,7 +8,8 @@ unfoldable pub territory_heading : List ℕ → List ℕ → ℕ → List ℕ
 territory_heading name code edition =
     name ++ (codes " (" ++ (code ++ (codes "), edition " ++ (decimal edition ++ codes "\n"))))
 
--- the same after what the page is of: 11 February 1731/2 in Great Britain (GB), edition 5
+-- what the page is of, and then the territory and the edition: 11 February 1731/2 in Great Britain
+-- (GB), edition 5
 unfoldable pub heading : List ℕ → List ℕ → List ℕ → ℕ → List ℕ
 heading subject name code edition = subject ++ (codes " in " ++ territory_heading name code edition)
 

@@ -24,7 +24,8 @@ pub record IsDateOf (p : Rules) (c : Calendar) (d : ℕ) (text : List ℕ) : Typ
   pub is : written_date text ≡ Ok date
   pub day : days_of_written p c date ≡ d ∷ []
 
--- so are the words of each day of the line, by each calendar, from the year 100 on
+-- as a law: the words of each day of the line, by each calendar, are a date of that day and no
+-- other, from the year 100 on
 unfoldable pub AreCalendarWordsWritten : Rules → Type 0
 AreCalendarWordsWritten p =
     (c : Calendar) (d : ℕ) → IsDay p d → pos 100 ≤ℤ (date_of c d).year
@@ -44,8 +45,9 @@ abbrev pub periods_in : Answer → List PeriodAndSource
 periods_in (answers.Periods periods) = periods
 periods_in other = []
 
--- so it is with each period of the territory. Its page says from which day and until which one the
--- period is in force. The pages of these two days name them alike
+-- as a law: each period that the register answers for a territory has a day, and the register
+-- answers this period to each of its days. The page of the territory says from which day and until
+-- which one the period is in force. The pages of these two days name them alike
 unfoldable pub ArePeriodsAnswered : Rules → List EntryModel → List ℕ → Type 0
 ArePeriodsAnswered p territories code =
     All (IsPeriodAnswered p territories code) (periods_in (answer p territories (Periods code)))

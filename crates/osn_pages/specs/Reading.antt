@@ -21,7 +21,7 @@ abbrev pub other_weekday : Option Weekday → ℕ → Option Weekday
 other_weekday None d = None
 other_weekday (Some given) d = if is_on (Some given) d then None else Some given
 
--- that the day is of the weekday, or of which it is not
+-- the words that the day is of the weekday, or of which it is not
 abbrev pub weekday_verdict : Option Weekday → List ℕ
 weekday_verdict None = codes " ok"
 weekday_verdict (Some given) = codes " not " ++ weekday_name given
@@ -48,11 +48,11 @@ day_line remark x =
     ++ (decimal x.day
     ++ (codes "    JDN " ++ (decimal (julian_day x.day) ++ (remark ++ codes "\n")))))))))
 
--- the same of a day of which no weekday is asked
+-- the line of a day of which no weekday is asked
 abbrev pub plain_day_line : DatedDay → List ℕ
 plain_day_line x = day_line [] x
 
--- of a double date, that the territory counted from 1 January, and what it wrote
+-- the line that the territory counted the day of a double date from 1 January, and what it wrote
 unfoldable pub not_double_line : DatedDay → List ℕ
 not_double_line x =
     codes "not counted double there: the place wrote " ++ (dated_text x ++ codes "\n")

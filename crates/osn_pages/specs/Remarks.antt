@@ -1,5 +1,5 @@
--- What is remarked after the days of a date: that it ends in the next year, how sure it is, by which
--- calendar it was read, and that its weekday is not compared. And how its page names it. This
+-- What is remarked after the days of a date: that it ends in the next year, how sure it is, by
+-- which calendar it was read, and that its weekday is not compared. And how its page names it. This
 -- project's profile.
 use Rattle.std.specs.Prelude.{ℕ, ◌==◌, Bool, if◌then◌else◌, List, [], ◌∷◌, ◌++◌, Option, Some, None}
 use Rattle.std.specs.Prelude.{Result, Ok, Err, codes}
@@ -67,7 +67,8 @@ sureness_line w = sureness w.is_approximate w.is_uncertain w.is_supplied
 
 -- ---- its year
 
--- by the reckoning of a territory the last day of a range with one year is of the next one
+-- the line that the last day of a range with one year is of the next year, by the reckoning of a
+-- territory
 abbrev pub next_year_line : Rules → TerritoryModel → Extent → List ℕ
 next_year_line p t e = if ends_in_next_year p t e then codes "ends in the next year\n" else []
 
@@ -97,8 +98,8 @@ unfoldable pub own_days : Rules → List ℕ → TerritoryModel → Option ℕ �
 own_days p name t (Some d) = own_day name (dated_on p t d)
 own_days p name t None = name ++ codes " itself dated these days as they are written above\n"
 
--- the same of what the date means by the calendar that it names. If it means no day by that one, it
--- does by the place's own
+-- how the place itself dated what the date means by the calendar that it names. If it means no day
+-- by that calendar, it means one by the place's own reckoning
 unfoldable pub own_dates : Rules → List ℕ → TerritoryModel → Result (List Run) NoDay → List ℕ
 own_dates p name t (Ok runs) = own_days p name t (only_day runs)
 own_dates p name t (Err reason) =

@@ -5,7 +5,7 @@ use Rattle.std.specs.Prelude.{ℕ, List, [], ◌++◌, Option, Some, None, codes
 unfoldable pub source_line : List ℕ → List ℕ
 source_line source = codes "(source: " ++ (source ++ codes ")\n")
 
--- the same if one is given
+-- the line that cites a source, if one is given
 abbrev pub source_text : Option (List ℕ) → List ℕ
 source_text None = []
 source_text (Some source) = source_line source

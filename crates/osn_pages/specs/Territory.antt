@@ -21,7 +21,7 @@ easter_line p t listed =
     codes "listed Easter of "
     ++ (decimal listed.0 ++ (codes ": " ++ (numbered_day (dated_on p t listed.1) ++ codes "\n")))
 
--- that line, and that of the source
+-- the line of a listed Easter and that of its source
 unfoldable pub easter_lines : Rules → TerritoryModel → Option SourcesModel → ℕ × ℕ → List ℕ
 easter_lines p t sources listed =
     easter_line p t listed ++ source_text (easter_source sources listed.0)

@@ -23,7 +23,7 @@ gap_words [] first = codes ": by the calendar before, no day has that date"
 gap_words (same ∷ others) first =
     if nat_lt first same then left_out_words (same - first) else twice_words (first - same)
 
--- that a part of the reckoning is another from then on, with the words of both
+-- the line that a part of the reckoning is another from then on, with the words of both
 unfoldable pub turned_line : List ℕ → List ℕ → List ℕ → List ℕ
 turned_line part old new =
     part

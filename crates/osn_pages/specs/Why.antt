@@ -49,7 +49,8 @@ line_ends first last =
 
 -- ---- a date of no calendar
 
--- how many days a month has that lacks one of them by every calendar of the territory
+-- the words on the greatest number of days of a month by the calendars of the territory, for a
+-- month of fewer than 31 days
 abbrev pub month_length : Rules → TerritoryModel → ℕ → List ℕ
 month_length p t month =
     if month == 2 then
@@ -68,7 +69,7 @@ not_of_calendar_line p t month =
 unfoldable pub skip_line : DatedDay → DatedDay → List ℕ
 skip_line before change = codes "skipped: " ++ (followed before change ++ codes "\n")
 
--- that the year began on another date from the change on
+-- the line that the year began on another date from the change on
 abbrev pub beginning_line : Style → Style → List ℕ
 beginning_line old new =
     turned_line (codes "the year's beginning") (beginning_of_year old) (beginning_of_year new)
@@ -77,7 +78,7 @@ beginning_line old new =
 abbrev pub is_style : Style → Style → Bool
 is_style a b = bytes_eq (style_word a) (style_word b)
 
--- that a change is one of the year's beginning, if it is, and the nearest days
+-- the line that a change is one of the year's beginning, if it is, and the nearest days
 unfoldable pub beginning_lines : Rules → TerritoryModel → WrittenDate → Style → Style → List ℕ
 beginning_lines p t w old new =
     if is_style old new then [] else beginning_line old new ++ nearest_lines p t w
@@ -102,11 +103,12 @@ unfoldable pub year_ends_line : ℕ → DatedDay → DatedDay → List ℕ
 year_ends_line year first last =
     codes "no such date in that year: " ++ (year_ends year first last ++ codes "\n")
 
--- that the year had no day there
+-- the line that the year had no day there
 abbrev pub no_year_line : ℕ → List ℕ
 no_year_line year = codes "no such date in that year: " ++ empty_year_line year
 
--- the same of the days that the year had there
+-- the line on these days of a year in the territory: from which to which it ran, or that it had no
+-- day
 abbrev pub year_line : Rules → TerritoryModel → ℕ → List ℕ → List ℕ
 year_line p t year [] = no_year_line year
 year_line p t year (d ∷ ds) = year_ends_line year (dated_on p t d) (dated_on p t (last_day d ds))

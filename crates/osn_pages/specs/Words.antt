@@ -28,7 +28,7 @@ weekday_words d = weekday_name (weekday_numbered (weekday d))
 unfoldable pub named_day : DatedDay → List ℕ
 named_day x = weekday_words x.day ++ (codes " " ++ dated_text x)
 
--- the same with its number: Thursday 14 September 1752 (day 639797)
+-- a day as a territory names it, with its number: Thursday 14 September 1752 (day 639797)
 unfoldable pub numbered_day : DatedDay → List ℕ
 numbered_day x = named_day x ++ (codes " (day " ++ (decimal x.day ++ codes ")"))
 
@@ -44,6 +44,6 @@ unfoldable pub followed : DatedDay → DatedDay → List ℕ
 followed before change =
     named_day before ++ (codes " was followed by " ++ numbered_day change)
 
--- that no day had the year
+-- the line that no day had the year
 unfoldable pub empty_year_line : ℕ → List ℕ
 empty_year_line year = codes "the place had no day of the year " ++ (decimal year ++ codes "\n")

@@ -53,7 +53,7 @@ abbrev pub last_of : DatedDay → List DatedDay → DatedDay
 last_of x [] = x
 last_of x (next ∷ days) = last_of next days
 
--- that days begin or end with the line of days, so that the year may have had more
+-- the words that days begin or end with the line of days, so that the year may have had more
 abbrev pub line_ends : Rules → ℕ → ℕ → List ℕ
 line_ends p first last =
     (if first == 1 then codes "its first day is the first of the line of days\n" else [])
@@ -71,7 +71,7 @@ named_days first last =
     if first.day == last.day then named_day first
     else named_day first ++ (codes " to " ++ named_day last)
 
--- the same by the Gregorian calendar
+-- the days of a month by the Gregorian calendar, or the one day of it
 abbrev pub gregorian_days : ℕ → ℕ → List ℕ
 gregorian_days first last =
     if first == last then calendar_words Gregorian first
@@ -144,14 +144,14 @@ followed_line p t change =
     (date_of (regime_at t change).calendar change)) change
     ++ codes "\n")
 
--- that line, the source, and what changed
+-- the lines of a change: its days, its source, and what changed
 unfoldable pub change_lines : Rules → TerritoryModel → Option SourcesModel → ℕ → List ℕ
 change_lines p t sources change =
     followed_line p t change
     ++ (source_text (period_source sources change)
     ++ turned_lines (regime_at t (change - 1)) (regime_at t change))
 
--- those of the change with which a period begins, if it is one of the year
+-- the lines of the change with which a period begins, if it is one of the year
 abbrev pub change_lines_if : Rules → TerritoryModel → Option SourcesModel → ℕ → Period → List ℕ
 change_lines_if p t sources year period =
     if nat_lt 1 period.first && is_change_of p t year period.first then
@@ -199,7 +199,7 @@ feasts_text p t sources year = feast_lines_of p t sources (feasts_of_year p t ye
 
 -- ---- figures
 
--- of the year 1731 counted from 1 January:
+-- the heading of the figures: of the year 1731 counted from 1 January:
 unfoldable pub figures_heading : ℕ → List ℕ
 figures_heading year =
     codes "of the year " ++ (decimal year ++ codes " counted from 1 January:\n")

@@ -66,7 +66,7 @@ fn push_cell(out: &mut String, dated: DatedDay) -> Result<(), AllocError>
     write!(out, "{:>2}", dated.label.day)
 }
 
-/// Appends the same after another cell.
+/// Appends the number of a day in its month, after another cell.
 #[tactic(auto, unfolding(crate::specs::Grid::next_cell))]
 fn push_next_cell(out: &mut String, dated: DatedDay) -> Result<(), AllocError>
     ensures { OnOk result (string_bytes out.new ≡ string_bytes out.old ++ spec.next_cell dated) }

@@ -158,8 +158,8 @@ fn push_own_days(
     }
 }
 
-/// Appends the same of what a date means by the calendar that it names. If it means no day by that
-/// calendar, it means one by the place's own.
+/// Appends how the place itself dated what a date means by the calendar that it names. If it means
+/// no day by that calendar, it means one by the place's own.
 #[tactic(auto, unfolding(crate::specs::Remarks::own_dates))]
 fn push_own_dates(
     out: &mut String,

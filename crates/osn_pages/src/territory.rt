@@ -44,7 +44,7 @@ fn push_easter_line(
     writeln!(out, "listed Easter of {}: {}", year.number(), easter)
 }
 
-/// Appends that line, and that of the source.
+/// Appends the line of a listed Easter, and that of its source.
 #[tactic(auto, unfolding(crate::specs::Territory::easter_lines))]
 fn push_easter(
     out: &mut String,

@@ -27,7 +27,7 @@ fn push_with_one_year(out: &mut String, dated: DatedDay) -> Result<(), AllocErro
     writeln!(out, "not with both years: {}", NumberedDay(dated))
 }
 
-/// Appends such a line for each of these days.
+/// Appends the line of each day that the date means with its first year alone.
 fn push_all_with_one_year(
     out: &mut String,
     territory: &Territory,
@@ -50,7 +50,7 @@ fn push_nearest_line(out: &mut String, dated: DatedDay) -> Result<(), AllocError
     writeln!(out, "nearest: {}", NumberedDay(dated))
 }
 
-/// Appends such a line for each of these days.
+/// Appends the line of each nearest day.
 fn push_nearest_lines(
     out: &mut String,
     territory: &Territory,

@@ -28,7 +28,7 @@ pub(crate) fn label_year(year: Year) -> i32
 pub(crate) enum Part {
     /// Days that follow one another.
     Run,
-    /// Those of them that are of one month.
+    /// Days that follow one another and are of one month.
     Month,
 }
 
@@ -121,7 +121,7 @@ fn push_named(out: &mut String, first: DatedDay, last: DatedDay) -> Result<(), A
     }
 }
 
-/// Appends the same by the Gregorian calendar.
+/// Appends the days of a month by the Gregorian calendar.
 fn push_gregorian(out: &mut String, first: Day, last: Day) -> Result<(), AllocError>
     ensures { OnOk result (string_bytes out.new
         ≡ string_bytes out.old ++ spec.gregorian_days first last) }

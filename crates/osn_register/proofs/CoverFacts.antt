@@ -145,7 +145,7 @@ covers-without_change p t d covers low = by t.starts covers
         (cond (not b) (s ∷ filter (is_other d) rest) (filter (is_other d) rest))))
         (sym (other_day d s.0 h.0 low)) (h.0, more.1, more.2)
 
--- of periods that cover these days, the one that holds a day is the first to hold it
+-- the period that holds a day is the first of a covering list to hold it
 period_on-append : (front rest : List Period) (q : Period) (first last d : ℕ) →
     Covers first last (front ++ q ∷ rest) → q.first ≤ d → d ≤ q.last →
     period_on (front ++ q ∷ rest) d ≡ Some q

@@ -87,7 +87,7 @@ same_dates y m d year =
     ∷ []))
     (both_between 0 first_rules.last_label_year newest_rules.last_label_year y (omega arith) year)
 
--- a day is named alike
+-- a day of the first rules is named alike
 
 same_on_day : (r : Regime) (d : ℕ) → d ≤ first_rules.high
     → found_under newest_rules r d ≡ found_under first_rules r d
@@ -125,7 +125,7 @@ days_of_both t (d ∷ days) =
     days_step t d days (days_of_line first_rules days) (nat_le d first_rules.high) refl
     (days_of_both t days)
 
--- a reading
+-- the answer to a reading keeps that of the first rules
 
 keeps_reading : (t : Option TerritoryModel) (label : Label)
     → KeepsReading first_rules (reading_answer first_rules t label)
@@ -145,7 +145,7 @@ reading_unless p (Some f) (Some g) now before same kept = (same, refl)
 reading_unless p None (Some g) now before same kept = absurd cc
 reading_unless p (Some f) None now before same kept = absurd cc
 
--- a day
+-- the answer about a day keeps that of the first rules
 
 -- a period without its last day
 abbrev begin_of : Period → ℕ × Regime
@@ -174,7 +174,7 @@ same_period high more d (s ∷ next ∷ rest) until longer =
     (period_on (periods_from high (next ∷ rest)) d) refl
     (same_period high more d (next ∷ rest) until longer)
 
--- the same with the source of that day
+-- a period with its source starts on the same day under both lines
 and_start : (sources : Option SourcesModel) (one other : Period) → begin_of one ≡ begin_of other
     → start_of (and_source sources one) ≡ start_of (and_source sources other)
 and_start sources one other same =
@@ -228,7 +228,7 @@ keeps_periods (Some t) sources = (
   starts_cited sources first_rules.high newest_rules.high t.starts,
 )
 
--- Easters
+-- the Easters of a year are those of the first rules
 
 one_named : (t : TerritoryModel) (d : ℕ) → d ≤ first_rules.high
     → map (found_on newest_rules t) (d ∷ []) ≡ map (found_on first_rules t) (d ∷ [])
@@ -283,7 +283,7 @@ keeps_easters (Some t) sources y year listed =
     ∙ ap (λ found. Easters found (is_some (exception_of t y)) (easter_source sources y))
     (easters_named t y (exception_of t y) listed)
 
--- figures
+-- the figures of a year are those of the first rules
 
 keeps_figures : (y : ℕ) → IsYear first_rules y
     → figures_of newest_rules y ≡ figures_of first_rules y

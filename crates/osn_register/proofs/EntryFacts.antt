@@ -162,7 +162,7 @@ apart_within code [] l rest none = (apart_first code l rest none).0
 apart_within code (k ∷ front) l rest none = apart_within code front l rest
     (apart_first code k (front ++ l ∷ rest) none).1
 
--- of territories with distinct codes, none before one has its code
+-- if codes are distinct, no territory before one has its code
 pub AreDistinct-within : (front : List EntryModel) (l : EntryModel) (rest : List EntryModel) →
     AreDistinct (front ++ l ∷ rest) → entry_of l.code front ≡ None
 AreDistinct-within [] l rest distinct = refl

@@ -12,7 +12,7 @@ use Rattle.osn_register.specs.Answer.{unless, refusal_in, exceptions_answer, cha
 use Rattle.osn_register.specs.Answer.{feasts_answer, converted_answer, written_answer}
 use Rattle.osn_register.specs.Sources.{SourcesModel}
 
--- listed Easters
+-- a query of the listed Easters
 
 pub keeps_exceptions : (t : Option TerritoryModel) (sources : Option SourcesModel)
     → refusal_in (exceptions_answer newest_rules t sources)
@@ -20,7 +20,7 @@ pub keeps_exceptions : (t : Option TerritoryModel) (sources : Option SourcesMode
 keeps_exceptions None sources = refl
 keeps_exceptions (Some t) sources = refl
 
--- changes
+-- a query of the changes
 
 pub keeps_changes : (t : Option TerritoryModel) (sources : Option SourcesModel)
     → refusal_in (changes_answer newest_rules t sources)
@@ -28,14 +28,14 @@ pub keeps_changes : (t : Option TerritoryModel) (sources : Option SourcesModel)
 keeps_changes None sources = refl
 keeps_changes (Some t) sources = refl
 
--- feasts
+-- a query of the feasts of a year
 
 pub keeps_feasts : (t : Option TerritoryModel) (y : ℕ)
     → refusal_in (feasts_answer newest_rules t y) ≡ refusal_in (feasts_answer first_rules t y)
 keeps_feasts None y = refl
 keeps_feasts (Some t) y = refl
 
--- a conversion
+-- a query of a conversion
 
 pub keeps_converted : (t : Option TerritoryModel) (calendar : Calendar) (label : Label)
     → refusal_in (converted_answer newest_rules t calendar label)
@@ -43,7 +43,7 @@ pub keeps_converted : (t : Option TerritoryModel) (calendar : Calendar) (label :
 keeps_converted None calendar label = refl
 keeps_converted (Some t) calendar label = refl
 
--- a date as it is written
+-- a query of a date as it is written
 
 pub keeps_written : (t : Option TerritoryModel) (date : DateReading) (given : Option Weekday)
     → refusal_in (written_answer newest_rules t date given)

@@ -214,7 +214,7 @@ no_territory territories code refused h none =
     by false None h none = not_none h
     by false (Some l) h none = not_none none
 
--- of tests in order none has applied
+-- if tests in order give no refusal, the first has not applied, nor the rest
 first_passed : (a : Bool) (f : Refusal) (rest : Option Refusal) →
     (if a then Some f else rest) ≡ None → (a ≡ false) × (rest ≡ None)
 first_passed true f rest none = not_none none

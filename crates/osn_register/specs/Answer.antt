@@ -115,7 +115,7 @@ easters_answer p (Some t) sources y =
     Easters (map (found_on p t) (easters p t y)) (is_some (exception_of t y))
     (easter_source sources y)
 
--- the figures of a year with its letters and Easters, of which each year in the range has both
+-- the figures of a year with its letters and its Easters. Each year that has figures has both
 abbrev pub figures_with : ℕ → Option Letters → Option Letters → Option ℕ → Option ℕ → Answer
 figures_with y None gregorian julian_easter gregorian_easter = Refused YearOffRange
 figures_with y (Some julian) None julian_easter gregorian_easter = Refused YearOffRange
@@ -148,7 +148,8 @@ exceptions_answer p None sources = Refused UnknownLand
 exceptions_answer p (Some t) sources = Exceptions (map (exception_on p t sources) t.exceptions)
 
 -- How many dates a change leaves out. By the calendar before, the date of its first day is that of
--- a later day: the dates of the days up to that one are left out. No number if no day has the date
+-- a later day: the dates of the days up to that one are left out. It is None if no day has the
+-- date.
 abbrev pub left_out : List ℕ → ℕ → Option ℕ
 left_out [] first = None
 left_out (same ∷ others) first = Some (same - first)
@@ -175,7 +176,7 @@ change_on p t sources first = record {
   source = period_source sources first;
 }
 
--- the change with which a period begins. The opening period, from day 1, begins with none
+-- the change with which a period begins, or none for the opening period, which begins on day 1
 abbrev pub change_if : Rules → TerritoryModel → Option SourcesModel → Period → List FoundChange
 change_if p t sources period =
     if nat_lt 1 period.first then change_on p t sources period.first ∷ [] else []

@@ -1,4 +1,4 @@
--- How what the newest rules answer goes with what earlier rules answer, whose line is shorter.
+-- How answers of the newest rules agree with those of earlier rules, whose line is shorter.
 use Rattle.std.specs.Prelude.{◌≡◌, ℕ, ◌≤◌, nat_le, ℤ, pos, ◌≤ℤ◌, unsigned_abs, List, [], ◌∷◌}
 use Rattle.std.specs.Prelude.{map, filter, Option, IfSome}
 use Rattle.osn_days.specs.Rules.{Rules}
@@ -32,11 +32,11 @@ starts_in (OnDay found period) = start_of period ∷ []
 starts_in (Periods periods) = map start_of periods
 starts_in answer = []
 
--- of the days that were found, those that the line of the rules has
+-- the days that were found, and that the line of the rules has
 abbrev pub found_until : Rules → List Found → List Found
 found_until p found = filter (λ f. nat_le f.day p.high) found
 
--- a year of a label that the rules have
+-- the label of a date may have this year by these rules
 abbrev pub IsLabelYear : Rules → ℤ → Type 0
 IsLabelYear p y = (pos 0 ≤ℤ y) × (y ≤ℤ pos p.last_label_year)
 
@@ -44,14 +44,14 @@ IsLabelYear p y = (pos 0 ≤ℤ y) × (y ≤ℤ pos p.last_label_year)
 abbrev pub IsListedUntil : Rules → ℕ → Option TerritoryModel → Type 0
 IsListedUntil p y t = IfSome t (λ t. IfSome (exception_of t y) (λ d. d ≤ p.high))
 
--- refused alike, and of the days found now, those that the line of the rules has are those of
--- before. Nothing is said of skipped dates
+-- The earlier and the newer answer are refused alike. The days that the newer one found are those
+-- of the earlier one, up to the end of its line. Nothing is said of skipped dates.
 abbrev pub KeepsReading : Rules → Answer → Answer → Type 0
 KeepsReading p before now =
     (refusal_in now ≡ refusal_in before) × (found_until p (found_in now) ≡ found_in before)
 
--- refused alike, and the day is named alike, in a period of the same regime and the same source
--- from the same day on. Nothing is said of the period's last day
+-- The earlier and the newer answer are refused alike, and name the day alike. Its period starts on
+-- one day, with one regime and one source. Nothing is said of the period's last day.
 abbrev pub KeepsDay : Answer → Answer → Type 0
 KeepsDay before now =
     (refusal_in now ≡ refusal_in before) × (found_in now ≡ found_in before)

@@ -45,7 +45,8 @@ number_of (Drop day) = day
 number_of (AddException year day) = year
 number_of (DropException year) = year
 
--- what is said is the source of what the change is of
+-- the sources of a territory after a change. The period or the listed Easter that the change is of
+-- gets this source, or none
 abbrev pub sources_after : TerritoryEdit → Option (List ℕ) → SourcesModel → SourcesModel
 sources_after (Add day regime) source s = with_period_source day source s
 sources_after (Alter day regime) source s = with_period_source day source s

@@ -6,15 +6,16 @@ use Rattle.osn_register.specs.declared.unanswered.Unanswered.{Unanswered}
 use Rattle.osn_register.specs.declared.unanswered.Unanswered.TheVariants.{Refused, NoMemory}
 use Rattle.osn_register.specs.Answer.{refusal_in, takes_memory}
 
--- the given answer, which is not a refusal, if nothing refuses
+-- the result is this answer, which is not a refusal, and nothing refuses the query
 abbrev pub IsAnswer : Option Refusal → Answer → Answer → Type 0
 IsAnswer refused said a = (refused ≡ None) × (a ≡ said) × (refusal_in a ≡ None)
 
--- the refusal, or NoMemory if nothing refuses and memory is taken
+-- the reason is the refusal of the query; or it is NoMemory, if nothing refuses the query and this
+-- answer takes memory
 abbrev pub IsReason : Option Refusal → Answer → Unanswered → Type 0
 IsReason refused said (Refused f) = refused ≡ Some f
 IsReason refused said NoMemory = (refused ≡ None) × (takes_memory said ≡ true)
 
--- answered as is said, or for a reason not at all
+-- the query has this answer, or no answer for a reason
 abbrev pub IsAnswered : Option Refusal → Answer → Result Answer Unanswered → Type 0
 IsAnswered refused said result = MatchResult result (IsAnswer refused said) (IsReason refused said)

@@ -59,7 +59,8 @@ sources_of code territories = option_map (λ l. l.sources) (entry_of code territ
 abbrev pub is_between : ℤ → ℤ → ℤ → Bool
 is_between low high n = int_le low n && int_le n high
 
--- the regime has a style that does not go with its calendar or its rule, if the rules test that
+-- the style of a regime requires the Julian calendar and rule, and the regime has others, if the
+-- rules test that
 abbrev pub is_style_refused : Rules → Regime → Bool
 is_style_refused p regime = p.tests_style && lacks_julian regime
 
@@ -127,7 +128,8 @@ abbrev pub inside : (TerritoryModel → Option Refusal) → Option TerritoryMode
 inside refused None = None
 inside refused (Some t) = refused t
 
--- for its code, and else by what the territory of the code holds
+-- why an edit of a territory is refused: for its code, or else by what the territory of the code
+-- holds
 abbrev pub refusal_in : List EntryModel → List ℕ → (TerritoryModel → Option Refusal) →
     Option Refusal
 refusal_in territories code refused =
@@ -148,7 +150,8 @@ refusal p limits territories (AddException code year day source) =
 refusal p limits territories (DropException code year) =
     refusal_in territories code (drop_exception_refusal p year)
 
--- only what adds a territory, a change, an exception or a source takes memory
+-- whether an edit takes memory. Only one that adds a territory, a change, an exception or a source
+-- does
 abbrev pub takes_memory : Edit → Bool
 takes_memory (AddLand code name regime source) = true
 takes_memory (AddChange code day regime source) = true
@@ -231,7 +234,7 @@ abbrev pub AreDistinct : List EntryModel → Type 0
 AreDistinct [] = Unit {0}
 AreDistinct (l ∷ ls) = (entry_of l.code ls ≡ None) × AreDistinct ls
 
--- every regime goes with its style, if the rules test that
+-- every regime has the calendar and rule that its style requires, if the rules test that
 abbrev pub AreStyled : Rules → List (ℕ × Regime) → Type 0
 AreStyled p [] = Unit {0}
 AreStyled p (s ∷ ss) = (is_style_refused p s.1 ≡ false) × AreStyled p ss
@@ -243,7 +246,7 @@ AreListed p (e ∷ es) = IsYear p e.0 × IsDay p e.1 × AreListed p es
 
 -- what holds of every territory of a register
 pub record IsSoundTerritory (p : Rules) (limits : Limits) (t : TerritoryModel) : Type 0 where
-  -- it has one period more than changes
+  -- a territory has one period more than changes
   pub changes : length t.starts ≤ limits.changes + 1
   pub exceptions : length t.exceptions ≤ limits.exceptions
   pub periods : CoversLine p (periods_of p t)

@@ -60,7 +60,7 @@ refusal_name StyleNeedsJulian = codes "StyleNeedsJulian"
 refusal_name NoMemory = codes "NoMemory"
 refusal_name BadCount = codes "BadCount"
 
--- of tests with what each would refuse by, the first that applies
+-- the refusal of the first of these tests that applies
 abbrev pub first_refusal : List (Bool × Refusal) → Option Refusal
 first_refusal [] = None
 first_refusal (t ∷ ts) = if t.0 then Some t.1 else first_refusal ts
@@ -73,6 +73,6 @@ or_else (Some f) second = Some f
 abbrev pub IsCheckOf : {T : Type 0} → Option Refusal → Result T Refusal → Type 0
 IsCheckOf refused result = MatchResult result (λ _. refused ≡ None) (λ f. refused ≡ Some f)
 
--- the refusal, or NoMemory if nothing refuses
+-- a call's refusal is this one, or NoMemory if nothing refuses
 abbrev pub IsRefusalOrNoMemory : Option Refusal → Refusal → Type 0
 IsRefusalOrNoMemory refused f = (refused ≡ Some f) ⊎ ((f ≡ NoMemory) × (refused ≡ None))

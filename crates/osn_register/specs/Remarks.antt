@@ -38,7 +38,8 @@ abbrev pub missing_in : Extent → Result (List Run) NoDay → Option Missing
 missing_in e (Ok runs) = None
 missing_in e (Err none) = missing_day e none
 
--- the same of a set
+-- the days that a set means, why it means none, and the date of it whose day is missing, if that is
+-- why
 abbrev pub set_runs_in : Result (List Run) AbsentMember → List Run
 set_runs_in (Ok runs) = runs
 set_runs_in (Err absent) = []
@@ -55,7 +56,8 @@ missing_in_set (Err absent) = missing_day absent.extent absent.reason
 abbrev pub is_on_weekday : Rules → TerritoryModel → Option Weekday → WrittenDate → Bool
 is_on_weekday p t given w = list_any (has_weekday w given) (meaning p t w given)
 
--- the same if a weekday is named or given, and the date is that of one day
+-- whether one of the days that a date means is of the weekday that is named or given. It is None if
+-- no weekday is, or the date is not that of one day
 abbrev pub if_weekday : Rules → TerritoryModel → AnyDate → Option Weekday → Option Bool
 if_weekday p t w given =
     if is_some w.weekday || is_some given then option_map (is_on_weekday p t given) (one_day w)

@@ -1,12 +1,12 @@
--- What it means that two registers say the same of a territory.
+-- Two registers have the same entry for a territory.
 use Rattle.std.specs.Prelude.{ℕ, ◌≡◌, true, Option, Some, None, is_some}
 use Rattle.osn_territory.specs.Changes.{starts_on}
 use Rattle.osn_territory.specs.Exceptions.{exception_of}
 use Rattle.osn_register.specs.Plain.{EntryModel}
 use Rattle.osn_register.specs.Sources.{source_of}
 
--- the name and the territory are the same, and so are the source of each of its periods and that
--- of each of its listed Easters
+-- two entries of a register are the same: their names, their territories, the source of each period
+-- and the source of each listed Easter
 pub record IsSameEntry (a b : EntryModel) : Type 0 where
   pub name : a.name ≡ b.name
   pub territory : a.territory ≡ b.territory
@@ -15,7 +15,7 @@ pub record IsSameEntry (a b : EntryModel) : Type 0 where
   pub easters : (year : ℕ) → is_some (exception_of a.territory year) ≡ true
       → source_of year a.sources.easters ≡ source_of year b.sources.easters
 
--- neither is there, or both are there and say the same
+-- neither entry is there, or both are there and are the same
 abbrev pub AreSameEntry : Option EntryModel → Option EntryModel → Type 0
 AreSameEntry None None = Unit {0}
 AreSameEntry (Some a) (Some b) = IsSameEntry a b

@@ -20,21 +20,21 @@ pub record SourcesModel : Type 0 where
 abbrev pub source_of : ℕ → List (ℕ × List ℕ) → Option (List ℕ)
 source_of n sources = option_map (λ s. s.1) (find (λ s. s.0 == n) sources)
 
--- no source of that number
+-- the sources without that of a number
 abbrev pub without_source : ℕ → List (ℕ × List ℕ) → List (ℕ × List ℕ)
 without_source n sources = filter (λ s. not (s.0 == n)) sources
 
--- the source of a number as it is given, or no source if it is not given
+-- the sources with this one of a number, or without the number if no source is given
 abbrev pub with_source : ℕ → Option (List ℕ) → List (ℕ × List ℕ) → List (ℕ × List ℕ)
 with_source n None sources = without_source n sources
 with_source n (Some source) sources = without_source n sources ++ (n, source) ∷ []
 
--- the source of the period that starts on a day, as it is given
+-- the sources with this one of the period that starts on a day, or without that day
 abbrev pub with_period_source : ℕ → Option (List ℕ) → SourcesModel → SourcesModel
 with_period_source day source s =
     record { periods = with_source day source s.periods; easters = s.easters }
 
--- the source of a year's listed Easter, as it is given
+-- the sources with this one of a year's listed Easter, or without that year
 abbrev pub with_easter_source : ℕ → Option (List ℕ) → SourcesModel → SourcesModel
 with_easter_source year source s =
     record { periods = s.periods; easters = with_source year source s.easters }
@@ -43,7 +43,7 @@ with_easter_source year source s =
 abbrev pub opening_sources : Option (List ℕ) → SourcesModel
 opening_sources source = record { periods = with_source 1 source []; easters = [] }
 
--- the source, if one is given, is one that may be
+-- no source is given, or one that may be given
 abbrev pub IsGiven : Option (List ℕ) → Type 0
 IsGiven source = IfSome source (λ text. is_source text ≡ true)
 

@@ -59,16 +59,16 @@ pub type ExceptionList = Listing<Exception>;
 pub struct FoundChange {
     pub before: Found,
     pub found: Found,
-    /// How many dates it leaves out. If by the calendar before no day has the date of the first
-    /// day, that is not known.
+    /// How many dates the change leaves out, or `None` if by the calendar before no day has the
+    /// date of the first day.
     pub left_out: Option<u32>,
-    /// How many dates come twice, unless that is not known for the same reason.
+    /// How many dates come twice, or `None` for the same reason.
     pub twice: Option<u32>,
     /// The regime that ended.
     pub regime_before: Regime,
     /// The regime that began.
     pub regime: Regime,
-    /// The source that states it, if one is given.
+    /// The source that states the change, if one is given.
     pub source: Option<Source>,
 }
 

@@ -24,7 +24,7 @@ pub(crate) enum TerritoryEdit {
 }
 
 impl TerritoryEdit {
-    /// Makes the change. Without memory nothing has changed.
+    /// Makes the change. If memory runs out, nothing has changed.
     fn change(&self, territory: &mut Territory) -> Result<(), AllocError>
         requires { (limits : Limits) × (change_refusal newest_rules limits self.now territory.old
             ≡ None) }
@@ -50,8 +50,8 @@ impl TerritoryEdit {
         }
     }
 
-    /// Returns the number by which the source of what is changed is found: that of the day on which
-    /// a period starts, or that of the year of a listed Easter.
+    /// Returns the number by which the source of a change is found: that of the day on which a
+    /// period starts, or that of the year of a listed Easter.
     fn number(self) -> u32
         ensures { result ≡ number_of self }
     {
@@ -64,8 +64,8 @@ impl TerritoryEdit {
         }
     }
 
-    /// Makes the change, and gives what it is of this source, or none. Without memory nothing has
-    /// changed.
+    /// Makes the change. The period or the listed Easter that it is of gets this source, or none.
+    /// If memory runs out, nothing has changed.
     fn change_with(
         self,
         territory: &mut Territory,
@@ -95,8 +95,8 @@ impl TerritoryEdit {
         Ok(())
     }
 
-    /// Makes the change, and gives what it is of a copy of this source, or none. Without memory
-    /// nothing has changed.
+    /// Makes the change. The period or the listed Easter that it is of gets a copy of this source,
+    /// or none. If memory runs out, nothing has changed.
     pub(crate) fn make(
         self,
         territory: &mut Territory,

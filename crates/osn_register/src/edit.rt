@@ -7,9 +7,9 @@ use crate::text::Text;
 use osn_territory::Regime;
 use std::alloc::AllocError;
 
-/// A change of the register. An edit with a wrong member is refused when it is checked. A source
-/// says where it is stated what the edit says. What is altered or dropped loses the source that it
-/// had.
+/// A change of the register. An edit with a wrong member is refused when it is checked. The source
+/// of an edit names the text that states what the edit says. What is altered or dropped loses the
+/// source that it had.
 #[derive(Debug, Drop)]
 pub enum Edit {
     /// Adds a territory, with its regime from the first day on.

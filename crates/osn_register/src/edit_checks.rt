@@ -25,7 +25,7 @@ fn has_all_exceptions(limits: Limits, territory: &Territory) -> bool
     territory.exception_count() >= limits.exceptions as usize
 }
 
-/// Checks whether the style of a regime goes with its calendar and its rule.
+/// Checks whether a regime has the calendar and the rule that its style requires.
 pub(crate) fn check_style(regime: Regime) -> Result<(), Refusal>
     ensures { IsCheckOf
         (first_refusal ((is_style_refused newest_rules regime, StyleNeedsJulian) ∷ [])) result }

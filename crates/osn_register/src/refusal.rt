@@ -43,7 +43,7 @@ pub enum Refusal {
     EditionsFull,
     /// The month is not 1 to 12, or the day not 1 to 31.
     BadDate,
-    /// A year from Easter to Easter goes with the Julian calendar and the Julian rule alone.
+    /// A year from Easter to Easter requires the Julian calendar and the Julian rule.
     StyleNeedsJulian,
     /// A growth of memory was refused; the call may be tried again.
     NoMemory,

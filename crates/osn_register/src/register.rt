@@ -336,8 +336,8 @@ impl Register {
         }
     }
 
-    /// Makes a lawful change in the territory of a code, and gives what it is of this source, or
-    /// none.
+    /// Makes a lawful change in the territory of a code. The period or the listed Easter that it is
+    /// of gets this source, or none.
     fn change(
         &mut self,
         code: &str,

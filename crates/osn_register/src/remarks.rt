@@ -25,7 +25,7 @@ pub type TextList = Listing<Text>;
 /// How a date was read, and what is remarked of it.
 #[derive(Debug, Drop)]
 pub struct DateRemarks {
-    /// The date in words that are read as it, or each date of a set.
+    /// The date in words, which are read as the same date; or each date of a set in words.
     pub read_as: TextList,
     /// The calendar that the text names. A set names none.
     pub reckoning: Option<Reckoning>,
@@ -45,12 +45,12 @@ pub struct DateRemarks {
 /// What is near a date that no day has.
 #[derive(Debug, Drop)]
 pub struct NearDays {
-    /// The days most like it: those with its first year alone, or those of its month and day in the
-    /// nearest years.
+    /// The days most like the date: those with its first year alone, or those of its month and day
+    /// in the nearest years.
     pub days: FoundList,
-    /// The days of the changes at which it was skipped.
+    /// The days of the changes at which the date was skipped.
     pub changes: DayList,
-    /// The days of the year that lacks it, as the place counted that year.
+    /// The days of the year that lacks the date, as the place counted that year.
     pub year: RunList,
 }
 
@@ -189,7 +189,7 @@ fn near_missing(
     })
 }
 
-/// Returns the same, or nothing if no day is missing.
+/// Returns what is near a missing day, or nothing if no day is missing.
 pub(crate) fn near(
     alloc: Global,
     territory: &Territory,

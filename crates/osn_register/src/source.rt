@@ -73,7 +73,7 @@ impl Source {
         })
     }
 
-    /// Returns the same for a source that may be missing.
+    /// Returns a copy of a source that may be missing.
     ///
     /// # Errors
     ///

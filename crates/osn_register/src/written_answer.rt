@@ -86,7 +86,8 @@ fn is_on_weekday(
     Ok(days.iter().any(|day| has_weekday(date, given, day)))
 }
 
-/// Returns the same if a weekday is named or given, and the date is that of one day.
+/// Returns whether one of the days that a date means is of the weekday that is named or given. It
+/// is `None` if no weekday is, or the date is not that of one day.
 fn if_weekday(
     alloc: Global,
     territory: &Territory,

@@ -79,7 +79,7 @@ differences_mapped code both t w ps qs is are =
     ∙ ap (λ es. map f a ++ es) (sym (map-append f b (c ++ d)))
     ∙ sym (map-append f a (b ++ (c ++ d)))
 
--- and those of the later starts and days of a territory
+-- the edits of the later starts and days of a territory, as they are appended
 pub later_mapped : (code : List ℕ) (cited : Option SourcesModel) (w : TerritoryModel)
     (ps : List Period) →
     ps ≡ periods_of newest_rules w →

@@ -248,7 +248,7 @@ entry_ordered p cited l (Some current) up fits =
     differences_ordered l.code (record { current = Some current.sources; target = cited })
     current.territory l.territory fits.1 up
 
--- those of all
+-- the edits of all territories are in order
 pub in_order : (p : Rules) (target territories left : List EntryModel) →
     AreFit p territories left → AreInOrder left (spec.edits_for target territories left)
 in_order p target territories [] fit = refl

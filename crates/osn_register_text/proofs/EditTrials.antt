@@ -46,7 +46,7 @@ module _ (limits : Limits) (territories : List EntryModel) (es : List Edit) (roo
         ∙ ap (λ ls. refusal newest_rules room ls e) (sym taken.draft_is) ∙ none));
   }
 
-  -- or refuses it
+  -- a draft refuses the next edit of a plan
   pub not_taken : (f : PlanFault) → IsEditFault room draft e f →
       IsTrialFault limits territories es f
   not_taken (Renamed code current name) fault = fault
@@ -65,7 +65,7 @@ module _ (limits : Limits) (territories : List EntryModel) (es : List Edit) (roo
   }
   not_taken NoMemory fault = fault
 
--- of edits that are needed one is refused
+-- one of edits that are needed is refused
 pub trial_fault : (limits : Limits) (target territories : List EntryModel) (es : List Edit) →
     first_renamed target territories ≡ None → AreNeeded target territories es →
     AreLimited newest_rules limits target territories es → (f : PlanFault) →

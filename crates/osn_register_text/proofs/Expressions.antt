@@ -88,7 +88,7 @@ after_header name t cited (p ∷ ps) =
     ++ (source_pair (period_source cited p.first)
     ++ (changes cited p.regime ps ++ easters t cited t.exceptions)))
 
--- the same below the header of a code
+-- an expression below the header of a code
 abbrev pub under_as : List ℕ → Key → Definition → Expression
 under_as code key (key_value d) = (key, key_value d)
 under_as code key std_table = ((code ∷ key.0, key.1), std_table)
@@ -111,6 +111,6 @@ territories p (l ∷ ls) = territory p l ++ territories p ls
 abbrev pub edition : ℕ → Expression
 edition n = pair (codes "edition") (integer (pos n))
 
--- and the territories after it
+-- the edition that a text is made of, and the territories after it
 abbrev pub register : Rules → ℕ → List EntryModel → List Expression
 register p n ls = edition n ∷ territories p ls

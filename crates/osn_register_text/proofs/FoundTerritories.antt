@@ -17,7 +17,7 @@ code_by code true m rest l same more is =
     (bytes_eq-Decides code m.code).0 same ∙ ap (λ k. k.code) (same_Some m l is)
 code_by code false m rest l same more is = more is
 
--- it has this code
+-- the territory that a code finds has this code
 pub code_of : (ls : List EntryModel) (code : List ℕ) (l : EntryModel) → entry_of code ls ≡ Some l
     → code ≡ l.code
 code_of [] code l is = absurd (none-some l is)

@@ -28,7 +28,7 @@ written-append (e ∷ es) fs a b first_part more =
           more,
     )
 
--- the same at the start of a document
+-- some lines and others after them, at the start of a document or not
 pub written-then : (started : Bool) (e : Expression) (es fs : List Expression) (a b : List ℕ)
     → IsWritten started (e ∷ es) a → IsWritten true fs b
     → IsWritten started (e ∷ (es ++ fs)) (a ++ b)
@@ -42,7 +42,7 @@ written-then started e es fs a b first_part more =
           more,
     )
 
--- the same expressions
+-- a text of expressions is one of equal expressions
 pub along : (es fs : List Expression) (text : List ℕ) → es ≡ fs → IsWritten true fs text
     → IsWritten true es text
 along es fs text same written = subst (λ xs. IsWritten true xs text) (sym same) written

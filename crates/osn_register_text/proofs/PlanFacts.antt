@@ -54,7 +54,7 @@ limit_at limits target territories (b ∷ before) e after f lawful limited refus
     (ap (λ ls. refusal newest_rules limits (applied_all newest_rules limits ls before) e)
     (sym (applied-lawful newest_rules limits territories b lawful.0)) ∙ refused)
 
--- of edits that are needed in turn the first ones are
+-- the first of edits that are needed in turn are needed in turn
 pub AreNeeded-front : (target territories : List EntryModel) (es fs : List Edit) →
     AreNeeded target territories (es ++ fs) → AreNeeded target territories es
 AreNeeded-front target territories [] fs needed = tt

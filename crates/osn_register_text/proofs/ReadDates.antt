@@ -107,6 +107,12 @@ text_day : (c : Calendar) (day : ℕ) → IsDay newest_rules day
 text_day c day on =
     rw (line_date (date_of c day) (date_of_line c day on), day_with c day on)
 
+-- the key of a date's table is one of a day
+pub day_key : (c : Calendar) (day : ℕ) → field.unknown_day_key (date_data c day) ≡ None
+day_key Julian day = refl
+day_key Gregorian day = refl
+day_key Swedish day = refl
+
 -- the day of a date's table
 pub day_in : (c : Calendar) (day : ℕ) → IsDay newest_rules day
     → field.day_in (date_data c day) ≡ Ok (pos day)

@@ -38,7 +38,7 @@ use Rattle.osn_register_text.proofs.TerritoryNodes.{Tables, items_of, territory,
 use Rattle.osn_register_text.proofs.TerritoryNodes.{easter_table, change_items, easter_items}
 use Rattle.osn_register_text.proofs.TerritoryNodes.{changes_after, easters_after, territory_nodes}
 use Rattle.osn_register_text.proofs.TerritoryNodes.{items_of-changes, items_of-easters}
-use Rattle.osn_register_text.proofs.ReadDates.{day_in}
+use Rattle.osn_register_text.proofs.ReadDates.{day_in, day_key}
 use Rattle.osn_register_text.proofs.TableMembers.{territory_keys, territory_name, territory_style}
 use Rattle.osn_register_text.proofs.TableMembers.{territory_rule, territory_source, territory_note}
 use Rattle.osn_register_text.proofs.TableMembers.{territory_changes, territory_easters, list_of}
@@ -81,7 +81,7 @@ word_read : {A : Type 0} (at : Place) (key : Key) (named : List ℕ → Option A
     → named word ≡ Some x → word_at at key named before ms ≡ Ok x
 word_read at key named before word x ms there back = rw (there, back)
 
--- the same, if the word of what held before is left out
+-- the word at a key that may be left out, if it is the word that held before
 word_kept : {A : Type 0} (at : Place) (key : Key) (named : List ℕ → Option A) (old : A)
     (word : List ℕ) (x : A) (ms : Members) (same : Bool)
     → value_at key ms ≡ cond same None (Some (string word)) → (same ≡ true → old ≡ x)
@@ -188,7 +188,11 @@ module _ (at : Place) (cited : Option SourcesModel) (old : Regime) (p : Period) 
   change_day : IsDay newest_rules p.first
       → day_at at keys.From (change_members cited old p) ≡ Ok (pos p.first)
   change_day on =
-      rw (change_from c s u source from calendar style rule, day_in p.regime.calendar p.first on)
+      rw (
+        change_from c s u source from calendar style rule,
+        day_key p.regime.calendar p.first,
+        day_in p.regime.calendar p.first on,
+      )
 
   change : (before : Option ℤ) → IsDay newest_rules p.first → IsGiven source
       → is_later before (pos p.first) ≡ true
@@ -262,7 +266,8 @@ easter at t cited e on given =
     let ms = close (easter_table t cited e) in
     let said = source_read at o ms (easter_source_there o year date) given in
     let note = no_note at ms (easter_note o year date) in
-    rw (easter_year o year date, day_in (regime_at t e.1).calendar e.1 on, said, note)
+    let dated = (regime_at t e.1).calendar in
+    rw (easter_year o year date, day_key dated e.1, day_in dated e.1 on, said, note)
 
 easters_read : (code : List ℕ) (n : ℕ) (t : TerritoryModel) (cited : Option SourcesModel)
     (es : List (ℕ × ℕ)) → AreGiven (easter_source cited) → AreListed newest_rules es

@@ -26,17 +26,17 @@ followed_line p code t last first =
     (date_of (regime_at t first).calendar first)) first
     ++ codes "\n")
 
--- the same of a day with the day before it, if there is one
+-- the line of a first day and of the day before it, if there is one
 abbrev pub line_from : Rules → List ℕ → TerritoryModel → Option ℕ → ℕ → List ℕ
 line_from p code t None first = []
 line_from p code t (Some last) first = followed_line p code t last first
 
--- the same of a day, if the line has it
+-- the line of a first day, if the line of days has it
 abbrev pub line_on : Rules → List ℕ → TerritoryModel → Option ℕ → List ℕ
 line_on p code t None = []
 line_on p code t (Some first) = line_from p code t (day_before first) first
 
--- the same of the day of a number, if the territory is known
+-- the line of the first day of this number, if the territory is known
 abbrev pub followed_lines : Rules → List ℕ → Option TerritoryModel → ℤ → List ℕ
 followed_lines p code None number = []
 followed_lines p code (Some t) number = line_on p code t (day_numbered p number)

@@ -9,7 +9,7 @@ pub record BothSources : Type 0 where
   pub current : Option SourcesModel
   pub target : Option SourcesModel
 
--- those of the territory that has the code
+-- the sources of the territory that has the code, in the register now and in the target
 abbrev pub both_sources : List ℕ → List EntryModel → List EntryModel → BothSources
 both_sources code territories target =
     record { current = sources_of code territories; target = sources_of code target }

@@ -1,6 +1,7 @@
 -- The days of a text: `{ julian = "1752-01-01" }` is a date of a calendar, `{ day = 639797 }` a day
 -- of the line by its number. This project's profile.
-use Rattle.std.specs.Prelude.{ℕ, ℤ, pos, if◌then◌else◌, nat_le, List, length, codes, slice_get}
+use Rattle.std.specs.Prelude.{ℕ, ℤ, pos, if◌then◌else◌, nat_le, Bool, ◌||◌, List, length, codes}
+use Rattle.std.specs.Prelude.{slice_get}
 use Rattle.std.specs.Prelude.{Option, Some, None, is_some, option_map, option_and_then}
 use Rattle.std.specs.Prelude.{Result, Ok, Err}
 use Rattle.std.specs.Str.{bytes_eq}
@@ -16,7 +17,7 @@ use Rattle.osn_register_text.specs.declared.key.Key.{Key}
 use Rattle.osn_register_text.specs.declared.fault.KeyFault.{KeyFault}
 use Rattle.osn_register_text.specs.declared.fault.ValueFault.{ValueFault}
 use Rattle.osn_register_text.specs.declared.fault.ValueFault.TheVariants.{Form, Unquoted}
-use Rattle.osn_register_text.specs.declared.fault.ValueFault.TheVariants.{NoSuchDate}
+use Rattle.osn_register_text.specs.declared.fault.ValueFault.TheVariants.{NoSuchDate, UnknownDayKey}
 use Rattle.osn_register_text.specs.Field.{Place, ◌>>=◌, fault_at, required_value, or_fault}
 
 -- ---- dates
@@ -83,6 +84,24 @@ abbrev pub with_place : Place → Key → Result ℤ ValueFault → Result ℤ K
 with_place at key (Ok day) = Ok day
 with_place at key (Err fault) = Err (fault_at at key fault)
 
+-- a day may be by this key
+abbrev pub is_day_key : List ℕ → Bool
+is_day_key name = bytes_eq name (codes "day") || is_some (calendar_named name)
+
+abbrev pub unless_day_key : Option (List ℕ × Data) → Option (List ℕ)
+unless_day_key None = None
+unless_day_key (Some m) = if is_day_key m.0 then None else Some m.0
+
+-- the key of the only member, if no day is by it
+abbrev pub unknown_day_key : Data → Option (List ℕ)
+unknown_day_key d = unless_day_key (option_and_then only_member (as_table d))
+
+abbrev pub unless_unknown : Place → Key → Option (List ℕ) → Result ℤ ValueFault
+    → Result ℤ KeyFault
+unless_unknown at key None day = with_place at key day
+unless_unknown at key (Some name) day = Err (fault_at at key (UnknownDayKey name))
+
 -- the day at a key
 abbrev pub day_at : Place → Key → Members → Result ℤ KeyFault
-day_at at key ms = required_value at key ms >>= λ d. with_place at key (day_in d)
+day_at at key ms =
+    required_value at key ms >>= λ d. unless_unknown at key (unknown_day_key d) (day_in d)

@@ -108,11 +108,11 @@ abbrev pub entry_edits : List EntryModel → List EntryModel → List ℕ → Li
 entry_edits target territories code name territory =
     edits_from (sources_of code target) code name territory (entry_of code territories)
 
--- those of these target territories in turn
+-- the edits of these target territories in turn
 abbrev pub edits_for : List EntryModel → List EntryModel → List EntryModel → List Edit
 edits_for target territories left =
     flat_map (λ l. entry_edits target territories l.code l.name l.territory) left
 
--- those of all target territories
+-- the edits of all target territories
 abbrev pub all_edits : List EntryModel → List EntryModel → List Edit
 all_edits target territories = edits_for target territories target

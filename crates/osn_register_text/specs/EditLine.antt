@@ -1,5 +1,5 @@
 -- The line of an edit, between the present territories and the target ones. What is dropped is
--- printed from the former, and what is added from the latter. This project's profile.
+-- printed from the present ones, and what is added from the target ones. This project's profile.
 use Rattle.std.specs.Prelude.{ℕ, if◌then◌else◌, ℤ, pos, List, [], ◌++◌, None, codes}
 use Rattle.std.specs.Ordering.{int_eq}
 use Rattle.osn_days.specs.Rules.{Rules}
@@ -36,7 +36,8 @@ abbrev pub new_opening : List EntryModel → List ℕ → Regime → List ℕ
 new_opening territories code regime =
     opening_words code (regime_words (opening_regime (territory_of code territories)) regime)
 
--- that another regime holds from the start of a period on. The opening one has no day
+-- the line that another regime is in force from the start of a period on. The opening one has no
+-- day
 abbrev pub other_regime : Rules → List EntryModel → List EntryModel → List ℕ → ℤ → Regime → List ℕ
 other_regime p territories target code day regime =
     if int_eq day (pos 1) then new_opening territories code regime

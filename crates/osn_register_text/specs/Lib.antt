@@ -1,11 +1,14 @@
 pub mod Key
-pub mod RefusalWords
 pub mod Words
+pub mod Nearest
+pub mod FaultHelp
 pub mod Field
 pub mod DayField
 pub mod TerritoryText
 pub mod Text
 pub mod Lines
+pub mod FurtherFaults
+pub mod TableLine
 pub mod Inside
 pub mod WrittenText
 pub mod Says

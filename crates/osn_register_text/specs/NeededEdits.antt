@@ -21,7 +21,7 @@ name_in territories code = option_map (λ l. l.name) (entry_of code territories)
 abbrev pub regime_from : TerritoryModel → ℕ → Option Regime
 regime_from t d = lookup (λ day. d == day) t.starts
 
--- the same in the territory that has the code
+-- the regime that starts on a day in the territory that has the code
 abbrev pub regime_in : List EntryModel → List ℕ → ℕ → Option Regime
 regime_in territories code d =
     option_and_then (λ t. regime_from t d) (territory_of code territories)

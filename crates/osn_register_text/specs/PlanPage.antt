@@ -12,7 +12,7 @@ unfoldable pub absent_code : List EntryModel → List ℕ → List ℕ
 absent_code target code =
     if is_some (entry_of code target) then [] else codes " " ++ code
 
--- those of all territories that are not in the target, in the order of addition
+-- the codes of all territories that are not in the target, in the order of addition
 abbrev pub absent_codes : List EntryModel → List EntryModel → List ℕ
 absent_codes target territories = flat_map (λ l. absent_code target l.code) territories
 

@@ -82,7 +82,7 @@ text_says limits ms = do
   territories ← territories_after_all limits [] edits
   Ok (edition, territories)
 
--- the same of a text, if it is TOML
+-- what a text says, or its first fault, if it is TOML
 abbrev pub text_of_table : Limits → List ℕ → Option (Result (Option ℕ × List EntryModel) KeyFault)
 text_of_table limits text = option_map (text_says limits) (parse_document text)
 

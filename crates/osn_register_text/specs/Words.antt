@@ -3,6 +3,7 @@ use Rattle.std.specs.Prelude.{ℕ, List, ◌++◌, codes}
 use Rattle.std.specs.Fmt.{decimal}
 use Rattle.osn_days.specs.CalendarWords.{calendar_word}
 use Rattle.osn_register.specs.Refusal.{refusal_number, refusal_name}
+use Rattle.osn_request.specs.RefusalMessages.{refusal_message}
 use Rattle.osn_register_text.specs.declared.key.Key.{Key}
 use Rattle.osn_register_text.specs.declared.key.Part.{Part}
 use Rattle.osn_register_text.specs.declared.fault.ValueFault.{ValueFault}
@@ -14,13 +15,13 @@ use Rattle.osn_register_text.specs.declared.fault.TomlFault.{TomlFault}
 use Rattle.osn_register_text.specs.declared.fault.TextFault.{TextFault}
 use Rattle.osn_register_text.specs.declared.fault.TextFault.TheVariants as faults
 use Rattle.osn_register_text.specs.Key.{allowed_at, key_name, keys_text, part_text}
-use Rattle.osn_register_text.specs.RefusalWords.{refusal_words}
 use Rattle.osn_lines.specs.Escape.{escaped}
 
 -- what is wrong with the value at a key
 abbrev pub value_text : Key → ValueFault → List ℕ
 value_text key values.Missing = codes "missing: " ++ allowed_at key
 value_text key values.Form = allowed_at key
+value_text key (values.UnknownDayKey name) = allowed_at key
 value_text key (values.UnknownWord word) =
     codes "\""
     ++ (escaped word ++ (codes "\" is not a " ++ (key_name key ++ (codes ": " ++ allowed_at key))))
@@ -41,7 +42,7 @@ reason_text part reasons.NotEdition =
 reason_text part reasons.NotLater = codes ": not later than the change before it"
 reason_text part (reasons.Refused refusal) =
     codes ": " ++ (decimal (refusal_number refusal)
-    ++ (codes " " ++ (refusal_name refusal ++ (codes ": " ++ refusal_words refusal))))
+    ++ (codes " " ++ (refusal_name refusal ++ (codes ": " ++ refusal_message refusal))))
 
 -- the path to what is wrong in a text, and what is wrong
 abbrev pub key_fault_text : KeyFault → List ℕ

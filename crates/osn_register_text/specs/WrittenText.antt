@@ -25,7 +25,7 @@ use Rattle.osn_register.specs.Sources.{SourcesModel}
 unfoldable pub word_line : List ℕ → List ℕ → List ℕ
 word_line key word = key ++ (codes " = \"" ++ (word ++ codes "\"\n"))
 
--- the same, if the word is not the one before
+-- a key with a word, if the word is not the one before
 unfoldable pub changed_line : List ℕ → List ℕ → List ℕ → List ℕ
 changed_line key before word = if bytes_eq before word then [] else word_line key word
 
@@ -43,7 +43,7 @@ date_table calendar day =
 
 -- ---- a territory
 
--- its header and its name
+-- the header of a territory and its name
 unfoldable pub name_text : List ℕ → List ℕ → List ℕ
 name_text code name =
     codes "[" ++ (code ++ (codes "]\nname = " ++ (string_text name ++ codes "\n")))
@@ -101,7 +101,7 @@ listing_text code t listed =
     ++ (codes "\ndate = "
     ++ (date_table (regime_at t listed.1).calendar listed.1 ++ codes "\n")))))
 
--- the same with its source
+-- a listed Easter with its source
 unfoldable pub easter_text : List ℕ → TerritoryModel → Option SourcesModel → ℕ × ℕ → List ℕ
 easter_text code t sources listed =
     listing_text code t listed ++ source_line (easter_source sources listed.0)

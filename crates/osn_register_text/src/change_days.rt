@@ -48,7 +48,8 @@ fn push_line(
     out.push_str("\n")
 }
 
-/// Appends that line for the day of a number, if the territory and both days are known.
+/// Appends the line of the day of a number and of the day before it, if the territory and both days
+/// are known.
 pub(crate) fn push_followed(
     out: &mut String,
     code: &str,

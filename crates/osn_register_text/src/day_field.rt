@@ -9,6 +9,7 @@ use crate::field::required_value;
 use crate::key::Key;
 use crate::place::Place;
 use osn_days::{Calendar, Date, Keyword, day_of};
+use osn_register::Text;
 use osn_written::{number_of, parts_at};
 use toml::{Table, Value};
 
@@ -113,12 +114,42 @@ fn day_in(value: &Value) -> Result<i64, ValueFault>
     day_of_member(name, value)
 }
 
+/// Returns whether a day may be by this key.
+fn is_day_key(name: &str) -> bool
+    ensures { result ≡ spec.is_day_key name.now }
+{
+    name == "day" || Calendar::from_word(name).is_some()
+}
+
+/// Returns the key of a table of one member, if no day is by it.
+fn unknown_day_key(value: &Value) -> Option<&str>
+    ensures { option_map (λ name. name.now) result ≡ spec.unknown_day_key (view value.now) }
+{
+    let (name, _) = value.as_table().and_then(only_member)?;
+    if is_day_key(name) { None } else { Some(name) }
+}
+
+/// Returns the day of a value at a key.
+fn day_of_value(at: Place<'_>, key: Key, value: &Value) -> Result<i64, TextFault>
+    ensures { Gives result
+        (spec.with_place (place_of at.entry) key (spec.day_in (view value.now))) }
+{
+    match day_in(value) {
+        Ok(day) => Ok(day),
+        Err(fault) => Err(at.fault_at(key, fault)),
+    }
+}
+
 /// Returns the day at a key.
 pub(crate) fn day_at(at: Place<'_>, table: &Table, key: Key) -> Result<i64, TextFault>
     ensures { Gives result (spec.day_at (place_of at.entry) key (table_view table.now)) }
 {
-    match day_in(required_value(at, table, key)?) {
-        Ok(day) => Ok(day),
-        Err(fault) => Err(at.fault_at(key, fault)),
+    let value = required_value(at, table, key)?;
+    match unknown_day_key(value) {
+        None => day_of_value(at, key, value),
+        Some(name) => {
+            let name = Text::from_str(at.alloc, name)?;
+            Err(at.fault_at(key, ValueFault::UnknownDayKey(name)))
+        }
     }
 }

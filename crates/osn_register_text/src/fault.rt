@@ -2,10 +2,10 @@
 ghost use Rattle.std.specs.Prelude.{Some};
 
 use crate::key::{Key, Part};
-use crate::refusal_words::refusal_words;
 use osn_days::{Calendar, Keyword};
 use osn_lines::Escaped;
 use osn_register::{Refusal, Text};
+use osn_request::refusal_message;
 use std::alloc::AllocError;
 use std::fmt;
 
@@ -18,6 +18,8 @@ pub enum ValueFault {
     Form,
     /// It is this word, which is not one of the key's words.
     UnknownWord(Text),
+    /// It is a day by this key, which is neither `day` nor a calendar.
+    UnknownDayKey(Text),
     /// It is a date without quotes.
     Unquoted,
     /// The calendar has no such date, or the date is off the line of days.
@@ -99,6 +101,7 @@ impl<'a> fmt::Display for ValueText<'a> {
         match self.fault {
             ValueFault::Missing => write!(f, "missing: {allowed_text}"),
             ValueFault::Form => f.write_str(allowed_text),
+            ValueFault::UnknownDayKey(_) => f.write_str(allowed_text),
             ValueFault::UnknownWord(word) => {
                 write!(
                     f,
@@ -149,8 +152,8 @@ impl<'a> fmt::Display for ReasonText<'a> {
             ),
             Reason::NotLater => f.write_str(": not later than the change before it"),
             Reason::Refused(refusal) => {
-                let words = refusal_words(*refusal);
-                write!(f, ": {} {}: {words}", refusal.number(), refusal.name())
+                let message = refusal_message(*refusal);
+                write!(f, ": {} {}: {message}", refusal.number(), refusal.name())
             }
         }
     }

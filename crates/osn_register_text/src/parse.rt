@@ -71,7 +71,7 @@ fn edition_of(alloc: Global, table: &Table) -> Result<Option<u64>, TextFault>
 }
 
 /// Adds the edits of the value at a key of a text: no edits for the key of the edition.
-fn push_member(
+pub(crate) fn push_member(
     edits: &mut Vec<Placed>,
     alloc: Global,
     code: &str,
@@ -121,7 +121,11 @@ fn apply(alloc: Global, register: &mut Register, part: Part, edit: &Edit) -> Res
 }
 
 /// Returns the register after edits in turn, from the empty one.
-fn register_of(alloc: Global, limits: Limits, edits: &[Placed]) -> Result<Register, TextFault>
+pub(crate) fn register_of(
+    alloc: Global,
+    limits: Limits,
+    edits: &[Placed],
+) -> Result<Register, TextFault>
     ensures limits { IfOk result (λ r. r.limits ≡ limits) }
     ensures territories { MatchResult result
         (λ r. spec.territories_after_all limits [] edits.now ≡ Ok r.territories)

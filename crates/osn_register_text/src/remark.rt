@@ -68,7 +68,8 @@ fn push_season_text(out: &mut String, code: &str, year: i64) -> Result<(), Alloc
     )
 }
 
-/// Appends that note if the day of an Easter is not in those weeks.
+/// Appends the note on an Easter that is not in the weeks in which Easter can be, if the day is
+/// not.
 fn push_season(out: &mut String, code: &str, year: i64, day: Day) -> Result<(), AllocError>
     ensures { OnOk result (string_bytes out.new
         ≡ string_bytes out.old ++ spec.season_note code.now year day) }

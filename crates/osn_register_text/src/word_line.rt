@@ -14,7 +14,7 @@ pub(crate) fn push_word(out: &mut String, key: &str, word: &str) -> Result<(), A
     writeln!(out, "{key} = \"{word}\"")
 }
 
-/// Appends the same line, unless the word is the one before.
+/// Appends the line of a key and its word, unless the word is the one before.
 #[tactic(auto, unfolding(crate::specs::WrittenText::changed_line))]
 pub(crate) fn push_changed(
     out: &mut String,

@@ -45,7 +45,7 @@ pub other_line : (refusal : Refusal) → (refusal ≡ refusals.NoMemory → ⊥)
 other_line refusals.NoMemory other = absurd (other refl)
 other_line refusal other = refl
 
--- so is any fault of a desk
+-- a fault of a desk other than NoMemory is reported by its number and name
 pub other_desk : (fault : DeskFault) → (fault ≡ desk_faults.NoMemory → ⊥)
     → fault_status (Desk fault) ≡ statuses.Refused
 other_desk desk_faults.NoMemory other = absurd (other refl)

@@ -35,14 +35,14 @@ change_text changes.PermissionDenied = codes "permission denied"
 change_text changes.NoSpace = codes "no space left on the device"
 change_text changes.Other = codes "write fault"
 
--- the note that says this of the file of a path
+-- the line of a note with this message on the file of a path
 abbrev pub note : List ℕ → List ℕ → List ℕ
 note path said = codes "note: " ++ (escaped path ++ (codes ": " ++ (said ++ codes "\n")))
 
 -- ---- a bad line of a journal
 
--- that a file is not a journal, how the journal is named if its word was left out, and how one
--- begins
+-- the words that a file is not a journal, how the journal is named if its word was left out, and
+-- how one begins
 abbrev pub head_text : List ℕ → List ℕ
 head_text path = codes "help: "
     ++ (escaped path
@@ -75,7 +75,7 @@ line_help path line (line_faults.Register refusal) = None
 
 -- ---- a bad line of another file
 
--- what its lines are
+-- what the lines of a file of this role are
 abbrev pub form_text : Role → List ℕ
 form_text Journal = []
 form_text Script = codes "the first line of a script is {\"journal\":2}"

@@ -28,20 +28,22 @@ abbrev pub path_of_two : CommandFault → List ℕ → List ℕ → Bool → Lis
 path_of_two (File why) first second unread = if is_at_second why unread then second else first
 path_of_two fault first second unread = first
 
--- the file of this path, the first of these that has none, could not be opened
+-- the file of this path could not be opened. It is the first of these paths that has no file
 abbrev pub IsNotRead : List (List ℕ) → Folders → List ℕ → CommandFault → Type 0
 IsNotRead paths d path fault =
     (cause : OpenFailed) × (fault ≡ ReadFault cause)
     × IsOpenFailure paths path cause d.before d.after
 
--- a command of one file ended early: it could not be opened; or it was, and this is why
+-- a command of one file ended early: the file could not be opened; or it was opened, and this fault
+-- says why
 abbrev pub FailsOnOne : List ℕ → (Bool → Type 0) → Folders → (Input → CommandFault → Type 0)
     → List ℕ → CommandFault → Type 0
 FailsOnOne first CanFail d Why path fault =
     IsNotRead (first ∷ []) d path fault
     ⊎ ((path ≡ first) × ReadsOne first CanFail d (λ file. Why file fault))
 
--- a command of two files ended early: one could not be opened; or both were, and this is why
+-- a command of two files ended early: one of them could not be opened; or both were opened, and
+-- this fault says why
 abbrev pub FailsOnTwo : List ℕ → List ℕ → (Bool → Type 0) → Folders
     → (Input → Input → CommandFault → Type 0) → List ℕ → CommandFault → Type 0
 FailsOnTwo first second CanFail d Why path fault =

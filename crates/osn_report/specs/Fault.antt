@@ -139,7 +139,8 @@ abbrev pub numbered_line : Refusal → List ℕ
 numbered_line refusal =
     codes "oldstyle: " ++ refusal_end (refusal_number refusal) (refusal_name refusal)
 
--- the same, and how more is allowed if the refusal is at a limit
+-- the line on a refusal by its number and name, and how more is allowed if the refusal is at a
+-- limit
 abbrev pub hinted_line : Refusal → List ℕ
 hinted_line refusal = codes "oldstyle: "
     ++ refusal_end (refusal_number refusal) (refusal_name refusal ++ limit_hint refusal)

@@ -8,7 +8,7 @@ pub record Folders : Type 0 where
   pub before : Option Known
   pub after : Option Known
 
--- the same of a folder
+-- what is known of a folder before and after, by its ghost
 abbrev pub folders_of : {D : Type 0} → (D → Option Known) → D → D → Folders
 folders_of known old new = record { before = known old; after = known new }
 

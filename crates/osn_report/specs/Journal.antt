@@ -13,7 +13,7 @@ use Rattle.osn_report.specs.Files.{Makes, IsFileFault}
 abbrev pub MakesObject : Limits → Option (List ℕ) → ObjectState → Type 0
 MakesObject limits = Makes (load newest_rules limits)
 
--- why it makes none
+-- why a journal makes no object
 abbrev pub MakesNoObject : Limits → Input → FileFault → Type 0
 MakesNoObject limits = IsFileFault Journal (load newest_rules limits)
 

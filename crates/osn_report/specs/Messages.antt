@@ -77,7 +77,8 @@ pub record ReportsExplanation (path : List ℕ) (e : Output) (fault : CommandFau
   pub reports : Reports (first_output e between failed held_back) fault status
   pub explains : ReportsMore (later_output e between failed) (explanation path fault)
 
--- that, or for a file that could not be opened, its path and why, in one line
+-- a fault of the file of a path was reported, and then what explains it. For a file that could not
+-- be opened, this is its path and why, in one line
 abbrev pub ReportsAt : List ℕ → Output → CommandFault → Status → Type 0
 ReportsAt path e (NotOpened cause) status =
     ReportsIfMade e statuses.ReadFault (open_failure_line path cause) status

@@ -61,7 +61,8 @@ usual_text faults.OpenPart =
     ++ codes "and a winter spans two years: write the months, such as December 1675 to February "
     ++ codes "1676"
 
--- what a date asks for: 3 June old style was 13 June new style, not 14 June
+-- what a date asks for. For a day by both calendars: 3 June old style was 13 June new style, not 14
+-- June
 abbrev pub date_text : DateFault → List ℕ
 date_text (faults.TwoDays old new written) =
     month_day_words old
@@ -69,7 +70,7 @@ date_text (faults.TwoDays old new written) =
     ++ (month_day_words new ++ (codes " new style, not " ++ month_day_words written)))
 date_text fault = usual_text fault
 
--- what the place of the word asks for
+-- what the place of an argument asks for
 abbrev pub misuse_text : Misuse → List ℕ
 misuse_text (Date fault) = date_text fault
 misuse_text Weekday = codes "a weekday is written by its English name, such as Friday"
@@ -108,7 +109,7 @@ misuse_text DayWithoutMonth = codes "it requires --month: name the column of mon
 misuse_text PlaceAndColumn = codes "it can't be used with --place: leave out one of them"
 misuse_text Shell = codes "a shell is bash, zsh or fish"
 
--- the line on standard error, which begins with the word as it was typed
+-- the line on standard error, which begins with the argument as it was typed
 abbrev pub misuse_line : Misuse → List ℕ → List ℕ
 misuse_line misuse argument =
     codes "oldstyle: " ++ (escaped argument ++ (codes ": " ++ (misuse_text misuse ++ codes "\n")))

@@ -10,15 +10,15 @@ use Rattle.osn_report.specs.declared.output.WriteCause.TheVariants.{Closed, NoSp
 use Rattle.osn_report.specs.declared.status.Status.{Status}
 use Rattle.osn_report.specs.declared.status.Status.TheVariants as statuses
 
--- the writer inside
+-- the writer inside a standard output
 abbrev pub inner_of : {T : Type 0} → StandardOutput T → T
 inner_of p = p.inner
 
--- why the last call that failed did so
+-- why the last call of a standard output that failed did so
 abbrev pub cause_of : {T : Type 0} → StandardOutput T → Option WriteCause
 cause_of p = p.cause
 
--- the cause by the kind of an error
+-- the cause of a failed write, by the kind of its error
 abbrev pub cause_of_kind : ErrorKind → WriteCause
 cause_of_kind BrokenPipe = Closed
 cause_of_kind StorageFull = NoSpace

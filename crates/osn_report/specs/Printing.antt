@@ -28,11 +28,12 @@ Prints text o e status =
 abbrev pub LacksText : Output → Output → Status → Type 0
 LacksText o e status = (o.new ≡ o.old) × EndsBy e NoMemory status
 
--- the text was printed, or there was no memory for it
+-- the text was made and printed; or there was no memory for it, which was reported
 abbrev pub PrintsIfMade : List ℕ → Output → Output → Status → Type 0
 PrintsIfMade text o e status = Prints text o e status ⊎ LacksText o e status
 
--- the same, but a failure of the output was reported
+-- the text was made and printed; or it was reported that the output failed, or that there was no
+-- memory for the text
 abbrev pub PrintsOrReports : List ℕ → Output → Output → Status → Type 0
 PrintsOrReports text o e status =
     ((Ends e None status × Appends o.old o.new text)

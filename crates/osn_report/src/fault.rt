@@ -19,7 +19,7 @@ pub enum CommandFault {
     File(FileFault),
     /// Not all lines could be answered.
     Service(ServeFault),
-    /// What the words ask for is refused.
+    /// What the arguments ask for is refused.
     Refused(Refusal),
     /// A desk answered nothing.
     Desk(DeskFault),
@@ -39,9 +39,9 @@ pub enum CommandFault {
     OlderVersion(Version),
     /// The line of this number was refused and ended the service. Lines are counted from 1.
     RefusedLine(u64),
-    /// A file could not be opened, which the line says with its path.
+    /// A file could not be opened. The line on standard error names its path.
     NotOpened(OpenFailed),
-    /// A file could not be opened, which the line says as a read fault.
+    /// A file could not be opened. The line on standard error reports a read fault.
     ReadFault(OpenFailed),
     /// A text could not be written to standard output.
     WriteFault,

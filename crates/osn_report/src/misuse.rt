@@ -29,7 +29,8 @@ pub enum Misuse {
     JulianDayNumber,
     /// It is this number alone, which may be a day number or a Julian day number.
     WhichDayNumber(u32),
-    /// It is such a number, and `convert` is asked for its day.
+    /// It is a number that may be a day number or a Julian day number, and `convert` is asked for
+    /// its day.
     WhichConversion(u32),
     /// It is a date with both years, but must be a date of a calendar.
     DoubleDate,

@@ -21,8 +21,8 @@ pub enum WriteCause {
     Other,
 }
 
-/// A writer as a sink that notes why a write of it failed. Each error of the writer is a failed
-/// call, and so is a write of some bytes that takes none.
+/// A writer as a sink that notes why a write of it failed. A call fails if the writer returns an
+/// error, or if it takes none of some bytes.
 #[derive(Debug, Drop)]
 pub struct StandardOutput<T> {
     inner: T,

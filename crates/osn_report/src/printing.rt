@@ -40,7 +40,7 @@ pub fn print<W: Sink, E: Sink>(
     }
 }
 
-/// Does the same, but reports on standard error as soon as the output failed.
+/// Writes a text whole as `print` does, but reports on standard error as soon as the output failed.
 pub fn print_or_report<W: Sink, E: Sink>(
     text: Result<String, AllocError>,
     output: &mut W,

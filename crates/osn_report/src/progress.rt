@@ -9,7 +9,7 @@ const MEBIBYTE: u64 = 1 << 20;
 const STEP: u64 = 64;
 
 /// How much of an input was read, which is printed to a terminal if there is one. Nothing depends
-/// on that output, so it is left out if it can't be written.
+/// on that output: if it can't be written, it is left out.
 #[derive(Drop)]
 pub struct ReadProgress<P> {
     alloc: Global,

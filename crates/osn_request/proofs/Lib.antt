@@ -3,3 +3,4 @@ mod FlatLemmas
 mod QueryLemmas
 mod TextLemmas
 mod TreeLemmas
+mod UnknownLemmas

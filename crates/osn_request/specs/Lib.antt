@@ -2,10 +2,13 @@ pub mod Version
 pub mod Json
 pub mod Member
 pub mod WireFault
+pub mod FaultMessages
+pub mod RefusalMessages
 pub mod Flat
 pub mod LineObject
 pub mod Field
 pub mod Op
+pub mod Unknown
 pub mod EditRequest
 pub mod LineQuery
 pub mod QueryRequest

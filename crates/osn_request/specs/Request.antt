@@ -68,7 +68,7 @@ abbrev pub Gives : {A : Type 0} → Result A RequestError → Result A WireFault
 Gives (Ok x) said = said ≡ Ok x
 Gives (Err e) said = Fails e said
 
--- the same, if memory runs out only after no fault was found
+-- a fault is the given one, and memory runs out only if there is no fault
 abbrev pub FailsLast : {A : Type 0} → RequestError → Result A WireFault → Type 0
 FailsLast errors.NoMemory said = IsTrue (is_ok said)
 FailsLast (errors.Fault f) said = said ≡ Err f

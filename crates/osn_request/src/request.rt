@@ -19,6 +19,7 @@ mod line_query;
 mod line_request;
 mod op;
 mod query;
+mod unknown;
 
 use crate::wire_fault::WireFault;
 pub use edit::edit_of;
@@ -37,6 +38,7 @@ pub use query::{line_query_of, query_of, reader_in};
 use serde_json::Value;
 use std::alloc::{AllocError, Global};
 use std::str;
+pub use unknown::unknown_member;
 
 /// What a line asks for.
 #[derive(Debug, Drop)]
@@ -187,6 +189,23 @@ pub fn object_of<'a>(
 {
     let text = text_of(line)?;
     object_in(alloc, scratch, text)
+}
+
+/// Returns the object of a line as a value, as `object_of` does, without a scratch.
+///
+/// # Errors
+/// Returns the first fault of the line, or `NoMemory`. Only a line that is a text, not empty and
+/// not too long takes memory.
+pub fn value_of_line(alloc: Global, line: Line<'_>) -> Result<Value, RequestError>
+    ensures object { (whole : List ℕ) → IsLine line.entry whole → MatchResult result
+        (λ v. spec.object_of whole ≡ Ok (view v))
+        (λ e. spec.Fails e (spec.object_of whole)) }
+    ensures memory { (whole : List ℕ) → IsLine line.entry whole → MatchResult result
+        (λ _. spec.IsReadable whole)
+        (λ e. e ≡ NoMemory → spec.IsReadable whole) }
+{
+    let text = text_of(line)?;
+    tree_of(alloc, text)
 }
 
 /// Returns the request of a line, with this many readers. The scratch serves one line after

@@ -48,7 +48,7 @@ some_loaded limits read [] r is some h = absurd (cc)
 some_loaded limits read (b ∷ bs) r is some h =
     subst (λ l. load newest_rules limits (lines l) ≡ r) is h
 
--- and its version is the one that they say
+-- the version of some bytes is the one that they say
 pub some_said : (version : Version) (read bytes : List ℕ) → read ≡ bytes
     → (length bytes == 0) ≡ false → IsOfVersion version (lines read) → SaysVersion version bytes
 some_said version read [] is some h = absurd (cc)
@@ -86,7 +86,7 @@ not_loaded limits read bytes content rest file_faults.ReadFault is some whole (s
     ))
 not_loaded limits read bytes content rest file_faults.NoMemory is some whole h = tt
 
--- the same of what read the bytes
+-- if a reader of the whole lines of a file refuses them, the file makes no object, by that fault
 pub object_refused : {T : Type 0} (limits : Limits) (lines : List ℕ) (view : T → ObjectState)
     (r : Result T FileFault) (old new : Bytes) → rest_of old ≡ lines → (length lines == 0) ≡ false
     → ReadsFile Journal (load newest_rules limits) view r (λ b. Some (rest_of b)) (λ _. false) old
@@ -126,7 +126,7 @@ whole_read part read content is whole =
     subst (λ l. take part.bytes read ≡ whole_bytes l) is
     (ap (λ (n : ℕ). take n read) whole.bytes)
 
--- they are no more than were read
+-- the bytes of the lines that count are no more than were read
 by_last_within : (last : LastLine) (ended all : ℕ) → ended ≤ all → by_last last ended all ≤ all
 by_last_within Ended ended all h = h
 by_last_within LacksFeed ended all h = omega arith

@@ -73,7 +73,7 @@ pub head_missing : (part : CountedPrefix) (content text : List ℕ) → part.byt
 head_missing part content text none is whole =
     is ∙ ap (λ (n : ℕ). missing_head (take n content)) (sym none ∙ whole.bytes)
 
--- it is there, if some do
+-- no head is missing, if some bytes count
 head_there : (content : List ℕ) (n : ℕ) → n ≡ whole_length content → (n ≡ 0 → ⊥)
     → [] ≡ missing_head (whole_bytes content)
 head_there [] n is some = absurd (some is)

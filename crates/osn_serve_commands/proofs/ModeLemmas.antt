@@ -11,7 +11,7 @@ use Rattle.osn_serve_commands.specs.InFolder.{RunsMode, opened_by}
 use Rattle.osn_serve_commands.specs.Mode.{ModeModel, mode_model}
 use Rattle.osn_serve_commands.specs.declared.mode.Mode.{Mode}
 
--- it was run in the mode that was found
+-- the service was run in the mode that was found
 module _ (limits : Limits) (asked : Result ModeModel CommandFault) (service : ServiceModel)
     (CanFail : Bool → Type 0) (d : Folders) (i : Input) (o e : Output) (status : Status) where
   pub run_as : (mode found : Mode) → asked ≡ Ok (mode_model mode) → mode ≡ found

@@ -310,7 +310,7 @@ module _ (limits : Limits) (journal save : Option (List ℕ)) (rules : ServeRule
     ended = rw none h;
   }
 
-  -- it was run, and the file that it began with is replaced
+  -- the service was run, and the file that it began with is replaced
   module _ (path : List ℕ) (locked : Option (List ℕ)) (at : path ≡ unwrap_or journal [])
       (named : locked ≡ save) where
     reports_at : (fault : CommandFault) → ReportsAt path e fault status

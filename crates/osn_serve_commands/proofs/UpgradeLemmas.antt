@@ -71,7 +71,7 @@ module _ (limits : Limits) (path : List ℕ) (CanFail : Bool → Type 0) (d : Fo
 
   module _ (bytes text : List ℕ) (cut : Option (List ℕ))
       (is : IsOlder limits input.bytes bytes text cut) where
-    -- it was rewritten
+    -- the journal was rewritten
     pub upgrade_saved : SavesAnew path bytes text looked d.after → ReportsText e cut
         → Upgrades limits path CanFail d e
     upgrade_saved saved message = record {
@@ -89,7 +89,7 @@ module _ (limits : Limits) (path : List ℕ) (CanFail : Bool → Type 0) (d : Fo
           );
     }
 
-    -- or it could not be
+    -- the journal could not be rewritten
     pub upgrade_unsaved : (status : Status)
         → CannotSaveAnew path bytes text looked d.after e status
         → CannotUpgrade limits path CanFail d e status

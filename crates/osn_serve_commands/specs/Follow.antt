@@ -3,8 +3,8 @@ use Rattle.std.specs.Prelude.{ℕ, List, None, Option, Result, Ok, Err}
 use Rattle.osn_register.specs.declared.limits.Limits.{Limits}
 use Rattle.osn_lines.specs.Streams.{Output}
 use Rattle.osn_lines.specs.declared.fault.EndedEarly.{EndedEarly}
-use Rattle.osn_invocation.specs.Invocation.{ServiceModel}
 use Rattle.osn_service.specs.Faults.{MatchServed}
+use Rattle.osn_service.specs.declared.rules.ServeRules.{ServeRules}
 use Rattle.osn_service.specs.declared.service.Served.{Served}
 use Rattle.osn_journal.specs.Arrivals.{Arrival}
 use Rattle.osn_journal.specs.Follows.{Follows}
@@ -33,9 +33,8 @@ ReportsFollowed path (Err end) e status = ReportsAt path e (fault_of end.cause) 
 
 -- The journal was followed, and each line of the input answered from it, or it ended early, which
 -- was reported on standard error.
-pub record EndsFollowed (limits : Limits) (path : List ℕ) (service : ServiceModel)
+pub record EndsFollowed (limits : Limits) (path : List ℕ) (rules : ServeRules)
     (before after : Option (List Arrival)) (o e : Output) (status : Status) : Type 0 where
   pub result : Result Served (EndedEarly FollowerFault)
-  pub follows : Follows (following service.readers service.stop_at_refusal) limits before after o
-      result
+  pub follows : Follows (following rules) limits before after o result
   pub reports : ReportsFollowed path result e status

@@ -50,6 +50,8 @@ rules_of asked = record {
   read_only = asked.read_only;
   takes_sources = true;
   stop_at_refusal = asked.stop_at_refusal;
+  explains = asked.explains;
+  strict_members = asked.strict_members;
 }
 
 -- ---- the service that keeps no file
@@ -126,7 +128,7 @@ abbrev pub FindsNoTarget : Limits → Option (List ℕ) → Option Known → Opt
 FindsNoTarget limits None before after fault = ⊥
 FindsNoTarget limits (Some path) before after fault = IsNoTarget limits path before after fault
 
--- that was reported before a line was answered
+-- it was reported, before a line was answered, why no journal is saved
 abbrev pub RefusesTarget : Limits → Option (List ℕ) → Option Known → Option Known → Output → Output
     → Status → Type 0
 RefusesTarget limits save before after o e status =
@@ -220,7 +222,7 @@ pub record UpgradesAndKeeps (limits : Limits) (path : List ℕ) (rules : ServeRu
     pub keeps : EndsKeeping limits path rules CanFail
         (record { before = upgraded; after = d.after }) i o (later_output e between failed) status
 
--- it could not be upgraded, and no line was answered; or it was upgraded and kept
+-- the journal could not be upgraded, and no line was answered; or it was upgraded and kept
 abbrev pub EndsUpgrading : Limits → List ℕ → ServeRules → (Bool → Type 0) → Folders → Input
     → Output → Output → Status → Type 0
 EndsUpgrading limits path rules CanFail d i o e status =
@@ -231,13 +233,13 @@ EndsUpgrading limits path rules CanFail d i o e status =
 
 -- the file of this path was followed, and nothing in the folder was changed; or there was no memory
 -- to do so
-abbrev pub EndsFollowing : Limits → List ℕ → ServiceModel → Folders → Output → Output → Status
+abbrev pub EndsFollowing : Limits → List ℕ → ServeRules → Folders → Output → Output → Status
     → Type 0
-EndsFollowing limits path service d o e status =
+EndsFollowing limits path rules d o e status =
     Changes Stays d.before d.after
     × (PrintsNone NoMemory o e status
     ⊎ ((before : Option (List Arrival)) × (after : Option (List Arrival))
-    × EndsFollowed limits path service before after o e status))
+    × EndsFollowed limits path rules before after o e status))
 
 -- ---- the service that the options ask for
 
@@ -251,7 +253,7 @@ RunsMode limits (Ok (keeping path)) service CanFail d i o e status =
 RunsMode limits (Ok (upgrading path)) service CanFail d i o e status =
     EndsUpgrading limits path (rules_of service) CanFail d i o e status
 RunsMode limits (Ok (following path)) service CanFail d i o e status =
-    EndsFollowing limits path service d o e status
+    EndsFollowing limits path (rules_of service) d o e status
 RunsMode limits (Err fault) service CanFail d i o e status =
     (d.after ≡ d.before) × PrintsNone fault o e status
 

@@ -87,7 +87,7 @@ missing_text content = missing_end (last_line_of content) (whole_bytes content)
 abbrev pub kept_text : List ℕ → List ℕ
 kept_text content = whole_bytes content ++ missing_text content
 
--- this line, if the last one was not finished
+-- this number, if the last line was not finished
 abbrev pub if_unfinished : LastLine → ℕ → Option ℕ
 if_unfinished Ended line = None
 if_unfinished LacksFeed line = None
@@ -109,7 +109,7 @@ abbrev pub ReportsCut : Output → Option ℕ → Type 0
 ReportsCut e None = e.new ≡ e.old
 ReportsCut e (Some line) = WritesLine e (cut_line line)
 
--- the text of that, if one was
+-- the line on the line that was cut off, if one was
 abbrev pub cut_text : Option ℕ → Option (List ℕ)
 cut_text None = None
 cut_text (Some line) = Some (cut_line line)

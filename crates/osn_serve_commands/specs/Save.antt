@@ -62,7 +62,7 @@ SavesAs true loaded_bytes path text before after e status =
     (backup : List ℕ) × Changes (SavesBeside path backup text) before after
     × ReportsIfMade e statuses.Done (beside_line path backup) status
 
--- it isn't sure that it is saved, by this fault
+-- it isn't sure that the journal is saved, by this fault
 abbrev pub CannotSaveAs : Bool → Option (List ℕ) → List ℕ → List ℕ → SaveFault → Option Known
     → Option Known → Type 0
 CannotSaveAs false loaded_bytes path text fault before after =
@@ -70,7 +70,7 @@ CannotSaveAs false loaded_bytes path text fault before after =
 CannotSaveAs true loaded_bytes path text fault before after =
     Changes (CannotSaveBeside path text fault) before after
 
--- it was saved; or it was reported why that isn't sure
+-- the journal was saved; or it was reported why that isn't sure
 abbrev pub FinishesSave : Bool → Option (List ℕ) → List ℕ → List ℕ → Option Known → Option Known
     → Output → Status → Type 0
 FinishesSave beside loaded_bytes path text before after e status =

@@ -29,7 +29,8 @@ SavesAnew path loaded_bytes text before after =
     (between : Option Known) × Changes (Locks path) before between
     × SavesSafely path (Some loaded_bytes) text between after
 
--- it could not be locked; or it was, and it isn't sure that the text is saved. It was reported why
+-- the file of this path could not be locked; or it was, and it isn't sure that the text is saved.
+-- It was reported why
 abbrev pub CannotSaveAnew : List ℕ → List ℕ → List ℕ → Option Known → Option Known
     → Output → Status → Type 0
 CannotSaveAnew path loaded_bytes text before after e status =
@@ -88,8 +89,9 @@ CannotSaveOlder limits path input before after e status =
     × IsReadAs limits input bytes version s × (has_sources version ≡ false)
     × CannotSaveAnew path bytes (journal_text_of newest_version s) before after e status)
 
--- it is not sure that the file of this path contains a journal of a version that has sources. It
--- could not be kept; or it was looked at, and that was done
+-- it is not sure that the file of this path contains a journal of a version that has sources. The
+-- file could not be kept; or it was looked at, and a journal of an older version could not be saved
+-- in it
 abbrev pub CannotUpgrade : Limits → List ℕ → (Bool → Type 0) → Folders → Output → Status → Type 0
 CannotUpgrade limits path CanFail d e status =
     ((fault : KeepFault) × Changes (CannotKeep path fault) d.before d.after

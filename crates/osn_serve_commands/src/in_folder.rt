@@ -59,6 +59,8 @@ pub fn serve_in_folder<'a, D: Folder, R: Source, W: Sink, E: Sink, T: Sink + Dro
         read_only: options.read_only,
         takes_sources: true,
         stop_at_refusal: options.stop_at_refusal,
+        explains: options.explains,
+        strict_members: options.strict_members,
     };
     match mode {
         Mode::Load { journal, save } => serve(
@@ -69,7 +71,7 @@ pub fn serve_in_folder<'a, D: Folder, R: Source, W: Sink, E: Sink, T: Sink + Dro
             Ok(upgrade_and_keep(alloc, limits, folder, path, rules, input, output, errors))
         }
         Mode::Follow(path) => {
-            Ok(follow_file(alloc, limits, folder, path, options, input, output, errors))
+            Ok(follow_file(alloc, limits, folder, path, rules, input, output, errors))
         }
     }
 }
@@ -80,12 +82,12 @@ fn follow_file<D: Folder, R: Source, W: Sink, E: Sink>(
     limits: Limits,
     folder: &mut D,
     path: &str,
-    options: ServeOptions,
+    rules: ServeRules,
     input: &mut R,
     output: &mut W,
     errors: &mut E,
 ) -> Status
-    ensures { EndsFollowing limits path.now (service_model options.entry)
+    ensures { EndsFollowing limits path.now rules
         (folders_of D.known folder.old folder.new)
         (output_of W.contents W.has_failed W.holds_back output.old output.new)
         (output_of E.contents E.has_failed E.holds_back errors.old errors.new) result }
@@ -93,7 +95,7 @@ fn follow_file<D: Folder, R: Source, W: Sink, E: Sink>(
     match folder.follow(alloc, path) {
         Ok(file) => {
             let mut arrivals = Feed::new(input, file);
-            follow_command(alloc, limits, path, options, &mut arrivals, output, errors)
+            follow_command(alloc, limits, path, rules, &mut arrivals, output, errors)
         }
         Err(_) => report(alloc, errors, CommandFault::NoMemory),
     }

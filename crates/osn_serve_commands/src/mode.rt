@@ -17,7 +17,7 @@ pub(crate) enum Mode<'a> {
     },
     /// One that keeps its journal in this file.
     Keep(&'a str),
-    /// The same, after the file was upgraded.
+    /// One that keeps its journal in this file, after the file was upgraded.
     Upgrade(&'a str),
     /// One that follows the journal which another run keeps in this file.
     Follow(&'a str),

@@ -89,7 +89,7 @@ fn serve_opened<D: Folder, J: Source, R: Source, W: Sink, E: Sink, T: Sink + Dro
     )
 }
 
-/// Does the same, if the journal is saved to the file that it is loaded from, which must still
+/// Runs a service whose journal is saved to the file that it is loaded from. The file must still
 /// contain what was loaded.
 fn serve_replacing<D: Folder, J: Source, R: Source, W: Sink, E: Sink, T: Sink + Drop>(
     alloc: Global,

@@ -65,7 +65,7 @@ module _ {rules : ServeRules} {initial now : SessionState} {n : ℕ} (i : Input)
       (InPart-more (line_text rules) (line_after rules) (some_text rules) initial.object now.object
       h.lines_taken (drop (length h.lines_taken) all) _ _ n h.part)
 
-  -- the reply to one of them is too long
+  -- the reply to one of the lines that were taken is too long
   long : HasLongReply rules initial.object h.lines_taken →
       IfSome i.bytes (λ bytes. HasLongReply rules initial.object (lines bytes))
   long k =
@@ -84,7 +84,7 @@ module _ {rules : ServeRules} {initial now : SessionState} {n : ℕ} (i : Input)
       })
       h.first
 
-  -- what the service has done then
+  -- what the service has done when a write failed
   pub Serves-in_part : (holds_back : Bool) →
       Serves rules initial.object now.object i
       (output_since initial now.written now.failed holds_back)
@@ -122,7 +122,7 @@ module _ {rules : ServeRules} {initial now : SessionState} {n : ℕ} (i : Input)
 -- a write failed while lines were taken, or a change was not kept, which is passed on
 module _ {F : Type 0} (rules : ServeRules) (initial now : SessionState) (holds_back : Bool)
     (i : Input) where
-  -- by the reason
+  -- what the service has done, by the reason
   passed : (n : ℕ) (cause : ServiceFault F) →
       HasTaken rules initial now holds_back i (Err (record { lines = n; cause = cause })) →
       ServesStore rules initial.object now.object i
@@ -133,7 +133,7 @@ module _ {F : Type 0} (rules : ServeRules) (initial now : SessionState) (holds_b
   passed n (Serve WriteFault) h = Serves-in_part i h holds_back
   passed n (NotKept why) h = h
 
-  -- for either
+  -- what the service has done, for either end
   pub Serves-passed : (end : EndedEarly (ServiceFault F)) →
       HasTaken rules initial now holds_back i (Err end) →
       ServesStore rules initial.object now.object i
@@ -144,14 +144,14 @@ module _ {F : Type 0} (rules : ServeRules) (initial now : SessionState) (holds_b
 
 module _ {rules : ServeRules} {initial now : SessionState} {n : ℕ} (i : Input)
     (h : AnswersFirst rules initial now i.bytes n) where
-  -- they are the first lines by their number
+  -- the lines that were taken are the first lines of the input, by their number
   firsts : IfSome i.bytes (λ bytes. take n (lines bytes) ≡ h.lines_taken)
   firsts =
       subst (λ (m : ℕ). IfSome i.bytes (λ bytes. take m (lines bytes) ≡ h.lines_taken))
       (sym h.count)
       h.first
 
-  -- a write of it failed
+  -- a write of the replies that wait failed
   pub Serves-unwritten : (new : Option (List ℕ)) (failed : Bool) (unwritten : ℕ)
       (holds_back : Bool) → WritesSome now.written new now.buffer unwritten →
       WriteFails now.failed failed now.buffer.text.items →
@@ -166,11 +166,11 @@ module _ {rules : ServeRules} {initial now : SessionState} {n : ℕ} (i : Input)
       (Failing-from {t = later} h.serving (record { some = some; object = refl; reason = reason }))
       h.count firsts) holds_back
 
-  -- it was written
+  -- the replies that wait were written
   module _ (new : Option (List ℕ)) (unwritten holds_back : Bool)
       (written : Appends now.written new now.buffer.text.items) (sound : unwritten ≡ now.failed)
       (passed_on : holds_back ≡ false) where
-    -- the replies to them are written
+    -- the replies to the first lines are written
     first_written : IfSome i.bytes (λ bytes. WritesFirst rules initial.object initial.written new
         (lines bytes) n)
     first_written =
@@ -186,7 +186,7 @@ module _ {rules : ServeRules} {initial now : SessionState} {n : ℕ} (i : Input)
               initial.written now.written new now.buffer h.serving.waits written);
         }) firsts
 
-    -- the object is in the state after them
+    -- the object is in the state after the first lines
     first_reached : IfSome i.bytes
         (λ bytes. IsAfterLines rules initial.object now.object (lines bytes) n)
     first_reached =
@@ -234,7 +234,7 @@ module _ {rules : ServeRules} {initial now : SessionState} {n : ℕ} (i : Input)
               (end.3 asked) end.0,
         )
 
-    -- the last of them was refused and ended the service
+    -- the last of the lines was refused and ended the service
     pub Serves-refused : EndsTaking rules initial.object i n AtRefusal →
         ServesToRefusal rules initial.object now.object i
         (output_since initial new unwritten holds_back) n

@@ -1,4 +1,6 @@
 pub mod LineLemmas
+pub mod OutcomeLemmas
+pub mod RefusedMemberLemmas
 pub mod WaitLemmas
 pub mod PartLemmas
 pub mod LawLemmas

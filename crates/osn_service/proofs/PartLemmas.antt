@@ -22,19 +22,19 @@ use Rattle.osn_service.proofs.WaitLemmas.{Waits-at}
 abbrev pub whole_in : List ℕ → ℕ → ℕ
 whole_in ends bytes = count_by (λ end. nat_le end bytes) ends
 
--- another reply, which ends within the bytes or not
+-- how many replies end within the bytes, with one more, which does or does not
 whole_cons : (end : ℕ) (ends : List ℕ) (bytes : ℕ) (t : Bool) → nat_le end bytes ≡ t →
     whole_in (end ∷ ends) bytes ≡ cond t 1 0 + whole_in ends bytes
 whole_cons end ends bytes t h =
     sum_by-cons (λ e. cond (nat_le e bytes) 1 0) end ends
     ∙ ap (λ b. cond b 1 0 + whole_in ends bytes) h
 
--- another one that does
+-- with one more reply that ends within the bytes, one more does
 whole_yes : (end : ℕ) (ends : List ℕ) (bytes : ℕ) → nat_le end bytes ≡ true →
     whole_in (end ∷ ends) bytes ≡ whole_in ends bytes + 1
 whole_yes end ends bytes h = omega (arith, whole_cons end ends bytes true h)
 
--- another one that does not
+-- with one more reply that does not end within the bytes, no more do
 whole_no : (end : ℕ) (ends : List ℕ) (bytes : ℕ) → nat_le end bytes ≡ false →
     whole_in (end ∷ ends) bytes ≡ whole_in ends bytes
 whole_no end ends bytes h = omega (arith, whole_cons end ends bytes false h)
@@ -61,7 +61,8 @@ record Whole {S : Type 0} (text : S → List ℕ → List ℕ) (after : S → Li
   whole : from + length (replies text after s (take j xs)) ≤ bytes
   no_more : j < length xs → bytes < from + length (replies text after s (take (suc j) xs))
 
--- so it is with a reply in front that ends within them
+-- with one more reply before them that ends within the bytes, one more of the replies ends within
+-- them
 Whole-more : {S : Type 0} (text : S → List ℕ → List ℕ) (after : S → List ℕ → S) (from to : ℕ)
     (s : S) (x : List ℕ) (xs : List (List ℕ)) (bytes i : ℕ) → to ≡ from + length (text s x) →
     Whole text after to (after s x) xs bytes i → Whole text after from s (x ∷ xs) bytes (suc i)
@@ -78,7 +79,7 @@ Whole-more text after from to s x xs bytes i is_to h = record {
       );
 }
 
--- or if the first does not
+-- none of the replies ends within the bytes if the first does not
 Whole-none : {S : Type 0} (text : S → List ℕ → List ℕ) (after : S → List ℕ → S) (from : ℕ) (s : S)
     (x : List ℕ) (xs : List (List ℕ)) (bytes : ℕ) → from ≤ bytes →
     bytes < from + length (text s x) → Whole text after from s (x ∷ xs) bytes 0
@@ -88,7 +89,7 @@ Whole-none text after from s x xs bytes le lt = record {
   no_more = λ _. omega (arith, length-append (text s x) []);
 }
 
--- as many of them as are counted
+-- the replies that end within the bytes are as many as are counted
 Whole-counted : {S : Type 0} (text : S → List ℕ → List ℕ) (after : S → List ℕ → S) (from : ℕ)
     (s : S) (xs : List (List ℕ)) (bytes : ℕ) → from ≤ bytes →
     Whole text after from s xs bytes (whole_in (ends_from text after from s xs) bytes)
@@ -107,7 +108,7 @@ Whole-counted text after from s (x ∷ xs) bytes le =
     (Whole-none text after from s x xs bytes le k.1))
     (leb_tells to bytes)
 
--- nor do the first of them change anything
+-- if no line of some changes anything, none of the first of them does
 ChangesNothing-take : {S : Type 0} (after : S → List ℕ → S) (s : S) (xs : List (List ℕ)) (i : ℕ) →
     ChangesNothing after s xs → ChangesNothing after s (take i xs)
 ChangesNothing-take after s [] zero h = tt
@@ -115,7 +116,7 @@ ChangesNothing-take after s [] (suc i) h = tt
 ChangesNothing-take after s (x ∷ xs) zero h = tt
 ChangesNothing-take after s (x ∷ xs) (suc i) h = (h.0, ChangesNothing-take after s xs i h.1)
 
--- the state after all of them is the one after the first j or the first j + 1
+-- the state after all lines is the one after the first j or the first j + 1
 reached_at : {S : Type 0} (after : S → List ℕ → S) (s : S) (xs : List (List ℕ)) (j : ℕ) →
     ChangesFirst after s xs → (fold after s xs ≡ fold after s (take j xs))
     ⊎ ((j < length xs) × (fold after s xs ≡ fold after s (take (suc j) xs)))

@@ -18,7 +18,8 @@ use Rattle.osn_service.proofs.PartLemmas.{PartOf-from}
 use Rattle.osn_service.proofs.WaitLemmas.{length-ends, Waits-nothing, Waits-add}
 use Rattle.osn_service.proofs.WaitLemmas.{Waits-settle, Waits-written, after_one}
 
--- what waits is too long for the writes that are made, and so is the reply to one of the lines
+-- if what waits is too long for the writes that are made, the reply to one of the lines is too long
+-- for them
 long_of : (rules : ServeRules) (s : ObjectState) (lines : List (List ℕ)) (text : List ℕ) →
     IsShort rules s lines text → 4294967295 ≤ length text → HasLongReply rules s lines
 long_of rules s lines text (inl less) le = absurd (omega (arith, less, le))

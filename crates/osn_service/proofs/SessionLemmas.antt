@@ -19,7 +19,7 @@ use Rattle.osn_service.specs.Store.{KeepsSince}
 use Rattle.osn_service.proofs.ServeLemmas.{Serving-nothing, Serving-settled, Serving-answered}
 use Rattle.osn_service.proofs.ServeLemmas.{Failing-from, Unkept-from, NoneRefused-more}
 
--- one session is another with what it lends kept
+-- two sessions that are the same as a third are the same
 IsSame-then : {W S : Type 0} {initial s t : Session W S} → IsSame initial s → IsSame s t →
     IsSame initial t
 IsSame-then h k = record {
@@ -82,7 +82,7 @@ module _ {W S F : Type 0} (contents : W → Option (List ℕ)) (has_failed holds
     -- a line, once nothing was written or all that waited
     module _ (mid : SessionState) (line : List ℕ) (room : Settled (now_of s) mid)
         (less : length mid.buffer.text.items < full) where
-      -- that was so before the line
+      -- the lines before were answered, also once what waited was written
       ready : Serving initial.rules (now_of initial) before mid
       ready = Serving-settled h.serving room
 
@@ -95,14 +95,14 @@ module _ {W S F : Type 0} (contents : W → Option (List ℕ)) (has_failed holds
           ∙ ap (λ (o : ObjectState). is_refused (line_outcome initial.rules o line))
           ready.waits.reached
 
-      -- what became of it
+      -- what became of the line
       abbrev pub Replies : Bool → Type 0
       Replies refused =
           Answers lends has_kept has_lost (line_outcome s.rules mid.object line)
           (line_after s.rules mid.object line) mid (now_of t) (holds_back t.sink.now) s.store.now
           t.store.now (Ok refused)
 
-      -- its reply waits
+      -- the reply to the line waits
       answered : {refused : Bool} → Replies refused →
           Serving initial.rules (now_of initial) (before ++ line ∷ []) (now_of t)
       answered {refused} k =
@@ -110,7 +110,7 @@ module _ {W S F : Type 0} (contents : W → Option (List ℕ)) (has_failed holds
           (subst (λ (r : ServeRules). Answered (line_outcome r mid.object line)
           (line_after r mid.object line) mid (now_of t)) h.same.rules k.2)
 
-      -- it was answered, and is not the last
+      -- the line was answered, and is not the last
       pub Served-answered : {refused : Bool} → Replies refused →
           (s.rules.stop_at_refusal ≡ true → refused ≡ false) →
           Served initial (before ++ line ∷ []) t
@@ -126,7 +126,7 @@ module _ {W S F : Type 0} (contents : W → Option (List ℕ)) (has_failed holds
         keeps = λ b l. k.3 b (h.keeps b l);
       }
 
-      -- it was refused, and is the last
+      -- the line was refused, and is the last
       pub Stopped-refused : {refused : Bool} → Replies refused → refused ≡ true →
           s.rules.stop_at_refusal ≡ true → Stopped initial before (Some line) t Refused
       Stopped-refused {refused} k is asked =
@@ -145,7 +145,7 @@ module _ {W S F : Type 0} (contents : W → Option (List ℕ)) (has_failed holds
             keeps = λ b l. k.3 b (h.keeps b l);
           }
 
-      -- it was not answered
+      -- the line was not answered
       pub Stopped-unanswered : (why : Stop F) →
           Answers lends has_kept has_lost (line_outcome s.rules mid.object line)
           (line_after s.rules mid.object line) mid (now_of t) (holds_back t.sink.now) s.store.now

@@ -1,4 +1,4 @@
--- That lines from which no source is taken leave an object without sources.
+-- Lines from which no source is taken leave an object without sources.
 use Rattle.std.proofs.Common.{◌≡◌, ◌∙◌, ◌⊎◌, ℕ, Bool, true, false, cond, List, [], ◌∷◌, ◌++◌}
 use Rattle.std.proofs.Common.{Option, Some, None, Result, Ok, Err, is_some, refl, sym, subst}
 use Rattle.std.proofs.Common.{append_assoc, append-nil, ⊎_elim}
@@ -19,7 +19,8 @@ use Rattle.osn_request.specs.declared.request.Request.TheVariants.{Stage, Publis
 use Rattle.osn_request.specs.Request.{request}
 use Rattle.osn_service.specs.declared.rules.ServeRules.{ServeRules}
 use Rattle.osn_service.specs.Served.{after_lines}
-use Rattle.osn_service.specs.Session.{allowed_request, state_after, line_after}
+use Rattle.osn_service.specs.Session.{after_unless, allowed_request, line_after, line_request}
+use Rattle.osn_service.specs.Session.{refused_member, state_after}
 use Rattle.osn_service.specs.Sources.{GivesNoSource, KeepsSourceless}
 
 -- an edit without a source was staged or not
@@ -60,28 +61,35 @@ request_leaves false s (Ok Publish) h = published s (publish_refusal s) h
 request_leaves false s (Ok (Ask reader query)) h = h
 request_leaves false s (Err fault) h = h
 
--- a line
+-- a line with a member that is refused, or another one
+member_leaves : (refused : Option (List ℕ)) (s t : ObjectState) → GivesNoSource s
+    → GivesNoSource t → GivesNoSource (after_unless refused s t)
+member_leaves None s t h k = k
+member_leaves (Some name) s t h k = h
+
+-- a line leaves an object without sources
 line_leaves : (rules : ServeRules) (s : ObjectState) (line : List ℕ)
     → KeepsSourceless rules s (line_after rules s line)
 line_leaves rules s line none h =
     let asked = request newest_version rules.readers line in
-    subst (λ b. GivesNoSource (state_after s (allowed_request rules.read_only b asked))) (sym none)
-    (request_leaves rules.read_only s asked h)
+    member_leaves (refused_member rules line) s (state_after s (line_request rules line)) h
+    (subst (λ b. GivesNoSource (state_after s (allowed_request rules.read_only b asked))) (sym none)
+    (request_leaves rules.read_only s asked h))
 
--- lines in order
+-- lines in order leave an object without sources
 lines_leave : (rules : ServeRules) (s : ObjectState) (ls : List (List ℕ))
     → KeepsSourceless rules s (after_lines rules s ls)
 lines_leave rules s [] none h = h
 lines_leave rules s (l ∷ ls) none h =
     lines_leave rules (line_after rules s l) ls none (line_leaves rules s l none h)
 
--- so it is with the state after lines
+-- a state after lines keeps the object without sources
 pub Sourceless-after : (rules : ServeRules) (s t : ObjectState) (ls : List (List ℕ))
     → t ≡ after_lines rules s ls → KeepsSourceless rules s t
 Sourceless-after rules s t ls reached none h =
     subst GivesNoSource (sym reached) (lines_leave rules s ls none h)
 
--- or after either of two
+-- a state after either of two lists of lines keeps the object without sources
 pub Sourceless-near : {P : Type 0} (rules : ServeRules) (s t : ObjectState) (xs ys : List (List ℕ))
     → (t ≡ after_lines rules s xs) ⊎ (P × (t ≡ after_lines rules s ys))
     → KeepsSourceless rules s t

@@ -45,13 +45,13 @@ pub IfSome-weaker : {A : Type 0} (o : Option A) (P Q : A → Type 0) → ((x : A
 IfSome-weaker None P Q f h = tt
 IfSome-weaker (Some x) P Q f h = f x h
 
--- from two facts of it
+-- a fact of a value, if it is known, from two facts of it
 pub IfSome-both : {A : Type 0} (o : Option A) (P Q R : A → Type 0) → ((x : A) → P x → Q x → R x) →
     IfSome o P → IfSome o Q → IfSome o R
 IfSome-both None P Q R f h k = tt
 IfSome-both (Some x) P Q R f h k = f x h k
 
--- the lines up to one, and that one
+-- the lines up to the one at a place are those before it, and that one
 take_next : (all : List (List ℕ)) (n : ℕ) (line : List ℕ) → slice_get all n ≡ Some line →
     take (n + 1) all ≡ take n all ++ line ∷ []
 take_next all n line h =
@@ -65,7 +65,7 @@ record IsNext (all taken : List (List ℕ)) (line : List ℕ) (n : ℕ) : Type 0
   first : take n all ≡ taken
   more : take (n + 1) all ≡ taken ++ line ∷ []
 
--- by its place
+-- the next line of an input, by its place
 IsNext-from : (all taken : List (List ℕ)) (line : List ℕ) (n : ℕ) → take n all ≡ taken →
     slice_get all n ≡ Some line → IsNext all taken line n
 IsNext-from all taken line n first next = record {
@@ -134,7 +134,7 @@ module _ {W S F : Type 0} (contents : W → Option (List ℕ)) (has_failed holds
         subst (λ (m : ℕ). IfSome i.bytes (λ bytes. take m (lines bytes) ≡ taken)) count first;
   }
 
-  -- none of them was refused if a refusal ends the service
+  -- none of the lines was refused if a refusal ends the service
   spared_first : (taken : List (List ℕ)) (n : ℕ) →
       (s.rules.stop_at_refusal ≡ true → NoneRefused s.rules (state s.store.now) taken) →
       IfSome i.bytes (λ bytes. take n (lines bytes) ≡ taken) →
@@ -249,7 +249,8 @@ module _ {W S F : Type 0} (contents : W → Option (List ℕ)) (has_failed holds
         keeps = h.keeps;
       }
 
-  -- neither, and it ended so
+  -- lines were answered, and taking lines ended so, but not at a refused line or a change that was
+  -- not kept
   ends_served : (n : ℕ) (taken : List (List ℕ)) (end : End) → Serves s taken t →
       n ≡ length taken → IfSome i.bytes (λ bytes. take n (lines bytes) ≡ taken) →
       (SparedFirst s.rules (state s.store.now) i.bytes n →
@@ -282,7 +283,7 @@ module _ {W S F : Type 0} (contents : W → Option (List ℕ)) (has_failed holds
     none : Serves s [] s
     none = Served-nothing contents has_failed holds_back state lends has_kept has_lost s text ends
 
-    -- no more replies are not written than lines were taken
+    -- the replies that were not written are no more than the lines that were taken
     pub IsWithin-ended : (n : ℕ) (cause : TakeFault (Stop F)) → Ended n cause → IsWithin n cause
     IsWithin-ended n take.NoMemory h = tt
     IsWithin-ended n take.ReadFault h = tt
@@ -293,7 +294,7 @@ module _ {W S F : Type 0} (contents : W → Option (List ℕ)) (has_failed holds
     IsWithin-ended n (take.Stopped (stop.NotKept why)) h = tt
     IsWithin-ended n (take.Stopped stop.Refused) h = tt
 
-    -- it ended early
+    -- taking lines ended early
     pub Ends-early : (n : ℕ) (cause : TakeFault (Stop F)) → Ended n cause → EndsSource cause →
         Ends (early_end n cause)
     Ends-early n take.NoMemory h source =

@@ -19,7 +19,7 @@ replies-append text after s (x ∷ xs) ys =
     ∙ sym (append_assoc (text s x) (replies text after (after s x) xs)
     (replies text after (fold after (after s x) xs) ys))
 
--- where they end if there is another line
+-- the ends of the replies, if there is one more line
 ends-append : {S : Type 0} (text : S → List ℕ → List ℕ) (after : S → List ℕ → S) (from : ℕ) (s : S)
     (xs : List (List ℕ)) (line : List ℕ) →
     ends_from text after from s (xs ++ line ∷ []) ≡ ends_from text after from s xs ++
@@ -40,20 +40,20 @@ length-ends text after from s [] = refl
 length-ends text after from s (x ∷ xs) =
     omega (arith, length-ends text after (from + length (text s x)) (after s x) xs)
 
--- another line, which changes nothing
+-- lines that change nothing, with one more that changes nothing
 ChangesNothing-append : {S : Type 0} (after : S → List ℕ → S) (s : S) (xs : List (List ℕ))
     (line : List ℕ) → ChangesNothing after s xs → after s line ≡ s →
     ChangesNothing after s (xs ++ line ∷ [])
 ChangesNothing-append after s [] line h e = (e, tt)
 ChangesNothing-append after s (x ∷ xs) line h e = (h.0, ChangesNothing-append after s xs line h.1 e)
 
--- what changes nothing leaves what was
+-- lines that change nothing leave the state as it was
 pub unchanged : {S : Type 0} (after : S → List ℕ → S) (s : S) (xs : List (List ℕ)) →
     ChangesNothing after s xs → fold after s xs ≡ s
 unchanged after s [] h = refl
 unchanged after s (x ∷ xs) h = ap (λ v. fold after v xs) h.0 ∙ unchanged after s xs h.1
 
--- such a line after lines of which only the first changes anything
+-- lines of which only the first changes anything, with one more that changes nothing
 ChangesFirst-append : {S : Type 0} (after : S → List ℕ → S) (s : S) (xs : List (List ℕ))
     (line : List ℕ) → ChangesFirst after s xs → after (fold after s xs) line ≡ fold after s xs →
     ChangesFirst after s (xs ++ line ∷ [])

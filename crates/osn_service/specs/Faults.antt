@@ -24,9 +24,9 @@ abbrev pub MatchEnd : Result ℕ (EndedEarly ServeFault) → (ℕ → Type 0) �
 MatchEnd (Ok n) All P Q R = All n
 MatchEnd (Err end) All P Q R = MatchFault end.cause (P end.lines) (Q end.lines) (R end.lines)
 
--- a fact for each end. One is for an end that an object alone has too. One is for the number of
--- lines, if the last of them was refused and ended the service. One is for a change that was not
--- kept
+-- a fact for each end of a service. The first is about an end that a service of an object alone has
+-- too. The second is about the number of lines, if the last of them was refused and ended the
+-- service. The third is about a change that was not kept
 abbrev pub MatchServed : Bool → (ℕ → Type 0) → (ℕ → Type 0) → ℕ → Type 0
 MatchServed false P Q n = P n
 MatchServed true P Q n = Q n
@@ -43,7 +43,7 @@ MatchService (Err end) P Q R =
     MatchServiceFault end.cause (λ fault. P (Err (record { lines = end.lines; cause = fault })))
     (R end.lines)
 
--- the reply to one of the lines has as many bytes, or more
+-- the reply to one of the lines has this many bytes, or more
 pub record HasReply (rules : ServeRules) (s : ObjectState) (lines : List (List ℕ)) (bytes : ℕ)
     : Type 0 where
   pub before : List (List ℕ)

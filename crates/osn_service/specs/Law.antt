@@ -9,7 +9,7 @@ use Rattle.osn_request.specs.declared.request.Request.{Request}
 use Rattle.osn_request.specs.declared.request.Request.TheVariants.{Stage, Publish, Ask}
 use Rattle.osn_service.specs.declared.outcome.Outcome.{Outcome}
 use Rattle.osn_service.specs.declared.outcome.Outcome.TheVariants.{Staged, Published, Refused}
-use Rattle.osn_service.specs.declared.outcome.Outcome.TheVariants.{Fault}
+use Rattle.osn_service.specs.declared.outcome.Outcome.TheVariants.{Fault, UnknownMember, Explained}
 use Rattle.osn_service.specs.declared.outcome.Outcome.TheVariants.{Replied}
 use Rattle.osn_service.specs.declared.rules.ServeRules.{ServeRules}
 use Rattle.osn_service.specs.Served.{outputs, after_lines}
@@ -36,6 +36,8 @@ HasChangedNothing (Staged pending) = ⊥
 HasChangedNothing (Published edition) = ⊥
 HasChangedNothing (Refused refusal) = ⊤
 HasChangedNothing (Fault fault) = ⊤
+HasChangedNothing (UnknownMember name) = ⊤
+HasChangedNothing (Explained rejection) = ⊤
 HasChangedNothing (Replied reader reply) = ⊤
 
 -- the output for the bytes of an input
@@ -66,10 +68,10 @@ pub record MayBeCut (rules : ServeRules) (s : ObjectState) : Type 0 where
   -- A query leaves the object, and so does a line that is not a request, whatever its fault.
   pub queries : (line : List ℕ) → IsQueryOrFault (line_request rules line)
       → LeavesObject rules s line
-  -- So does each line whose reply names no staged edit and no published edition.
+  -- A line whose reply names no staged edit and no published edition leaves the object.
   pub replies : (line : List ℕ) → HasChangedNothing (line_outcome rules s line)
       → LeavesObject rules s line
 
--- so is every input, from every object
+-- as a law: every input may be cut so, from every object
 unfoldable pub MayEachInputBeCut : Type 0
 MayEachInputBeCut = (rules : ServeRules) (s : ObjectState) → MayBeCut rules s

@@ -1,4 +1,5 @@
 pub mod Outcome
+pub mod RejectionText
 pub mod ReplyText
 pub mod OutText
 pub mod Transcript

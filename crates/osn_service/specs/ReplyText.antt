@@ -38,11 +38,12 @@ use Rattle.osn_request.specs.declared.wire_fault.WireFault.{WireFault}
 use Rattle.osn_request.specs.declared.wire_fault.WireFault.TheVariants as faults
 use Rattle.osn_service.specs.declared.outcome.Outcome.{Outcome}
 use Rattle.osn_service.specs.declared.outcome.Outcome.TheVariants.{Staged, Published, Refused}
-use Rattle.osn_service.specs.declared.outcome.Outcome.TheVariants.{Fault}
+use Rattle.osn_service.specs.declared.outcome.Outcome.TheVariants.{Fault, UnknownMember, Explained}
 use Rattle.osn_service.specs.declared.outcome.Outcome.TheVariants.{Replied}
 use Rattle.osn_request.specs.Member.{member_name}
 use Rattle.osn_request.specs.WireFault.{wire_fault_number, wire_fault_name}
 use Rattle.osn_request.specs.Json.{whole, list_data, source_member}
+use Rattle.osn_service.specs.RejectionText.{rejection_data}
 
 -- a day as a territory names it
 abbrev pub found_data : Found → Data
@@ -293,6 +294,14 @@ fault_data (faults.BadField m) = object (
     no_members)))
 fault_data f = refused_data (wire_fault_number f) (wire_fault_name f)
 
+-- the fault of a member that a request doesn't have
+abbrev pub unknown_member_data : List ℕ → Data
+unknown_member_data name = object (
+    member (codes "fault") (whole 34)
+    (member (codes "field") (string name)
+    (member (codes "name") (string (codes "BadField"))
+    no_members)))
+
 abbrev pub outcome_data : Outcome → Data
 outcome_data (Staged pending) = object (
     member (codes "ok") (string (codes "staged"))
@@ -304,6 +313,8 @@ outcome_data (Published edition) = object (
     no_members))
 outcome_data (Refused f) = refused_data (refusal_number f) (refusal_name f)
 outcome_data (Fault f) = fault_data f
+outcome_data (UnknownMember name) = unknown_member_data name
+outcome_data (Explained rejection) = rejection_data rejection
 outcome_data (Replied reader reply) = replied_data reader reply.edition reply.answer
 
 -- the line of a value: its text without spaces, and a line feed

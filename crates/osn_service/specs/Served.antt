@@ -45,11 +45,11 @@ pub record WritesInPart (rules : ServeRules) (s : ObjectState) (old new : Option
 abbrev pub IsStateAfter : ServeRules → ObjectState → ObjectState → List (List ℕ) → Type 0
 IsStateAfter rules s t lines = t ≡ after_lines rules s lines
 
--- after the first n lines
+-- the object is in the state after the first n lines
 abbrev pub IsAfterLines : ServeRules → ObjectState → ObjectState → List (List ℕ) → ℕ → Type 0
 IsAfterLines rules s t lines n = t ≡ after_lines rules s (take n lines)
 
--- or after one more
+-- the object is in the state after the first n lines, or after one more
 abbrev pub IsAfterOrNext : ServeRules → ObjectState → ObjectState → List (List ℕ) → ℕ → Type 0
 IsAfterOrNext rules s t lines n =
     IsAfterLines rules s t lines n ⊎ IsAfterLines rules s t lines (n + 1)

@@ -11,7 +11,7 @@ use Rattle.osn_core.specs.Sequential as object
 use Rattle.osn_core.specs.Sequential.{ObjectState, stage_refusal, publish_refusal, reply_at}
 use Rattle.osn_service.specs.declared.outcome.Outcome.{Outcome}
 use Rattle.osn_service.specs.declared.outcome.Outcome.TheVariants.{Staged, Published, Refused}
-use Rattle.osn_service.specs.declared.outcome.Outcome.TheVariants.{Fault}
+use Rattle.osn_service.specs.declared.outcome.Outcome.TheVariants.{Fault, UnknownMember}
 use Rattle.osn_service.specs.declared.outcome.Outcome.TheVariants.{Replied}
 use Rattle.osn_request.specs.declared.request.Request.{Request}
 use Rattle.osn_request.specs.declared.request.Request.TheVariants.{Stage, Publish, Ask}
@@ -19,17 +19,22 @@ use Rattle.osn_request.specs.declared.wire_fault.WireFault.{WireFault}
 use Rattle.osn_request.specs.declared.wire_fault.WireFault.TheVariants.{ReadOnly, NeedsUpgrade}
 use Rattle.osn_request.specs.Version.{newest_version}
 use Rattle.osn_request.specs.Field.{◌>>=◌}
-use Rattle.osn_request.specs.Request.{request}
+use Rattle.osn_request.specs.Request.{object_of, request}
+use Rattle.osn_request.specs.Unknown.{unknown_in}
+use Rattle.osn_service.specs.Outcome.{explained_if}
 use Rattle.osn_service.specs.declared.rules.ServeRules.{ServeRules}
 
--- edits are taken from the lines of this many readers, those that give a source too, and all lines
--- are answered
+-- the rules of a service that takes edits from this many readers, also those that give a source.
+-- All lines are answered, no reply has a message, and members that a request doesn't have are
+-- ignored
 abbrev pub editing : ℕ → ServeRules
 editing readers = record {
   readers = readers;
   read_only = false;
   takes_sources = true;
   stop_at_refusal = false;
+  explains = false;
+  strict_members = false;
 }
 
 abbrev pub unless_refused : Option Refusal → Outcome → Outcome
@@ -64,13 +69,13 @@ abbrev pub state_after : ObjectState → Result Request WireFault → ObjectStat
 state_after s (Ok r) = request_after s r
 state_after s (Err f) = s
 
--- a request if edits and publishes are refused
+-- a request as a service takes it that refuses edits and publishes
 abbrev pub reading : Request → Result Request WireFault
 reading (Stage e) = Err ReadOnly
 reading Publish = Err ReadOnly
 reading (Ask reader q) = Ok (Ask reader q)
 
--- a request if edits that give a source are refused
+-- a request as a service takes it that refuses edits which give a source
 abbrev pub without_source : Request → Result Request WireFault
 without_source (Stage e) = if is_some (source_given e) then Err NeedsUpgrade else Ok (Stage e)
 without_source Publish = Ok Publish
@@ -87,9 +92,26 @@ abbrev pub line_request : ServeRules → List ℕ → Result Request WireFault
 line_request rules line =
     allowed_request rules.read_only rules.takes_sources (request newest_version rules.readers line)
 
+-- the first member of a line that its request doesn't have, if such a member is refused
+abbrev pub refused_member : ServeRules → List ℕ → Option (List ℕ)
+refused_member rules line =
+    if rules.strict_members then unknown_in (object_of line) else None
+
+-- a line with a member that is refused is refused for it, whatever else is wrong with it
+abbrev pub outcome_unless : Option (List ℕ) → Outcome → Outcome
+outcome_unless None outcome = outcome
+outcome_unless (Some name) outcome = UnknownMember name
+
+abbrev pub after_unless : Option (List ℕ) → ObjectState → ObjectState → ObjectState
+after_unless None s t = t
+after_unless (Some name) s t = s
+
 -- the reply to a line, and the state that it leaves
 abbrev pub line_outcome : ServeRules → ObjectState → List ℕ → Outcome
-line_outcome rules s line = outcome_of s (line_request rules line)
+line_outcome rules s line =
+    explained_if rules.explains
+    (outcome_unless (refused_member rules line) (outcome_of s (line_request rules line)))
 
 abbrev pub line_after : ServeRules → ObjectState → List ℕ → ObjectState
-line_after rules s line = state_after s (line_request rules line)
+line_after rules s line =
+    after_unless (refused_member rules line) s (state_after s (line_request rules line))

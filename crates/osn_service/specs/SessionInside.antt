@@ -28,7 +28,7 @@ pub record SessionState : Type 0 where
   pub failed : Bool
   pub buffer : ReplyBuffer
 
--- that of a store, a sink and a buffer
+-- the state of a session over a store, a sink and a buffer
 abbrev pub session_state : {W S : Type 0} → (W → Option (List ℕ)) → (W → Bool) → (S → ObjectState)
     → S → W → ReplyBuffer → SessionState
 session_state contents has_failed state store sink buffer = record {
@@ -66,14 +66,14 @@ pub record TakenBack (after : ObjectState) (s t : SessionState) (holds_back : Bo
   pub sound : t.failed ≡ s.failed
   pub passed : holds_back ≡ false
 
--- the changes that were kept since any moment are so no longer, by this fault
+-- not all changes since a moment are kept, by this fault, if all were kept before
 abbrev pub KeepsNoMore : {S F : Type 0} → (S → S → Type 0) → (S → ObjectState → S → F → Type 0)
     → S → ObjectState → S → F → Type 0
 KeepsNoMore {S} has_kept has_lost old before new why =
     (initial : S) → has_kept initial old → has_lost initial before new why
 
--- what became of a line with this outcome and after which the object is this one, by whether it was
--- answered
+-- what became of a line with this outcome, by whether it was answered. The object is this one after
+-- the line
 abbrev pub Answers : {S F : Type 0} → (S → S → Type 0) → (S → S → Type 0)
     → (S → ObjectState → S → F → Type 0) → Outcome → ObjectState → SessionState → SessionState →
     Bool → S → S → Result Bool (Stop F) → Type 0
@@ -135,7 +135,7 @@ pub record Refused (rules : ServeRules) (s : ObjectState) (lines : List (List �
 
 -- ---- the session
 
--- what one session lends and keeps, another does
+-- two sessions have the same rules, and borrow the same store and sink
 pub record IsSame {W S : Type 0} (initial now : Session W S) : Type 0 where
   pub rules : now.rules ≡ initial.rules
   pub store : now.store.ghost_name ≡ initial.store.ghost_name
@@ -156,7 +156,7 @@ pub record IsReady {W S : Type 0} (holds_back : W → Bool) (now : Session W S) 
 module _ {W S F : Type 0} (contents : W → Option (List ℕ)) (has_failed holds_back : W → Bool)
     (state : S → ObjectState) (lends has_kept : S → S → Type 0)
     (has_lost : S → ObjectState → S → F → Type 0) where
-  -- what was one session is another, once it took these lines, none of which ended it
+  -- a session took these lines, none of which ended it
   pub record HasServed (initial : Session W S) (lines : List (List ℕ)) (now : Session W S) : Type 0
     where
       pub same : IsSame initial now
@@ -166,7 +166,7 @@ module _ {W S F : Type 0} (contents : W → Option (List ℕ)) (has_failed holds
       pub spared : Spared initial.rules (state initial.store.now) lines
       pub keeps : KeepsSince has_kept initial.store.now now.store.now
 
-  -- it took these lines, and a write failed
+  -- a session took these lines, and a write failed
   pub record HasFailed (initial : Session W S) (lines : List (List ℕ)) (now : Session W S)
       (unwritten : ℕ) : Type 0 where
     pub same : IsSame initial now
@@ -175,7 +175,7 @@ module _ {W S F : Type 0} (contents : W → Option (List ℕ)) (has_failed holds
         (session_state_of contents has_failed state now) unwritten
     pub keeps : KeepsSince has_kept initial.store.now now.store.now
 
-  -- it took these lines, and the change of this one was not kept
+  -- a session took these lines, and the change of one more line was not kept
   pub record HasLost (initial : Session W S) (lines : List (List ℕ)) (at : Option (List ℕ))
       (now : Session W S) (why : F) : Type 0 where
     pub line : List ℕ
@@ -189,7 +189,7 @@ module _ {W S F : Type 0} (contents : W → Option (List ℕ)) (has_failed holds
     pub fails : KeepsNoMore has_kept has_lost initial.store.now
         (after_lines initial.rules (state initial.store.now) lines) now.store.now why
 
-  -- it took these lines and this one, which was refused and is the last
+  -- a session took these lines and one more, which was refused and is the last
   pub record HasRefused (initial : Session W S) (lines : List (List ℕ)) (at : Option (List ℕ))
       (now : Session W S) : Type 0 where
     pub line : List ℕ
@@ -201,7 +201,7 @@ module _ {W S F : Type 0} (contents : W → Option (List ℕ)) (has_failed holds
     pub refused : Refused initial.rules (state initial.store.now) lines line
     pub keeps : KeepsSince has_kept initial.store.now now.store.now
 
-  -- it took these lines and stopped, between two lines or at one
+  -- a session took these lines and stopped, between two lines or at one
   abbrev pub HasStopped : Session W S → List (List ℕ) → Option (List ℕ) → Session W S → Stop F
       → Type 0
   HasStopped initial lines at now why =

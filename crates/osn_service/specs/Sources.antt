@@ -1,4 +1,4 @@
--- That lines from which no source is taken leave an object without sources.
+-- Lines from which no source is taken leave an object without sources.
 use Rattle.std.specs.Prelude.{◌≡◌, false, ◌++◌, None}
 use Rattle.std.specs.List.{All}
 use Rattle.osn_core.specs.Sequential.{ObjectState, joined}

@@ -14,7 +14,7 @@ MatchStop (stop.WriteFailed failed) P Q R T = Q failed.unwritten
 MatchStop (stop.NotKept why) P Q R T = R why
 MatchStop stop.Refused P Q R T = T
 
--- the reason that a store's fault is
+-- the reason for which the service stops at a fault of a store
 abbrev pub by_store : {F : Type 0} → StoreFault F → Stop F
 by_store NoMemory = stop.NoMemory
 by_store (NotKept why) = stop.NotKept why

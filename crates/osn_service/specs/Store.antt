@@ -13,13 +13,13 @@ MatchStoreFault (NotKept why) P Q = Q why
 abbrev pub KeepsSince : {S : Type 0} → (S → S → Type 0) → S → S → Type 0
 KeepsSince {S} Holds old new = (initial : S) → Holds initial old → Holds initial new
 
--- the store is this object now, and the changes that were kept since any moment still are
+-- the store has this object now, and the changes that were kept since any moment still are
 pub record Makes {S : Type 0} (state : S → ObjectState) (has_kept : S → S → Type 0) (old new : S)
     (object : ObjectState) : Type 0 where
   pub is : state new ≡ object
   pub keeps : KeepsSince has_kept old new
 
--- the store is this object now, and what made it so was not kept, whatever was before
+-- the store has this object now, and the change that made it was not kept
 pub record FailsToKeep {S F : Type 0} (state : S → ObjectState) (has_kept : S → S → Type 0)
     (has_lost : S → ObjectState → S → F → Type 0) (old new : S) (object : ObjectState) (why : F)
     : Type 0 where

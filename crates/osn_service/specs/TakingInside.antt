@@ -41,7 +41,7 @@ early_end n (take.Stopped (stop.WriteFailed failed)) =
 early_end n (take.Stopped (stop.NotKept why)) = Err (record { lines = n; cause = NotKept why })
 early_end n (take.Stopped stop.Refused) = Ok (record { lines = n + 1; end = AtRefusal })
 
--- no more replies are not written than lines were taken
+-- the replies that were not written are no more than the lines that were taken
 abbrev pub IsWithin : {F : Type 0} → ℕ → TakeFault (Stop F) → Type 0
 IsWithin n take.NoMemory = ⊤
 IsWithin n take.ReadFault = ⊤

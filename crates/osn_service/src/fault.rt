@@ -23,7 +23,7 @@ pub enum ServeFault {
 /// Why not every line was answered from a store.
 #[derive(Clone, Copy, Debug, PartialEq, Eq)]
 pub enum ServiceFault<F> {
-    /// The same as for an object that is kept nowhere. What the store had to keep is kept.
+    /// The fault of a service whose object is kept nowhere. What the store had to keep is kept.
     Serve(ServeFault),
     /// The change that the next line made could not be kept. The object has changed, and no reply
     /// was written. No line after it was answered.

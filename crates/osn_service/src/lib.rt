@@ -18,7 +18,7 @@ mod stop;
 mod store;
 
 pub use fault::{ServeFault, ServiceFault};
-pub use outcome::Outcome;
+pub use outcome::{Outcome, Rejection};
 pub use reply::{out_text, push_reply, reply_text, transcript_text};
 pub use rules::ServeRules;
 pub use service::{Served, serve, serve_from, serve_store};

@@ -2,7 +2,7 @@
 ghost use Rattle.std.specs.Prelude.{◌≡◌, ◌++◌, IfOk, OnOk, OnErr, string_bytes};
 ghost use Rattle.osn_service.specs.declared.outcome.Outcome.TheVariants.{Staged, Published};
 ghost use Rattle.osn_service.specs.ReplyText.{refused_data, fault_data, outcome_data, line_of};
-ghost use Rattle.osn_service.specs.ReplyText.{reply_line};
+ghost use Rattle.osn_service.specs.ReplyText.{reply_line, unknown_member_data};
 ghost use Rattle.osn_service.specs.OutText.{out_line};
 ghost use Rattle.osn_service.specs.Transcript.{transcript_line};
 ghost use Rattle.serde_json.specs.Written.{compact_text};
@@ -14,6 +14,7 @@ mod feast;
 mod figures;
 mod found;
 mod period;
+mod rejection;
 mod step_out;
 mod transcript_record;
 mod write_json;
@@ -61,6 +62,17 @@ fn write_fault(out: &mut LineWriter, fault: WireFault) -> Result<(), AllocError>
     }
 }
 
+/// Writes the fault of a member that a request doesn't have.
+fn write_unknown_member(out: &mut LineWriter, name: &str) -> Result<(), AllocError>
+    ensures text { OnOk result (out.new.text
+        ≡ out.old.text ++ compact_text (unknown_member_data name.now)) }
+    ensures before { out.new.before ≡ out.old.before }
+{
+    out.push_number(r#"{"fault":"#, 34)?;
+    out.push_text(r#","field":"#, name)?;
+    out.push(r#","name":"BadField"}"#)
+}
+
 pub(crate) fn write_staged(out: &mut LineWriter, pending: u32) -> Result<(), AllocError>
     ensures text { OnOk result (out.new.text
         ≡ out.old.text ++ compact_text (outcome_data (Staged pending))) }
@@ -89,6 +101,8 @@ impl WriteJson for Outcome {
             Outcome::Refused(refusal) => write_refused(out, refusal.number(), refusal.name()),
             Outcome::Fault(fault) => write_fault(out, *fault),
             Outcome::Replied { reader, reply } => write_reply(out, *reader, reply),
+            Outcome::UnknownMember(name) => write_unknown_member(out, name.as_str()),
+            Outcome::Explained(rejection) => rejection.write_json(out),
         }
     }
 }

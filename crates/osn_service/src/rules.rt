@@ -13,11 +13,15 @@ pub struct ServeRules {
     pub takes_sources: bool,
     /// Whether the first line whose reply is a refusal or a fault is the last to be answered.
     pub stop_at_refusal: bool,
+    /// Whether a reply that reports a refusal or a fault has a message for people.
+    pub explains: bool,
+    /// Whether a member that a request doesn't have is refused.
+    pub strict_members: bool,
 }
 
 impl ServeRules {
-    /// Returns the rules by which edits are taken, those that give a source too, and all lines are
-    /// answered.
+    /// Returns the rules of a service that takes edits, also those that give a source. All lines
+    /// are answered, no reply has a message, and members that a request doesn't have are ignored.
     pub fn editing(readers: u32) -> ServeRules
         ensures { result ≡ spec.editing readers }
     {
@@ -26,6 +30,8 @@ impl ServeRules {
             read_only: false,
             takes_sources: true,
             stop_at_refusal: false,
+            explains: false,
+            strict_members: false,
         }
     }
 }

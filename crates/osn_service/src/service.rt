@@ -36,9 +36,9 @@ pub struct Served {
 /// Why no more lines were taken, if no write failed and each change was kept.
 #[derive(Clone, Copy)]
 pub(crate) enum End {
-    /// There are no more.
+    /// There are no more lines.
     AtEnd,
-    /// The last one was refused and ended the service.
+    /// The last line was refused and ended the service.
     AtRefusal,
     /// Memory ran out, or the source failed.
     ByFault(ServeFault),
@@ -121,7 +121,7 @@ fn write_rest<W: Sink, S: Store>(
     outcome: Result<LinesTaken, EndedEarly<ServiceFault<S::Fault>>>,
 ) -> Result<Served, EndedEarly<ServiceFault<S::Fault>>>
     requires { IfOk outcome (λ outcome. length buffer.old.ends.items ≤ outcome.lines) }
-    // Whatever was taken, and by which rules.
+    // For any lines that were taken, and any rules.
     ensures serves { (rules : ServeRules) (initial : SessionState) (object : ObjectState)
         (i : Input)
         → HasTaken rules initial (record {
@@ -273,7 +273,7 @@ pub fn serve<R: Source, W: Sink>(
     source: &mut R,
     sink: &mut W,
 ) -> Result<u64, EndedEarly<ServeFault>>
-    // About an object that is dropped then.
+    // The contract is about an object that is dropped at the end.
     ensures { (object : ObjectState) × Serves (editing readers) (opened limits) object
         (input_of R.remaining R.has_failed source.old source.new)
         (output_of W.contents W.has_failed W.holds_back sink.old sink.new) result }

@@ -3,12 +3,12 @@
 //! What waits is written before a line that changes the object, so that of the lines whose replies
 //! wait only the first has changed it.
 ghost use Rattle.std.specs.Prelude.{◌≡◌, ◌<◌, ℕ, List, Ok, Err, length, IfErr, IfOk, MatchResult};
-ghost use Rattle.std.specs.Prelude.{OnOk, OnErr};
+ghost use Rattle.std.specs.Prelude.{true, None, OnOk, OnErr};
 ghost use Rattle.osn_days.specs.Rules.{newest_rules};
 ghost use Rattle.osn_core.specs.Sequential.{reply_at};
 ghost use Rattle.osn_lines.specs.Faults.{WriteFails};
 ghost use Rattle.osn_lines.specs.Lines.{IsLine};
-ghost use Rattle.osn_service.specs.Outcome.{is_refused};
+ghost use Rattle.osn_service.specs.Outcome.{explained_if, is_refused};
 ghost use Rattle.osn_service.specs.ReplyText.{reply_line};
 ghost use Rattle.osn_request.specs.LineQuery.{line_query};
 ghost use Rattle.osn_request.specs.LineRequest.{as_request};
@@ -28,22 +28,39 @@ use crate::store::{Change, Store};
 use json::Scratch;
 use osn_core::Reply;
 use osn_lines::{Line, LineTaker, Sink};
+use osn_register::Text;
 use osn_request::{
     LineObject, LineQuery, LineRequest, RequestError, WireFault, line_request_of, object_of,
+    unknown_member, value_of_line,
 };
 use std::alloc::{AllocError, Global};
+
+/// Returns the outcome of a line, with a message for people if the rules say so.
+fn outcome_by(rules: ServeRules, outcome: Outcome) -> Outcome
+    ensures { result ≡ explained_if rules.explains outcome }
+{
+    if rules.explains {
+        outcome.explained()
+    } else {
+        outcome
+    }
+}
 
 /// Adds the reply to a line that changes nothing, and returns whether it was refused.
 fn push_outcome(
     alloc: Global,
+    rules: ServeRules,
     buffer: &mut ReplyBuffer,
     outcome: Outcome,
 ) -> Result<bool, AllocError>
-    ensures refused { IfOk result (λ refused. refused ≡ is_refused outcome) }
-    ensures ok { OnOk result (Pushes buffer.old buffer.new (reply_line outcome)) }
+    ensures refused { IfOk result (λ refused.
+        refused ≡ is_refused (explained_if rules.explains outcome)) }
+    ensures ok { OnOk result (Pushes buffer.old buffer.new
+        (reply_line (explained_if rules.explains outcome))) }
     ensures err { OnErr result (buffer.new.text.items ≡ buffer.old.text.items) }
     ensures err_ends { OnErr result (buffer.new.ends.items ≡ buffer.old.ends.items) }
 {
+    let outcome = outcome_by(rules, outcome);
     let is_refusal = outcome.is_refused();
     buffer.push(alloc, outcome)?;
     Ok(is_refusal)
@@ -51,14 +68,17 @@ fn push_outcome(
 
 /// Makes a change that is not refused, after what waits is written, and adds its reply, which is
 /// taken back if the change fails. Returns whether it was refused.
+#[tactic(auto, using(crate::proofs::OutcomeLemmas::made_is_not_refused))]
 fn change<W: Sink, S: Store>(
     alloc: Global,
+    rules: ServeRules,
     store: &mut S,
     sink: &mut W,
     buffer: &mut ReplyBuffer,
     change: Change,
 ) -> Result<bool, Stop<S::Fault>>
-    ensures { Answers S.lends S.has_kept S.has_lost (change_outcome (S.state store.old) change)
+    ensures { Answers S.lends S.has_kept S.has_lost
+        (explained_if rules.explains (change_outcome (S.state store.old) change))
         (change_after (S.state store.old) change)
         (session_state W.contents W.has_failed S.state store.old sink.old buffer.old)
         (session_state W.contents W.has_failed S.state store.new sink.new buffer.new)
@@ -66,10 +86,10 @@ fn change<W: Sink, S: Store>(
 {
     let number = match store.check(&change) {
         Ok(number) => number,
-        Err(refusal) => return Ok(push_outcome(alloc, buffer, Outcome::Refused(refusal))?),
+        Err(refusal) => return Ok(push_outcome(alloc, rules, buffer, Outcome::Refused(refusal))?),
     };
     buffer.write(sink)?;
-    buffer.push(alloc, change.outcome(number))?;
+    buffer.push(alloc, outcome_by(rules, change.outcome(number)))?;
     match store.make(change) {
         Ok(()) => Ok(false),
         Err(fault) => {
@@ -93,20 +113,22 @@ fn reply_to<S: Store>(alloc: Global, store: &S, query: LineQuery<'_>) -> Result<
 /// Adds the reply to a query, and returns whether it was refused.
 fn ask<S: Store>(
     alloc: Global,
+    rules: ServeRules,
     store: &S,
     reader: u32,
     query: LineQuery<'_>,
     buffer: &mut ReplyBuffer,
 ) -> Result<bool, AllocError>
-    ensures refused { IfOk result (λ refused. refused
-        ≡ is_refused (spec.ask_outcome (S.state store.now) reader (line_query query.entry))) }
+    ensures refused { IfOk result (λ refused. refused ≡ is_refused (explained_if rules.explains
+        (spec.ask_outcome (S.state store.now) reader (line_query query.entry)))) }
     ensures ok { OnOk result (Pushes buffer.old buffer.new
-        (reply_line (spec.ask_outcome (S.state store.now) reader (line_query query.entry)))) }
+        (reply_line (explained_if rules.explains
+        (spec.ask_outcome (S.state store.now) reader (line_query query.entry))))) }
     ensures err { OnErr result (buffer.new.text.items ≡ buffer.old.text.items) }
     ensures err_ends { OnErr result (buffer.new.ends.items ≡ buffer.old.ends.items) }
 {
     let reply = reply_to(alloc, store, query)?;
-    push_outcome(alloc, buffer, Outcome::Replied { reader, reply })
+    push_outcome(alloc, rules, buffer, Outcome::Replied { reader, reply })
 }
 
 /// Returns what a line asks for, if the rules accept it.
@@ -162,7 +184,8 @@ fn answer_read<W: Sink, S: Store>(
     buffer: &mut ReplyBuffer,
     object: &Result<LineObject<'_>, RequestError>,
 ) -> Result<bool, Stop<S::Fault>>
-    ensures { (whole : List ℕ) → IsReadOf whole object.now → Answers S.lends S.has_kept S.has_lost
+    ensures { (whole : List ℕ) → IsReadOf whole object.now → spec.refused_member rules whole ≡ None
+        → Answers S.lends S.has_kept S.has_lost
         (spec.line_outcome rules (S.state store.old) whole)
         (spec.line_after rules (S.state store.old) whole)
         (session_state W.contents W.has_failed S.state store.old sink.old buffer.old)
@@ -170,16 +193,55 @@ fn answer_read<W: Sink, S: Store>(
         (W.holds_back sink.new) store.old store.new result }
 {
     match request_in(alloc, rules, object) {
-        Ok(LineRequest::Stage(edit)) => change(alloc, store, sink, buffer, Change::Stage(edit)),
-        Ok(LineRequest::Publish) => change(alloc, store, sink, buffer, Change::Publish),
-        Ok(LineRequest::Ask { reader, query }) => Ok(ask(alloc, store, reader, query, buffer)?),
-        Err(RequestError::Fault(fault)) => Ok(push_outcome(alloc, buffer, Outcome::Fault(fault))?),
+        Ok(LineRequest::Stage(edit)) => {
+            change(alloc, rules, store, sink, buffer, Change::Stage(edit))
+        }
+        Ok(LineRequest::Publish) => change(alloc, rules, store, sink, buffer, Change::Publish),
+        Ok(LineRequest::Ask { reader, query }) => {
+            Ok(ask(alloc, rules, store, reader, query, buffer)?)
+        }
+        Err(RequestError::Fault(fault)) => {
+            Ok(push_outcome(alloc, rules, buffer, Outcome::Fault(fault))?)
+        }
         Err(RequestError::NoMemory) => Err(Stop::NoMemory),
     }
 }
 
-/// Answers a line, as `answer_read`. Its object is kept until the reply is made, since a query
-/// borrows from it.
+/// Answers a line, whose first member that its request doesn't have is refused, and otherwise as
+/// `answer_read`. Such members are found in the value of the line.
+fn answer_strictly<W: Sink, S: Store>(
+    alloc: Global,
+    rules: ServeRules,
+    store: &mut S,
+    sink: &mut W,
+    buffer: &mut ReplyBuffer,
+    line: Line<'_>,
+) -> Result<bool, Stop<S::Fault>>
+    requires { rules.strict_members ≡ true }
+    ensures { (whole : List ℕ) → IsLine line.entry whole → Answers S.lends S.has_kept S.has_lost
+        (spec.line_outcome rules (S.state store.old) whole)
+        (spec.line_after rules (S.state store.old) whole)
+        (session_state W.contents W.has_failed S.state store.old sink.old buffer.old)
+        (session_state W.contents W.has_failed S.state store.new sink.new buffer.new)
+        (W.holds_back sink.new) store.old store.new result }
+{
+    let value = match value_of_line(alloc, line) {
+        Ok(value) => value,
+        Err(RequestError::Fault(fault)) => {
+            return Ok(push_outcome(alloc, rules, buffer, Outcome::Fault(fault))?);
+        }
+        Err(RequestError::NoMemory) => return Err(Stop::NoMemory),
+    };
+    if let Some(name) = unknown_member(&value) {
+        let name = Text::from_str(alloc, name)?;
+        return Ok(push_outcome(alloc, rules, buffer, Outcome::UnknownMember(name))?);
+    }
+    let object = Ok(LineObject::Tree(value));
+    answer_read(alloc, rules, store, sink, buffer, &object)
+}
+
+/// Answers a line, as `answer_read` or `answer_strictly`. Its object is kept until the reply is
+/// made, since a query borrows from it.
 fn answer<W: Sink, S: Store>(
     alloc: Global,
     scratch: &mut Scratch,
@@ -196,6 +258,9 @@ fn answer<W: Sink, S: Store>(
         (session_state W.contents W.has_failed S.state store.new sink.new buffer.new)
         (W.holds_back sink.new) store.old store.new result }
 {
+    if rules.strict_members {
+        return answer_strictly(alloc, rules, store, sink, buffer, line);
+    }
     let object = object_of(alloc, scratch, line);
     answer_read(alloc, rules, store, sink, buffer, &object)
 }

@@ -77,7 +77,7 @@ fn saved_late<R: Files<File = fs::File> + AllocGlobal + Abort>(rt: &R) -> Result
     save_file(&mut disk, rt.alloc(), lock, "saved.journal", None, SAVED)
 }
 
-/// Checks that such a save is refused, and what each file contains then.
+/// Checks that a text is not saved after that, and what each file contains then.
 fn is_left<R: Files<File = fs::File> + AllocGlobal + Abort>(rt: &R, files: &[(&str, &str)]) {
     let saved = saved_late(rt);
     let beside = String::from_str(rt.alloc(), "saved.journal.unfinished-2").expect(rt, "memory");

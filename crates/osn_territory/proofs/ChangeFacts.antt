@@ -130,7 +130,7 @@ without-is (q ∷ front) rest p first last d covers on =
     ∙ ap (λ b. if not b then start_of q ∷ starts else starts)
     (sym (ne_eqb q.first d (λ e. omega (arith, later, covers.1))))
 
--- the same at a place of the list
+-- a list of periods without the one at a place, or with another there
 
 module _ (ps : List Period) (i first last d : ℕ) (p : Period) (within : i < length ps)
     (is : p ≡ get_or ps i p) (covers : Covers first last ps) where

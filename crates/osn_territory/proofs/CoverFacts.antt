@@ -107,7 +107,7 @@ covers_same [] rest p other first last begin end covers = (
 covers_same (q ∷ front) rest p other first last begin end covers =
     (covers.0, covers.1, covers_same front rest p other (q.last + 1) last begin end covers.2)
 
--- the same at a place of the list
+-- a period at a place of the list keeps its days
 
 pub covers_set : (ps : List Period) (i first last : ℕ) (p other : Period) → i < length ps →
     p ≡ get_or ps i p → other.first ≡ p.first → other.last ≡ p.last → Covers first last ps →

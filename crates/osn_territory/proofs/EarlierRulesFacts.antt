@@ -46,7 +46,7 @@ same_style_year r d until =
     ap (λ easter. year_by r.style date (is_before d easter))
     (same_easter rules.Julian (unsigned_abs date.year) (year_until r d until))
 
--- so its label
+-- a day of the first rules has the same label under both rules
 pub same_local : (r : Regime) (d : ℕ) → d ≤ first_rules.high
     → local_label first_rules r d ≡ local_label newest_rules r d
 same_local r d until =
@@ -54,7 +54,7 @@ same_local r d until =
     ap (λ (y : ℤ). let l : Label = record { year = y; month = date.month; day = date.day } in l)
     (same_style_year r d until)
 
--- and its text
+-- a day of the first rules has the same text under both rules
 pub same_text : (r : Regime) (d : ℕ) → d ≤ first_rules.high
     → dual_text first_rules r d ≡ dual_text newest_rules r d
 same_text r d until =

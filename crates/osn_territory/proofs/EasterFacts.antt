@@ -102,7 +102,7 @@ in_order f g h n a b either first second less =
     let other = passes_one g 1 n b e second low_e high_e there in
     omega (arith, less, one, other)))
 
--- they are two if no day passes both tests
+-- two days are two if no day passes both tests
 apart_days : (f g : ℕ → Bool) (n a b : ℕ) → ((d : ℕ) → f d ≡ true → g d ≡ true → ⊥) → a
     ∷ [] ≡ filter f (range_with_len 1 n) → b ∷ [] ≡ filter g (range_with_len 1 n) → a ≡ b → ⊥
 apart_days f g n a b apart first second same =
@@ -160,7 +160,7 @@ not_both : (rule : Rule) → is_rule rule Julian ≡ true → is_rule rule Grego
 not_both Julian first second = let clash : false ≡ true = second in cc
 not_both Gregorian first second = let clash : false ≡ true = first in cc
 
--- so the Easters are those two, if no exception is listed
+-- the Easters of a year are those by the two rules, if no exception is listed
 pub easters_are : (p : Rules) (t : TerritoryModel) (y : ℕ) (one other : Option ℕ) →
     exception_of t y ≡ None → option_to_list one ≡ easters_in_force p t Julian y →
     option_to_list other ≡ easters_in_force p t Gregorian y →

@@ -12,18 +12,18 @@ covers_from [] first last covers = covers
 covers_from (p ∷ ps) first last covers =
     (covers.0, covers.1, covers_from ps (p.last + 1) last covers.2)
 
--- they cover the line
+-- periods in the Julian calendar cover the line
 pub julian_covers : (ps : List Period) → CoversLine newest_rules ps
     → CoversLine newest_rules (map period_in_julian ps)
 julian_covers ps covers = covers_from ps 1 newest_rules.high covers
 
--- they start on the same days
+-- periods in the Julian calendar start on the same days
 pub julian_starts : (ps : List Period) → map start_of (map period_in_julian ps)
     ≡ map (λ s. (s.0, by_julian s.1)) (map start_of ps)
 julian_starts [] = refl
 julian_starts (p ∷ ps) = ap (λ ss. (p.first, by_julian p.regime) ∷ ss) (julian_starts ps)
 
--- so do periods that are known to be these
+-- periods that are known to be these cover the line
 pub covers_of : (items slice ps : List Period) → items ≡ map period_in_julian slice → slice ≡ ps
     → CoversLine newest_rules ps → CoversLine newest_rules items
 covers_of items slice ps is same covers =

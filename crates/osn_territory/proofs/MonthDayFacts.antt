@@ -90,7 +90,7 @@ gregorian_end =
     (is_real _ _ (search arith) (omega arith) (omega arith) (omega arith) (omega arith))
     (omega arith) (omega (arith, gregorian_last, gregorian_first))
 
--- and so has the Gregorian
+-- the Gregorian calendar has each real month and day in 1712
 gregorian_day : (e : Date) → IsReal Gregorian e →
     (n : ℕ) × IsDay newest_rules n × (date_of Gregorian n ≡ in_1712 e.month e.day)
 gregorian_day e s =

@@ -66,7 +66,7 @@ agrees_after first last (p ∷ ps) before covers = (
   agrees_after (p.last + 1) last ps (λ d. if nat_le p.first d then p.regime else before d) covers.2,
 )
 
--- and so it is in a territory
+-- in a territory, each period has its regime on its days
 pub agrees : (es : List (ℕ × ℕ)) (first last : ℕ) (ps : List Period) → Covers first last ps →
     Agrees (regime_at (record { starts = map start_of ps; exceptions = es })) ps
 agrees es first last ps covers = agrees_after first last ps (λ d. no_start) covers

@@ -99,7 +99,7 @@ in_order : {Same : Type 0} (a b : Date) → IsInOrder a b →
 in_order a b (inl less) same = inl less
 in_order a b (inr at) same = inr (at.0, same at.1)
 
--- so the style's year of the later date is not below that of the earlier one
+-- the style's year of the later date is not below that of the earlier one
 style_rises : (m n : ℕ) (s : Style) (a b : Date) (ea eb : Bool) → IsSmall m a → IsSmall n b →
     IsInOrder a b → (a.year ≡ b.year → eb ≡ true → ea ≡ true) →
     year_by s a ea ≤ℤ year_by s b eb
@@ -164,8 +164,8 @@ number_rises p k d e low until =
       | inr (inr more) ↦ absurd (omega (arith, until, more))
     ]
 
--- so if a day's number is below a bound, that of each day before it is, and if one reaches it, that
--- of each later day does
+-- If the number of a day is below a bound, that of each day before it is too. If it reaches the
+-- bound, that of each later day does too.
 pub below_until : (p : Rules) (k : Key) (bound : ℤ) (e d : ℕ) → 1 ≤ d → d ≤ e →
     number_on p k e <ℤ bound → number_on p k d <ℤ bound
 below_until p k bound e d low until below =

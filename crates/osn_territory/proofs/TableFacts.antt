@@ -166,7 +166,7 @@ some_full p r l first last fixed three =
       | inr (inr after) ↦ some_day p r l (l.year +ℤ pos 1) three.e three.after after
     ]
 
--- the same of days that the table has
+-- a calendar has all three days of the label if the table has them
 full_in : (p : Rules) (c : Calendar) (l : Label) (first last : ℕ) (o : Option Candidates) →
     IfSome o (AreInYears p c l) → IfSome o (AreAllWithin first last) → IsSome o →
     IsFull p c l first last

@@ -52,7 +52,7 @@ never_both Pisan d e b c more less =
     never_less_unless (is_before_25_march e.month e.day) e.year less
 never_both Easter d e b c more less = never_more b d.year more
 
--- so a label has no day in one of the years beside its own
+-- a label has no day in one of the years beside its own
 
 counted_in : (p : Rules) (r : Regime) (l : Label) (y : ℤ) (d : ℕ) → in_year p r l y d ≡ true →
     ((date_of r.calendar d).year ≡ y) × (style_year p r d ≡ l.year)
@@ -95,7 +95,7 @@ some_in_year p r l y some =
     (some_days_any (days_in_year p r l y) some) in
     (d.0, d.1.passes)
 
--- so a label has two days at most under one regime
+-- a label has two days at most under one regime
 pub two_days_of_label : (p : Rules) (r : Regime) (l : Label) → length (days_with_label p r l) ≤ 2
 two_days_of_label p r l =
     let before = days_in_year p r l (l.year -ℤ pos 1) in

@@ -10,7 +10,7 @@ use Rattle.osn_territory.specs.Easters.{easters}
 abbrev pub days_of_line : Rules → List ℕ → List ℕ
 days_of_line p days = filter (λ d. nat_le d p.high) days
 
--- those of the days that the line of the rules has are the days that these rules read
+-- the days of a label that the line of the rules has are the days that these rules read
 abbrev pub KeepsReading : Rules → TerritoryModel → Label → List ℕ → Type 0
 KeepsReading p t label days = days_of_line p days ≡ reading p t label
 

@@ -13,7 +13,8 @@ by_julian r = record r { calendar = Julian }
 abbrev pub period_in_julian : Period → Period
 period_in_julian p = record p { regime = by_julian p.regime }
 
--- the territory whose years begin when they began, by the Julian calendar, with no listed Easter
+-- the same territory with the Julian calendar in each period, its styles and rules kept, without
+-- listed Easters
 abbrev pub in_julian_calendar : TerritoryModel → TerritoryModel
 in_julian_calendar t =
     record { starts = map (λ s. (s.0, by_julian s.1)) t.starts; exceptions = [] }

@@ -83,7 +83,7 @@ abbrev pub IsKnown : Option CandidateTable → Regime → Type 0
 IsKnown None r = Unit {0}
 IsKnown (Some t) r = IsSome (years_of t r.calendar)
 
--- the same of the regimes of all periods
+-- the days of the regimes of all periods can be found
 abbrev pub AreKnown : Option CandidateTable → List Period → Type 0
 AreKnown table [] = Unit {0}
 AreKnown table (q ∷ qs) = IsKnown table q.regime × AreKnown table qs

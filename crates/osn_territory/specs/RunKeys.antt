@@ -47,7 +47,7 @@ abbrev pub is_sought : Rules → YearOrMonth → Regime → ℕ → Bool
 is_sought p s r d =
     int_eq (style_year p r d) s.year && is_month s.month (date_of r.calendar d).month
 
--- those of a period, and those of a territory
+-- the days that are sought in a period, and those in a territory
 abbrev pub sought_in : Rules → YearOrMonth → Period → List ℕ
 sought_in p s q = filter (is_sought p s q.regime) (range_with_len q.first (q.last + 1 - q.first))
 

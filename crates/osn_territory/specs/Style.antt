@@ -67,7 +67,7 @@ is_from_easter September = false
 is_from_easter Pisan = false
 is_from_easter Easter = true
 
--- a year from Easter to Easter goes with the Julian calendar and the Julian rule, and the regime
--- has another one
+-- the regime has a year from Easter to Easter, and not the Julian calendar and the Julian rule that
+-- it requires
 abbrev pub lacks_julian : Regime → Bool
 lacks_julian r = is_from_easter r.style && not (is_julian r.calendar r.rule)

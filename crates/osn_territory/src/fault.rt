@@ -13,7 +13,7 @@ pub enum LandFault {
     NoSuchChange,
     /// Day 1 begins the opening period, which is altered and neither added nor dropped.
     OpeningPeriod,
-    /// A year from Easter to Easter goes with the Julian calendar and the Julian rule alone.
+    /// A year from Easter to Easter requires the Julian calendar and the Julian rule.
     StyleNeedsJulian,
     /// An exception is listed for the year already.
     ExceptionExists,

@@ -15,8 +15,8 @@ pub struct Regime {
 }
 
 impl Regime {
-    /// Returns whether the style goes with the Julian calendar and the Julian rule alone, as a year
-    /// from Easter to Easter does, and the regime has another one. No territory takes it then.
+    /// Returns whether the regime has a year from Easter to Easter, and not the Julian calendar and
+    /// the Julian rule that it requires. No territory takes such a regime.
     pub fn lacks_julian(self) -> bool
         ensures { result ≡ plain.lacks_julian self }
     {

@@ -16,6 +16,6 @@ pub use osn_lines::{
 pub use osn_pages::almanac_text;
 pub use osn_request::{Member, Request, RequestError, Version, WireFault, read_request};
 pub use osn_service::{
-    Outcome, ServeFault, ServeRules, Served, ServiceFault, out_text, reply_text, serve, serve_from,
-    serve_store, transcript_text,
+    Outcome, Rejection, ServeFault, ServeRules, Served, ServiceFault, out_text, reply_text, serve,
+    serve_from, serve_store, transcript_text,
 };

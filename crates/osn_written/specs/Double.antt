@@ -23,7 +23,7 @@ is_date_not_counted_double p own t date =
     (year_of date).is_double
     && list_any (is_dated_otherwise p own (year_of date).first) (all_double p t date)
 
--- so is a date of what is written: the first or the last one of a range
+-- a date of what is written was not counted double: the first or the last one of a range
 abbrev pub is_extent_not_counted_double : Rules → TerritoryModel → TerritoryModel → Extent → Bool
 is_extent_not_counted_double p own t e =
     is_date_not_counted_double p own t (ends_of e).0

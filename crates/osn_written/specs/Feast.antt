@@ -48,7 +48,7 @@ days_after_easter CorpusChristi = pos 60
 abbrev pub is_on_line : Rules → ℤ → Bool
 is_on_line p day = int_le (pos 1) day && int_le day (pos p.high)
 
--- its day in a year with that Easter, if the line has it
+-- the day of a feast in a year with this Easter, if the line has it
 abbrev pub feast_day : Rules → ℕ → Feast → Option ℕ
 feast_day p easter feast =
     if is_on_line p (pos easter +ℤ days_after_easter feast) then

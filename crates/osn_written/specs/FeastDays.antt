@@ -22,14 +22,14 @@ abbrev pub days_by_easter : Rules → TerritoryModel → Feast → ℕ → List 
 days_by_easter p t feast y =
     if has_figures p y then filter_map (λ easter. feast_day p easter feast) (easters p t y) else []
 
--- by the Easters of the year, of the one before it and of the one after it: no place began a year
--- more than a year before or after 1 January
+-- the days of a feast by the Easters of the year, of the year before it and of the year after it.
+-- No place began a year more than a year before or after 1 January
 abbrev pub days_about : Rules → TerritoryModel → Feast → ℕ → List ℕ
 days_about p t feast y =
     days_by_easter p t feast (y - 1)
     ++ (days_by_easter p t feast y ++ days_by_easter p t feast (y + 1))
 
--- those of these days that the place dated in the year, as runs in order
+-- the days of the feast that the place dated in the year, as runs in order
 unfoldable pub feast_meant : Rules → TerritoryModel → Feast → Year → List Run
 feast_meant p t feast year =
     union p (map run_of_day

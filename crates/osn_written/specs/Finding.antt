@@ -112,7 +112,7 @@ extent_meant_by p t e None = of_span p t e (span_meant p t e)
 unfoldable pub extent_meant : Rules → TerritoryModel → Extent → Result (List Run) NoDay
 extent_meant p t e = extent_meant_by p t e (one_date e)
 
--- the same of the list that the code has
+-- the result of the code, with its runs as a list
 abbrev pub list_of : Result (Vec Run Global) NoDay → Result (List Run) NoDay
 list_of = result_map_both (λ runs. runs.items) (λ reason. reason)
 
@@ -133,7 +133,7 @@ abbrev pub reckoned : TerritoryModel → Option Reckoning → TerritoryModel
 reckoned t None = t
 reckoned t (Some reckoning) = by_reckoning t reckoning
 
--- both are the same runs
+-- two runs are the same
 abbrev pub is_same_run : Run → Run → Bool
 is_same_run a b = (a.first == b.first) && (a.last == b.last)
 

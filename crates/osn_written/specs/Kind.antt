@@ -7,7 +7,7 @@ use Rattle.osn_written.specs.declared.any_date.PartialDate.TheVariants as date
 use Rattle.osn_written.specs.declared.kind.Kind.{Kind}
 use Rattle.osn_written.specs.declared.kind.Kind.TheVariants as kinds
 
--- its word
+-- the word of a kind of date
 abbrev pub kind_word : Kind → List ℕ
 kind_word kinds.Day = codes "day"
 kind_word kinds.Month = codes "month"

@@ -31,7 +31,7 @@ abbrev pub read_in_later_year : Rules → TerritoryModel → WrittenDate → Lab
 read_in_later_year p t w label =
     filter (λ d. is_of_later_year w (dated_on p t d)) (reading p t label)
 
--- of a double date, the days that the territory counted double. The year by its style is the first
+-- the days of a double date that the territory counted double. The year by its style is the first
 -- year, and the year counted from 1 January is the later one
 abbrev pub counted_double : Rules → TerritoryModel → WrittenDate → List ℕ
 counted_double p t w = read_in_later_year p t w (label_of w)

@@ -11,7 +11,8 @@ use Rattle.osn_written.specs.declared.written_date.WrittenDate.{WrittenDate}
 abbrev pub days_in_year : Rules → TerritoryModel → WrittenDate → ℤ → List ℕ
 days_in_year p t w year = reading p t (record { year = year; month = w.month; day = w.day })
 
--- those that many years before and after the date's
+-- the days with the date in the year this many years before the date's, and in the year this many
+-- after it
 unfoldable pub days_apart : Rules → TerritoryModel → WrittenDate → ℕ → List ℕ
 days_apart p t w years =
     days_in_year p t w (pos w.year -ℤ pos years) ++ days_in_year p t w (pos (w.year + years))
@@ -22,14 +23,15 @@ first_with_days [] = []
 first_with_days ([] ∷ rest) = first_with_days rest
 first_with_days ((d ∷ ds) ∷ rest) = d ∷ ds
 
--- those in the nearest years that have some, at most as many years before or after
+-- the days with the date in the nearest years that have some, at most this many years before or
+-- after
 unfoldable pub nearest_within : Rules → TerritoryModel → WrittenDate → ℕ → List ℕ
 nearest_within p t w most = first_with_days (map (days_apart p t w) (range_with_len 1 most))
 
--- those of all years that a label may have
+-- the days with the date in the nearest of all years that a label may have
 abbrev pub nearest_days : Rules → TerritoryModel → WrittenDate → List ℕ
 nearest_days p t w = nearest_within p t w 10000
 
--- the same, as the territory dated them
+-- the nearest days with the date, as the territory dated them
 abbrev pub nearest : Rules → TerritoryModel → WrittenDate → List DatedDay
 nearest p t w = map (dated_on p t) (nearest_days p t w)

@@ -5,7 +5,7 @@ use Rattle.osn_territory.specs.declared.runs.Run.{Run}
 use Rattle.osn_written.specs.declared.portion.Portion.{Portion}
 use Rattle.osn_written.specs.declared.portion.Portion.TheVariants as portion
 
--- its words
+-- the words of a part of a time
 abbrev pub portion_words : Portion → List ℕ
 portion_words portion.FirstThird = codes "the first third of"
 portion_words portion.MiddleThird = codes "the middle third of"

@@ -43,6 +43,6 @@ united p (Err absent) = Err absent
 abbrev pub set_meant : Rules → TerritoryModel → List AnyDate → Result (List Run) AbsentMember
 set_meant p t members = united p (members_meant p t members)
 
--- the same of the list that the code has
+-- the result of the code for a set, with its runs as a list
 abbrev pub set_list_of : Result (Vec Run Global) AbsentMember → Result (List Run) AbsentMember
 set_list_of = result_map_both (λ runs. runs.items) (λ absent. absent)

@@ -63,7 +63,7 @@ may_end_in_next_year a b year =
 abbrev pub next_year : Year → Year
 next_year year = record year { first = year.first + 1 }
 
--- both are of the year that is written
+-- the days from one date to another, both in the year that is written
 abbrev pub in_one_year : Rules → TerritoryModel → MonthDay → MonthDay → Year → Result Run NoSpan
 in_one_year p t a b year =
     from_to (first_meant p t (in_year a year)) (last_meant p t (in_year b year))
@@ -73,8 +73,8 @@ abbrev pub into_next_year : Rules → TerritoryModel → MonthDay → MonthDay �
 into_next_year p t a b year =
     from_to (first_meant p t (in_year a year)) (first_meant p t (in_year b (next_year year)))
 
--- the days over the beginning of a year: those into the next year, if the last one may be of it, and
--- in the year that is written the first day is after the last
+-- the days over the beginning of a year: those into the next year, if the last one may be of it,
+-- and in the year that is written the first day is after the last
 abbrev pub over_new_year : Bool → Result Run NoSpan → Result Run NoSpan → Option Run
 over_new_year true (Err OutOfOrder) (Ok run) = Some run
 over_new_year may_end span next = None
@@ -84,7 +84,7 @@ days_over_new_year p t a b year =
     over_new_year (may_end_in_next_year a b year) (in_one_year p t a b year)
     (into_next_year p t a b year)
 
--- those days, or else the days of the year that is written
+-- the days over the new year, or else those of the year that is written
 abbrev pub or_in_one_year : Option Run → Result Run NoSpan → Result Run NoSpan
 or_in_one_year (Some run) span = Ok run
 or_in_one_year None span = span
@@ -121,9 +121,9 @@ not_before p None = Err NoDay
 not_before p (Some d) = Ok (record { first = d; last = p.high })
 
 -- from the first day that a date or a range may mean to the last one. A range lasts from the first
--- day of its first date to the last day of its last date. With one year written for two days, it may
--- last into the next year. A bound reaches to an end of the line. A part of a date is that of the
--- days from its first to its last one
+-- day of its first date to the last day of its last date. With one year written for two days, it
+-- may last into the next year. A bound reaches to an end of the line. A part of a date is that of
+-- the days from its first to its last one
 abbrev pub span_meant : Rules → TerritoryModel → Extent → Result Run NoSpan
 span_meant p t (extent.On date) = from_to (first_meant p t date) (last_meant p t date)
 span_meant p t (extent.FromTo a b) = from_to (first_meant p t a) (last_meant p t b)

@@ -16,7 +16,7 @@ absence_words why.OffTheLine = codes "off the line"
 absence_words why.Skipped = codes "skipped"
 absence_words why.NotInThatYear = codes "no such date in that year"
 
--- the same of the last date of a range
+-- why the last date of a range means no day
 abbrev pub last_absence_words : Absence → List ℕ
 last_absence_words why.NotWithBothYears = codes "last date: not with both years"
 last_absence_words why.NotOfItsCalendar = codes "last date: no date of its calendar"

@@ -35,20 +35,20 @@ abbrev pub feast_in : Rules → TerritoryModel → ℕ → ℕ → ℕ → Feast
 feast_in p t year january_year easter f =
     feast_on p t year january_year f (feast_day p easter f)
 
--- those that are counted from an Easter
+-- the feasts of a year that are counted from an Easter
 abbrev pub feasts_by : Rules → TerritoryModel → ℕ → ℕ → ℕ → List FeastDay
 feasts_by p t year january_year easter =
     flat_map (feast_in p t year january_year easter) principal_feasts
 
--- those that are counted from the Easters of a year from 1 January
+-- the feasts of a year that are counted from the Easters of a year from 1 January
 abbrev pub feasts_of : Rules → TerritoryModel → ℕ → ℕ → List FeastDay
 feasts_of p t year january_year =
     if has_figures p january_year then
     flat_map (feasts_by p t year january_year) (easters p t january_year)
     else []
 
--- by the Easters of the year, of the one before it and of the one after it: no place began a year
--- more than a year before or after 1 January
+-- the feasts of a year, by the Easters of the year, of the year before it and of the year after it.
+-- No place began a year more than a year before or after 1 January
 abbrev pub feasts_of_year : Rules → TerritoryModel → ℕ → List FeastDay
 feasts_of_year p t year =
     feasts_of p t year (year - 1) ++ (feasts_of p t year year ++ feasts_of p t year (year + 1))

@@ -20,7 +20,7 @@ impl Absence {
         }
     }
 
-    /// Returns the same for the last date of a range.
+    /// Returns why the last date of a range means no day.
     fn words_of_last(self) -> &'static str
         ensures { result.now ≡ spec.last_absence_words self }
     {

@@ -51,7 +51,7 @@ impl Register {
             ≡ refusals.query_refusal newest_rules self.now.territories query.now) }
         ensures memory { OnErr result
             (spec.takes_memory (spec.answer newest_rules self.now.territories query.now) ≡ true) }
-        // as a law: if the first rules have the year or the day, it keeps what they answer
+        // as a law: if the first rules have the year or the day, the answer keeps what they answer
         ensures earlier_rules { IfOk result
             (KeepsAnswer first_rules self.now.territories query.now) }
     {

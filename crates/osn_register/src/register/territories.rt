@@ -1,4 +1,4 @@
-//! The territory that the register keeps under a code or a name or at a place, lent.
+//! Territories that the register lends, by their code or by their place.
 ghost use Rattle.std.specs.Prelude.{◌≡◌, ℕ, List, Some, is_some, option_map, slice_get, IfOk};
 ghost use Rattle.std.specs.Prelude.{IfSome};
 ghost use Rattle.osn_territory.specs.Territory.{TerritoryModel};

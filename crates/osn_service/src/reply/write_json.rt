@@ -59,7 +59,7 @@ impl<J: WriteJson> WriteJson for Option<J> {
     }
 }
 
-/// Writes `front` and such a value.
+/// Writes `front` and a value.
 pub(crate) fn write_member<J: WriteJson>(
     out: &mut LineWriter,
     front: &str,
@@ -102,7 +102,7 @@ fn write_comma(out: &mut LineWriter, later: bool) -> Result<(), AllocError>
     if later { out.push(",") } else { Ok(()) }
 }
 
-/// Writes `front` and a list of such values.
+/// Writes `front` and a list of values.
 pub(crate) fn write_list<J: WriteJson>(
     out: &mut LineWriter,
     front: &str,

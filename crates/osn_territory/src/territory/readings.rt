@@ -22,7 +22,8 @@ impl Territory {
     pub fn read(&self, label: Label) -> Result<Vec<Day>, AllocError>
         ensures value { IfOk result (λ days.
             days.items ≡ plain.reading newest_rules self.now label) }
-        // as a law: those of them that the first rules' line has are what the first rules read
+        // as a law: the days that the line of the first rules has are those that the first rules
+        // read
         ensures earlier_rules { IfOk result (λ days.
             KeepsReading first_rules self.now label days.items) }
     {
@@ -30,7 +31,8 @@ impl Territory {
         Ok(days)
     }
 
-    /// Returns the same, and how many dates were tested to find them: at most three a period.
+    /// Returns the days that the territory dates with the label, in order, and how many dates were
+    /// tested to find them: at most three a period.
     ///
     /// # Errors
     ///

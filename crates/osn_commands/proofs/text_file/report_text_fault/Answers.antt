@@ -3,8 +3,7 @@ use Rattle.osn_lines.specs.Streams.{Output, output_of}
 use Rattle.osn_report.specs.Messages.{ReportsIfMade}
 use Rattle.osn_report.specs.declared.status.Status.{Status}
 use Rattle.osn_report.specs.declared.status.Status.TheVariants.{Refused}
-use Rattle.osn_commands.specs.TextFile.{ReportsText, text_line}
-use Rattle.osn_register_text.specs.Words.{text_fault_text}
+use Rattle.osn_commands.specs.TextFile.{ReportsText, fault_lines}
 use Rattle.osn_register_text.specs.declared.fault.KeyFault.{KeyFault}
 use Rattle.osn_register_text.specs.declared.fault.TextFault.{TextFault}
 use Rattle.osn_register_text.specs.declared.fault.TextFault.TheVariants.{Toml, Key, NoMemory}
@@ -14,7 +13,7 @@ use Rattle.osn_commands.proofs.text_file.report_text_fault.Goals as goal
 -- a fault that is not NoMemory was reported by its line
 reports_fault : (path : List ℕ) (e : Output) (fault : TextFault) (status : Status)
     → ((why : TomlFault) × (fault ≡ Toml why)) ⊎ ((why : KeyFault) × (fault ≡ Key why))
-    → ReportsIfMade e Refused (text_line path (text_fault_text fault)) status
+    → ReportsIfMade e Refused (fault_lines path fault) status
     → ReportsText path e fault status
 reports_fault path e (Toml why) status is h = h
 reports_fault path e (Key why) status is h = h
@@ -29,4 +28,4 @@ returns-in-Toml g c =
     (output_of g.E.Sink.contents g.E.Sink.has_failed g.E.Sink.holds_back c.args.errors.now
     c.report_line.new.errors)
     fault c.report_line.result c.in-Toml.is
-    (c.report_line.ensures (text_line path (text_fault_text fault)) c.fault_line.ensures)
+    (c.report_line.ensures (fault_lines path fault) c.fault_lines.ensures)

@@ -30,7 +30,7 @@ loop-call-init g c =
         [],
         [],
         Arrive-nothing (g.A.Arrivals.arrived c.args.arrivals.now),
-        IsFollowing-none (following c.args.readers c.args.stop_at_refusal) initial
+        IsFollowing-none (following c.args.rules) initial
             (record { journal = c.new.result; requests = c.new-2.result; lines = 0 })
             (subst (λ (l : Limits). IsJournalOf l [] c.new.result) (sym c.new.ensures.limits)
             c.new.ensures.journal)
@@ -40,7 +40,7 @@ loop-call-init g c =
 
 pub returns-in_err-served-clause-follows : goal.returns-in_err-served-clause-follows
 returns-in_err-served-clause-follows g c =
-    let rules = following c.args.readers c.args.stop_at_refusal in
+    let rules = following c.args.rules in
     let before = g.A.Arrivals.arrived c.args.arrivals.now in
     let mid = g.A.Arrivals.arrived c.loop-call.arrivals in
     let after = g.A.Arrivals.arrived c.answer_next.new.arrivals in
@@ -56,7 +56,7 @@ returns-in_err-served-clause-follows g c =
 
 pub returns-in-Some-clause-follows : goal.returns-in-Some-clause-follows
 returns-in-Some-clause-follows g c =
-    let rules = following c.args.readers c.args.stop_at_refusal in
+    let rules = following c.args.rules in
     let before = g.A.Arrivals.arrived c.args.arrivals.now in
     let mid = g.A.Arrivals.arrived c.loop-call.arrivals in
     let after = g.A.Arrivals.arrived c.answer_next.new.arrivals in
@@ -75,7 +75,7 @@ returns-in-Some-clause-follows g c =
 
 pub loop-call-preserved : goal.loop-call-preserved
 loop-call-preserved g c =
-    let rules = following c.args.readers c.args.stop_at_refusal in
+    let rules = following c.args.rules in
     let before = g.A.Arrivals.arrived c.args.arrivals.now in
     let mid = g.A.Arrivals.arrived c.loop-call.arrivals in
     let after = g.A.Arrivals.arrived c.answer_next.new.arrivals in
@@ -109,7 +109,7 @@ loop-call-preserved g c =
 
 pub returns-clause-follows : goal.returns-clause-follows
 returns-clause-follows g c =
-    let rules = following c.args.readers c.args.stop_at_refusal in
+    let rules = following c.args.rules in
     let before = g.A.Arrivals.arrived c.args.arrivals.now in
     let mid = g.A.Arrivals.arrived c.loop-call.arrivals in
     let old = g.W.Sink.contents c.loop-call.sink in

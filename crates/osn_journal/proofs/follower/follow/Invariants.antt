@@ -15,6 +15,6 @@ invariant-loop-call g l =
       limits : l.follower.journal.limits ≡ l.fn.limits;
       following : (arrivals : List Arrival) × (all : List Outcome)
           × Arrive (g.A.Arrivals.arrived l.fn.arrivals) (g.A.Arrivals.arrived l.arrivals) arrivals
-          × IsFollowing (following l.fn.readers l.fn.stop_at_refusal) l.follower.journal.limits
+          × IsFollowing (following l.fn.rules) l.follower.journal.limits
           (g.W.Sink.contents l.fn.sink) arrivals all l.follower (g.W.Sink.contents l.sink);
     }

@@ -21,6 +21,7 @@ returns-in-Ok-load_journal-clause-ok g c =
     (MayFail file.has_failed)
     (folders_of g.D.Folder.known c.args.folder.now c.open_named.new.folder)
     c.in-Ok-Ok.topic c.territory_word-word.result.now c.date_text_of-date.result.now
+    (input_of g.R.Source.remaining g.R.Source.has_failed c.args.input.now new.input)
     (output_of g.W.Sink.contents g.W.Sink.has_failed g.W.Sink.holds_back c.args.output.now
     new.output)
     (output_of g.E.Sink.contents g.E.Sink.has_failed g.E.Sink.holds_back c.args.errors.now

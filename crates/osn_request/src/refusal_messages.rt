@@ -1,12 +1,12 @@
-//! What the register allows, for each of its refusals.
+//! What the register allows, for each of its refusals: messages for people.
 ghost use Rattle.std.specs.Prelude.{◌≡◌};
-ghost use Rattle.osn_register_text.specs.RefusalWords as spec;
+ghost use Rattle.osn_request.specs.RefusalMessages as spec;
 
 use osn_register::Refusal;
 
-/// Returns the words for a refusal, which say what the register allows.
-pub(crate) fn refusal_words(refusal: Refusal) -> &'static str
-    ensures { result.now ≡ spec.refusal_words refusal }
+/// Returns the text on a refusal, which says what the register allows.
+pub fn refusal_message(refusal: Refusal) -> &'static str
+    ensures { result.now ≡ spec.refusal_message refusal }
 {
     match refusal {
         Refusal::BadCode => "a code has 2 to 8 capital letters or digits, the first a letter",
@@ -39,5 +39,17 @@ pub(crate) fn refusal_words(refusal: Refusal) -> &'static str
         }
         Refusal::NoMemory => "the call may be tried again",
         Refusal::BadCount => "there are 1 to 64 readers",
+    }
+}
+
+/// Returns the text on the refusal of a query, by what was published. Some queries allow two years
+/// more.
+pub fn query_message(refusal: Refusal) -> &'static str
+    ensures { result.now ≡ spec.query_message refusal }
+{
+    match refusal {
+        Refusal::UnknownLand => "no published territory has this code: the query lands lists them",
+        Refusal::YearOffRange => "a year is 1 to 9999, and that of read and convert 0 to 10000",
+        _ => refusal_message(refusal),
     }
 }
